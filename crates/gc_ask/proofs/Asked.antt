@@ -14,11 +14,12 @@ use Rattle.gc_lines.proofs.Known.{Appends-is}
 use Rattle.gc_catalogue.specs.declared.call.Call.{Call}
 use Rattle.gc_client.specs.Rule.{ById, Settlement, heard, fits, hears, settled_by_line, place_in}
 use Rattle.gc_client.specs.Settlements.{settlement_seen}
-use Rattle.gc_ask.specs.Asking.{awaited, idle, waiting_for, Reply, first_reply, settled_by, asked_from, asked, request_text, request_texts, lost_of, LinkEnd, IsNext, AsksAll, LosesOne, WritesPart}
+use Rattle.gc_ask.specs.Asking.{awaited, idle, waiting_for, Reply, first_reply, settled_by, asked_from, asked, request_text, request_texts, lost_of}
+use Rattle.gc_ask.specs.Asking.{LinkEnd, IsNext, AsksAll, IsCut, LosesOne, StopsAt, WritesPart}
 use Rattle.gc_texts.specs.declared.commands.Command.{Command}
 use Rattle.gc_texts.specs.Settlements.{settlement_line, settlement_lines, lines_from, WrotePartOfSettlements}
 use Rattle.gc_ask.specs.Looping.{SeenAtBoth, written_there}
-use Rattle.gc_ask.specs.Listening.{lines_completed, Heard, IsCut, Settles, StopsAt}
+use Rattle.gc_ask.specs.Listening.{lines_completed, Heard, Settles}
 use Rattle.gc_texts.proofs.SettlementLines.{lines_one}
 use Rattle.gc_ask.proofs.FirstReplies.{lines_completed-append, first_reply-at}
 
@@ -253,11 +254,9 @@ pub course_stops : (is_remote : Bool) (commands : List Command) (s : RunState) (
     → Appends s.latest.sink.bytes new.sink.bytes (lines_from (length n.done) (lost_of n.command ∷ []))
     → StopsAt is_remote commands (s.given ++ more) (written_there s.first new)
 course_stops is_remote commands s n more new none sent told = record {
-  loops = record {
-    at = course_loses commands s n more new told;
-    sent = Appends-is _ _ _ _ (sym (all_texts_one n.done n.command)) (Appends-trans _ _ _ _ _ n.course.link sent);
-  };
-  none = λ is. ap (λ xs. asked xs (s.given ++ more)) n.order ∙ asked_on n.done s more n.course n.command n.later None (none is) ∙ append-nil n.course.settled
+  at = course_loses commands s n more new told;
+  sent = Appends-is _ _ _ _ (sym (all_texts_one n.done n.command)) (Appends-trans _ _ _ _ _ n.course.link sent);
+  no_more = λ is. ap (λ xs. asked xs (s.given ++ more)) n.order ∙ asked_on n.done s more n.course n.command n.later None (none is) ∙ append-nil n.course.settled
       ∙ sym (asked_so n.done s more n.course);
 }
 
@@ -269,12 +268,10 @@ pub course_cut : (is_remote : Bool) (commands : List Command) (s : RunState) (n 
     → Appends s.latest.sink.bytes new.sink.bytes (lines_from (length n.done) (lost_of n.command ∷ []))
     → IsCut is_remote commands (s.given ++ more) (written_there s.first new) count part
 course_cut is_remote commands s n more new count part bytes is cut sent told = record {
-  loops = record {
-    at = course_loses commands s n more new told;
-    count_is = is;
-    bytes = bytes;
-    sent = Appends-is _ _ _ _ (ap (λ k. all_of (request_texts 0 n.done) ++ take bytes (request_text k n.command)) (sym is)) (Appends-trans _ _ _ _ _ n.course.link sent);
-  };
+  at = course_loses commands s n more new told;
+  count_is = is;
+  bytes = bytes;
+  sent = Appends-is _ _ _ _ (ap (λ k. all_of (request_texts 0 n.done) ++ take bytes (request_text k n.command)) (sym is)) (Appends-trans _ _ _ _ _ n.course.link sent);
   cut = subst (λ k. is_remote ≡ true → (bytes ≡ part) × (part < length (request_text k n.command))) (sym is) cut;
 }
 

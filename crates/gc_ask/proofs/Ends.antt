@@ -24,23 +24,17 @@ step_none old new reads ended source sink = record {
   grows = omega (arith, reads);
 }
 
--- a failed write of a request, while nothing was read, is a step of the end with the write's fault
-pub step_sends : (place : ℕ) (text : List ℕ) (old new : Ports) (e : RunFault)
-    → Sends place text (record { bytes = old.taken; failed = old.sink_failed }) (record { bytes = new.taken; failed = new.sink_failed }) (Err e)
-    → new.reads ≡ old.reads → new.ended ≡ old.ended → new.source_failed ≡ old.source_failed → StepEnds old new (Err e)
-step_sends place text old new (Write count bytes) s reads ended source = record {
-  ends = ((λ some. absurd (omega (arith, some, reads))), source, s.3);
-  same = λ _. ended;
-  grows = omega (arith, reads);
-}
-step_sends place text old new other s reads ended source = absurd s
-
 -- a write of a request, while nothing was read, is a step of the end with the write's result, whatever came of it
 pub step_sent : (place : ℕ) (text : List ℕ) (old new : Ports) (r : LinkEnd)
     → Sends place text (record { bytes = old.taken; failed = old.sink_failed }) (record { bytes = new.taken; failed = new.sink_failed }) r
     → new.reads ≡ old.reads → new.ended ≡ old.ended → new.source_failed ≡ old.source_failed → StepEnds old new r
 step_sent place text old new (Ok u) s reads ended source = step_none old new reads ended source s.1
-step_sent place text old new (Err e) s reads ended source = step_sends place text old new e s reads ended source
+step_sent place text old new (Err (Write count bytes)) s reads ended source = record {
+  ends = ((λ some. absurd (omega (arith, some, reads))), source, s.3);
+  same = λ _. ended;
+  grows = omega (arith, reads);
+}
+step_sent place text old new (Err other) s reads ended source = absurd s
 
 -- a write never ends with `TooManyReads`
 pub sends_not_too_many : (place : ℕ) (text : List ℕ) (old new : Taken) (r : LinkEnd) → Sends place text old new r → r ≡ Err TooManyReads → ⊥

@@ -11,9 +11,9 @@ use Rattle.gc_client.specs.declared.settlement.Settlement.{Settlement}
 use Rattle.gc_client.specs.Rule.{ById, settled_by_line, restarts}
 use Rattle.gc_client.specs.Rule
 use Rattle.gc_client.specs.Settlements.{AreSettlements, settlement_seen}
-use Rattle.gc_ask.specs.Asking.{awaited, waiting_for, request_text, lost_of, EndsWith, LinkEnd, LinkEnds, Taken}
+use Rattle.gc_ask.specs.Asking.{Asks, awaited, waiting_for, request_text, lost_of, EndsWith, LinkEnd, LinkEnds, Taken}
 use Rattle.gc_ask.specs.Links.{CountsReplies, ReadEnds, SeenStep, Sends, TakesRequest}
-use Rattle.gc_ask.specs.Listening.{AsksOn, AsksOne, Exchanges, Heard, HearsReply, Settles}
+use Rattle.gc_ask.specs.Listening.{AsksOne, Exchanges, Heard, HearsReply, Settles}
 use Rattle.gc_ask.specs.Looping.{BothEnd, SeenAtBoth, written_there}
 use Rattle.gc_ask.proofs.Asked.{AtNext, Course, RunState, heard_after, later_on, course_more, course_stops, course_cut, course_sink_failed, settled_is, asked_with}
 use Rattle.gc_ask.proofs.Ends.{Sound, both_end, no_output}
@@ -155,7 +155,7 @@ pub run_fault : (is_remote : Bool) (commands : List Command) (place : ℕ) (s : 
     → length n.done ≡ place
     → AsksOne is_remote place n.command (heard_after n.course more h) (written_there s.latest new) (SeenStep s.latest new) (Err e)
     → EndsWith (SeenStep s.latest new) s.latest.sink.failed new.sink.failed (Err e)
-    → AsksOn is_remote commands (s.given ++ more) (written_there s.first new) (BothEnd s.first.client new.client s.first.instrument new.instrument) (Err e)
+    → Asks is_remote commands (s.given ++ more) (written_there s.first new) (BothEnd s.first.client new.client s.first.instrument new.instrument) (Err e)
 run_fault is_remote commands place s n more h new e client instrument is one ends =
     by_fault e (subst (λ k. AsksOne is_remote k n.command (heard_after n.course more h) (written_there s.latest new) (SeenStep s.latest new) (Err e)) (sym is) one) ends where
       -- how the two ends of the link were used in the whole run
@@ -175,7 +175,7 @@ run_fault is_remote commands place s n more h new e client instrument is one end
       -- by the fault: how the run ended
       by_fault : (e : RunFault) → AsksOne is_remote (length n.done) n.command (heard_after n.course more h) (written_there s.latest new) (SeenStep s.latest new) (Err e)
           → EndsWith (SeenStep s.latest new) s.latest.sink.failed new.sink.failed (Err e)
-          → AsksOn is_remote commands (s.given ++ more) (written_there s.first new) over (Err e)
+          → Asks is_remote commands (s.given ++ more) (written_there s.first new) over (Err e)
       by_fault Read one ends = course_stops is_remote commands s n more new one.1 one.0 one.2
       by_fault (Write count part) one ends = course_cut is_remote commands s n more new count part one.0.1.0 one.0.0 one.0.1.2 one.0.1.1 one.1
       by_fault TooManyReads one ends = course_stops is_remote commands s n more new one.1 one.0 one.2

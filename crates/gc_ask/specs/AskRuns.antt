@@ -1,10 +1,10 @@
 -- A command text that is read whole and asked: this project's own.
-use Rattle.std.specs.Prelude.{◌≡◌, false, ℕ, ◌+◌, ◌*◌, ◌-◌, ◌≤◌, ◌⊎◌, List, length, Err}
+use Rattle.std.specs.Prelude.{◌≡◌, true, ℕ, ◌+◌, ◌*◌, ◌-◌, ◌≤◌, List, length, Err}
 use Rattle.std.specs.Io.KnownBytes.{Consumes}
 use Rattle.gc_lines.specs.Answering.{Ports, ports_of}
 use Rattle.gc_lines.specs.declared.ports.Source.{Ghosts as Source}
 use Rattle.gc_lines.specs.declared.ports.Sink.{Ghosts as Sink}
-use Rattle.gc_ask.specs.Asking.{Taken, Written, Asks, LinkEnd, LinkEnds, EndsWith, RunsText, taken_by}
+use Rattle.gc_ask.specs.Asking.{AreFresh, Taken, Written, Asks, LinkEnd, LinkEnds, EndsWith, RunsConnected, RunsText, taken_by}
 use Rattle.gc_ask.specs.declared.unused.TheConstants.{ROOM}
 use Rattle.gc_texts.specs.WholeTexts.{Input}
 use Rattle.gc_texts.specs.declared.commands.Command.{Command}
@@ -24,29 +24,22 @@ seen_of_link of_source source of_sink sink of_told told = record { link = ports_
 abbrev pub written : (old new : Seen) → Written
 written old new = record { link_old = old.link.taken; link_new = new.link.taken; sink_old = old.sink.bytes; sink_new = new.sink.bytes }
 
--- from `old` to `new` nothing was read of a link, and nothing was written to it or to the sink
-abbrev pub IsUnused : (old new : Seen) → Type 0
-IsUnused old new =
-    (new.link.remaining ≡ old.link.remaining) × (new.link.reads ≡ old.link.reads) × (new.link.taken ≡ old.link.taken) × (new.sink.bytes ≡ old.sink.bytes)
-
--- commands were asked over a link, in at most `most` reads of it, with this result, which is `TooManyReads` only once these are used up;
+-- commands were asked over a remote link, in at most `most` reads of it, with this result, which is `TooManyReads` only once these are used up;
 -- `given` is what the link gave meanwhile, at most `ROOM` bytes at each read. Which ports have failed then is as `EndsWith` has it
 pub record AsksOver (commands : List Command) (most : ℕ) (old new : Seen) (result : LinkEnd) : Type 0 where
   pub given : List ℕ
   pub gave : Consumes old.link.remaining new.link.remaining given
   pub few : length given ≤ ROOM * (new.link.reads - old.link.reads)
-  pub asks : Asks commands given (written old new) (LinkEnds old.link new.link) result
+  pub asks : Asks true commands given (written old new) (LinkEnds old.link new.link) result
   pub bound : new.link.reads ≤ old.link.reads + most
   pub too_many : result ≡ Err TooManyReads → new.link.reads ≡ old.link.reads + most
   pub ends : EndsWith (LinkEnds old.link new.link) old.sink.failed new.sink.failed result
 
--- commands were asked, in at most `most` reads and with this result, over some link that hadn't failed, and of which nothing
--- was read before
+-- commands were asked, in at most `most` reads and with this result, over some remote link that was fresh (`AreFresh`)
 pub record AsksOverOne (commands : List Command) (most : ℕ) (old new : Taken) (result : LinkEnd) : Type 0 where
   pub before : Ports
   pub after : Ports
-  pub unread : before.reads ≡ 0
-  pub sound : (before.source_failed ≡ false) × (before.sink_failed ≡ false)
+  pub fresh : AreFresh before
   pub asks : AsksOver commands most (record { link = before; sink = old }) (record { link = after; sink = new }) result
 
 -- a run over a source of commands, a link and a sink: the text was refused, and then nothing was read of the link, sent or written; or
@@ -54,9 +47,7 @@ pub record AsksOverOne (commands : List Command) (most : ℕ) (old new : Taken) 
 abbrev pub AskRuns : (text_old text_new : Input) → (most : ℕ) → (old new : Seen) → LinkEnd → Type 0
 AskRuns text_old text_new most old new result = RunsText text_old text_new result (new ≡ old) (λ commands. AsksOver commands most old new result)
 
--- a run over a source of commands, a connection that it makes, and a sink: the text was refused, or it was read and no connection
--- could be had, and in both cases nothing was written; or its commands were asked over the connection. `unconnected e` says that e
--- is a fault that comes where no connection can be had
+-- a run over a source of commands, a connection that it makes, and a sink (`RunsConnected`), with somebody else at the other end
 abbrev pub AskRunsAt : (unconnected : RunFault → Type 0) → (text_old text_new : Input) → (most : ℕ) → (old new : Taken) → LinkEnd → Type 0
-AskRunsAt unconnected text_old text_new most old new result = RunsText text_old text_new result (new ≡ old) (λ commands.
-    ((fault : RunFault) × (result ≡ Err fault) × unconnected fault × (new ≡ old)) ⊎ AsksOverOne commands most old new result)
+AskRunsAt unconnected text_old text_new most old new result =
+    RunsConnected unconnected text_old text_new old new result (λ commands. AsksOverOne commands most old new result)

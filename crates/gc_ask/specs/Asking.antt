@@ -13,7 +13,7 @@ use Rattle.gc_client.specs.declared.window.TheConstants.{IDS}
 use Rattle.gc_client.specs.declared.pending.Pending.{Pending}
 use Rattle.gc_client.specs.Rule.{ById, Settlement, pending_of, lost, heard, fits, hears}
 use Rattle.gc_texts.specs.Settlements.{settlement_line, settlement_lines}
-use Rattle.gc_texts.specs.WholeTexts.{Input, Gave, GivesCommands, RefusesCommands}
+use Rattle.gc_texts.specs.WholeTexts.{Input, source_of, Gave, GivesCommands, RefusesCommands}
 use Rattle.gc_texts.specs.declared.commands.Command.{Command}
 use Rattle.gc_texts.specs.declared.fault.RunFault.{RunFault}
 use Rattle.gc_texts.specs.declared.fault.RunFault.TheVariants.{Read, Write, TooManyReads, LinkClosed, Output}
@@ -94,17 +94,6 @@ pub record AsksAll (commands : List Command) (given : List ℕ) (w : Written) : 
   pub sent : Appends w.link_old w.link_new (all_of (request_texts 0 commands))
   pub sink_took : Appends w.sink_old w.sink_new (settlement_lines (asked commands given))
 
--- what came settles the commands `earlier`, and no more; `command` was sent, and is lost; `later` weren't sent. The sink took
--- the lines of these settlements
-pub record AsksUpTo (commands : List Command) (given : List ℕ) (w : Written) : Type 0 where
-  pub earlier : List Command
-  pub command : Command
-  pub later : List Command
-  pub order : commands ≡ earlier ++ command ∷ later
-  pub settled : length (asked commands given) ≡ length earlier
-  pub sent : Appends w.link_old w.link_new (all_of (request_texts 0 (earlier ++ command ∷ [])))
-  pub sink_took : Appends w.sink_old w.sink_new (settlement_lines (asked commands given ++ lost_of command ∷ []))
-
 -- what came settles the commands `earlier`; `command`, the one after them, is lost, even where a reply with its id came already.
 -- The sink took the lines of these settlements, and no line of the commands `later`
 pub record LosesOne (commands : List Command) (given : List ℕ) (w : Written) : Type 0 where
@@ -115,12 +104,21 @@ pub record LosesOne (commands : List Command) (given : List ℕ) (w : Written) :
   pub settled : length (asked earlier given) ≡ length earlier
   pub sink_took : Appends w.sink_old w.sink_new (settlement_lines (asked earlier given ++ lost_of command ∷ []))
 
--- a command is lost (`LosesOne`) after `count` others, and of its request only the first `bytes` bytes were sent
-pub record AsksPart (commands : List Command) (given : List ℕ) (w : Written) (count bytes : ℕ) : Type 0 where
+-- asking stopped at a command, which is lost (`LosesOne`), and whose request was sent; the commands after it weren't sent. Where the link is
+-- remote, what came settles the commands before it, and no more
+pub record StopsAt (is_remote : Bool) (commands : List Command) (given : List ℕ) (w : Written) : Type 0 where
+  pub at : LosesOne commands given w
+  pub sent : Appends w.link_old w.link_new (all_of (request_texts 0 (at.earlier ++ at.command ∷ [])))
+  pub no_more : is_remote ≡ true → asked commands given ≡ asked at.earlier given
+
+-- a write was cut, that of a command's request or of the reply to it: the command is lost (`LosesOne`) after `count` others, and of its
+-- request the first `bytes` bytes were sent, or all. Where the link is remote, it was the request, of which `part` bytes were sent, and not all
+pub record IsCut (is_remote : Bool) (commands : List Command) (given : List ℕ) (w : Written) (count part : ℕ) : Type 0 where
   pub at : LosesOne commands given w
   pub count_is : count ≡ length at.earlier
-  pub not_all : bytes < length (request_text count at.command)
+  pub bytes : ℕ
   pub sent : Appends w.link_old w.link_new (all_of (request_texts 0 at.earlier) ++ take bytes (request_text count at.command))
+  pub cut : is_remote ≡ true → (bytes ≡ part) × (part < length (request_text count at.command))
 
 -- `next` is the settlement of `command`, after those of `earlier`: where the link ended well, the one by the bytes that came;
 -- else the one that says the command is lost
@@ -147,25 +145,34 @@ pub record WritesPart (commands : List Command) (given : List ℕ) (w : Written)
   pub not_all : part < length (settlement_line (length earlier) next)
   pub sink_took : Appends w.sink_old w.sink_new (settlement_lines (asked earlier given) ++ take part (settlement_line (length earlier) next))
 
--- what was asked over a link that gave these bytes, by how asking ended; `over e` says what the link's ports are after the end e
-abbrev pub Asks : List Command → (given : List ℕ) → Written → (over : LinkEnd → Type 0) → LinkEnd → Type 0
-Asks commands given w over (Ok _) = AsksAll commands given w
-Asks commands given w over (Err Read) = AsksUpTo commands given w
-Asks commands given w over (Err LinkClosed) = AsksUpTo commands given w
-Asks commands given w over (Err TooManyReads) = AsksUpTo commands given w
-Asks commands given w over (Err (Write count bytes)) = AsksPart commands given w count bytes
-Asks commands given w over (Err Output) = WritesPart commands given w over
-Asks commands given w over (Err _) = ⊥
+-- what was asked over a link that gave these bytes, by how asking ended. `is_remote` says that somebody other than this program answers at
+-- the other end, and `over e` what the link's ports are after the end e
+abbrev pub Asks : (is_remote : Bool) → List Command → (given : List ℕ) → Written → (over : LinkEnd → Type 0) → LinkEnd → Type 0
+Asks is_remote commands given w over (Ok _) = AsksAll commands given w
+Asks is_remote commands given w over (Err Read) = StopsAt is_remote commands given w
+Asks is_remote commands given w over (Err LinkClosed) = StopsAt is_remote commands given w
+Asks is_remote commands given w over (Err TooManyReads) = StopsAt is_remote commands given w
+Asks is_remote commands given w over (Err (Write count part)) = IsCut is_remote commands given w count part
+Asks is_remote commands given w over (Err Output) = WritesPart commands given w over
+Asks is_remote commands given w over (Err _) = ⊥
+
+-- where a source was read from `old` to `new`, the last read wasn't the end of its input
+abbrev pub NoneEnded : (old new : Input) → Type 0
+NoneEnded old new = old.reads < new.reads → new.ended ≡ false
 
 -- the two ports of a link's end after a use that ended with this result. Only with `LinkClosed` was the last read the end of
 -- the input; with `Read` the source has failed, with `Write` the sink; else whether they have failed is as before
 abbrev pub LinkEnds : (old new : Ports) → LinkEnd → Type 0
-LinkEnds old new (Ok _) = (old.reads < new.reads → new.ended ≡ false) × (new.source_failed ≡ old.source_failed) × (new.sink_failed ≡ old.sink_failed)
-LinkEnds old new (Err Read) = (old.reads < new.reads → new.ended ≡ false) × (new.source_failed ≡ true) × (new.sink_failed ≡ old.sink_failed)
-LinkEnds old new (Err (Write _ _)) = (old.reads < new.reads → new.ended ≡ false) × (new.source_failed ≡ old.source_failed) × (new.sink_failed ≡ true)
-LinkEnds old new (Err TooManyReads) = (old.reads < new.reads → new.ended ≡ false) × (new.source_failed ≡ old.source_failed) × (new.sink_failed ≡ old.sink_failed)
+LinkEnds old new (Ok _) = NoneEnded (source_of old) (source_of new) × (new.source_failed ≡ old.source_failed) × (new.sink_failed ≡ old.sink_failed)
+LinkEnds old new (Err Read) = NoneEnded (source_of old) (source_of new) × (new.source_failed ≡ true) × (new.sink_failed ≡ old.sink_failed)
+LinkEnds old new (Err (Write _ _)) = NoneEnded (source_of old) (source_of new) × (new.source_failed ≡ old.source_failed) × (new.sink_failed ≡ true)
+LinkEnds old new (Err TooManyReads) = NoneEnded (source_of old) (source_of new) × (new.source_failed ≡ old.source_failed) × (new.sink_failed ≡ old.sink_failed)
 LinkEnds old new (Err LinkClosed) = (old.reads < new.reads) × (new.ended ≡ true) × (new.source_failed ≡ old.source_failed) × (new.sink_failed ≡ old.sink_failed)
 LinkEnds old new (Err _) = ⊥
+
+-- nothing was read of the ports of an end, and none of them has failed
+abbrev pub AreFresh : Ports → Type 0
+AreFresh ports = (ports.reads ≡ 0) × (ports.source_failed ≡ false) × (ports.sink_failed ≡ false)
 
 -- which ports have failed, by how asking ended. With `Output` the sink has failed, and `over` holds of some end of the link. With any other
 -- end `over` holds of that end, and whether the sink has failed is as before. `over e` says what the link's ports are after the end e
@@ -180,3 +187,11 @@ abbrev pub RunsText : (text_old text_new : Input) → LinkEnd → (unused : Type
 RunsText text_old text_new result unused claim = Gave text_old text_new (λ given.
     ((fault : RunFault) × (result ≡ Err fault) × RefusesCommands given text_old text_new fault × unused)
     ⊎ ((commands : List Command) × GivesCommands given text_old text_new commands × claim commands))
+
+-- a run over a source of commands, a connection that it makes, and a sink, with this result: the text was refused, or it was read and no
+-- connection could be had, and in both cases nothing was written; or its commands were asked over the connection, as `claim` says.
+-- `unconnected e` says that e is a fault that comes where no connection can be had
+abbrev pub RunsConnected : (unconnected : RunFault → Type 0) → (text_old text_new : Input) → (old new : Taken) → LinkEnd → (claim : List Command → Type 0)
+    → Type 0
+RunsConnected unconnected text_old text_new old new result claim = RunsText text_old text_new result (new ≡ old) (λ commands.
+    ((fault : RunFault) × (result ≡ Err fault) × unconnected fault × (new ≡ old)) ⊎ claim commands)

@@ -1,5 +1,6 @@
 -- Laws of what is asked: this project's own.
-use Rattle.std.specs.Prelude.{◌≡◌, ℕ, ◌+◌, ◌%◌, List, [], ◌∷◌, ◌++◌, Some}
+use Rattle.std.specs.Prelude.{◌≡◌, ◌≢◌, ℕ, ◌+◌, ◌%◌, List, [], ◌∷◌, ◌++◌, Some}
+use Rattle.std.specs.List.{AllByRecursion}
 use Rattle.gc_client.specs.declared.window.TheConstants.{IDS}
 use Rattle.gc_client.specs.Rule.{heard, settled_by_line}
 use Rattle.gc_ask.specs.Asking.{awaited, asked_from}
@@ -7,8 +8,7 @@ use Rattle.gc_texts.specs.declared.commands.Command.{Command}
 
 -- no line of these is a reply with the id of request k
 abbrev pub HasNoReply : (k : ℕ) → List (List ℕ) → Type 0
-HasNoReply k [] = Unit {0}
-HasNoReply k (line ∷ later) = (heard line ≡ Some (k % IDS) → ⊥) × HasNoReply k later
+HasNoReply k lines = AllByRecursion (λ line. heard line ≢ Some (k % IDS)) lines
 
 -- request k is settled by the first line that is a reply with its id, which is k modulo 8, and the requests after it by the lines after
 -- that one; where no line is such a reply, neither request k nor any after it is settled

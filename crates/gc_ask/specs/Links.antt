@@ -5,7 +5,7 @@ use Rattle.std.specs.Prelude.{◌≡◌, ℕ, ◌+◌, ◌*◌, ◌-◌, ◌<◌
 use Rattle.std.specs.Borrow.{GName}
 use Rattle.std.specs.Io.KnownBytes.{Appends, Consumes, Keeps}
 use Rattle.gc_lines.specs.Answering.{Ports}
-use Rattle.gc_ask.specs.Asking.{Taken, LinkEnd, LinkEnds}
+use Rattle.gc_ask.specs.Asking.{Taken, LinkEnd, LinkEnds, NoneEnded}
 use Rattle.gc_ask.specs.Looping.{IsOfOneEnd, SeenAtBoth}
 use Rattle.gc_ask.specs.declared.unused.TheConstants.{ROOM}
 use Rattle.gc_texts.specs.WholeTexts.{Input}
@@ -31,11 +31,11 @@ ReadsOnce old new given (Err _) = Keeps old.remaining new.remaining × (new.read
 -- why reading a source ended, with `after` reads left. Only with `LinkClosed` was the last read the end of the input; with
 -- `Read` the source failed, and a read was left; with `TooManyReads` none was. Without a read `ended` is as before
 abbrev pub ReadEnds : (old new : Input) → (after : ℕ) → LinkEnd → Type 0
-ReadEnds old new after (Ok _) = (old.reads < new.reads → new.ended ≡ false) × (new.reads ≡ old.reads → new.ended ≡ old.ended) × (new.failed ≡ old.failed)
+ReadEnds old new after (Ok _) = NoneEnded old new × (new.reads ≡ old.reads → new.ended ≡ old.ended) × (new.failed ≡ old.failed)
 ReadEnds old new after (Err Read) =
-    (old.reads < new.reads → new.ended ≡ false) × (new.reads ≡ old.reads → new.ended ≡ old.ended) × (0 < after) × (new.failed ≡ true)
+    NoneEnded old new × (new.reads ≡ old.reads → new.ended ≡ old.ended) × (0 < after) × (new.failed ≡ true)
 ReadEnds old new after (Err TooManyReads) =
-    (old.reads < new.reads → new.ended ≡ false) × (new.reads ≡ old.reads → new.ended ≡ old.ended) × (after ≡ 0) × (new.failed ≡ old.failed)
+    NoneEnded old new × (new.reads ≡ old.reads → new.ended ≡ old.ended) × (after ≡ 0) × (new.failed ≡ old.failed)
 ReadEnds old new after (Err LinkClosed) = (old.reads < new.reads) × (new.ended ≡ true) × (new.failed ≡ old.failed)
 ReadEnds old new after (Err _) = ⊥
 

@@ -2,7 +2,7 @@
 -- of a line whose end hasn't come. `place` is the number of a command, counted from 0. `is_remote` says that somebody other than
 -- this program answers at the other end of the link. `w` is what the link and the sink of the settlements took, and `over e`
 -- says what the link's ports are after the end e. `from` and `to` are the client before and after.
-use Rattle.std.specs.Prelude.{◌≡◌, ℕ, ◌+◌, ◌*◌, ◌-◌, ◌<◌, ◌≤◌, ◌⊎◌, Bool, true, false, List, [], ◌∷◌, ◌++◌, length, Option, Some, None, Ok, Err, take, drop, map}
+use Rattle.std.specs.Prelude.{◌≡◌, ℕ, ◌+◌, ◌*◌, ◌-◌, ◌≤◌, ◌⊎◌, Bool, true, false, List, [], ◌∷◌, ◌++◌, length, Option, Some, None, Ok, Err, take, drop, map}
 use Rattle.std.specs.Io.KnownBytes.{Appends, Consumes}
 use Rattle.gc_lines.specs.Answering.{Ports}
 use Rattle.gc_lines.specs.Assembler.{Kept, StandsFor}
@@ -18,13 +18,12 @@ use Rattle.gc_ask.specs.declared.ask.AskState.{AskState}
 use Rattle.gc_ask.specs.declared.client_end.ClientEnd.{ClientEnd}
 use Rattle.gc_ask.specs.declared.link.Link.{Ghosts as Link}
 use Rattle.gc_ask.specs.declared.unused.TheConstants.{ROOM}
-use Rattle.gc_ask.specs.Asking.{Written, LinkEnd, taken_by, first_reply, asked, waiting_for, request_text, lost_of, AsksAll, WritesPart, EndsWith, RunsText}
+use Rattle.gc_ask.specs.Asking.{Written, LinkEnd, taken_by, first_reply, waiting_for, request_text, lost_of}
 use Rattle.gc_ask.specs.Links.{BothStep, OnlyReads, SeenStep, TakesRequest}
-use Rattle.gc_ask.specs.Looping.{BothEnd, LoopsPart, LoopsUpTo, SeenAtBoth, seen_at, written_there}
-use Rattle.gc_texts.specs.WholeTexts.{Input}
+use Rattle.gc_ask.specs.Looping.{SeenAtBoth, seen_at, written_there}
 use Rattle.gc_texts.specs.declared.commands.Command.{Command}
 use Rattle.gc_texts.specs.declared.fault.RunFault.{RunFault}
-use Rattle.gc_texts.specs.declared.fault.RunFault.TheVariants.{Read, Write, TooManyReads, LinkClosed, Output}
+use Rattle.gc_texts.specs.declared.fault.RunFault.TheVariants.{Write, Output}
 
 -- what is seen of this link and of this sink of the settlements, by the ghost members of their traits
 abbrev pub seen_through : {L K : Type 0} → Link L → L → Sink K → K → SeenAtBoth
@@ -189,43 +188,3 @@ AsksOne is_remote place command hearing w over (Err _) =
 abbrev pub AsksOneOver : (is_remote : Bool) → (place : ℕ) → Command → (from to : AskState) → (old new : SeenAtBoth) → LinkEnd → Type 0
 AsksOneOver is_remote place command from to old new result =
     HearsOn from to old.client new.client (λ hearing. AsksOne is_remote place command hearing (written_there old new) (SeenStep old new) result)
-
--- Runs.
-
--- asking stopped at a command, whose request was sent, and which is lost (`LoopsUpTo`). Where the link is remote, what came doesn't settle
--- that command
-pub record StopsAt (is_remote : Bool) (commands : List Command) (given : List ℕ) (w : Written) : Type 0 where
-  pub loops : LoopsUpTo commands given w
-  pub none : is_remote ≡ true → asked commands given ≡ asked loops.at.earlier given
-
--- a write of a command's request, or of its reply, was cut (`LoopsPart`); `count` and `part` are the numbers of the fault. Where the link is
--- remote, `part` bytes of the request were sent, and not all
-pub record IsCut (is_remote : Bool) (commands : List Command) (given : List ℕ) (w : Written) (count part : ℕ) : Type 0 where
-  pub loops : LoopsPart commands given w count
-  pub cut : is_remote ≡ true → (loops.bytes ≡ part) × (part < length (request_text count loops.at.command))
-
--- how commands were asked over a link that gave these bytes, by how that ended; `is_remote` says whether somebody else answers at the
--- other end
-abbrev pub AsksOn : (is_remote : Bool) → List Command → (given : List ℕ) → Written → (over : LinkEnd → Type 0) → LinkEnd → Type 0
-AsksOn is_remote commands given w over (Ok _) = AsksAll commands given w
-AsksOn is_remote commands given w over (Err Read) = StopsAt is_remote commands given w
-AsksOn is_remote commands given w over (Err LinkClosed) = StopsAt is_remote commands given w
-AsksOn is_remote commands given w over (Err TooManyReads) = StopsAt is_remote commands given w
-AsksOn is_remote commands given w over (Err (Write count part)) = IsCut is_remote commands given w count part
-AsksOn is_remote commands given w over (Err Output) = WritesPart commands given w over
-AsksOn is_remote commands given w over (Err _) = ⊥
-
--- commands were asked over a link, in at most `most` reads of both its ends, with this result, which is `TooManyReads` only once these are
--- used up; `given` is what the client's end gave, at most `ROOM` bytes at each read. Which ports have failed then is as `EndsWith` has it
-pub record AsksAt (is_remote : Bool) (commands : List Command) (most : ℕ) (old new : SeenAtBoth) (result : LinkEnd) : Type 0 where
-  pub given : List ℕ
-  pub gave : Consumes old.client.remaining new.client.remaining given
-  pub few : length given ≤ ROOM * (new.client.reads - old.client.reads)
-  pub asks : AsksOn is_remote commands given (written_there old new) (BothEnd old.client new.client old.instrument new.instrument) result
-  pub ends : EndsWith (BothEnd old.client new.client old.instrument new.instrument) old.sink.failed new.sink.failed result
-  pub bound : new.client.reads + new.instrument.reads ≤ old.client.reads + old.instrument.reads + most
-  pub too_many : result ≡ Err TooManyReads → new.client.reads + new.instrument.reads ≡ old.client.reads + old.instrument.reads + most
-
--- a run over a source of commands and a link: the text was refused, and nothing else happened; or its commands were asked
-abbrev pub RunsAt : (is_remote : Bool) → (text_old text_new : Input) → (most : ℕ) → (old new : SeenAtBoth) → LinkEnd → Type 0
-RunsAt is_remote text_old text_new most old new result = RunsText text_old text_new result (new ≡ old) (λ commands. AsksAt is_remote commands most old new result)

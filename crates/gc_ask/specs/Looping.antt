@@ -1,38 +1,16 @@
--- A client and an instrument of this program at the two ends of one link: this project's own. `given` are all bytes that the client's
--- end gave, `w` is what that end and the sink of the settlements took, and `over e` says what the link's ports are after the end e.
-use Rattle.std.specs.Prelude.{◌≡◌, false, ℕ, ◌+◌, ◌≤◌, ◌⊎◌, List, [], ◌∷◌, ◌++◌, length, take, Ok, Err}
-use Rattle.std.specs.Io.KnownBytes.{Appends, Consumes}
-use Rattle.gc_lines.specs.Answering.{Ports, all_of, ports_of}
+-- The two ends of a link, and commands that are asked over it, also with an instrument of this program at its other end: this project's own.
+-- `is_remote` says that somebody other than this program answers there.
+use Rattle.std.specs.Prelude.{◌≡◌, Bool, false, ℕ, ◌+◌, ◌*◌, ◌-◌, ◌≤◌, ◌⊎◌, List, length, Ok, Err}
+use Rattle.std.specs.Io.KnownBytes.{Consumes}
+use Rattle.gc_lines.specs.Answering.{Ports, ports_of}
 use Rattle.gc_lines.specs.declared.ports.Source.{Ghosts as Source}
 use Rattle.gc_lines.specs.declared.ports.Sink.{Ghosts as Sink}
 use Rattle.gc_texts.specs.declared.commands.Command.{Command}
-use Rattle.gc_texts.specs.declared.fault.RunFault.TheVariants.{Read, Write, TooManyReads, LinkClosed, Output, Memory, Socket}
+use Rattle.gc_texts.specs.declared.fault.RunFault.TheVariants.{TooManyReads, Memory, Socket}
 use Rattle.gc_texts.specs.WholeTexts.{Input}
 use Rattle.gc_ask.specs.declared.looped.Duplex.{Duplex}
-use Rattle.gc_ask.specs.Asking.{taken_by, request_text, request_texts, Taken, Written, LinkEnd, AsksAll, LosesOne, WritesPart, LinkEnds, EndsWith, RunsText}
-
--- a command is lost (`LosesOne`), and its request was sent
-pub record LoopsUpTo (commands : List Command) (given : List ℕ) (w : Written) : Type 0 where
-  pub at : LosesOne commands given w
-  pub sent : Appends w.link_old w.link_new (all_of (request_texts 0 (at.earlier ++ at.command ∷ [])))
-
--- a command is lost (`LosesOne`) after `count` others, because a write of its request, or of the reply, was cut. Of the request the first
--- `bytes` bytes were sent, or all
-pub record LoopsPart (commands : List Command) (given : List ℕ) (w : Written) (count : ℕ) : Type 0 where
-  pub at : LosesOne commands given w
-  pub count_is : count ≡ length at.earlier
-  pub bytes : ℕ
-  pub sent : Appends w.link_old w.link_new (all_of (request_texts 0 at.earlier) ++ take bytes (request_text count at.command))
-
--- what was asked over a link whose client's end gave these bytes, by how asking ended
-abbrev pub Loops : List Command → (given : List ℕ) → Written → (over : LinkEnd → Type 0) → LinkEnd → Type 0
-Loops commands given w over (Ok _) = AsksAll commands given w
-Loops commands given w over (Err Read) = LoopsUpTo commands given w
-Loops commands given w over (Err LinkClosed) = LoopsUpTo commands given w
-Loops commands given w over (Err TooManyReads) = LoopsUpTo commands given w
-Loops commands given w over (Err (Write count _)) = LoopsPart commands given w count
-Loops commands given w over (Err Output) = WritesPart commands given w over
-Loops commands given w over (Err _) = ⊥
+use Rattle.gc_ask.specs.Asking.{taken_by, Taken, Written, LinkEnd, AreFresh, Asks, LinkEnds, EndsWith, RunsConnected, RunsText}
+use Rattle.gc_ask.specs.declared.unused.TheConstants.{ROOM}
 
 -- one end of a link has this result, and the other ended well: `Client` and `Instrument` say what a result means at each end
 abbrev pub IsOfOneEnd : (Client Instrument : LinkEnd → Type 0) → LinkEnd → Type 0
@@ -63,50 +41,44 @@ seen_of of_a a of_b b of_c c of_d d of_k k = seen_at (ports_of of_a a of_b b) (p
 abbrev pub seen_over : {A B C D K : Type 0} → Source A → Sink B → Duplex A B → Source C → Sink D → Duplex C D → Sink K → K → SeenAtBoth
 seen_over of_a of_b client of_c of_d instrument of_k k = seen_of of_a client.source of_b client.sink of_c instrument.source of_d instrument.sink of_k k
 
--- from `old` to `new` the ports of both ends of a link stayed as they were, and nothing was written to the sink
-abbrev pub TakesNothing : (old new : SeenAtBoth) → Type 0
-TakesNothing old new = (new.client ≡ old.client) × (new.instrument ≡ old.instrument) × (new.sink.bytes ≡ old.sink.bytes)
-
 -- what the client's end and the sink had taken before, and have taken now
 abbrev pub written_there : (old new : SeenAtBoth) → Written
 written_there old new = record { link_old = old.client.taken; link_new = new.client.taken; sink_old = old.sink.bytes; sink_new = new.sink.bytes }
 
--- commands were asked over a link with an instrument of this program at its other end, with this result; `given` is what the client's
--- end gave. Which ports have failed then is as `EndsWith` has it
-pub record LoopsOver (commands : List Command) (old new : SeenAtBoth) (result : LinkEnd) : Type 0 where
+-- commands were asked over a link, in at most `most` reads of both its ends, with this result, which is `TooManyReads` only once these are
+-- used up; `given` is what the client's end gave, at most `ROOM` bytes at each read. Which ports have failed then is as `EndsWith` has it
+pub record AsksAt (is_remote : Bool) (commands : List Command) (most : ℕ) (old new : SeenAtBoth) (result : LinkEnd) : Type 0 where
   pub given : List ℕ
   pub gave : Consumes old.client.remaining new.client.remaining given
-  pub loops : Loops commands given (written_there old new) (BothEnd old.client new.client old.instrument new.instrument) result
+  pub few : length given ≤ ROOM * (new.client.reads - old.client.reads)
+  pub asks : Asks is_remote commands given (written_there old new) (BothEnd old.client new.client old.instrument new.instrument) result
   pub ends : EndsWith (BothEnd old.client new.client old.instrument new.instrument) old.sink.failed new.sink.failed result
+  pub bound : new.client.reads + new.instrument.reads ≤ old.client.reads + old.instrument.reads + most
+  pub too_many : result ≡ Err TooManyReads → new.client.reads + new.instrument.reads ≡ old.client.reads + old.instrument.reads + most
 
 -- a run over a source of commands, the two ends of a link and a sink: the text was refused, and then nothing was read of the link, sent or
 -- written; or its commands were asked
-abbrev pub LoopRuns : (text_old text_new : Input) → (old new : SeenAtBoth) → LinkEnd → Type 0
-LoopRuns text_old text_new old new result = RunsText text_old text_new result (new ≡ old) (λ commands. LoopsOver commands old new result)
+abbrev pub RunsAt : (is_remote : Bool) → (text_old text_new : Input) → (most : ℕ) → (old new : SeenAtBoth) → LinkEnd → Type 0
+RunsAt is_remote text_old text_new most old new result = RunsText text_old text_new result (new ≡ old) (λ commands. AsksAt is_remote commands most old new result)
 
--- a run as `LoopRuns` has it, in at most `most` reads of both ends, and in exactly as many where the fault is `TooManyReads`;
--- where it is `Memory`, nothing was read of the link, sent or written
-pub record LoopsWithin (text_old text_new : Input) (most : ℕ) (old new : SeenAtBoth) (result : LinkEnd) : Type 0 where
-  pub loops : LoopRuns text_old text_new old new result
-  pub bound : new.client.reads + new.instrument.reads ≤ old.client.reads + old.instrument.reads + most
-  pub too_many : result ≡ Err TooManyReads → new.client.reads + new.instrument.reads ≡ old.client.reads + old.instrument.reads + most
-  pub memory : result ≡ Err Memory → TakesNothing old new
+-- a run over a link with an instrument of this program at its other end (`RunsAt`); where memory was refused, nothing was read of the link,
+-- sent or written (`new ≡ old`)
+pub record LoopRuns (text_old text_new : Input) (most : ℕ) (old new : SeenAtBoth) (result : LinkEnd) : Type 0 where
+  pub runs : RunsAt false text_old text_new most old new result
+  pub memory : result ≡ Err Memory → new ≡ old
 
--- commands were asked, in at most `most` reads of both ends and with this result, which is `TooManyReads` only once these are used up, over
--- some connection with an instrument of this program at its other end; neither end had failed, and nothing was read of them before
+-- commands were asked, in at most `most` reads of both ends and with this result, over some connection with an instrument of this program at
+-- its other end, and both ends of it were fresh (`AreFresh`)
 pub record LoopsOverOne (commands : List Command) (most : ℕ) (old new : Taken) (result : LinkEnd) : Type 0 where
-  pub before : SeenAtBoth
-  pub after : SeenAtBoth
-  pub unread : (before.client.reads ≡ 0) × (before.instrument.reads ≡ 0)
-  pub client_sound : (before.client.source_failed ≡ false) × (before.client.sink_failed ≡ false)
-  pub instrument_sound : (before.instrument.source_failed ≡ false) × (before.instrument.sink_failed ≡ false)
-  pub sinks : (before.sink ≡ old) × (after.sink ≡ new)
-  pub loops : LoopsOver commands before after result
-  pub bound : after.client.reads + after.instrument.reads ≤ most
-  pub too_many : result ≡ Err TooManyReads → after.client.reads + after.instrument.reads ≡ most
+  pub client_before : Ports
+  pub client_after : Ports
+  pub instrument_before : Ports
+  pub instrument_after : Ports
+  pub client : AreFresh client_before
+  pub instrument : AreFresh instrument_before
+  pub asks : AsksAt false commands most (seen_at client_before instrument_before old) (seen_at client_after instrument_after new) result
 
--- a run over a source of commands, a connection that it makes to an instrument of its own, and a sink: the text was refused, or it was read
--- and no connection could be had, and in both cases nothing was written; or its commands were asked over the connection
+-- a run over a source of commands, a connection that it makes, and a sink (`RunsConnected`), with an instrument of its own at the other end
 abbrev pub LoopRunsAt : (text_old text_new : Input) → (most : ℕ) → (old new : Taken) → LinkEnd → Type 0
-LoopRunsAt text_old text_new most old new result = RunsText text_old text_new result (new ≡ old) (λ commands.
-    ((result ≡ Err Socket) × (new ≡ old)) ⊎ LoopsOverOne commands most old new result)
+LoopRunsAt text_old text_new most old new result =
+    RunsConnected (λ fault. fault ≡ Socket) text_old text_new old new result (λ commands. LoopsOverOne commands most old new result)

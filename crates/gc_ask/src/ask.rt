@@ -4,11 +4,11 @@
 ghost use Rattle.std.specs.Prelude.{◌≡◌, ◌+◌, ◌≤◌, [], ℕ, List, Err};
 ghost use Rattle.gc_lines.specs.Assembler.{StandsFor};
 ghost use Rattle.gc_lines.specs.Lines.{with_end};
-ghost use Rattle.gc_ask.specs.AskRuns.{AskRuns, IsUnused, seen_of_link};
+ghost use Rattle.gc_ask.specs.AskRuns.{AskRuns, seen_of_link};
 ghost use Rattle.gc_ask.specs.Asking.{EndsWith, idle, request_text, waiting_for};
-ghost use Rattle.gc_ask.specs.Listening.{AsksAt, AsksOneOver, ExchangesOver, HasReadNothing, LinkSteps, RunsAt, SpendsReads};
-ghost use Rattle.gc_ask.specs.Listening.{reads_of, seen_through};
-ghost use Rattle.gc_ask.specs.Looping.{TakesNothing};
+ghost use Rattle.gc_ask.specs.Listening.{AsksOneOver, ExchangesOver, HasReadNothing, LinkSteps, SpendsReads};
+ghost use Rattle.gc_ask.specs.Listening.{seen_through};
+ghost use Rattle.gc_ask.specs.Looping.{AsksAt, RunsAt};
 ghost use Rattle.gc_texts.specs.declared.fault.RunFault.{RunFault};
 ghost use Rattle.gc_texts.specs.declared.text.TheConstants.{TEXT_LIMIT};
 ghost use Rattle.gc_texts.specs.WholeTexts.{input_of};
@@ -151,9 +151,8 @@ pub fn run_ask<S: Source, I: Source, O: Sink, K: Sink>(
     ensures bounded { S.reads commands.new ≤ S.reads commands.old + (TEXT_LIMIT + 1) }
 
     // Where memory was refused, nothing was read of the link, sent or written.
-    ensures memory { result ≡ Err RunFault.Memory → IsUnused
-        (seen_of_link I.Source link_in.old O.Sink link_out.old K.Sink sink.old)
-        (seen_of_link I.Source link_in.new O.Sink link_out.new K.Sink sink.new) }
+    ensures memory { result ≡ Err RunFault.Memory → seen_of_link I.Source link_in.new O.Sink link_out.new K.Sink sink.new
+        ≡ seen_of_link I.Source link_in.old O.Sink link_out.old K.Sink sink.old }
 {
     let mut link = Remote {
         source: link_in,
@@ -179,10 +178,7 @@ pub(crate) fn run_over<S: Source, L: Link, K: Sink>(
 
     // Where memory was refused, nothing was read of the link, sent or written.
     ensures memory { result ≡ Err RunFault.Memory
-        → TakesNothing (seen_through L.Link link.old K.Sink sink.old) (seen_through L.Link link.new K.Sink sink.new) }
-    ensures bound { reads_of L.Link link.new ≤ reads_of L.Link link.old + max_reads }
-    ensures too_many { result ≡ Err RunFault.TooManyReads
-        → reads_of L.Link link.new ≡ reads_of L.Link link.old + max_reads }
+        → seen_through L.Link link.new K.Sink sink.new ≡ seen_through L.Link link.old K.Sink sink.old }
     ensures held { L.held link.new ≡ L.held link.old }
 {
     let commands = match read_command_text(alloc, commands) {

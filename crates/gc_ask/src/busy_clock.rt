@@ -6,9 +6,11 @@ ghost use Rattle.std.specs.Prelude.{◌≤◌, length};
 
 use arrayvec::ArrayVec;
 use gc_links::millis_of;
+use gc_scenes::SlowInstrument;
 use std::cell::{Cell, RefCell};
+use std::io::{self, Write};
+use std::thread;
 use std::time::{Clock, Duration, Instant};
-use std::{io, thread};
 
 /// The clock of an instrument whose replies take time. Its moments are milliseconds since it was made.
 ///
@@ -40,15 +42,15 @@ struct Early {
 }
 
 impl BusyClock {
-    /// A clock that starts now. `drops`: what comes while the instrument is busy is dropped. `Err`: the system's clock can't be read.
-    pub fn new<R: Clock>(rt: &R, drops: bool) -> io::Result<BusyClock> {
+    /// A clock for this instrument (`Slow::new`), which starts now. `Err`: the system's clock can't be read.
+    pub fn new<R: Clock>(rt: &R, slow: &SlowInstrument) -> io::Result<BusyClock> {
         let early = Early {
             bytes: ArrayVec::new(),
             taken: 0,
         };
         Ok(BusyClock {
             start: Instant::now(rt)?,
-            drops,
+            drops: slow.drops(),
             came: Cell::new(0),
             until: Cell::new(0),
             waits: Cell::new(false),
@@ -61,7 +63,7 @@ impl BusyClock {
     pub(crate) fn begin(&self) {
         self.waits.set(false);
         if let Ok(mut early) = self.early.try_borrow_mut() {
-            empty(&mut early);
+            early.clear();
         }
     }
 
@@ -105,7 +107,7 @@ impl BusyClock {
     /// Stores bytes that came while the instrument was busy, as far as there is room. Those without room are discarded.
     pub(crate) fn store_early(&self, bytes: &[u8]) {
         if let Ok(mut early) = self.early.try_borrow_mut() {
-            store(&mut early, bytes);
+            early.store(bytes);
         }
     }
 
@@ -118,7 +120,7 @@ impl BusyClock {
         let Ok(mut early) = self.early.try_borrow_mut() else {
             return 0;
         };
-        let n = hand_on(&mut early, buf);
+        let n = early.hand_on(buf);
         if n > 0 {
             self.came.set(self.until.get().saturating_sub(1));
         }
@@ -136,32 +138,32 @@ impl BusyClock {
     }
 }
 
-// Discards all bytes, also those that were handed on.
-fn empty(early: &mut Early) {
-    early.bytes.clear();
-    early.taken = 0;
-}
-
-// Appends these bytes, as far as there is room.
-fn store(early: &mut Early, bytes: &[u8]) {
-    for byte in bytes {
-        let _ = early.bytes.try_push(*byte);
+impl Early {
+    // Discards all bytes, also those that were handed on.
+    fn clear(&mut self) {
+        self.bytes.clear();
+        self.taken = 0;
     }
-}
 
-// Moves the bytes that weren't handed on yet into the front of `buf`, as many as it has room for, and returns how many. Once
-// the last was handed on, all of them are discarded.
-fn hand_on(early: &mut Early, buf: &mut [u8]) -> usize
-    ensures { result ≤ length buf.new }
-{
-    let Some(rest) = early.bytes.as_slice().get(early.taken..) else {
-        return 0;
-    };
-    let n = rest.len().min(buf.len());
-    buf[..n].copy_from_slice(&rest[..n]);
-    early.taken = early.taken.saturating_add(n);
-    if early.taken >= early.bytes.len() {
-        empty(early);
+    // Appends these bytes, as far as there is room.
+    fn store(&mut self, bytes: &[u8]) {
+        let _ = self.bytes.write(bytes);
     }
-    n
+
+    // Moves the bytes that weren't handed on yet into the front of `buf`, as many as it has room for, and returns how many. Once
+    // the last was handed on, all of them are discarded.
+    fn hand_on(&mut self, buf: &mut [u8]) -> usize
+        ensures { result ≤ length buf.new }
+    {
+        let Some(rest) = self.bytes.as_slice().get(self.taken..) else {
+            return 0;
+        };
+        let n = rest.len().min(buf.len());
+        buf[..n].copy_from_slice(&rest[..n]);
+        self.taken = self.taken.saturating_add(n);
+        if self.taken >= self.bytes.len() {
+            self.clear();
+        }
+        n
+    }
 }

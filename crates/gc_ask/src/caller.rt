@@ -23,7 +23,46 @@ pub(crate) enum End<'a, R> {
     Device(&'a Wire<'a, R>),
 }
 
+/// How serving a caller ended.
+#[derive(Clone, Copy)]
+pub(crate) struct Ended {
+    /// At the end of the connection, or with a fault before it, which is one of `serve`.
+    pub(crate) served: Result<Served, ServeFault>,
+    /// Whether a read failed because it had timed out (`is_time_out`).
+    pub(crate) is_idle: bool,
+}
+
 impl<'a, R: Clock> End<'a, R> {
+    /// Serves the caller of this connection, of which nothing was read yet, with the instrument, which is restarted for it, in at
+    /// most `max_reads` reads. It sets no time-outs: the connection has them already, or waits without end.
+    pub(crate) fn serve<'c, I: Simulates<'c>>(
+        &self,
+        rt: &R,
+        instrument: &mut I,
+        max_reads: u32,
+    ) -> Ended {
+        let clock = instrument.clock();
+        let mut reader = RequestReader {
+            rt,
+            end: self,
+            clock,
+            answered: 0,
+            at_end: false,
+            broken: false,
+            is_idle: false,
+        };
+        let mut writer = ToWriter::new(ReplyWriter {
+            rt,
+            end: self,
+            clock,
+        });
+        let served = serve_anew(instrument, &mut reader, &mut writer, max_reads);
+        Ended {
+            served,
+            is_idle: reader.is_idle,
+        }
+    }
+
     // Reads what comes within about a millisecond; over a device only what has come already. `None`: nothing came, or the read was
     // interrupted. `Some(0)`: the connection has ended. Reads after this one may wait as long as before.
     fn read_soon(&self, buf: &mut [u8]) -> io::Result<Option<usize>>
@@ -58,6 +97,16 @@ impl<'a, R: Clock> End<'a, R> {
         let read = self.read_plain(buf);
         clock.note_now(rt);
         read
+    }
+
+    // Reads the connection: as `read_noted` does if there is a clock, else as `read_plain` does.
+    fn read(&self, rt: &R, clock: Option<&BusyClock>, buf: &mut [u8]) -> io::Result<usize>
+        ensures { IfOk result (λ n. n ≤ length buf.new) }
+    {
+        match clock {
+            Some(clock) => self.read_noted(rt, clock, buf),
+            None => self.read_plain(buf),
+        }
     }
 
     // Writes to the connection, as much as it takes at once.
@@ -110,62 +159,19 @@ impl<'a, R: Clock> Write for ReplyWriter<'a, R> {
     }
 }
 
-/// The reading end of a connection. It stores whether the read that failed had timed out, and for an instrument whose replies
-/// take time it records when bytes came.
+// The reading end of a connection. It stores whether the read that failed had timed out, and for an instrument whose replies
+// take time, of which `clock` is the clock, it records when bytes came.
 #[derive(Drop)]
-pub(crate) struct RequestReader<'a, R> {
+struct RequestReader<'a, R> {
     rt: &'a R,
     end: &'a End<'a, R>,
     clock: Option<&'a BusyClock>,
     // How many reads were answered, and whether the last of them was the end.
     answered: u64,
     at_end: bool,
-    // Whether a read failed, and whether that was because it had timed out.
+    // Whether a read failed, and whether that was because it had timed out (`is_time_out`).
     broken: bool,
     is_idle: bool,
-}
-
-impl<'a, R: Clock> RequestReader<'a, R> {
-    /// The reading end of a connection of which nothing was read yet. It sets no time-outs: the connection has them already, or waits
-    /// without end. `clock` is the clock of an instrument whose replies take time: it is prepared for this connection.
-    pub(crate) fn new(
-        rt: &'a R,
-        end: &'a End<'a, R>,
-        clock: Option<&'a BusyClock>,
-    ) -> RequestReader<'a, R> {
-        if let Some(clock) = clock {
-            clock.begin();
-        }
-        RequestReader {
-            rt,
-            end,
-            clock,
-            answered: 0,
-            at_end: false,
-            broken: false,
-            is_idle: false,
-        }
-    }
-
-    /// Serves the caller of this connection with the instrument, which is restarted for it, in at most `max_reads` reads. The
-    /// faults are those of `serve`.
-    pub(crate) fn serve<I: Simulates>(
-        &mut self,
-        instrument: &mut I,
-        max_reads: u32,
-    ) -> Result<Served, ServeFault> {
-        let mut writer = ToWriter::new(ReplyWriter {
-            rt: self.rt,
-            end: self.end,
-            clock: self.clock,
-        });
-        serve_anew(instrument, self, &mut writer, max_reads)
-    }
-
-    /// Whether a read failed because it had timed out (`is_time_out`); `false` while none has failed.
-    pub(crate) fn is_idle(&self) -> bool {
-        self.is_idle
-    }
 }
 
 // `remaining` is `None`: which bytes will come over a connection isn't known. A read fails as one of `FromReader` does: at
@@ -186,7 +192,7 @@ impl<'a, R: Clock> Source for RequestReader<'a, R> {
             self.broken = true;
             return Err(PortFailed);
         }
-        let read = read_end(self.rt, self.end, self.clock, buf);
+        let read = self.end.read(self.rt, self.clock, buf);
         match read {
             Ok(n) => {
                 self.answered += 1;
@@ -203,21 +209,6 @@ impl<'a, R: Clock> Source for RequestReader<'a, R> {
 
     fn has_failed(&self) -> bool {
         self.broken
-    }
-}
-
-// Reads a connection, by `End::read_noted` if there is a clock, and by `End::read_plain` if there is none.
-fn read_end<R: Clock>(
-    rt: &R,
-    end: &End<'_, R>,
-    clock: Option<&BusyClock>,
-    buf: &mut [u8],
-) -> io::Result<usize>
-    ensures { IfOk result (λ n. n ≤ length buf.new) }
-{
-    match clock {
-        Some(clock) => end.read_noted(rt, clock, buf),
-        None => end.read_plain(buf),
     }
 }
 

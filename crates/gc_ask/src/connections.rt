@@ -11,8 +11,7 @@ ghost use Rattle.gc_texts.specs.declared.fault.RunFault.{RunFault};
 
 use crate::address::Address;
 use crate::ask::ask_all;
-use crate::busy_clock::BusyClock;
-use crate::caller::{End, RequestReader};
+use crate::caller::End;
 use crate::instrument_end::InstrumentEnd;
 use crate::link::Remote;
 use crate::looped::Loop;
@@ -28,7 +27,7 @@ use std::net::{Net, TcpListener, TcpStream};
 use std::rt::Files;
 use std::time::Clock;
 
-/// The most connections that one call of `serve_tcp` or `serve_device` serves. A kept port or device has no such bound.
+/// The most connections that one call of `serve_tcp` serves. `serve_device` has no such bound, nor has a kept port or device.
 pub const MOST_CONNECTIONS: u32 = 1000;
 
 /// Reads the whole command text of a source, binds a free port of 127.0.0.1, connects to it, and asks the commands over that one
@@ -118,18 +117,16 @@ pub fn loop_tcp<R: Net<Listener = TcpListener, Stream = TcpStream>, S: Source, K
 }
 
 /// Listens at an address, accepts `connections` connections one after the other, and serves each with the instrument, which is
-/// restarted for it, in at most `max_reads` reads. `clock` is the clock of an instrument whose replies take time. A silent caller is
-/// waited for without end.
+/// restarted for it, in at most `max_reads` reads. A silent caller is waited for without end.
 ///
 /// `Socket` comes where the address can't be listened at, or an accept failed. A fault of a connection ends the call with it:
 /// `Read`, `Write` and `TooManyReads` as `serve` has them. The instrument is left as the last connection that was served left
 /// it, and as it was where none was served.
-pub fn serve_tcp<R: Net<Listener = TcpListener, Stream = TcpStream> + Clock, I: Simulates>(
+pub fn serve_tcp<'c, R: Net<Listener = TcpListener, Stream = TcpStream> + Clock, I: Simulates<'c>>(
     rt: &R,
     address: Address<'_>,
     connections: u32,
     instrument: &mut I,
-    clock: Option<&BusyClock>,
     max_reads: u32,
 ) -> Result<(), RunFault>
     requires some { 1 ≤ connections }
@@ -138,19 +135,17 @@ pub fn serve_tcp<R: Net<Listener = TcpListener, Stream = TcpStream> + Clock, I: 
     let Ok(listener) = address.listen(rt) else {
         return Err(RunFault::Socket);
     };
-    serve_on(rt, &listener, connections, instrument, clock, max_reads)
+    serve_on(rt, &listener, connections, instrument, max_reads)
 }
 
 /// Accepts `connections` connections of a port one after the other, and serves each with the instrument, which is restarted for
-/// it, in at most `max_reads` reads. `clock` is the clock of an instrument whose replies take time. A silent caller is waited for
-/// without end; further callers wait in the system's queue. The faults, and how the instrument is left, are as `serve_tcp` has
-/// them.
-pub fn serve_on<R: Clock, I: Simulates>(
+/// it, in at most `max_reads` reads. A silent caller is waited for without end; further callers wait in the system's queue. The
+/// faults, and how the instrument is left, are as `serve_tcp` has them.
+pub fn serve_on<'c, R: Clock, I: Simulates<'c>>(
     rt: &R,
     listener: &TcpListener,
     connections: u32,
     instrument: &mut I,
-    clock: Option<&BusyClock>,
     max_reads: u32,
 ) -> Result<(), RunFault> {
     for _ in 0..connections {
@@ -158,9 +153,8 @@ pub fn serve_on<R: Clock, I: Simulates>(
             return Err(RunFault::Socket);
         };
         let end = End::Stream(&stream, None);
-        let mut reader = RequestReader::new(rt, &end, clock);
-        let served = reader.serve(instrument, max_reads);
-        end_of_serving(served)?;
+        let ended = end.serve(rt, instrument, max_reads);
+        end_of_serving(ended.served)?;
     }
     Ok(())
 }

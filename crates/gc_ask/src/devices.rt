@@ -1,11 +1,10 @@
 //! An instrument at the end of a serial line: a device that is served as a connection is, a number of times or for good.
 
-ghost use Rattle.std.specs.Prelude.{◌≡◌, ◌≤◌, None, IfErr, IfOk};
+ghost use Rattle.std.specs.Prelude.{◌≡◌, None, IfErr, IfOk};
 ghost use Rattle.gc_ask.specs.Keeping.{ServesConnections};
 ghost use Rattle.gc_ask.specs.Places.{IsFaultOfDevice};
 
-use crate::busy_clock::BusyClock;
-use crate::caller::{End, RequestReader};
+use crate::caller::End;
 use crate::callers::{CallerFault, Callers, PAUSE, end_of_caller, keep};
 use crate::connections::{end_of_serving, fault_of_reason, fault_of_unusable};
 use crate::kept_port::Keeping;
@@ -19,49 +18,43 @@ use std::thread;
 use std::time::{Clock, Duration};
 
 /// Opens a device `connections` times, one after the other. Each time the instrument is restarted, and serves the device until its
-/// end, in at most `max_reads` reads. `clock` is the clock of an instrument whose replies take time.
+/// end, in at most `max_reads` reads.
 ///
 /// A fault ends the call: one of `fault_of_reason` where the device couldn't be opened, else `Read`, `Write` or
 /// `TooManyReads` as `serve` has them. The instrument is left as the last connection that was served left it, and as it was
 /// where none was served.
-pub fn serve_device<R: Files<File = File> + Clock, I: Simulates>(
+pub fn serve_device<'c, R: Files<File = File> + Clock, I: Simulates<'c>>(
     rt: &R,
     path: &str,
     connections: u32,
     instrument: &mut I,
-    clock: Option<&BusyClock>,
     max_reads: u32,
-) -> Result<(), RunFault>
-    requires { connections ≤ 1000 }
-{
+) -> Result<(), RunFault> {
     for _ in 0..connections {
         let wire = match wire_on(rt, path) {
             Ok(wire) => wire,
             Err(reason) => return Err(fault_of_reason(reason)),
         };
         let end = End::Device(&wire);
-        let mut reader = RequestReader::new(rt, &end, clock);
-        let served = reader.serve(instrument, max_reads);
-        end_of_serving(served)?;
+        let ended = end.serve(rt, instrument, max_reads);
+        end_of_serving(ended.served)?;
     }
     Ok(())
 }
 
 /// Serves a device each time that it is there, as often as `keeping` says, each time with the instrument, which is restarted
-/// for it, and writes the line of each fault on `messages`. Returns whether all of these lines were written. `clock` is the
-/// clock of an instrument whose replies take time. A device has one caller alone, who may be silent for as long as he likes,
-/// so `keeping.idle` is not used.
+/// for it, and writes the line of each fault on `messages`. Returns whether all of these lines were written. A device has one
+/// caller alone, who may be silent for as long as he likes, so `keeping.idle` is not used.
 ///
 /// If the first attempt to open the device fails with an `Unusable`, the call returns the fault for it (`fault_of_unusable`), and
 /// writes nothing. Later attempts are made with a second between them while the device is missing, or can't be opened, locked or
 /// set up for a reason that is no `Unusable`. After the end of each serving, with a fault or without, the next attempt comes a
 /// second later. A later attempt that fails with an `Unusable` counts as one caller with the fault `Socket`.
-pub fn keep_device<R: Files<File = File> + Clock, I: Simulates, E: Write>(
-    rt: &R,
+pub fn keep_device<'c, R: Files<File = File> + Clock, I: Simulates<'c>, E: Write>(
+    rt: &'c R,
     path: &str,
     keeping: Keeping,
     instrument: &mut I,
-    clock: Option<&BusyClock>,
     messages: &mut E,
 ) -> Result<bool, RunFault>
     ensures kept { IfOk result (λ all_written. ServesConnections keeping.connections all_written (E.contents messages.old) (E.contents messages.new)) }
@@ -77,7 +70,6 @@ pub fn keep_device<R: Files<File = File> + Clock, I: Simulates, E: Write>(
         path,
         first,
         instrument,
-        clock,
         max_reads: keeping.max_reads,
     };
     Ok(keep(&mut callers, keeping.most(), messages))
@@ -85,20 +77,19 @@ pub fn keep_device<R: Files<File = File> + Clock, I: Simulates, E: Write>(
 
 // Those who call over a device, and the instrument that serves them.
 #[derive(Drop)]
-struct DeviceCallers<'a, R, I> {
-    rt: &'a R,
+struct DeviceCallers<'a, 'c, R, I> {
+    rt: &'c R,
     path: &'a str,
     // The device as it was opened already, for the first caller.
-    first: Option<Wire<'a, R>>,
+    first: Option<Wire<'c, R>>,
     instrument: &'a mut I,
-    clock: Option<&'a BusyClock>,
     max_reads: u32,
 }
 
-impl<'a, R: Files<File = File> + Clock, I> DeviceCallers<'a, R, I> {
+impl<'a, 'c, R: Files<File = File> + Clock, I> DeviceCallers<'a, 'c, R, I> {
     // Opens the device, which is looked for each second until it is there. The first call returns the device that was opened
     // already, if it was. `Socket`: the opening failed with an `Unusable`, or 2^64 - 1 tries failed without one.
-    fn wait(&mut self) -> Result<Wire<'a, R>, CallerFault> {
+    fn wait(&mut self) -> Result<Wire<'c, R>, CallerFault> {
         if let Some(first) = self.first.take() {
             return Ok(first);
         }
@@ -113,14 +104,13 @@ impl<'a, R: Files<File = File> + Clock, I> DeviceCallers<'a, R, I> {
     }
 
     // Serves the device, opened as `wire`, until its end. `Err`: the fault that ended the serving before that.
-    fn serve(&mut self, wire: Wire<'a, R>) -> Result<(), CallerFault>
+    fn serve(&mut self, wire: Wire<'c, R>) -> Result<(), CallerFault>
     where
-        I: Simulates,
+        I: Simulates<'c>,
     {
         let end = End::Device(&wire);
-        let mut reader = RequestReader::new(self.rt, &end, self.clock);
-        let served = reader.serve(self.instrument, self.max_reads);
-        end_of_caller(served)
+        let ended = end.serve(self.rt, self.instrument, self.max_reads);
+        end_of_caller(ended.served)
     }
 
     // Sleeps for `PAUSE` seconds.
@@ -129,7 +119,8 @@ impl<'a, R: Files<File = File> + Clock, I> DeviceCallers<'a, R, I> {
     }
 }
 
-impl<'a, R: Files<File = File> + Clock, I: Simulates> Callers for DeviceCallers<'a, R, I> {
+impl<'a, 'c, R: Files<File = File> + Clock, I: Simulates<'c>> Callers
+    for DeviceCallers<'a, 'c, R, I> {
     ghost served = { λ _. None };
 
     // Serves the device until its end, once it is there, and then pauses for a second, however that ended.

@@ -5,8 +5,7 @@ ghost use Rattle.gc_ask.specs.Keeping.{ServesConnections, most_callers};
 ghost use Rattle.gc_texts.specs.declared.fault.RunFault.{RunFault};
 
 use crate::address::Address;
-use crate::busy_clock::BusyClock;
-use crate::caller::{End, RequestReader};
+use crate::caller::End;
 use crate::callers::{CallerFault, Callers, PAUSE, end_of_caller, keep};
 use crate::simulated::Simulates;
 use gc_instrument::ServeFault;
@@ -41,18 +40,22 @@ impl Keeping {
 }
 
 /// Listens at an address, and serves its connections one after the other, as many as `keeping` says, each with the instrument,
-/// which is restarted for it. `clock` is the clock of an instrument whose replies take time. A fault of a connection ends that
-/// connection alone, and its line is written on `messages`. Returns whether all of these lines were written.
+/// which is restarted for it. A fault of a connection ends that connection alone, and its line is written on `messages`. Returns
+/// whether all of these lines were written.
 ///
 /// `Socket` comes where the address can't be listened at, and nothing was written. A connection that couldn't be accepted, or
 /// whose time-outs couldn't be set, counts as one, with this fault; where none could be accepted, a pause of a second
 /// follows. The instrument is left as the last connection that was served left it, and as it was where none was served.
-pub fn keep_tcp<R: Net<Listener = TcpListener, Stream = TcpStream> + Clock, I: Simulates, E: Write>(
-    rt: &R,
+pub fn keep_tcp<
+    'c,
+    R: Net<Listener = TcpListener, Stream = TcpStream> + Clock,
+    I: Simulates<'c>,
+    E: Write,
+>(
+    rt: &'c R,
     address: Address<'_>,
     keeping: Keeping,
     instrument: &mut I,
-    clock: Option<&BusyClock>,
     messages: &mut E,
 ) -> Result<bool, RunFault>
     ensures kept { IfOk result (λ all_written. ServesConnections keeping.connections all_written (E.contents messages.old) (E.contents messages.new)) }
@@ -61,17 +64,16 @@ pub fn keep_tcp<R: Net<Listener = TcpListener, Stream = TcpStream> + Clock, I: S
     let Ok(listener) = address.listen(rt) else {
         return Err(RunFault::Socket);
     };
-    Ok(keep_on(rt, &listener, keeping, instrument, clock, messages))
+    Ok(keep_on(rt, &listener, keeping, instrument, messages))
 }
 
 /// Serves the connections of a port that is bound, as `keep_tcp` does. Further callers wait in the system's queue. Returns
 /// whether the lines of all faults were written.
-pub fn keep_on<R: Clock, I: Simulates, E: Write>(
-    rt: &R,
+pub fn keep_on<'c, R: Clock, I: Simulates<'c>, E: Write>(
+    rt: &'c R,
     listener: &TcpListener,
     keeping: Keeping,
     instrument: &mut I,
-    clock: Option<&BusyClock>,
     messages: &mut E,
 ) -> bool
     ensures { ServesConnections keeping.connections result (E.contents messages.old) (E.contents messages.new) }
@@ -80,7 +82,6 @@ pub fn keep_on<R: Clock, I: Simulates, E: Write>(
         rt,
         listener,
         instrument,
-        clock,
         idle: Duration::from_secs(u64::from(keeping.idle.max(1))),
         max_reads: keeping.max_reads,
     };
@@ -89,16 +90,15 @@ pub fn keep_on<R: Clock, I: Simulates, E: Write>(
 
 // The callers of a port, and the instrument that serves them.
 #[derive(Drop)]
-struct PortCallers<'a, R, I> {
-    rt: &'a R,
+struct PortCallers<'a, 'c, R, I> {
+    rt: &'c R,
     listener: &'a TcpListener,
     instrument: &'a mut I,
-    clock: Option<&'a BusyClock>,
     idle: Duration,
     max_reads: u32,
 }
 
-impl<'a, R: Clock, I: Simulates> Callers for PortCallers<'a, R, I> {
+impl<'a, 'c, R: Clock, I: Simulates<'c>> Callers for PortCallers<'a, 'c, R, I> {
     ghost served = { λ _. None };
 
     // Waits for the next connection and serves it. `Socket`: no connection could be accepted, and then this sleeps for `PAUSE`
@@ -112,15 +112,11 @@ impl<'a, R: Clock, I: Simulates> Callers for PortCallers<'a, R, I> {
         let Ok(()) = bound_waits(&stream, self.idle) else {
             return Err(CallerFault::Socket);
         };
-        let connection = End::Stream(&stream, Some(self.idle));
-        let mut reader = RequestReader::new(self.rt, &connection, self.clock);
-        let served = reader.serve(self.instrument, self.max_reads);
-        let end = end_of_caller(served);
-        match end {
-            Err(CallerFault::Serving(ServeFault::Read { .. })) if reader.is_idle() => {
-                Err(CallerFault::Idle)
-            }
-            _ => end,
+        let end = End::Stream(&stream, Some(self.idle));
+        let ended = end.serve(self.rt, self.instrument, self.max_reads);
+        match ended.served {
+            Err(ServeFault::Read { .. }) if ended.is_idle => Err(CallerFault::Idle),
+            served => end_of_caller(served),
         }
     }
 }

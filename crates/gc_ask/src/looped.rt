@@ -1,7 +1,7 @@
 //! A loop: commands are asked over a link at whose other end this program answers them itself, in one thread.
 
 ghost use Rattle.gc_lines.specs.Answering.{ports_of};
-ghost use Rattle.gc_ask.specs.Looping.{LoopsWithin, seen_of, seen_over};
+ghost use Rattle.gc_ask.specs.Looping.{LoopRuns, seen_of, seen_over};
 ghost use Rattle.gc_texts.specs.WholeTexts.{input_of};
 
 use crate::ask::run_over;
@@ -32,7 +32,7 @@ pub fn run_loop<S: Source, A: Source, B: Sink, C: Source, D: Sink, K: Sink>(
     // Which text was read, and how its commands were asked: what the client's end took and gave, what the sink took, and which
     // ports have failed. At most `max_reads` reads of both ends were answered, and exactly as many where `TooManyReads` is the
     // fault. Where memory was refused, nothing was read of the link, sent or written.
-    ensures loops { LoopsWithin (input_of S.Source commands.old) (input_of S.Source commands.new) max_reads
+    ensures loops { LoopRuns (input_of S.Source commands.old) (input_of S.Source commands.new) max_reads
         (seen_of A.Source client_in.old B.Sink client_out.old C.Source instrument_in.old D.Sink instrument_out.old K.Sink sink.old)
         (seen_of A.Source client_in.new B.Sink client_out.new C.Source instrument_in.new D.Sink instrument_out.new K.Sink sink.new)
         result }
@@ -57,8 +57,8 @@ pub struct Duplex<I, O> {
     pub sink: O,
 }
 
-/// Asks the commands of a source as `run_loop` does, with any instrument in place of the simulator, also that of a scene with rules.
-/// The faults and the clause are the same.
+/// Asks the commands of a source as `run_loop` does, with any instrument in place of the simulator, also that of a scene with
+/// rules. The faults and the clause are the same.
 pub fn run_loop_on<S: Source, A: Source, B: Sink, C: Source, D: Sink, K: Sink, T: Answers + Drop>(
     alloc: Global,
     instrument: T,
@@ -68,7 +68,7 @@ pub fn run_loop_on<S: Source, A: Source, B: Sink, C: Source, D: Sink, K: Sink, T
     sink: &mut K,
     max_reads: u32,
 ) -> Result<(), RunFault>
-    ensures loops { LoopsWithin (input_of S.Source commands.old) (input_of S.Source commands.new) max_reads
+    ensures loops { LoopRuns (input_of S.Source commands.old) (input_of S.Source commands.new) max_reads
         (seen_over A.Source B.Sink client.old C.Source D.Sink instrument_end.old K.Sink sink.old)
         (seen_over A.Source B.Sink client.new C.Source D.Sink instrument_end.new K.Sink sink.new)
         result }
@@ -111,8 +111,8 @@ impl<'a, 'b, 'c, 'd, 'e, A: Source, B: Sink, C: Source, D: Sink, T: Answers> Lin
       instrument_out = l.instrument_out.ghost_name;
     } };
 
-    // Sends the request at the client's end, and has the instrument answer one line at its own. The faults are those of `send_line` and
-    // of `InstrumentEnd::answer_line`.
+    // Sends the request at the client's end, and has the instrument answer one line at its own. The faults are those of
+    // `send_line` and of `InstrumentEnd::answer_line`.
     fn send(&mut self, place: usize, request: &Line, reads: &mut u32) -> Result<(), RunFault> {
         if let Err(fault) = send_line(place, request, self.client_out) {
             return Err(fault);

@@ -4,21 +4,25 @@
 ghost use Rattle.std.specs.Prelude.{◌≡◌, false};
 ghost use Rattle.gc_lines.specs.Answering.{AnswersRun, HasEnded, ports_of};
 
+use crate::busy_clock::BusyClock;
 use gc_instrument::{Instrument, ServeFault, Served};
 use gc_lines::{Answers, Sink, Source, answer_frames};
 use gc_scenes::SceneInstrument;
 
-/// What answers callers, one connection after the other.
-pub trait Simulates: Answers {
+/// What answers callers, one connection after the other. `'c` is the life of its clock, if it has one.
+pub trait Simulates<'c>: Answers {
     /// The instrument after a restart, by what it was before.
     ghost restarted: { Self → Self };
 
     /// Restarts the instrument, for the next caller.
     fn start_anew(&mut self)
         ensures { self.new ≡ restarted self.old };
+
+    /// The clock by which its replies wait. `None`: they take no time.
+    fn clock(&self) -> Option<&'c BusyClock>;
 }
 
-impl Simulates for Instrument {
+impl<'c> Simulates<'c> for Instrument {
     ghost use Rattle.gc_instrument.specs.State.{restarted};
 
     ghost restarted = { restarted };
@@ -26,9 +30,13 @@ impl Simulates for Instrument {
     fn start_anew(&mut self) {
         self.restart();
     }
+
+    fn clock(&self) -> Option<&'c BusyClock> {
+        None
+    }
 }
 
-impl Simulates for SceneInstrument {
+impl<'c> Simulates<'c> for SceneInstrument {
     ghost use Rattle.gc_scenes.specs.SceneState.{scene_restarted};
 
     ghost restarted = { scene_restarted };
@@ -36,11 +44,15 @@ impl Simulates for SceneInstrument {
     fn start_anew(&mut self) {
         self.restart();
     }
+
+    fn clock(&self) -> Option<&'c BusyClock> {
+        None
+    }
 }
 
 /// Restarts an instrument, and serves a connection with it, of which `source` and `sink` are the two directions, in at most
 /// `max_reads` reads. The faults are those of `serve`.
-pub(crate) fn serve_anew<I: Simulates, S: Source, K: Sink>(
+pub(crate) fn serve_anew<'c, I: Simulates<'c>, S: Source, K: Sink>(
     instrument: &mut I,
     source: &mut S,
     sink: &mut K,

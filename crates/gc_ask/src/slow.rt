@@ -29,7 +29,7 @@ impl<'a> Model for Slow<'a> {
 }
 
 impl<'a> Slow<'a> {
-    /// An instrument with its clock. The connections of its callers need the same clock.
+    /// An instrument with its clock.
     pub fn new(clock: &'a BusyClock, slow: SlowInstrument) -> Slow<'a>
         ensures { result ≡ slow }
     {
@@ -72,12 +72,18 @@ impl<'a> Answers for Slow<'a> {
     }
 }
 
-impl<'a> Simulates for Slow<'a> {
+impl<'a> Simulates<'a> for Slow<'a> {
     ghost use Rattle.gc_scenes.specs.Slow.{slow_restarted};
 
     ghost restarted = { slow_restarted };
 
+    // The clock is prepared for the next caller, too.
     fn start_anew(&mut self) {
+        self.clock.begin();
         self.slow.restart();
+    }
+
+    fn clock(&self) -> Option<&'a BusyClock> {
+        Some(self.clock)
     }
 }

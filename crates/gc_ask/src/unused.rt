@@ -1,6 +1,6 @@
 //! What was read of a link and isn't used yet.
 
-ghost use Rattle.std.specs.Prelude.{◌≡◌, ◌+◌, ◌≤◌, [], drop, length, true, false, not, Ok, MatchResult};
+ghost use Rattle.std.specs.Prelude.{◌≡◌, ◌≤◌, [], drop, length, false, Ok};
 ghost use Rattle.gc_ask.specs.Links.{ReadsMore, ReadsOnce};
 ghost use Rattle.gc_ask.specs.declared.unused.TheConstants.{ROOM};
 ghost use Rattle.gc_texts.specs.WholeTexts.{input_of};

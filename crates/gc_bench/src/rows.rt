@@ -1,6 +1,6 @@
 //! Rows of a station, appended to a file of the system.
 
-use gc_files::{RowsFile, SystemFile, end_at, open_at};
+use gc_files::{RowsFile, RowsOptions, SystemFile, end_at, open_at};
 use gc_lines::{Durable, write_whole};
 
 // The header of a file of rows in the form CSV, as gc_rows writes it.
@@ -14,7 +14,12 @@ const ROW: &[u8] =
 /// Appends `count` rows to the file of this path, with a sync after each where `sync` is true. It returns how many rows were
 /// written whole and, with `sync`, synced: 0 where `open_at` refuses the file. At the end the file is closed as `end_at` says.
 pub fn append(rt: &HostRuntime, path: &str, count: u32, sync: bool) -> u64 {
-    match open_at(rt, rt.alloc(), path, HEAD, HEAD, sync) {
+    let options = RowsOptions {
+        head: HEAD,
+        sign: HEAD,
+        sync,
+    };
+    match open_at(rt, rt.alloc(), path, options) {
         Ok((mut rows, _)) => {
             let sum = append_to(&mut rows, count);
             end_at(rt, rt.alloc(), path, rows);

@@ -1,5 +1,5 @@
 -- One reading for a reply, and which values of an answer are rounded when it is written.
-use Rattle.std.specs.Prelude.{◌≡◌, ℕ, List, [], ◌∷◌, Some, refl}
+use Rattle.std.specs.Prelude.{◌≡◌, ℕ, List, [], ◌∷◌, refl}
 use Rattle.std.proofs.Common.{sym, ◌∙◌}
 use Rattle.gc_values.specs.declared.fault.ValueFault.{ValueFault}
 use Rattle.gc_values.specs.declared.value.Value.{Value}
@@ -37,7 +37,7 @@ one_reading call r x y =
     (record { answer = one_answer call r.params; fault = one_unreadable call r.params; never_both = no_unreadable call r.params })
 
 -- `AreShown` holds between values and the same values with each double rounded
-all_shown : (places : ℕ) (vs : List Value) → AreShown places vs (shown_values (Some places) vs)
+all_shown : (places : ℕ) (vs : List Value) → AreShown places vs (shown_values places vs)
 all_shown places [] = tt
 all_shown places (value.Double d ∷ vs) = (rounded_rounds d places, all_shown places vs)
 all_shown places (value.Long z ∷ vs) = (refl, all_shown places vs)

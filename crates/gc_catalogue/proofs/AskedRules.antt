@@ -1,12 +1,14 @@
 -- What is asked: one thing for a number and parameters, and one for a line; and one reading for a reply.
 use Rattle.std.proofs.Common.{◌≡◌, ℕ, List, refl, sym, ap, ◌∙◌, subst}
-use Rattle.std.specs.Prelude.{Option}
+use Rattle.std.specs.Prelude.{Option, Result, Ok}
 use Rattle.gc_lines.proofs.Written.{request_back}
 use Rattle.gc_lines.specs.Requests.{RequestFields}
+use Rattle.gc_lines.specs.declared.fault.LineFault.{LineFault}
 use Rattle.gc_lines.specs.Readers.{request_at}
 use Rattle.gc_catalogue.specs.Asked.{asked_request, raw_params, raw_request, IsAsked}
 use Rattle.gc_catalogue.specs.AskedLaws.{AskedReadBack, EachReplyIsReadForAsked, OneAsked, OneAskedForALine, OneAskedReading}
 use Rattle.gc_catalogue.specs.Calls.{IsCall}
+use Rattle.gc_catalogue.specs.Laws.{OneCallForALine}
 use Rattle.gc_catalogue.specs.RawProps.{IsRawCall-prop}
 use Rattle.gc_catalogue.specs.RawTexts.{raw_bytes}
 use Rattle.gc_catalogue.specs.Raws.{IsRawCall}
@@ -18,7 +20,7 @@ use Rattle.gc_catalogue.specs.declared.raw_text.RawText.{RawText}
 use Rattle.gc_catalogue.proofs.AnswerLaws.{one_reading}
 use Rattle.gc_catalogue.proofs.CallLaws.{one_call}
 use Rattle.gc_catalogue.proofs.EachReply.{each_reply}
-use Rattle.gc_catalogue.proofs.LineLaws.{call_again, read_once}
+use Rattle.gc_catalogue.proofs.LineLaws.{call_again}
 use Rattle.gc_catalogue.proofs.SameText.{same_text}
 use Rattle.gc_catalogue.proofs.RawRules.{each_raw_reply, one_raw_reading}
 
@@ -61,6 +63,10 @@ pub asked_id : (id : Option ℕ) (asked : Asked) → (asked_request id asked).id
 asked_id id (Table call) = refl
 asked_id id (Raw raw) = refl
 
+-- where a result is `Ok p` and is `Ok q`, p and q are equal
+read_once : (r : Result RequestFields LineFault) (p q : RequestFields) → r ≡ Ok p → r ≡ Ok q → p ≡ q
+read_once r p q e f = cc
+
 -- requests with the same line, for what is allowed, each with an id below 8 or without one, ask for the same thing, and have the
 -- same id
 pub one_asked_for_a_line : OneAskedForALine
@@ -71,6 +77,12 @@ one_asked_for_a_line i j a b x y f g e =
       sym (asked_id i a) ∙ ap (λ (q : RequestFields). q.id) same ∙ asked_id j b,
       one_asked (asked_request j b).rpc (asked_request j b).params a b (subst (λ (q : RequestFields). IsAsked q.rpc q.params a) same one.is_asked) two.is_asked,
     )
+
+-- calls with values in range and the same line, each with an id below 8 or without one, are the same call, and have the same id
+pub one_call_for_a_line : OneCallForALine
+one_call_for_a_line i j c d x y f g e =
+    let one = one_asked_for_a_line i j (Table c) (Table d) x y f g e in
+    (one.0, (let same : Table c ≡ Table d = one.1 in cc))
 
 -- a reply has at most one reading for what was asked
 pub one_asked_reading : OneAskedReading

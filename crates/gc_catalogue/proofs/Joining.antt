@@ -1,5 +1,5 @@
 -- Texts joined by commas, and texts each after a comma.
-use Rattle.std.specs.Prelude.{◌≡◌, ◌≢◌, ◌<◌, ◌-◌, ◌++◌, ℕ, List, [], ◌∷◌, Option, length, take, refl}
+use Rattle.std.specs.Prelude.{◌≡◌, ◌<◌, ◌-◌, ◌++◌, ℕ, List, [], ◌∷◌, Option, length, take, refl}
 use Rattle.std.specs.Fmt.{decimal}
 use Rattle.std.proofs.Common.{sym, ◌∙◌, ap, arith, append_assoc, append-nil, length-append}
 use Rattle.std.proofs.lemmas.List.{same_from_push}
@@ -10,7 +10,7 @@ use Rattle.gc_lines.specs.Headers.{id_text}
 use Rattle.gc_lines.specs.Requests.{request_signature, request_text}
 use Rattle.gc_values.specs.Item.{text}
 use Rattle.gc_values.specs.declared.value.Value.{Value}
-use Rattle.gc_catalogue.specs.Lists.{before_commas, behind_commas, params_of}
+use Rattle.gc_catalogue.specs.Lists.{before_commas, behind_commas, params_of, IsWithoutComma}
 use Rattle.gc_values.proofs.TextShape.{text_is_some}
 
 -- values joined by commas are the first one's text, and then the others' texts, each after a comma
@@ -58,11 +58,6 @@ comma_list head vs old new is cut =
     let all : old ≡ (head ++ behind_commas vs) ++ 44 ∷ [] = is ∙ append_assoc head (44 ∷ []) (before_commas vs)
     ∙ ap (λ bytes. head ++ bytes) (behind-before vs) ∙ sym (append_assoc head (behind_commas vs) (44 ∷ [])) in
     cut ∙ ap (λ bytes. take (length bytes - 1) bytes) all ∙ without_last (head ++ behind_commas vs) 44
-
--- `new` is `old` without the comma at its end, if one is there
-pub record IsWithoutComma (old new : List ℕ) : Type 0 where
-  pub comma : (front : List ℕ) → old ≡ front ++ 44 ∷ [] → new ≡ front
-  pub other : ((front : List ℕ) → old ≢ front ++ 44 ∷ []) → new ≡ old
 
 -- where `old` is a head, a colon and then values, each before a comma, and `new` is `old` without a comma at its end, if one is
 -- there, `new` is the head, the colon and the values joined by commas

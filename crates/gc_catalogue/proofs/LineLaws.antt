@@ -1,12 +1,9 @@
 -- Lines that are written read back.
-use Rattle.std.specs.Prelude.{◌≡◌, ◌<◌, ℕ, List, [], ◌∷◌, Option, Some, None, Result, Ok, refl}
+use Rattle.std.specs.Prelude.{◌<◌, ℕ, List, [], ◌∷◌, Option, Some, None, refl}
 use Rattle.std.specs.Option.{ForSome}
-use Rattle.std.proofs.Common.{◌∙◌, ap, arith, lit<}
+use Rattle.std.proofs.Common.{◌∙◌, arith, lit<}
 use Rattle.gc_lines.proofs.Written.{request_back, reply_back}
-use Rattle.gc_lines.specs.declared.fault.LineFault.{LineFault}
 use Rattle.gc_lines.specs.Headers.{IsIdInRange}
-use Rattle.gc_lines.specs.Requests.{RequestFields}
-use Rattle.gc_lines.specs.Readers.{request_at}
 use Rattle.gc_values.specs.declared.value.Value.{Value}
 use Rattle.gc_values.specs.declared.value.Value.TheVariants as value
 use Rattle.gc_catalogue.specs.declared.answer.Answer.{Answer}
@@ -14,11 +11,11 @@ use Rattle.gc_catalogue.specs.declared.answer.Answer.TheVariants.{Nothing}
 use Rattle.gc_catalogue.specs.declared.answer.Reading.TheVariants as reading
 use Rattle.gc_catalogue.specs.declared.call.Call.{Call}
 use Rattle.gc_catalogue.specs.Answers.{answer_fields, IsAnswer, IsAnswerOf, IsFittingAnswer, rounded_answer}
-use Rattle.gc_catalogue.specs.Laws.{CallsReadBack, OneCallForALine, ReadsBackAnswer}
+use Rattle.gc_catalogue.specs.Laws.{CallsReadBack, ReadsBackAnswer}
 use Rattle.gc_values.specs.Lists.{AreValues}
 use Rattle.gc_catalogue.specs.Lists.{shown_values}
 use Rattle.gc_catalogue.specs.Texts.{answer_params, reply_of, request_of}
-use Rattle.gc_catalogue.proofs.CallLaws.{one_call, written_is_call}
+use Rattle.gc_catalogue.proofs.CallLaws.{written_is_call}
 use Rattle.gc_values.proofs.ListLaws.{written_reads}
 use Rattle.gc_catalogue.proofs.Table.{number_fits, shape-rounded, values-rounded}
 
@@ -26,20 +23,8 @@ use Rattle.gc_catalogue.proofs.Table.{number_fits, shape-rounded, values-rounded
 pub call_again : CallsReadBack
 call_again id call i fits = record { line = request_back (request_of id call) (record { rpc = number_fits call; id = i }); is_call = written_is_call call fits }
 
--- where a result is `Ok p` and is `Ok q`, p and q are equal
-pub read_once : (r : Result RequestFields LineFault) (p q : RequestFields) → r ≡ Ok p → r ≡ Ok q → p ≡ q
-read_once r p q e f = cc
-
--- calls with values in range and the same line, each with an id below 8 or without one, are the same call, and have the same id
-pub one_call_for_a_line : OneCallForALine
-one_call_for_a_line i j c d x y f g e =
-    let one = call_again i c x f in
-    let two = call_again j d y g in
-    let same : request_of i c ≡ request_of j d = read_once _ (request_of i c) (request_of j d) one.line (ap request_at e ∙ two.line) in
-    (ap (λ (q : RequestFields). q.id) same, one_call _ _ c d one.is_call (rw (ap (λ (q : RequestFields). q.rpc) same, ap (λ (q : RequestFields). q.params) same) two.is_call))
-
 -- values in their ranges stay there when doubles are rounded
-shown_fit : (places : ℕ) (vs : List Value) → AreValues vs → AreValues (shown_values (Some places) vs)
+shown_fit : (places : ℕ) (vs : List Value) → AreValues vs → AreValues (shown_values places vs)
 shown_fit places [] h = tt
 shown_fit places (value.Double d ∷ vs) h = (tt, shown_fit places vs h.1)
 shown_fit places (value.Long z ∷ vs) h = (h.0, shown_fit places vs h.1)

@@ -1,6 +1,6 @@
 -- What holds of every row of the tables of calls and answers (`call_fields`, `answer_fields`). The prover goes through the rows
 -- itself: a new row needs no line here.
-use Rattle.std.specs.Prelude.{◌≡◌, ◌≤◌, ◌<◌, ℕ, List, Some, length}
+use Rattle.std.specs.Prelude.{◌≡◌, ◌≤◌, ◌<◌, ℕ, List, length}
 use Rattle.std.proofs.Common.{arith}
 use Rattle.gc_values.specs.Lists.{kinds_of}
 use Rattle.gc_values.specs.declared.value.Kind.{Kind}
@@ -31,6 +31,10 @@ few_values call = grind arith
 same_kinds : (c d : Call) → (call_fields c).number ≡ (call_fields d).number → call_kinds c ≡ call_kinds d
 same_kinds c d e = grind arith
 
+-- calls of one number have as many parameters
+pub same_parameter_count : (c d : Call) → (call_fields c).number ≡ (call_fields d).number → length (call_fields c).values ≡ length (call_fields d).values
+same_parameter_count c d e = grind arith
+
 -- calls of one number have answers of one shape
 same_answers : (c d : Call) → (call_fields c).number ≡ (call_fields d).number → (call_fields c).answer ≡ (call_fields d).answer
 same_answers c d e = grind arith
@@ -57,7 +61,7 @@ same_answer a b shape values = grind arith
 
 -- a rounded answer's values are the answer's, with each double rounded
 pub values-rounded : (places : ℕ) (answer : Answer)
-    → (answer_fields (rounded_answer places answer)).values ≡ shown_values (Some places) (answer_fields answer).values
+    → (answer_fields (rounded_answer places answer)).values ≡ shown_values places (answer_fields answer).values
 values-rounded places answer = grind arith
 
 -- a rounded answer has the shape of the answer

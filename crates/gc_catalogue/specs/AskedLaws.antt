@@ -2,13 +2,12 @@
 use Rattle.std.specs.Prelude.{◌≡◌, ◌≤◌, ℕ, List, Option, Ok, length}
 use Rattle.gc_lines.specs.Headers.{IsIdInRange}
 use Rattle.gc_lines.specs.Lines.{IsPlain}
-use Rattle.gc_lines.specs.Replies.{ReplyFields}
 use Rattle.gc_lines.specs.Readers.{request_at}
-use Rattle.gc_catalogue.specs.declared.answer.Reading.{Reading}
 use Rattle.gc_catalogue.specs.declared.asked.Asked.{Asked}
 use Rattle.gc_catalogue.specs.declared.raw.RawCall.{RawCall}
 use Rattle.gc_catalogue.specs.Asked.{asked_line, asked_request, raw_line, IsAsked, IsAskedFitting, IsAskedReading}
 use Rattle.gc_catalogue.specs.Calls.{IsNoProcedure}
+use Rattle.gc_catalogue.specs.Laws.{HasOneReading, OneForALine, ReadsEachReply}
 
 -- the request line of a procedure that isn't in the table has at most 512 bytes, none of which is CR or LF, and no procedure of
 -- the table has its number
@@ -25,11 +24,9 @@ RawLinesFit = (id : Option ℕ) (raw : RawCall) → IsIdInRange id → FitsALine
 abbrev pub OneAsked : Type 0
 OneAsked = (rpc : ℕ) (params : List ℕ) (a b : Asked) → IsAsked rpc params a → IsAsked rpc params b → a ≡ b
 
--- two requests for what is allowed (`IsAskedFitting`) with the same line, each with an id below 8 or without one, ask for the
--- same thing, and have the same id
+-- `OneForALine`, for what is allowed (`IsAskedFitting`)
 abbrev pub OneAskedForALine : Type 0
-OneAskedForALine = (i j : Option ℕ) (a b : Asked) → IsIdInRange i → IsIdInRange j → IsAskedFitting a → IsAskedFitting b
-    → asked_line i a ≡ asked_line j b → (i ≡ j) × (a ≡ b)
+OneAskedForALine = OneForALine asked_line IsAskedFitting
 
 -- the line of what is asked reads as the request for it, whose number and parameters ask for just that
 pub record ReadsBackAsked (id : Option ℕ) (asked : Asked) : Type 0 where
@@ -43,8 +40,8 @@ AskedReadBack = (id : Option ℕ) (asked : Asked) → IsIdInRange id → IsAsked
 
 -- a reply has at most one reading for what was asked
 abbrev pub OneAskedReading : Type 0
-OneAskedReading = (asked : Asked) (reply : ReplyFields) (x y : Reading) → IsAskedReading asked reply x → IsAskedReading asked reply y → x ≡ y
+OneAskedReading = HasOneReading IsAskedReading
 
 -- each reply has a reading for whatever is asked
 abbrev pub EachReplyIsReadForAsked : Type 0
-EachReplyIsReadForAsked = (asked : Asked) (reply : ReplyFields) → (reading : Reading) × IsAskedReading asked reply reading
+EachReplyIsReadForAsked = ReadsEachReply IsAskedReading

@@ -1,6 +1,6 @@
 -- Calls: the table of procedures, and which parameters are a call's. Numbers and names are those of the manual's procedure
 -- tables; which parameters a procedure has, and of which kinds, is this project's own after them.
-use Rattle.std.specs.Prelude.{◌≡◌, ◌≢◌, ℕ, List, [], ◌∷◌, Result, Ok, Err, IsOk}
+use Rattle.std.specs.Prelude.{◌≡◌, ◌≢◌, ℕ, List, [], ◌∷◌, length, Result, Ok, Err, IsOk}
 use Rattle.gc_lines.specs.declared.request.Request.{Request}
 use Rattle.gc_values.specs.declared.value.Value.{Value}
 use Rattle.gc_values.specs.declared.value.Value.TheVariants.{Double, Long, Short, Bool}
@@ -91,6 +91,10 @@ IsProcedure rpc = (call : Call) × ((call_fields call).number ≡ rpc)
 -- no procedure of the table has the number
 abbrev pub IsNoProcedure : ℕ → Type 0
 IsNoProcedure rpc = (call : Call) → (call_fields call).number ≢ rpc
+
+-- where a procedure of the table has the number, it has `count` parameters
+abbrev pub IsParameterCount : (rpc count : ℕ) → Type 0
+IsParameterCount rpc count = (call : Call) → (call_fields call).number ≡ rpc → count ≡ length (call_fields call).values
 
 -- a request with this number and these parameters is a request for the call: the number is that of the call's procedure, and the
 -- parameters read as the call's values

@@ -47,11 +47,15 @@ DoublesAreRounded = (places : ℕ) (answer : Answer)
     → ((answer_fields (rounded_answer places answer)).shape ≡ (answer_fields answer).shape)
     × AreShown places (answer_fields answer).values (answer_fields (rounded_answer places answer)).values
 
--- two calls with values in range and with the same request line, each with an id below 8 or without one, are the same call, and
--- have the same id
+-- two requests of which `Fits` holds, with the same line, each with an id below 8 or without one, ask for the same, and have the
+-- same id; `line_of` gives the line of a request
+abbrev pub OneForALine : {Q : Type 0} → (line_of : Option ℕ → Q → List ℕ) → (Fits : Q → Type 0) → Type 0
+OneForALine {Q = Q} line_of Fits = (i j : Option ℕ) (a b : Q) → IsIdInRange i → IsIdInRange j → Fits a → Fits b
+    → line_of i a ≡ line_of j b → (i ≡ j) × (a ≡ b)
+
+-- `OneForALine`, for calls with values in range
 abbrev pub OneCallForALine : Type 0
-OneCallForALine = (i j : Option ℕ) (c d : Call) → IsIdInRange i → IsIdInRange j → IsFitting c → IsFitting d
-    → request_line i c ≡ request_line j d → (i ≡ j) × (c ≡ d)
+OneCallForALine = OneForALine request_line IsFitting
 
 -- the number and the parameters of a request are those of at most one call, and have at most one refusal; if they are those of a
 -- call, they have none
@@ -60,13 +64,21 @@ pub record OneCallOrRefusal : Type 0 where
   pub refusal : (rpc : ℕ) (params : List ℕ) (e f : CallFault) → IsRefusal rpc params e → IsRefusal rpc params f → e ≡ f
   pub never_both : (rpc : ℕ) (params : List ℕ) (c : Call) (e : CallFault) → IsCall rpc params c → IsRefusal rpc params e → ⊥
 
+-- by `says`, a reply has at most one reading for what was asked
+abbrev pub HasOneReading : {Q : Type 0} → (says : Q → ReplyFields → Reading → Type 0) → Type 0
+HasOneReading {Q = Q} says = (asked : Q) (reply : ReplyFields) (x y : Reading) → says asked reply x → says asked reply y → x ≡ y
+
+-- by `says`, each reply has a reading for whatever is asked
+abbrev pub ReadsEachReply : {Q : Type 0} → (says : Q → ReplyFields → Reading → Type 0) → Type 0
+ReadsEachReply {Q = Q} says = (asked : Q) (reply : ReplyFields) → (reading : Reading) × says asked reply reading
+
 -- a reply to a call has at most one reading
 abbrev pub OneReading : Type 0
-OneReading = (call : Call) (reply : ReplyFields) (x y : Reading) → IsReading call reply x → IsReading call reply y → x ≡ y
+OneReading = HasOneReading IsReading
 
 -- each reply has a reading for each call
 abbrev pub EachReplyIsRead : Type 0
-EachReplyIsRead = (call : Call) (reply : ReplyFields) → (reading : Reading) × IsReading call reply reading
+EachReplyIsRead = ReadsEachReply IsReading
 
 -- the line of a call reads as its request, whose number and parameters are the call's
 pub record ReadsBackCall (id : Option ℕ) (call : Call) : Type 0 where

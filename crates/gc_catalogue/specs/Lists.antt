@@ -1,5 +1,5 @@
 -- What is written of a list of values, by the manual's chapter on the ASCII protocol: their texts, with commas between them.
-use Rattle.std.specs.Prelude.{ℕ, List, [], ◌∷◌, ◌++◌, map, Option, Some, None}
+use Rattle.std.specs.Prelude.{◌≡◌, ◌≢◌, ℕ, List, [], ◌∷◌, ◌++◌, map}
 use Rattle.std.specs.List.{flat_map}
 use Rattle.gc_values.specs.Decimals.{rounded}
 use Rattle.gc_values.specs.Item.{text}
@@ -19,12 +19,16 @@ behind_commas values = flat_map (λ v. 44 ∷ text v) values
 abbrev pub before_commas : List Value → List ℕ
 before_commas values = flat_map (λ v. text v ++ 44 ∷ []) values
 
--- a value as it is written: a double is rounded to the places, if places are given, and any other value is unchanged
-abbrev pub shown : (places : Option ℕ) → Value → Value
-shown None v = v
-shown (Some places) (value.Double d) = value.Double (rounded d places)
-shown (Some places) v = v
+-- a value as it is written: a double is rounded to the places, and any other value is unchanged
+abbrev pub shown : (places : ℕ) → Value → Value
+shown places (value.Double d) = value.Double (rounded d places)
+shown places v = v
 
--- the values as they are written: each double rounded to the places, if places are given
-abbrev pub shown_values : (places : Option ℕ) → List Value → List Value
+-- the values as they are written: each double rounded to the places, and any other value unchanged
+abbrev pub shown_values : (places : ℕ) → List Value → List Value
 shown_values places vs = map (λ v. shown places v) vs
+
+-- no part of a promise: `new` is `old` without the comma at its end, if one is there
+pub record IsWithoutComma (old new : List ℕ) : Type 0 where
+  pub comma : (front : List ℕ) → old ≡ front ++ 44 ∷ [] → new ≡ front
+  pub other : ((front : List ℕ) → old ≢ front ++ 44 ∷ []) → new ≡ old

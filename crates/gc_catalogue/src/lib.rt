@@ -24,7 +24,7 @@ pub use asking::Asking;
 pub use calendar::{is_leap, month_days};
 pub use call::{Call, DateTime, Station};
 pub use fault::CallFault;
-pub use names::procedure_name;
+pub use names::{parameter_count, procedure_name};
 pub use raw::{RawCall, RawFault, raw_call};
 pub use raw_text::{RAW_BYTES, RawText};
 pub use replies::{decode_answer, decode_answer_into, encode_answer, encode_answer_onto};

@@ -1,7 +1,7 @@
-//! The names of the procedures, as the manual's tables have them.
+//! The names of the procedures, as the manual's tables have them, and how many parameters each has.
 
-ghost use Rattle.std.specs.Prelude.{◌≡◌, Some, IfSome, IfNone, option_map};
-ghost use Rattle.gc_catalogue.specs.Calls.{call_fields, IsNoProcedure, IsProcedure};
+ghost use Rattle.std.specs.Prelude.{◌≡◌, Some, IfSome, IfNone, length, option_map};
+ghost use Rattle.gc_catalogue.specs.Calls.{call_fields, IsNoProcedure, IsParameterCount, IsProcedure};
 ghost use Rattle.gc_catalogue.specs.Names.{call_name};
 ghost use Rattle.gc_catalogue.specs.declared.call.Call.{Call};
 
@@ -42,6 +42,38 @@ impl Call {
             Call::FineAdjust { .. } => "AUT_FineAdjust",
         }
     }
+
+    // How many parameters the call's procedure has.
+    fn parameter_count(&self) -> u8
+        ensures { result ≡ length (call_fields self.now).values }
+    {
+        match self {
+            Call::SetPrecision(_)
+            | Call::SetHeight(_)
+            | Call::GetAngle { .. }
+            | Call::SetPrism(_)
+            | Call::MeasDistance { .. } => 1,
+            Call::DoMeasure { .. } | Call::SimpleMea { .. } => 2,
+            Call::ChangeFace { .. } | Call::FineAdjust { .. } => 3,
+            Call::SetStation(_) => 4,
+            Call::Position { .. } => 5,
+            Call::SetDate(_) => 6,
+            _ => 0,
+        }
+    }
+}
+
+// A call of the procedure with this number; its parameters don't matter. `None`: no procedure of the table has this number.
+fn call_with_number(rpc: u16) -> Option<Call>
+    ensures found { IfSome result (λ call. (call_fields call).number ≡ rpc) }
+    ensures none { IfNone result (IsNoProcedure rpc) }
+{
+    let mut call = Call::NullProc;
+    if read_row(rpc, &mut Quick::new(b""), &mut call) {
+        Some(call)
+    } else {
+        None
+    }
 }
 
 /// The manual's name of the procedure with this number. `None`: no procedure of the table has this number.
@@ -50,10 +82,17 @@ pub fn procedure_name(rpc: u16) -> Option<&'static str>
     ensures known { IfSome result (λ _. IsProcedure rpc) }
     ensures none { IfNone result (IsNoProcedure rpc) }
 {
-    // `read_row` makes this a call with the number, if there is one. The parameters don't matter.
-    let mut call = Call::NullProc;
-    if !read_row(rpc, &mut Quick::new(b""), &mut call) {
-        return None;
-    }
+    let call = call_with_number(rpc)?;
     Some(call.name())
+}
+
+/// How many parameters the procedure with this number has; 0 where no procedure of the table has this number.
+pub fn parameter_count(rpc: u16) -> u8
+    ensures count { IsParameterCount rpc result }
+    ensures none { IsNoProcedure rpc → result ≡ 0 }
+{
+    match call_with_number(rpc) {
+        Some(call) => call.parameter_count(),
+        None => 0,
+    }
 }

@@ -35,20 +35,6 @@ pub enum RawFault {
     TooMany,
 }
 
-impl RawFault {
-    // The `RawFault` of the same name for `OpenQuote` and `TooMany`, which are the faults of `items_fault`; `TooMany` for any
-    // other fault.
-    fn of_items(fault: ValueFault) -> RawFault
-        ensures open_quote { fault ≡ ValueFault.OpenQuote → result ≡ RawFault.OpenQuote }
-        ensures too_many { fault ≡ ValueFault.TooMany → result ≡ RawFault.TooMany }
-    {
-        match fault {
-            ValueFault::OpenQuote => RawFault::OpenQuote,
-            _ => RawFault::TooMany,
-        }
-    }
-}
-
 /// The fault of a list of parameters, whatever their kinds are: `OpenQuote` for an odd number of double quotes, and else
 /// `TooMany` for more than 16 items. `None`: the number of double quotes is even, and there are at most 16 items.
 pub(crate) fn items_fault(params: &[u8]) -> Option<ValueFault>
@@ -83,7 +69,9 @@ fn raw_fault(rpc: u16, params: &[u8]) -> Option<RawFault>
         return Some(RawFault::TooLong);
     }
     match items_fault(params) {
-        Some(fault) => Some(RawFault::of_items(fault)),
+        Some(ValueFault::OpenQuote) => Some(RawFault::OpenQuote),
+        // `items_fault` has only one other fault.
+        Some(_) => Some(RawFault::TooMany),
         None => None,
     }
 }

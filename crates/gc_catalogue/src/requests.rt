@@ -1,11 +1,12 @@
 //! Calls and their request lines.
 
-ghost use Rattle.std.specs.Prelude.{◌≡◌, ◌≢◌, ◌+◌, ◌<◌, ◌≤◌, ◌++◌, ◌∷◌, [], ℕ, List, IsTrue, IfOk, IfErr, OnOk};
+ghost use Rattle.std.specs.Prelude.{◌≡◌, ◌+◌, ◌<◌, ◌≤◌, ◌++◌, IsTrue, IfOk, IfErr, OnOk};
 ghost use Rattle.std.specs.Option.{ForSome};
 ghost use Rattle.arrayvec.specs.ArrayVec.{array_vec_len};
 ghost use Rattle.gc_lines.specs.Lines.{IsPlain};
 ghost use Rattle.gc_catalogue.specs.Calls.{GivesCallOf, GivesRefusalOf, IsCall, IsCallOf, IsFitting, IsRefusal, IsRefusalOf, WritesCallOf};
 ghost use Rattle.gc_catalogue.specs.Laws.{ReadsBackCall};
+ghost use Rattle.gc_catalogue.specs.Lists.{IsWithoutComma};
 ghost use Rattle.gc_catalogue.specs.Texts.{request_line};
 
 use crate::call::Call;
@@ -44,8 +45,7 @@ pub fn encode_call(id: Option<u8>, call: &Call) -> Line
 
 // Removes the comma at the end, if there is one. Each value was written with a comma after it; a line without values ends in its colon.
 fn end_list<const N: usize>(out: &mut ArrayVec<u8, N>)
-    ensures comma { (front : List ℕ) → out.old.items ≡ front ++ 44 ∷ [] → out.new.items ≡ front }
-    ensures other { ((front : List ℕ) → out.old.items ≢ front ++ 44 ∷ []) → out.new.items ≡ out.old.items }
+    ensures { IsWithoutComma out.old.items out.new.items }
 {
     if out.ends_with(b",") {
         out.pop();

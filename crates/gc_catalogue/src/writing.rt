@@ -1,6 +1,6 @@
 //! The rows for writing: the number, the values and the answer's shape of each procedure, and the values of each answer.
 
-ghost use Rattle.std.specs.Prelude.{◌≡◌, ◌<◌, ◌≤◌, ◌++◌, [], List, Some};
+ghost use Rattle.std.specs.Prelude.{◌≡◌, ◌<◌, ◌≤◌, ◌++◌, [], List};
 ghost use Rattle.std.specs.Option.{ForSome};
 ghost use Rattle.gc_values.specs.declared.value.Value.{Value};
 ghost use Rattle.gc_catalogue.specs.Answers.{answer_fields};
@@ -238,7 +238,7 @@ impl Answer {
     pub(crate) fn write_row<T: Taker>(&self, places: u8, to: &mut T)
         requires places { places ≤ 15 }
         requires room { 6 ≤ T.room to.old }
-        ensures { (t : T) → T.takes to.new [] t → T.takes to.old (shown_values (Some places) (answer_fields self.now).values) t }
+        ensures { (t : T) → T.takes to.new [] t → T.takes to.old (shown_values places (answer_fields self.now).values) t }
     {
         match self {
             Answer::Nothing => {},

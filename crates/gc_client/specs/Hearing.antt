@@ -29,11 +29,15 @@ HearsInto old line kind.Settled settlements new = fits old (heard line) ≡ true
 HearsInto old line kind.Stray settlements new = IsOk (reply_at line) × (fits old (heard line) ≡ false) × (settlements ≡ []) × (new ≡ old)
 HearsInto old line (kind.Unread fault) settlements new = (reply_at line ≡ Err fault) × (settlements ≡ []) × (new ≡ old)
 
--- the same as `HearsInto`, of a report that contains the settlements
+-- what a client reports of a line, without the settlements
+abbrev pub hearing_of : {Q : Type 0} → Heard Q → Hearing
+hearing_of (Settled settlements) = kind.Settled
+hearing_of Stray = kind.Stray
+hearing_of (Unread fault) = kind.Unread fault
+
+-- `HearsInto`, of a report that contains the settlements
 abbrev pub HearsAs : {Q : Type 0} → (old : ById Q) → (line : List ℕ) → Heard Q → (new : ById Q) → Type 0
-HearsAs old line (Settled settlements) new = fits old (heard line) ≡ true
-HearsAs old line Stray new = IsOk (reply_at line) × (fits old (heard line) ≡ false) × (new ≡ old)
-HearsAs old line (Unread fault) new = (reply_at line ≡ Err fault) × (new ≡ old)
+HearsAs old line report new = HearsInto old line (hearing_of report) (settlements_in report) new
 
 -- these settlements are those that the rule makes of the line in the client `old`. By the relation `says` an answer's reading is
 -- that of its line

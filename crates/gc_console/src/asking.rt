@@ -197,9 +197,8 @@ fn measure_recorded<
 
 // Ends the appending of a run, if it had a file.
 fn end_appending<R: Files<File = File>>(appended: Option<Appended<'_, R>>) {
-    match appended {
-        Some(appended) => appended.end(),
-        None => {}
+    if let Some(appended) = appended {
+        appended.end();
     }
 }
 

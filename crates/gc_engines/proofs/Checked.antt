@@ -15,7 +15,7 @@ use Rattle.gc_lines.specs.declared.served.ServeFault.{ServeFault}
 use Rattle.gc_lines.specs.declared.served.ServeFault.TheVariants.{Read, Write, TooManyReads}
 use Rattle.gc_lines.proofs.InOrder.{in_order_then, in_order_one}
 use Rattle.gc_engines.specs.Verdicts.{IsVerdict, AreVerdicts, verdict_line, verdict_lines_from, AreLinesOf}
-use Rattle.gc_engines.specs.Checking.{WritesVerdictOn, JudgesFrame, ChecksAll, ChecksPart, Checks}
+use Rattle.gc_engines.specs.Checking.{WritesVerdictOn, JudgesFrame, WritesAll, WritesPart, Checks}
 use Rattle.gc_engines.specs.declared.check.Judge.{Judge}
 use Rattle.gc_engines.specs.declared.verdict.Verdict.{Verdict}
 
@@ -104,18 +104,19 @@ lines_of s t seen texts at few ended h =
 -- `count` is how many lines of verdicts went out whole
 module _
     (s t : Judge) (given : List ℕ) (a b : Option (List ℕ)) (count : ℕ) (at : s.frames ≡ 0) (few : length given < 2 ^ 64) where
-  -- where all frames were judged, and the lines of their verdicts went out, the check is as `ChecksAll` has it
-  all_checked : AnswersAll JudgesFrame (progress s a 0) (progress t b count) (frames given) → ChecksAll given a b count
+  -- where all frames were judged, and the lines of their verdicts went out, the check is as `WritesAll` has it
+  all_checked : AnswersAll JudgesFrame (progress s a 0) (progress t b count) (frames given) → WritesAll AreLinesOf (frames given) a b 0 count
   all_checked all = record {
-    lines = all.texts;
+    texts = all.texts;
     are = lines_of s t (frames given) all.texts at (omega (arith, few, few_frames given)) (ended_pieces (pieces_behind [] given)) all.answers;
     counts = omega (arith, all.counts);
     took = all.took;
   }
 
   -- where the first frames were judged, and the lines of their verdicts went out, but of the last line only a front that isn't all
-  -- of it, the check is as `ChecksPart` has it
-  part_checked : (bytes : ℕ) → AnswersPart JudgesFrame (progress s a 0) (progress t b count) (frames given) bytes → ChecksPart given a b count bytes
+  -- of it, the check is as `WritesPart` has it
+  part_checked : (bytes : ℕ) → AnswersPart JudgesFrame (progress s a 0) (progress t b count) (frames given) bytes
+      → WritesPart AreLinesOf (frames given) a b 0 count bytes
   part_checked bytes part =
       let seen = part.earlier ++ part.frame ∷ [] in
       let order : frames given ≡ seen ++ part.later = part.order ∙ sym (append_assoc part.earlier (part.frame ∷ []) part.later) in

@@ -1,5 +1,5 @@
 -- Which lines have the forms of a schedule.
-use Rattle.std.proofs.Common.{◌≡◌, ℕ, List, ◌∷◌, ◌++◌, Option, Some, None, ap, subst, sym, ◌∙◌, codes}
+use Rattle.std.proofs.Common.{◌≡◌, ℕ, List, ◌++◌, Option, Some, ap, subst, sym, ◌∙◌, codes}
 use Rattle.std.proofs.lemmas.List.{append_cancel_left}
 use Rattle.gc_catalogue.specs.declared.call.Call.{Call}
 use Rattle.gc_world.specs.declared.event.Event.{Event}
@@ -7,9 +7,10 @@ use Rattle.gc_world.specs.declared.event.Event.TheVariants.{Send}
 use Rattle.gc_texts.specs.Cuts.{Cuts}
 use Rattle.gc_texts.specs.Procedures.{IsNumber, IsProcedure}
 use Rattle.gc_texts.specs.LineForms.{IsReadAs}
-use Rattle.gc_texts.proofs.Cutting.{read_alike, cut_found, digits_lack_spaces}
+use Rattle.gc_texts.proofs.Cutting.{read_alike}
 use Rattle.std.proofs.lemmas.Option.{same_Some}
 use Rattle.gc_engines.specs.Schedule.{IsNumbered, IsRequested, IsSend, IsEvent, SendsRequested}
+use Rattle.gc_engines.proofs.InThree.{first_cut, second_cut}
 
 -- where a line is `word` and `rest`, and r is the number up to `max` that `rest` is, or `None` where it is none, r is the
 -- number after `word` in the line, too
@@ -19,42 +20,25 @@ numbered_is word line rest max r e =
     read_alike (λ n. IsNumber rest n max) (λ n. IsNumbered word line n max) r (λ n number. record { digits = rest; line_is = e; number = number })
     (λ n found. subst (λ (ds : List ℕ). IsNumber ds n max) (append_cancel_left word found.digits rest (sym found.line_is ∙ e)) found.number)
 
--- the parts of a text that requests a call: a target (t), a deadline (d), and a procedure with its parameters, with spaces
--- between them
+-- the parts of a text that requests a call, with a target (t), a deadline (d), and a procedure with its parameters
 module _ (text : List ℕ) (t : ℕ) (call : Call) (d : ℕ) (r : IsRequested text t call d) where
-  -- the first space stands after the target
-  first_cut : (target : List ℕ) (rest : Option (List ℕ)) → Cuts 32 text target rest → (target ≡ r.target_text) × (rest ≡ Some (r.deadline_text ++ 32 ∷ r.procedure))
-  first_cut target rest cut = cut_found 32 text target rest r.target_text (r.deadline_text ++ 32 ∷ r.procedure) cut r.text_is (digits_lack_spaces r.target_text r.target_is.names.digits)
-
-  -- the second space stands after the deadline
-  second_cut : (target rest deadline : List ℕ) (behind : Option (List ℕ)) → Cuts 32 text target (Some rest) → Cuts 32 rest deadline behind
-      → (deadline ≡ r.deadline_text) × (behind ≡ Some r.procedure)
-  second_cut target rest deadline behind cut next =
-      let first = first_cut target (Some rest) cut in
-      cut_found 32 rest deadline behind r.deadline_text r.procedure next (same_Some rest (r.deadline_text ++ 32 ∷ r.procedure) first.1) (digits_lack_spaces r.deadline_text r.deadline_is.names.digits)
-
-  -- a text that requests a call has a space
-  pub no_first_space : (target : List ℕ) → Cuts 32 text target None → ⊥
-  no_first_space target cut = let first = first_cut target None cut in let bad : None ≡ Some (r.deadline_text ++ 32 ∷ r.procedure) = first.1 in cc
-
-  -- a text that requests a call has a second space
-  pub no_second_space : (target rest deadline : List ℕ) → Cuts 32 text target (Some rest) → Cuts 32 rest deadline None → ⊥
-  no_second_space target rest deadline cut next = let second = second_cut target rest deadline None cut next in let bad : None ≡ Some r.procedure = second.1 in cc
-
   -- what stands before the first space is a target, a number of 32 bits
   pub has_target : (target rest : List ℕ) → Cuts 32 text target (Some rest) → ((n : ℕ) → IsNumber target n 4294967295 → ⊥) → ⊥
-  has_target target rest cut none = none t (subst (λ (ds : List ℕ). IsNumber ds t 4294967295) (sym (first_cut target (Some rest) cut).0) r.target_is)
+  has_target target rest cut none =
+      none t (subst (λ (ds : List ℕ). IsNumber ds t 4294967295) (sym (first_cut text r.parts target (Some rest) cut).0) r.target_is)
 
   -- what stands between the first two spaces is a deadline, a number of 64 bits
   pub has_deadline : (target rest deadline : List ℕ) (behind : Option (List ℕ)) → Cuts 32 text target (Some rest) → Cuts 32 rest deadline behind
       → ((n : ℕ) → IsNumber deadline n 18446744073709551615 → ⊥) → ⊥
-  has_deadline target rest deadline behind cut next none = none d (subst (λ (ds : List ℕ). IsNumber ds d 18446744073709551615) (sym (second_cut target rest deadline behind cut next).0) r.deadline_is)
+  has_deadline target rest deadline behind cut next none =
+      none d (subst (λ (ds : List ℕ). IsNumber ds d 18446744073709551615) (sym (second_cut text r.parts target rest deadline behind cut next).0) r.deadline_is)
 
   -- what stands after the second space is a procedure and its parameters
   pub has_procedure : (target rest deadline procedure : List ℕ) → Cuts 32 text target (Some rest) → Cuts 32 rest deadline (Some procedure)
       → ((c : Call) → IsProcedure procedure c → ⊥) → ⊥
   has_procedure target rest deadline procedure cut next none =
-      none call (subst (λ (p : List ℕ). IsProcedure p call) (sym (same_Some procedure r.procedure (second_cut target rest deadline (Some procedure) cut next).1)) r.procedure_is)
+      let same = same_Some procedure r.parts.third (second_cut text r.parts target rest deadline (Some procedure) cut next).1 in
+      none call (subst (λ (p : List ℕ). IsProcedure p call) (sym same) r.procedure_is)
 
 -- where a line is `send ` and `rest`, and `event` is the send that `rest` requests, the line has the form of the event
 pub send_is : (word line rest : List ℕ) (event : Event) → word ≡ codes "send " → line ≡ word ++ rest → SendsRequested rest event → IsEvent line event

@@ -1,5 +1,6 @@
 mod Checked
 mod Forms
+mod InThree
 mod LogVerdicts
 mod OneSchedule
 mod OneVerdict

@@ -14,7 +14,8 @@ use Rattle.gc_lines.proofs.Cutting.{pieces-append, rest-append}
 use Rattle.gc_lines.proofs.InOrder.{all_of-append}
 use Rattle.gc_lines.proofs.Known.{Appends-is}
 use Rattle.gc_texts.proofs.TextLines.{AreItems-append}
-use Rattle.gc_engines.specs.LogChecking.{IsLogVerdict, AreLogVerdicts, KeepsLine, WritesVerdicts, WritesVerdictsInPart}
+use Rattle.gc_engines.specs.LogChecking.{IsLogVerdict, AreLogVerdicts, KeepsLine, TakesPiece, TakesPieceInPart, WritesVerdicts, WritesVerdictsInPart}
+use Rattle.gc_engines.specs.declared.check_log.LogCheck.{LogCheck}
 use Rattle.gc_engines.specs.declared.check_log.PartialLine.{PartialLine}
 
 -- where `WritesVerdicts` is true of p, and then of q after it, it is true of `p ++ q`
@@ -103,66 +104,61 @@ piece_more bs i within =
     let more = take_more bs i 0 within in
     (more, sym (take-append-drop (i + 1) bs) ∙ ap (λ l. l ++ drop (i + 1) bs) more)
 
--- one turn of the loop over the bytes `bs` of a piece, at byte i: `kept` is what is kept of the incomplete line before it, and
--- `next` after it
-module _ (kept next : PartialLine) (rest bs : List ℕ) (i : ℕ) (within : i < length bs) (a b c : Option (List ℕ)) (n m k : ℕ) where
+-- one turn of the loop over the bytes `bs` of a piece, at byte i: the check is `check` before it and `next` after it
+module _ (check next : LogCheck) (rest bs : List ℕ) (i : ℕ) (within : i < length bs) (a b c : Option (List ℕ)) (n : ℕ) where
   -- where `KeepsLine` and `WritesVerdicts` are true of the first i bytes of a piece, and then of the next byte, they are true of
   -- the first i + 1
-  pub loop_on : KeepsLine kept (rest_behind rest (take i bs)) × WritesVerdicts rest (take i bs) a b n m
-      → ((r : List ℕ) → KeepsLine kept r → KeepsLine next (rest_behind r (get_or bs i 0 ∷ [])) × WritesVerdicts r (get_or bs i 0 ∷ []) b c m k)
-      → KeepsLine next (rest_behind rest (take (i + 1) bs)) × WritesVerdicts rest (take (i + 1) bs) a c n k
+  pub loop_on : KeepsLine check.kept (rest_behind rest (take i bs)) × WritesVerdicts rest (take i bs) a b n check.replies
+      → TakesPiece check next (get_or bs i 0 ∷ []) b c
+      → KeepsLine next.kept (rest_behind rest (take (i + 1) bs)) × WritesVerdicts rest (take (i + 1) bs) a c n next.replies
   loop_on so byte =
       let it = byte (rest_behind rest (take i bs)) so.0 in
       let more = (piece_more bs i within).0 in (
-        subst (λ l. KeepsLine next l) (sym (ap (rest_behind rest) more ∙ rest-append rest (take i bs) (get_or bs i 0 ∷ []))) it.0,
-        subst (λ l. WritesVerdicts rest l a c n k) (sym more) (verdicts_then rest (take i bs) (get_or bs i 0 ∷ []) a b c n m k so.1 it.1),
+        subst (λ l. KeepsLine next.kept l) (sym (ap (rest_behind rest) more ∙ rest-append rest (take i bs) (get_or bs i 0 ∷ []))) it.0,
+        subst (λ l. WritesVerdicts rest l a c n next.replies) (sym more) (verdicts_then rest (take i bs) (get_or bs i 0 ∷ []) a b c n check.replies next.replies so.1 it.1),
       )
 
   -- where `WritesVerdicts` is true of the first i bytes of a piece, and the sink failed at the next byte,
   -- `WritesVerdictsInPart` is true of the piece
-  pub loop_fails : (bytes : ℕ) → KeepsLine kept (rest_behind rest (take i bs)) × WritesVerdicts rest (take i bs) a b n m
-      → ((r : List ℕ) → KeepsLine kept r → WritesVerdictsInPart r (get_or bs i 0 ∷ []) b c m k bytes) → WritesVerdictsInPart rest bs a c n k bytes
+  pub loop_fails : (bytes : ℕ) → KeepsLine check.kept (rest_behind rest (take i bs)) × WritesVerdicts rest (take i bs) a b n check.replies
+      → TakesPieceInPart check next (get_or bs i 0 ∷ []) b c bytes → WritesVerdictsInPart rest bs a c n next.replies bytes
   loop_fails bytes so byte =
-      subst (λ l. WritesVerdictsInPart rest l a c n k bytes) (sym (piece_more bs i within).1)
-      (part_before rest (take i bs ++ get_or bs i 0 ∷ []) (drop (i + 1) bs) a c n k bytes
-      (part_then rest (take i bs) (get_or bs i 0 ∷ []) a b c n m k bytes so.1 (byte (rest_behind rest (take i bs)) so.0)))
+      subst (λ l. WritesVerdictsInPart rest l a c n next.replies bytes) (sym (piece_more bs i within).1)
+      (part_before rest (take i bs ++ get_or bs i 0 ∷ []) (drop (i + 1) bs) a c n next.replies bytes
+      (part_then rest (take i bs) (get_or bs i 0 ∷ []) a b c n check.replies next.replies bytes so.1 (byte (rest_behind rest (take i bs)) so.0)))
 
--- how far a check has come, by the bytes that were given so far, at most 256 at each of `reads` reads: `kept` is what is kept
--- of the incomplete line, and the verdicts on the whole lines, `count` in number, went out
-pub record VerdictsSoFar (source_old source_new sink_old sink_new : Option (List ℕ)) (kept : PartialLine) (reads count : ℕ) : Type 0 where
+-- how far a check has come, by the bytes that were given so far, at most 256 at each of `reads` reads: what is kept of the
+-- incomplete line is theirs, and the verdicts on their whole lines went out and were counted
+pub record VerdictsSoFar (source_old source_new sink_old sink_new : Option (List ℕ)) (check : LogCheck) (reads : ℕ) : Type 0 where
   pub given : List ℕ
   pub gave : Consumes source_old source_new given
   pub few : length given ≤ 256 * reads
-  pub keeps : KeepsLine kept (rest_behind [] given)
-  pub written : WritesVerdicts [] given sink_old sink_new 0 count
+  pub keeps : KeepsLine check.kept (rest_behind [] given)
+  pub written : WritesVerdicts [] given sink_old sink_new 0 check.replies
 
 -- one more read of a check: the source gave `piece`. a, a' and a'' are what the source had still to give at first, before this
--- read and after it; b, b' and b'' are what the sink had taken then; and n and m are how many verdicts had gone out before and
--- after it
-module _ (a a' a'' b b' b'' : Option (List ℕ)) (kept next : PartialLine) (reads n m : ℕ) (piece : List ℕ) (so : VerdictsSoFar a a' b b' kept reads n) (gave : Consumes a' a'' piece) where
-  -- `VerdictsSoFar` stays true when one more piece, of at most 256 bytes, was read, the verdicts on the lines that end in it went
-  -- out, and `next` is what is kept after it
-  pub so_far_more : length piece ≤ 256
-      → ((r : List ℕ) → KeepsLine kept r → KeepsLine next (rest_behind r piece) × WritesVerdicts r piece b' b'' n m)
-      → VerdictsSoFar a a'' b b'' next (reads + 1) m
+-- read and after it; b, b' and b'' are what the sink had taken then; and the check is `check` before it and `next` after it
+module _ (a a' a'' b b' b'' : Option (List ℕ)) (check next : LogCheck) (reads : ℕ) (piece : List ℕ) (so : VerdictsSoFar a a' b b' check reads) (gave : Consumes a' a'' piece) where
+  -- `VerdictsSoFar` stays true when one more piece, of at most 256 bytes, was read and checked
+  pub so_far_more : length piece ≤ 256 → TakesPiece check next piece b' b'' → VerdictsSoFar a a'' b b'' next (reads + 1)
   so_far_more short piece_written =
       let it = piece_written (rest_behind [] so.given) so.keeps in
       record {
         given = so.given ++ piece;
         gave = Consumes-trans a a' a'' so.given piece so.gave gave;
         few = omega (arith, so.few, short, length-append so.given piece);
-        keeps = subst (λ l. KeepsLine next l) (sym (rest-append [] so.given piece)) it.0;
-        written = verdicts_then [] so.given piece b b' b'' 0 n m so.written it.1;
+        keeps = subst (λ l. KeepsLine next.kept l) (sym (rest-append [] so.given piece)) it.0;
+        written = verdicts_then [] so.given piece b b' b'' 0 check.replies next.replies so.written it.1;
       }
 
   -- where one more piece, of at most 256 bytes, was read, and the sink failed in it, the source has given some bytes, at most 256
   -- for each read, and the sink has taken a part of the verdicts on their lines
-  pub so_far_part : (bytes : ℕ) → length piece ≤ 256 → ((r : List ℕ) → KeepsLine kept r → WritesVerdictsInPart r piece b' b'' n m bytes)
-      → (given : List ℕ) × Consumes a a'' given × (length given ≤ 256 * (reads + 1)) × WritesVerdictsInPart [] given b b'' 0 m bytes
+  pub so_far_part : (bytes : ℕ) → length piece ≤ 256 → TakesPieceInPart check next piece b' b'' bytes
+      → (given : List ℕ) × Consumes a a'' given × (length given ≤ 256 * (reads + 1)) × WritesVerdictsInPart [] given b b'' 0 next.replies bytes
   so_far_part bytes short piece_written =
       let it = piece_written (rest_behind [] so.given) so.keeps in (
         so.given ++ piece,
         Consumes-trans a a' a'' so.given piece so.gave gave,
         omega (arith, so.few, short, length-append so.given piece),
-        part_then [] so.given piece b b' b'' 0 n m bytes so.written it,
+        part_then [] so.given piece b b' b'' 0 check.replies next.replies bytes so.written it,
       )

@@ -8,10 +8,10 @@ use Rattle.gc_world.specs.declared.event.Event.{Event}
 use Rattle.gc_world.specs.declared.event.Event.TheVariants.{Send, UpDeliver, UpBytes, UpLose, UpRepeat, DownDeliver, DownBytes, DownLose, DownRepeat, Expire, RestartClient, RestartInstrument}
 use Rattle.gc_texts.specs.LineForms.{is_kept, text_lines}
 use Rattle.gc_texts.specs.Procedures.{IsNumber, IsProcedure}
-use Rattle.gc_texts.proofs.Cutting.{one_front, digits_lack_spaces}
 use Rattle.gc_texts.proofs.OneReading.{one_procedure, one_list}
 use Rattle.gc_texts.proofs.Procedures.{one_number}
 use Rattle.gc_engines.specs.Schedule.{IsRequested, IsSend, IsEvent, IsSchedule}
+use Rattle.gc_engines.proofs.InThree.{one_in_three}
 
 -- the first of the three parts of an event: its kind, a number for each word or pair of words
 abbrev kind : Event → ℕ
@@ -118,13 +118,10 @@ count_is line (DownBytes n) h = ap (count_in 11) h.line_is ∙ sym h.number.name
 one_requested : (text : List ℕ) (t u : ℕ) (c d : Call) (m n : ℕ) → IsRequested text t c m → IsRequested text u d n
     → (t ≡ u) × (c ≡ d) × (m ≡ n)
 one_requested text t u c d m n r s =
-    let first = one_front 32 r.target_text s.target_text (r.deadline_text ++ 32 ∷ r.procedure) (s.deadline_text ++ 32 ∷ s.procedure) (sym r.text_is ∙ s.text_is)
-    (digits_lack_spaces r.target_text r.target_is.names.digits) (digits_lack_spaces s.target_text s.target_is.names.digits) in
-    let second = one_front 32 r.deadline_text s.deadline_text r.procedure s.procedure first.1 (digits_lack_spaces r.deadline_text r.deadline_is.names.digits)
-    (digits_lack_spaces s.deadline_text s.deadline_is.names.digits) in (
-      one_number s.target_text t u 4294967295 (subst (λ (x : List ℕ). IsNumber x t 4294967295) first.0 r.target_is) s.target_is,
-      one_procedure s.procedure c d (subst (λ (x : List ℕ). IsProcedure x c) second.1 r.procedure_is) s.procedure_is,
-      one_number s.deadline_text m n 18446744073709551615 (subst (λ (x : List ℕ). IsNumber x m 18446744073709551615) second.0 r.deadline_is) s.deadline_is,
+    let same = one_in_three text r.parts s.parts in (
+      one_number s.parts.first t u 4294967295 (subst (λ (x : List ℕ). IsNumber x t 4294967295) same.0 r.target_is) s.target_is,
+      one_procedure s.parts.third c d (subst (λ (x : List ℕ). IsProcedure x c) same.2 r.procedure_is) s.procedure_is,
+      one_number s.parts.second m n 18446744073709551615 (subst (λ (x : List ℕ). IsNumber x m 18446744073709551615) same.1 r.deadline_is) s.deadline_is,
     )
 
 -- what a `send` line with this target, call and deadline sends

@@ -4,19 +4,20 @@ use Rattle.std.specs.Prelude.{filter}
 use Rattle.std.specs.List.{filter_map}
 use Rattle.std.proofs.lemmas.List.{append_cancel_left}
 use Rattle.gc_values.specs.Whole.{NamesWhole}
-use Rattle.gc_values.specs.declared.decimal.Decimal.{Decimal}
 use Rattle.gc_values.proofs.DecimalLaws.{spells_unique}
 use Rattle.gc_values.proofs.WholeLemmas.{one_whole}
 use Rattle.gc_instrument.specs.State.{State}
 use Rattle.gc_instrument.specs.declared.target.Target.{Target}
+use Rattle.gc_scenes.specs.declared.rules.Offset.{Offset}
 use Rattle.gc_texts.specs.Cuts.{Cuts}
 use Rattle.gc_texts.specs.LineForms.{IsReadAs, IsText, is_kept, text_lines}
 use Rattle.gc_texts.specs.Nears.{IsDouble}
-use Rattle.gc_texts.proofs.Cutting.{read_alike, cut_found, one_front}
+use Rattle.gc_texts.proofs.Cutting.{read_alike}
 use Rattle.gc_texts.proofs.OneReading.{one_list}
-use Rattle.gc_engines.specs.Scenes.{IsSerial, IsTargetWords, IsTarget, IsSceneLine, IsScene, IsOverfullScene, scene_opening, targets_of}
+use Rattle.gc_engines.specs.Scenes.{AreOffsetWords, IsSerial, IsTargetWords, IsTarget, IsSceneLine, IsScene, IsOverfullScene, scene_opening, targets_of}
 use Rattle.gc_engines.specs.declared.scene_line.SceneLine.{SceneLine}
 use Rattle.gc_engines.specs.declared.scene_line.SceneLine.TheVariants as says
+use Rattle.gc_engines.proofs.InThree.{first_cut, second_cut, one_in_three}
 use Rattle.std.proofs.lemmas.Option.{same_Some}
 
 -- where a line is `target ` and `rest`, and `o` is the target that `rest` says, or `None` where it says none, `o` is what the
@@ -27,40 +28,17 @@ target_is line rest o e =
     read_alike (IsTargetWords rest) (IsTarget line) o (λ t said. record { words = rest; line_is = e; words_say = said })
     (λ t found. subst (λ (ws : List ℕ). IsTargetWords ws t) (append_cancel_left (codes "target ") found.words rest (sym found.line_is ∙ e)) found.words_say)
 
--- the parts of a text `HZ V DISTANCE`, three decimals with a space between two of them
-module _ (words : List ℕ) (t : Target) (p : IsTargetWords words t) where
-  -- the first space stands after HZ
-  first_cut : (hz : List ℕ) (rest : Option (List ℕ)) → Cuts 32 words hz rest → (hz ≡ p.hz_text) × (rest ≡ Some (p.v_text ++ 32 ∷ p.distance_text))
-  first_cut hz rest cut = cut_found 32 words hz rest p.hz_text (p.v_text ++ 32 ∷ p.distance_text) cut p.words_are p.hz_lacks
-
-  -- the second space stands after V
-  second_cut : (hz rest v : List ℕ) (behind : Option (List ℕ)) → Cuts 32 words hz (Some rest) → Cuts 32 rest v behind
-      → (v ≡ p.v_text) × (behind ≡ Some p.distance_text)
-  second_cut hz rest v behind cut next =
-      cut_found 32 rest v behind p.v_text p.distance_text next (same_Some rest (p.v_text ++ 32 ∷ p.distance_text) (first_cut hz (Some rest) cut).1) p.v_lacks
-
-  -- three decimals have a first space
-  pub no_first_space : (hz : List ℕ) → Cuts 32 words hz None → ⊥
-  no_first_space hz cut = let bad : None ≡ Some (p.v_text ++ 32 ∷ p.distance_text) = (first_cut hz None cut).1 in cc
-
-  -- three decimals have a second space
-  pub no_second_space : (hz rest v : List ℕ) → Cuts 32 words hz (Some rest) → Cuts 32 rest v None → ⊥
-  no_second_space hz rest v cut next = let bad : None ≡ Some p.distance_text = (second_cut hz rest v None cut next).1 in cc
-
-  -- what stands before the first space is a decimal
-  pub has_hz : (hz rest : List ℕ) → Cuts 32 words hz (Some rest) → ((d : Decimal) → IsDouble hz d → ⊥) → ⊥
-  has_hz hz rest cut none = none t.hz (subst (λ (x : List ℕ). IsDouble x t.hz) (sym (first_cut hz (Some rest) cut).0) p.hz_is)
-
-  -- what stands between the spaces is a decimal
-  pub has_v : (hz rest v : List ℕ) (behind : Option (List ℕ)) → Cuts 32 words hz (Some rest) → Cuts 32 rest v behind
-      → ((d : Decimal) → IsDouble v d → ⊥) → ⊥
-  has_v hz rest v behind cut next none = none t.v (subst (λ (x : List ℕ). IsDouble x t.v) (sym (second_cut hz rest v behind cut next).0) p.v_is)
-
-  -- what stands after the second space is a decimal
-  pub has_distance : (hz rest v distance : List ℕ) → Cuts 32 words hz (Some rest) → Cuts 32 rest v (Some distance)
-      → ((d : Decimal) → IsDouble distance d → ⊥) → ⊥
-  has_distance hz rest v distance cut next none =
-      none t.distance (subst (λ (x : List ℕ). IsDouble x t.distance) (sym (same_Some distance p.distance_text (second_cut hz rest v (Some distance) cut next).1)) p.distance_is)
+-- where the words of a target are cut, what stands before the first space, between the spaces, and after the second are the words
+-- of an offset
+pub has_offset : (words : List ℕ) (t : Target) → IsTargetWords words t → (hz rest v distance : List ℕ) → Cuts 32 words hz (Some rest)
+    → Cuts 32 rest v (Some distance) → ((o : Offset) → AreOffsetWords hz v distance o → ⊥) → ⊥
+has_offset words t p hz rest v distance cut next none =
+    let second = second_cut words p.parts hz rest v (Some distance) cut next in
+    none (record { hz = t.hz; v = t.v; distance = t.distance }) (record {
+      hz = subst (λ (x : List ℕ). IsDouble x t.hz) (sym (first_cut words p.parts hz (Some rest) cut).0) p.are.hz;
+      v = subst (λ (x : List ℕ). IsDouble x t.v) (sym second.0) p.are.v;
+      distance = subst (λ (x : List ℕ). IsDouble x t.distance) (sym (same_Some distance p.parts.third second.1)) p.are.distance;
+    })
 
 -- the first byte of a line that says this: the first letter of `serial`, `name` or `target`
 abbrev head : SceneLine → ℕ
@@ -82,12 +60,11 @@ same_target t u e f g =
 -- three words say one target at most
 one_target_of_words : (words : List ℕ) (t u : Target) → IsTargetWords words t → IsTargetWords words u → t ≡ u
 one_target_of_words words t u p q =
-    let first = one_front 32 p.hz_text q.hz_text (p.v_text ++ 32 ∷ p.distance_text) (q.v_text ++ 32 ∷ q.distance_text) (sym p.words_are ∙ q.words_are) p.hz_lacks q.hz_lacks in
-    let second = one_front 32 p.v_text q.v_text p.distance_text q.distance_text first.1 p.v_lacks q.v_lacks in
+    let same = one_in_three words p.parts q.parts in
     same_target t u
-    (spells_unique q.hz_text t.hz u.hz (subst (λ (x : List ℕ). IsDouble x t.hz) first.0 p.hz_is) q.hz_is)
-    (spells_unique q.v_text t.v u.v (subst (λ (x : List ℕ). IsDouble x t.v) second.0 p.v_is) q.v_is)
-    (spells_unique q.distance_text t.distance u.distance (subst (λ (x : List ℕ). IsDouble x t.distance) second.1 p.distance_is) q.distance_is)
+    (spells_unique q.parts.first t.hz u.hz (subst (λ (x : List ℕ). IsDouble x t.hz) same.0 p.are.hz) q.are.hz)
+    (spells_unique q.parts.second t.v u.v (subst (λ (x : List ℕ). IsDouble x t.v) same.1 p.are.v) q.are.v)
+    (spells_unique q.parts.third t.distance u.distance (subst (λ (x : List ℕ). IsDouble x t.distance) same.2 p.are.distance) q.are.distance)
 
 -- a line says one serial number at most
 one_serial : (line : List ℕ) (m n : ℤ) → IsSerial line m → IsSerial line n → m ≡ n

@@ -1,5 +1,6 @@
 -- What a check writes, and how it ends: this project's own. `given` are the bytes that the source gave, and `old` and `new` are
--- what the sink had taken before and has taken after, where that is known.
+-- what the sink had taken before and has taken after, where that is known. A check writes a text for each piece of its input: of a
+-- stream for each frame, of a log for each line; `Written` says which texts are written of pieces.
 use Rattle.std.specs.Prelude.{◌≡◌, ℕ, ◌+◌, ◌-◌, ◌*◌, ◌<◌, ◌≤◌, min, ◌^◌, List, [], ◌∷◌, ◌++◌, length, take, Option, Some, None, Result, Ok, Err}
 use Rattle.std.specs.Io.KnownBytes.{Appends, Consumes}
 use Rattle.gc_lines.specs.Answering.{Ports, HasEnded, all_of}
@@ -9,36 +10,43 @@ use Rattle.gc_lines.specs.declared.frame.Frame.TheVariants.{More}
 use Rattle.gc_lines.specs.declared.served.Served.{Served}
 use Rattle.gc_lines.specs.declared.served.ServeFault.{ServeFault}
 use Rattle.gc_lines.specs.declared.served.ServeFault.TheVariants.{Read, Write, TooManyReads}
-use Rattle.gc_engines.specs.Verdicts.{IsVerdict, verdict_line, AreLinesOf, AreVerdictLines}
+use Rattle.gc_engines.specs.Verdicts.{IsVerdict, verdict_line, AreLinesOf}
 use Rattle.gc_engines.specs.declared.check.Judge.{Judge}
 use Rattle.gc_engines.specs.declared.verdict.Verdict.{Verdict}
 
--- the lines of the verdicts on all frames of these bytes went out whole, and they are `count` lines
-pub record ChecksAll (given : List ℕ) (old new : Option (List ℕ)) (count : ℕ) : Type 0 where
-  pub lines : List (List ℕ)
-  pub are : AreVerdictLines given lines
-  pub counts : count ≡ length lines
-  pub took : Appends old new (all_of lines)
+-- the texts of all these pieces went out whole, and the count of texts grew by as many, from `before` to `count`
+pub record WritesAll {Piece : Type 0} (Written : List Piece → List (List ℕ) → Type 0) (pieces : List Piece) (old new : Option (List ℕ))
+    (before count : ℕ) : Type 0 where
+  pub texts : List (List ℕ)
+  pub are : Written pieces texts
+  pub took : Appends old new (all_of texts)
+  pub counts : count ≡ before + length texts
 
--- the lines of the verdicts on the first frames of these bytes went out: `count` lines whole, and of one more the first `bytes`
--- bytes, which aren't all of it
-pub record ChecksPart (given : List ℕ) (old new : Option (List ℕ)) (count bytes : ℕ) : Type 0 where
-  pub seen : List Frame
-  pub later : List Frame
-  pub order : frames given ≡ seen ++ later
+-- the texts of the first of these pieces went out whole, and the count of texts grew by as many, from `before` to `count`; of the
+-- text of the next piece the first `bytes` bytes went out, which aren't all of it
+pub record WritesPart {Piece : Type 0} (Written : List Piece → List (List ℕ) → Type 0) (pieces : List Piece) (old new : Option (List ℕ))
+    (before count bytes : ℕ) : Type 0 where
+  pub seen : List Piece
+  pub later : List Piece
+  pub order : pieces ≡ seen ++ later
   pub whole : List (List ℕ)
   pub line : List ℕ
-  pub are : AreLinesOf seen (whole ++ line ∷ [])
-  pub counts : count ≡ length whole
+  pub are : Written seen (whole ++ line ∷ [])
+  pub counts : count ≡ before + length whole
   pub not_all : bytes < length line
   pub took : Appends old new (all_of whole ++ take bytes line)
 
--- how much of the verdicts on the frames of these bytes went out, by the result: all of them, or at a failed write the front of them
+-- how much of the texts of these pieces went out, by the result: all of them, or at a failed write the front of them
+abbrev pub WritesBy : {Piece : Type 0} → (Written : List Piece → List (List ℕ) → Type 0) → List Piece → (old new : Option (List ℕ))
+    → Result Served ServeFault → Type 0
+WritesBy Written pieces old new (Ok served) = WritesAll Written pieces old new 0 served.replies
+WritesBy Written pieces old new (Err (Read count)) = WritesAll Written pieces old new 0 count
+WritesBy Written pieces old new (Err (Write count bytes)) = WritesPart Written pieces old new 0 count bytes
+WritesBy Written pieces old new (Err (TooManyReads count)) = WritesAll Written pieces old new 0 count
+
+-- how much of the lines of the verdicts on the frames of these bytes went out, by the result
 abbrev pub Checks : List ℕ → (old new : Option (List ℕ)) → Result Served ServeFault → Type 0
-Checks given old new (Ok served) = ChecksAll given old new served.replies
-Checks given old new (Err (Read count)) = ChecksAll given old new count
-Checks given old new (Err (Write count bytes)) = ChecksPart given old new count bytes
-Checks given old new (Err (TooManyReads count)) = ChecksAll given old new count
+Checks given old new result = WritesBy AreLinesOf (frames given) old new result
 
 -- a check in at most `most` reads took the ports from old to new, and gave this result. `Writes` says what the sink takes for the
 -- bytes that the source gives, by the result

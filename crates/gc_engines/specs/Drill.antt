@@ -8,9 +8,9 @@ use Rattle.gc_instrument.specs.State.{State}
 use Rattle.gc_world.specs.declared.event.Event.{Event}
 use Rattle.gc_world.specs.Clients.{played}
 use Rattle.gc_world.specs.World.{Wire}
-use Rattle.gc_texts.specs.LineForms.{MemoryOnlyIf}
+use Rattle.gc_texts.specs.LineForms.{FirstFaulty, MemoryOnlyIf}
 use Rattle.gc_engines.specs.Reports.{run_text}
-use Rattle.gc_engines.specs.Schedule.{IsSchedule, IsFirstFaulty}
+use Rattle.gc_engines.specs.Schedule.{IsEvent, IsSchedule}
 use Rattle.gc_engines.specs.declared.report_text.Totals.{Totals}
 use Rattle.gc_texts.specs.WholeTexts.{Gave, IsReadToEnd, source_of}
 use Rattle.gc_texts.specs.declared.text.TheConstants.{TEXT_LIMIT}
@@ -52,7 +52,7 @@ DrillsAs text_of given totals old new (Ok _) = (length given ≤ TEXT_LIMIT)
     × ((events : List Event) × IsSchedule given events × Appends old new (text_of events totals))
 DrillsAs text_of given totals old new (Err Read) = (length given ≤ TEXT_LIMIT) × (new ≡ old)
 DrillsAs text_of given totals old new (Err InputTooLong) = (length given ≡ TEXT_LIMIT + 1) × (new ≡ old)
-DrillsAs text_of given totals old new (Err (Schedule n)) = (length given ≤ TEXT_LIMIT) × IsFirstFaulty given n × (new ≡ old)
+DrillsAs text_of given totals old new (Err (Schedule n)) = (length given ≤ TEXT_LIMIT) × FirstFaulty IsEvent given n × (new ≡ old)
 DrillsAs text_of given totals old new (Err Memory) = (length given ≤ TEXT_LIMIT) × (new ≡ old)
 DrillsAs text_of given totals old new (Err Output) = (length given ≤ TEXT_LIMIT)
     × ((events : List Event) × IsSchedule given events × TookPart old new (text_of events totals))

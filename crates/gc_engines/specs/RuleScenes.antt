@@ -1,6 +1,5 @@
 -- A scene's text that may have rules, which is called a scene with rules, and the instrument that it sets up: this project's own.
-use Rattle.std.specs.Prelude.{◌≡◌, ◌⊎◌, ℕ, suc, ◌==◌, ◌<◌, ◌≤◌, Bool, true, false, List, [], ◌∷◌, length, Option, Some, None, if◌then◌else◌, codes, MatchOption}
-use Rattle.std.specs.List.{filter_map}
+use Rattle.std.specs.Prelude.{◌≡◌, ◌⊎◌, ℕ, suc, ◌==◌, ◌<◌, ◌≤◌, Bool, true, false, List, [], ◌∷◌, length, Option, Some, None, fold, filter_map, if◌then◌else◌, codes}
 use Rattle.gc_catalogue.specs.RawTexts.{raw_bytes}
 use Rattle.gc_catalogue.specs.declared.raw.RawCall.{RawCall}
 use Rattle.gc_instrument.specs.State.{opening, simulator_opening}
@@ -18,14 +17,11 @@ use Rattle.gc_scenes.specs.declared.ways.Ways.{Ways}
 use Rattle.gc_scenes.specs.declared.ways.Way.{Way}
 use Rattle.gc_scenes.specs.declared.ways.Way.TheVariants as way
 use Rattle.gc_texts.specs.Cuts.{before, behind}
-use Rattle.gc_texts.specs.LineForms.{Form, IsText, TextFault}
-use Rattle.gc_texts.specs.Nears.{IsDouble}
+use Rattle.gc_texts.specs.LineForms.{Form}
 use Rattle.gc_texts.specs.Procedures.{IsNumber}
 use Rattle.gc_texts.specs.Words.{first_word, second_word, third_word, after_two_words, after_three_words}
 use Rattle.gc_texts.specs.declared.fault.RunFault.{RunFault}
-use Rattle.gc_texts.specs.declared.fault.RunFault.TheVariants.{SceneFull}
-use Rattle.gc_texts.specs.declared.text.TheConstants.{TEXT_LIMIT}
-use Rattle.gc_engines.specs.Scenes.{IsSceneLine, serial_of, name_of, targets_of}
+use Rattle.gc_engines.specs.Scenes.{AreOffsetWords, SceneFaultBy, IsSceneLine, SaysTooMuch, SetsUp, last_value, name_of, serial_of, targets_of}
 use Rattle.gc_engines.specs.declared.scene_line.SceneLine.{SceneLine}
 use Rattle.gc_engines.specs.declared.rule_line.RuleLine.{RuleLine}
 use Rattle.gc_engines.specs.declared.rule_line.RuleLine.TheVariants as says
@@ -66,21 +62,21 @@ pub record IsFault (line : List ℕ) (f : Fault) : Type 0 where
   pub span : IsSpan (after_three_words line) (record { after = f.after; times = f.times })
   pub met : f.met ≡ 0
 
--- `reply` is the reply to this procedure with this return code and these parameters; it is `None` only if no such reply can be made
-abbrev pub Scripts : (rpc rc : ℕ) → (params : List ℕ) → (reply : Option Scripted) → Type 0
-Scripts rpc rc params reply =
-    MatchOption reply ((a : Scripted) (call : RawCall) → a.rpc ≡ rpc → a.with ≡ Some call → call.rpc ≡ rpc → raw_bytes call.params ≡ params → ⊥)
-    (λ a. (a.rpc ≡ rpc) × (a.rc ≡ rc) × ((call : RawCall) × (a.with ≡ Some call) × (call.rpc ≡ rpc) × (raw_bytes call.params ≡ params)))
+-- this reply is to this procedure, which isn't in the table, with this return code and these parameters
+pub record Scripts (rpc rc : ℕ) (params : List ℕ) (a : Scripted) : Type 0 where
+  pub rpc_is : a.rpc ≡ rpc
+  pub rc_is : a.rc ≡ rc
+  pub call : RawCall
+  pub with_is : a.with ≡ Some call
+  pub number : call.rpc ≡ rpc
+  pub params_are : raw_bytes call.params ≡ params
 
 -- the line is `answer RPC RC[,PARAMS]`: a procedure that isn't in the table, and its reply. The comma may also stand without parameters
 pub record IsAnswer (line : List ℕ) (a : Scripted) : Type 0 where
   pub word : Begins (codes "answer") line
   pub rpc : IsNumber (second_word line) a.rpc 65535
   pub rc : IsNumber (before 44 (after_two_words line)) a.rc 65535
-  pub call : RawCall
-  pub with_is : a.with ≡ Some call
-  pub number : call.rpc ≡ a.rpc
-  pub params : raw_bytes call.params ≡ behind 44 (after_two_words line)
+  pub reply : Scripts a.rpc a.rc (behind 44 (after_two_words line)) a
 
 -- the line is `blocked TARGET FROM TO`: a target is hidden from look FROM through look TO, where looks are counted from 1
 pub record IsBlocked (line : List ℕ) (b : Blocked) : Type 0 where
@@ -90,10 +86,8 @@ pub record IsBlocked (line : List ℕ) (b : Blocked) : Type 0 where
   pub to : IsNumber (after_three_words line) b.to 4294967295
 
 -- the words are `HZ V D`: two angles in radians and a distance in metres, as decimals
-pub record IsOffset (words : List ℕ) (o : Offset) : Type 0 where
-  pub hz : IsDouble (first_word words) o.hz
-  pub v : IsDouble (second_word words) o.v
-  pub distance : IsDouble (after_two_words words) o.distance
+abbrev pub IsOffset : (words : List ℕ) → Offset → Type 0
+IsOffset words o = AreOffsetWords (first_word words) (second_word words) (after_two_words words) o
 
 -- the line is `drift TARGET HZ V D`: a target moves by an offset with each measurement of it
 pub record IsDrift (line : List ℕ) (d : Drift) : Type 0 where
@@ -104,9 +98,8 @@ pub record IsDrift (line : List ℕ) (d : Drift) : Type 0 where
 -- the line is `noise HZ V D SEED`: the most by which measurements deviate, in radians and metres, and the seed of the deviations
 pub record IsNoise (line : List ℕ) (n : Noise) : Type 0 where
   pub word : Begins (codes "noise") line
-  pub hz : IsDouble (second_word line) n.hz
-  pub v : IsDouble (third_word line) n.v
-  pub distance : IsDouble (before 32 (after_three_words line)) n.distance
+  pub most : AreOffsetWords (second_word line) (third_word line) (before 32 (after_three_words line))
+      (record { hz = n.hz; v = n.v; distance = n.distance })
   pub seed : IsNumber (behind 32 (after_three_words line)) n.seed 4294967295
 
 -- the line that gives the instrument a way of real instruments, or all of them (`Real`)
@@ -148,35 +141,50 @@ plain_of rule = None
 abbrev pub plain_lines : List RuleLine → List SceneLine
 plain_lines lines = filter_map plain_of lines
 
+-- the fault of a line `fault`; none of any other line
+abbrev pub fault_in : RuleLine → Option Fault
+fault_in (says.Fault f) = Some f
+fault_in other = None
+
 -- the faults of the lines, in order
-abbrev pub rules_faults : List RuleLine → List Fault
-rules_faults [] = []
-rules_faults (says.Fault f ∷ rest) = f ∷ rules_faults rest
-rules_faults (other ∷ rest) = rules_faults rest
+abbrev pub faults_of : List RuleLine → List Fault
+faults_of lines = filter_map fault_in lines
+
+-- the reply of a line `answer`; none of any other line
+abbrev pub answer_in : RuleLine → Option Scripted
+answer_in (says.Answer a) = Some a
+answer_in other = None
 
 -- the replies of the lines `answer`, in order
-abbrev pub rules_answers : List RuleLine → List Scripted
-rules_answers [] = []
-rules_answers (says.Answer a ∷ rest) = a ∷ rules_answers rest
-rules_answers (other ∷ rest) = rules_answers rest
+abbrev pub answers_of : List RuleLine → List Scripted
+answers_of lines = filter_map answer_in lines
+
+-- the noise that a line `noise` gives the instrument, which has none (`None`) without such a line; nothing of any other line
+abbrev pub noise_in : RuleLine → Option (Option Noise)
+noise_in (says.Noise n) = Some (Some n)
+noise_in other = None
 
 -- the noise of the last line `noise`, or `n` if there is none
-abbrev pub rules_noise : Option Noise → List RuleLine → Option Noise
-rules_noise n [] = n
-rules_noise n (says.Noise m ∷ rest) = rules_noise (Some m) rest
-rules_noise n (other ∷ rest) = rules_noise n rest
+abbrev pub rules_noise : (n : Option Noise) → List RuleLine → Option Noise
+rules_noise n lines = last_value noise_in n lines
+
+-- `false` of a line `repeats no`: the instrument doesn't answer a repeated request with the reply that it keeps; nothing of any other line
+abbrev pub repeat_in : RuleLine → Option Bool
+repeat_in says.NoRepeats = Some false
+repeat_in other = None
 
 -- whether the instrument answers a repeated request with the reply that it keeps: no if a line is `repeats no`, else `b`
 abbrev pub rules_repeat : (b : Bool) → List RuleLine → Bool
-rules_repeat b [] = b
-rules_repeat b (says.NoRepeats ∷ rest) = rules_repeat false rest
-rules_repeat b (other ∷ rest) = rules_repeat b rest
+rules_repeat b lines = last_value repeat_in b lines
+
+-- the ways of real instruments after a line, where they are `w` before it: with the one that the line names, if it names one
+abbrev pub ways_with : (w : Ways) → RuleLine → Ways
+ways_with w (says.Behave one) = with_way one w
+ways_with w other = w
 
 -- the ways `w` of real instruments, with those that the lines name added
-abbrev pub rules_ways : Ways → List RuleLine → Ways
-rules_ways w [] = w
-rules_ways w (says.Behave one ∷ rest) = rules_ways (with_way one w) rest
-rules_ways w (other ∷ rest) = rules_ways w rest
+abbrev pub rules_ways : (w : Ways) → List RuleLine → Ways
+rules_ways w lines = fold ways_with w lines
 
 -- the target as this line changes it, if the line is about the target with this number: `blocked` sets the looks in which it is
 -- hidden, and `drift` how it moves. Any other line leaves it as it is
@@ -187,8 +195,7 @@ ruled number other p = p
 
 -- the target as all lines of the target with this number change it; of several of a kind the last counts
 abbrev pub rules_prism : ℕ → List RuleLine → Prism → Prism
-rules_prism number [] p = p
-rules_prism number (line ∷ rest) p = rules_prism number rest (ruled number line p)
+rules_prism number lines p = fold (λ earlier line. ruled number line earlier) p lines
 
 -- the targets, of which the first has this number, as the lines change them. A target that no line changes is never hidden and
 -- doesn't move, and a line about a number that no target has changes nothing
@@ -199,8 +206,8 @@ rules_prisms lines number (t ∷ ts) = rules_prism number lines (still t) ∷ ru
 -- these rules are what the lines say, with these targets
 pub record AreRulesOf (lines : List RuleLine) (targets : List Prism) (rules : SceneRules) : Type 0 where
   pub prisms : rules.prisms.items ≡ targets
-  pub faults : rules.faults.items ≡ rules_faults lines
-  pub answers : rules.answers.items ≡ rules_answers lines
+  pub faults : rules.faults.items ≡ faults_of lines
+  pub answers : rules.answers.items ≡ answers_of lines
   pub noise : rules.noise ≡ rules_noise None lines
   pub repeats : rules.repeats ≡ rules_repeat true lines
   pub ways : rules.ways ≡ rules_ways no_ways lines
@@ -211,8 +218,8 @@ abbrev pub rules_opening : List RuleLine → SceneState
 rules_opening lines = record {
   base = opening (serial_of simulator_opening.serial (plain_lines lines)) (name_of simulator_opening.name (plain_lines lines)) [];
   prisms = rules_prisms lines 1 (targets_of (plain_lines lines));
-  faults = rules_faults lines;
-  answers = rules_answers lines;
+  faults = faults_of lines;
+  answers = answers_of lines;
   noise = rules_noise None lines;
   looks = 0;
   repeats = rules_repeat true lines;
@@ -224,29 +231,22 @@ rules_opening lines = record {
 -- the lines have no more targets, faults and replies than an instrument has room for
 pub record FitAnInstrument (lines : List RuleLine) : Type 0 where
   pub targets : length (targets_of (plain_lines lines)) ≤ 32
-  pub faults : length (rules_faults lines) ≤ 32
-  pub answers : length (rules_answers lines) ≤ 16
+  pub faults : length (faults_of lines) ≤ 32
+  pub answers : length (answers_of lines) ≤ 16
 
 -- the lines have more targets, more faults or more replies than an instrument has room for
 abbrev pub OverfillAnInstrument : List RuleLine → Type 0
-OverfillAnInstrument lines = (32 < length (targets_of (plain_lines lines))) ⊎ ((32 < length (rules_faults lines)) ⊎ (16 < length (rules_answers lines)))
+OverfillAnInstrument lines = (32 < length (targets_of (plain_lines lines))) ⊎ ((32 < length (faults_of lines)) ⊎ (16 < length (answers_of lines)))
 
 -- the text is a scene of lines in this form, of at most 32 targets, 32 faults and 16 replies, and this is the opening state of its
 -- instrument
-pub record IsSceneOf (form : Form RuleLine) (text : List ℕ) (state : SceneState) : Type 0 where
-  pub lines : List RuleLine
-  pub are : IsText form text lines
-  pub few : FitAnInstrument lines
-  pub opens : state ≡ rules_opening lines
+abbrev pub IsSceneOf : Form RuleLine → List ℕ → SceneState → Type 0
+IsSceneOf form text state = SetsUp form FitAnInstrument rules_opening text state
 
 -- the text is a scene of lines in this form, with more targets, faults or replies than an instrument has room for
-pub record IsOverfullOf (form : Form RuleLine) (text : List ℕ) : Type 0 where
-  pub lines : List RuleLine
-  pub are : IsText form text lines
-  pub many : OverfillAnInstrument lines
+abbrev pub IsOverfullOf : Form RuleLine → List ℕ → Type 0
+IsOverfullOf form text = SaysTooMuch form OverfillAnInstrument text
 
--- why a text sets up no instrument, where its lines should be in this form: it is a scene of more than an instrument has room
--- for; or it is too long, or one of its lines that aren't skipped hasn't the form, or memory was refused (`TextFault`)
+-- why a text sets up no instrument, where it should be a scene of lines in this form
 abbrev pub SceneFaultOf : Form RuleLine → List ℕ → RunFault → Type 0
-SceneFaultOf form text SceneFull = (length text ≤ TEXT_LIMIT) × IsOverfullOf form text
-SceneFaultOf form text fault = TextFault form text fault
+SceneFaultOf form text fault = SceneFaultBy form (IsOverfullOf form) text fault

@@ -1,15 +1,16 @@
 -- A scene's text, and the instrument that it sets up: this project's own.
-use Rattle.std.specs.Prelude.{◌≡◌, ℕ, ℤ, ◌<◌, ◌≤◌, List, [], ◌∷◌, ◌++◌, length, codes}
+use Rattle.std.specs.Prelude.{◌≡◌, ℕ, ℤ, ◌<◌, ◌≤◌, List, ◌++◌, length, Option, Some, None, unwrap_or, fold, filter_map, codes}
 use Rattle.gc_values.specs.Text as text
 use Rattle.gc_values.specs.Whole.{NamesWhole, FitsLong}
 use Rattle.gc_instrument.specs.State.{State, opening, simulator_opening}
 use Rattle.gc_instrument.specs.declared.target.Target.{Target}
-use Rattle.gc_texts.specs.Cuts.{Lacks}
-use Rattle.gc_texts.specs.LineForms.{IsText, TextFault}
+use Rattle.gc_scenes.specs.declared.rules.Offset.{Offset}
+use Rattle.gc_texts.specs.LineForms.{Form, IsText, TextFault}
 use Rattle.gc_texts.specs.Nears.{IsDouble}
 use Rattle.gc_texts.specs.declared.fault.RunFault.{RunFault}
 use Rattle.gc_texts.specs.declared.fault.RunFault.TheVariants.{SceneFull}
 use Rattle.gc_texts.specs.declared.text.TheConstants.{TEXT_LIMIT}
+use Rattle.gc_engines.specs.Schedule.{InThree}
 use Rattle.gc_engines.specs.declared.scene.Base.{Base}
 use Rattle.gc_engines.specs.declared.scene_line.SceneLine.{SceneLine}
 use Rattle.gc_engines.specs.declared.scene_line.SceneLine.TheVariants as says
@@ -26,17 +27,16 @@ pub record IsName (line bytes : List ℕ) : Type 0 where
   pub line_is : line ≡ codes "name " ++ bytes
   pub text : text.IsText bytes
 
+-- these three words are two angles in radians and a distance in metres, as decimals, and the offset has these
+pub record AreOffsetWords (first second third : List ℕ) (o : Offset) : Type 0 where
+  pub hz : IsDouble first o.hz
+  pub v : IsDouble second o.v
+  pub distance : IsDouble third o.distance
+
 -- the words are `HZ V DISTANCE`: three decimals, with one space between each two
 pub record IsTargetWords (words : List ℕ) (target : Target) : Type 0 where
-  pub hz_text : List ℕ
-  pub v_text : List ℕ
-  pub distance_text : List ℕ
-  pub words_are : words ≡ hz_text ++ 32 ∷ (v_text ++ 32 ∷ distance_text)
-  pub hz_lacks : Lacks 32 hz_text
-  pub v_lacks : Lacks 32 v_text
-  pub hz_is : IsDouble hz_text target.hz
-  pub v_is : IsDouble v_text target.v
-  pub distance_is : IsDouble distance_text target.distance
+  pub parts : InThree words
+  pub are : AreOffsetWords parts.first parts.second parts.third (record { hz = target.hz; v = target.v; distance = target.distance })
 
 -- the line is `target HZ V DISTANCE`: a target's angles in radians and its slope distance in metres
 pub record IsTarget (line : List ℕ) (target : Target) : Type 0 where
@@ -50,26 +50,38 @@ IsSceneLine line (says.Serial n) = IsSerial line n
 IsSceneLine line (says.Name bytes) = IsName line bytes
 IsSceneLine line (says.Target target) = IsTarget line target
 
+-- What lines say together.
+
+-- the value that the last of these lines gives, or `other` if none gives one; `value_in` says which value a line gives, if any
+abbrev pub last_value : {Line Value : Type 0} → (value_in : Line → Option Value) → (other : Value) → List Line → Value
+last_value value_in other lines = fold (λ earlier line. unwrap_or (value_in line) earlier) other lines
+
+-- the serial number of a line `serial`; none of any other line
+abbrev pub serial_in : SceneLine → Option ℤ
+serial_in (says.Serial n) = Some n
+serial_in other = None
+
 -- the serial number of the last line `serial`, or `n` if there is none
-abbrev pub serial_of : ℤ → List SceneLine → ℤ
-serial_of n [] = n
-serial_of n (says.Serial m ∷ rest) = serial_of m rest
-serial_of n (says.Name bytes ∷ rest) = serial_of n rest
-serial_of n (says.Target target ∷ rest) = serial_of n rest
+abbrev pub serial_of : (n : ℤ) → List SceneLine → ℤ
+serial_of n lines = last_value serial_in n lines
 
--- the name of the last line `name`, or the argument `name` if there is none
-abbrev pub name_of : List ℕ → List SceneLine → List ℕ
-name_of name [] = name
-name_of name (says.Serial m ∷ rest) = name_of name rest
-name_of name (says.Name bytes ∷ rest) = name_of bytes rest
-name_of name (says.Target target ∷ rest) = name_of name rest
+-- the name of a line `name`; none of any other line
+abbrev pub name_in : SceneLine → Option (List ℕ)
+name_in (says.Name bytes) = Some bytes
+name_in other = None
 
--- the targets of these lines, in order
+-- the name of the last line `name`, or `bytes` if there is none
+abbrev pub name_of : (bytes : List ℕ) → List SceneLine → List ℕ
+name_of bytes lines = last_value name_in bytes lines
+
+-- the target of a line `target`; none of any other line
+abbrev pub target_in : SceneLine → Option Target
+target_in (says.Target target) = Some target
+target_in other = None
+
+-- the targets of the lines `target`, in order
 abbrev pub targets_of : List SceneLine → List Target
-targets_of [] = []
-targets_of (says.Serial m ∷ rest) = targets_of rest
-targets_of (says.Name bytes ∷ rest) = targets_of rest
-targets_of (says.Target target ∷ rest) = target ∷ targets_of rest
+targets_of lines = filter_map target_in lines
 
 -- a base has what these lines say: a serial number or a name that they don't say is the simulator's, and the targets are theirs
 -- alone
@@ -83,21 +95,42 @@ pub record IsBaseOf (lines : List SceneLine) (base : Base) : Type 0 where
 abbrev pub scene_opening : List SceneLine → State
 scene_opening lines = opening (serial_of simulator_opening.serial lines) (name_of simulator_opening.name lines) (targets_of lines)
 
+-- the text is lines in this form, of which `Fits` is true, and this is the opening state of the instrument that they set up
+pub record SetsUp {Line Opened : Type 0} (form : Form Line) (Fits : List Line → Type 0) (opens_as : List Line → Opened) (text : List ℕ)
+    (state : Opened) : Type 0 where
+  pub lines : List Line
+  pub are : IsText form text lines
+  pub few : Fits lines
+  pub opens : state ≡ opens_as lines
+
+-- the text is lines in this form, of which `Overfill` is true: they have more than an instrument has room for
+pub record SaysTooMuch {Line : Type 0} (form : Form Line) (Overfill : List Line → Type 0) (text : List ℕ) : Type 0 where
+  pub lines : List Line
+  pub are : IsText form text lines
+  pub many : Overfill lines
+
+-- the lines have no more targets than an instrument has room for
+abbrev pub HaveFewTargets : List SceneLine → Type 0
+HaveFewTargets lines = length (targets_of lines) ≤ 32
+
+-- the lines have more targets than an instrument has room for
+abbrev pub HaveManyTargets : List SceneLine → Type 0
+HaveManyTargets lines = 32 < length (targets_of lines)
+
 -- the text is a scene of at most 32 targets, and this is the opening state of its instrument
-pub record IsScene (text : List ℕ) (state : State) : Type 0 where
-  pub lines : List SceneLine
-  pub are : IsText IsSceneLine text lines
-  pub few : length (targets_of lines) ≤ 32
-  pub opens : state ≡ scene_opening lines
+abbrev pub IsScene : List ℕ → State → Type 0
+IsScene text state = SetsUp IsSceneLine HaveFewTargets scene_opening text state
 
--- the text is a scene of more than 32 targets, which is more than an instrument has room for
-pub record IsOverfullScene (text : List ℕ) : Type 0 where
-  pub lines : List SceneLine
-  pub are : IsText IsSceneLine text lines
-  pub many : 32 < length (targets_of lines)
+-- the text is a scene of more than 32 targets
+abbrev pub IsOverfullScene : List ℕ → Type 0
+IsOverfullScene text = SaysTooMuch IsSceneLine HaveManyTargets text
 
--- why a text sets up no instrument: it is a scene of too many targets; or it is too long, or one of its lines that aren't
--- skipped has no form of a scene, or memory was refused (`TextFault`)
+-- why a text sets up no instrument, where its lines should be in this form: it is a scene of more than an instrument has room for
+-- (`IsOverfull`); or it is too long, or one of its lines that aren't skipped hasn't the form, or memory was refused (`TextFault`)
+abbrev pub SceneFaultBy : {Line : Type 0} → Form Line → (IsOverfull : List ℕ → Type 0) → List ℕ → RunFault → Type 0
+SceneFaultBy form IsOverfull text SceneFull = (length text ≤ TEXT_LIMIT) × IsOverfull text
+SceneFaultBy form IsOverfull text fault = TextFault form text fault
+
+-- why a text sets up no instrument, where it should be a scene
 abbrev pub SceneFault : List ℕ → RunFault → Type 0
-SceneFault text SceneFull = (length text ≤ TEXT_LIMIT) × IsOverfullScene text
-SceneFault text fault = TextFault IsSceneLine text fault
+SceneFault text fault = SceneFaultBy IsSceneLine IsOverfullScene text fault

@@ -1,7 +1,8 @@
 -- A schedule's text, and the events that it gives: this project's own.
 use Rattle.std.specs.Prelude.{◌≡◌, ℕ, List, ◌∷◌, ◌++◌, codes}
 use Rattle.gc_catalogue.specs.declared.call.Call.{Call}
-use Rattle.gc_texts.specs.LineForms.{IsText, FirstFaulty}
+use Rattle.gc_texts.specs.Cuts.{Lacks}
+use Rattle.gc_texts.specs.LineForms.{IsText}
 use Rattle.gc_texts.specs.Procedures.{IsNumber, IsProcedure}
 use Rattle.gc_world.specs.declared.event.Event.{Event}
 use Rattle.gc_world.specs.declared.event.Event.TheVariants.{Send, UpDeliver, UpBytes, UpLose, UpRepeat, DownDeliver, DownBytes, DownLose, DownRepeat, Expire, RestartClient, RestartInstrument}
@@ -16,16 +17,21 @@ pub record IsNumbered (word line : List ℕ) (n max : ℕ) : Type 0 where
   pub line_is : line ≡ word ++ digits
   pub number : IsNumber digits n max
 
--- `T D RPC` or `T D RPC PARAMS`: the target T, the deadline D and the procedure of a request, with one space between them. T is a number of
--- 32 bits, and D one of 64
+-- a text of three parts, with a space between each two; neither of the first two has a space in it
+pub record InThree (text : List ℕ) : Type 0 where
+  pub first : List ℕ
+  pub second : List ℕ
+  pub third : List ℕ
+  pub text_is : text ≡ first ++ 32 ∷ (second ++ 32 ∷ third)
+  pub first_lacks : Lacks 32 first
+  pub second_lacks : Lacks 32 second
+
+-- `T D RPC` or `T D RPC PARAMS`: the target T, the deadline D and the procedure of a request. T is a number of 32 bits, and D one of 64
 pub record IsRequested (text : List ℕ) (target : ℕ) (call : Call) (deadline : ℕ) : Type 0 where
-  pub target_text : List ℕ
-  pub deadline_text : List ℕ
-  pub procedure : List ℕ
-  pub text_is : text ≡ target_text ++ 32 ∷ (deadline_text ++ 32 ∷ procedure)
-  pub target_is : IsNumber target_text target 4294967295
-  pub deadline_is : IsNumber deadline_text deadline 18446744073709551615
-  pub procedure_is : IsProcedure procedure call
+  pub parts : InThree text
+  pub target_is : IsNumber parts.first target 4294967295
+  pub deadline_is : IsNumber parts.second deadline 18446744073709551615
+  pub procedure_is : IsProcedure parts.third call
 
 -- the event is the send of the request that the text writes (`IsRequested`)
 abbrev pub SendsRequested : List ℕ → Event → Type 0
@@ -67,7 +73,3 @@ IsNumberedEvent _ = ⊥
 -- the text is a schedule of these events: one for each line that isn't skipped
 abbrev pub IsSchedule : List ℕ → List Event → Type 0
 IsSchedule text events = IsText IsEvent text events
-
--- line number n, counted from 1, is the first that isn't skipped and has the form of no event
-abbrev pub IsFirstFaulty : (text : List ℕ) → (n : ℕ) → Type 0
-IsFirstFaulty text n = FirstFaulty IsEvent text n

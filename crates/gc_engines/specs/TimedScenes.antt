@@ -1,14 +1,15 @@
 -- A scene's text for `serve`, which alone has the clock that some words want, and the instrument that it sets up: this project's own.
 -- A scene for `serve` needn't have any of these words.
-use Rattle.std.specs.Prelude.{◌≡◌, ◌⊎◌, ℕ, ◌<◌, ◌≤◌, Bool, true, false, List, [], ◌∷◌, length, codes}
+use Rattle.std.specs.Prelude.{◌≡◌, ◌⊎◌, ℕ, ◌<◌, ◌≤◌, Bool, true, false, List, [], length, Option, Some, None, filter_map, codes}
 use Rattle.gc_scenes.specs.Slow.{SlowState}
 use Rattle.gc_scenes.specs.declared.delay.Delay.{Delay}
-use Rattle.gc_texts.specs.LineForms.{IsText, ReachesASoundLine, TextFault}
+use Rattle.gc_texts.specs.LineForms.{IsText, ReachesASoundLine}
 use Rattle.gc_texts.specs.Procedures.{IsNumber}
 use Rattle.gc_texts.specs.Words.{second_word, after_two_words}
 use Rattle.gc_texts.specs.declared.fault.RunFault.{RunFault}
-use Rattle.gc_texts.specs.declared.fault.RunFault.TheVariants.{SceneFull, Memory}
+use Rattle.gc_texts.specs.declared.fault.RunFault.TheVariants.{Memory}
 use Rattle.gc_texts.specs.declared.text.TheConstants.{TEXT_LIMIT}
+use Rattle.gc_engines.specs.Scenes.{SceneFaultBy, SaysTooMuch, SetsUp, last_value}
 use Rattle.gc_engines.specs.RuleScenes.{Begins, IsRuleLine, FitAnInstrument, OverfillAnInstrument, rules_opening}
 use Rattle.gc_engines.specs.declared.rule_line.RuleLine.{RuleLine}
 use Rattle.gc_engines.specs.declared.timed_line.TimedLine.{TimedLine}
@@ -29,24 +30,33 @@ IsTimedLine line says.Drops = line ≡ codes "busy drop"
 
 -- What lines say together.
 
+-- the line as one of a scene with rules; none if it is a line `delay` or `busy`
+abbrev pub rule_in : TimedLine → Option RuleLine
+rule_in (says.Rule rule) = Some rule
+rule_in other = None
+
 -- those of the lines that are lines of a scene with rules, in order
 abbrev pub rules_of : List TimedLine → List RuleLine
-rules_of [] = []
-rules_of (says.Rule rule ∷ rest) = rule ∷ rules_of rest
-rules_of (other ∷ rest) = rules_of rest
+rules_of lines = filter_map rule_in lines
+
+-- the delay of a line `delay`; none of any other line
+abbrev pub delay_in : TimedLine → Option Delay
+delay_in (says.Delay d) = Some d
+delay_in other = None
 
 -- the delays of the lines `delay`, in order
 abbrev pub delays_of : List TimedLine → List Delay
-delays_of [] = []
-delays_of (says.Delay d ∷ rest) = d ∷ delays_of rest
-delays_of (other ∷ rest) = delays_of rest
+delays_of lines = filter_map delay_in lines
+
+-- whether the instrument drops what comes while it is busy, as a line `busy` says; nothing of any other line
+abbrev pub drops_in : TimedLine → Option Bool
+drops_in says.Queues = Some false
+drops_in says.Drops = Some true
+drops_in other = None
 
 -- whether the instrument drops what comes while it is busy: as the last line `busy` says, or `b` if there is none
 abbrev pub drops_from : (b : Bool) → List TimedLine → Bool
-drops_from b [] = b
-drops_from b (says.Queues ∷ rest) = drops_from false rest
-drops_from b (says.Drops ∷ rest) = drops_from true rest
-drops_from b (other ∷ rest) = drops_from b rest
+drops_from b lines = last_value drops_in b lines
 
 -- the opening state of the instrument that these lines set up: the one that their rules set up, their delays, and whether it drops
 -- what comes while it is busy, by their last line `busy`: without such a line it doesn't. It isn't busy at first
@@ -58,24 +68,23 @@ timed_opening lines = record {
   free_from = 0;
 }
 
+-- the lines have no more targets, faults, replies and delays than an instrument has room for
+pub record FitATimedInstrument (lines : List TimedLine) : Type 0 where
+  pub rules : FitAnInstrument (rules_of lines)
+  pub delays : length (delays_of lines) ≤ 32
+
 -- the lines have more targets, faults, replies or delays than an instrument has room for
 abbrev pub OverfillATimedInstrument : List TimedLine → Type 0
 OverfillATimedInstrument lines = OverfillAnInstrument (rules_of lines) ⊎ (32 < length (delays_of lines))
 
 -- the text is a scene for `serve`, of at most 32 targets, 32 faults, 16 replies and 32 delays, and this is the opening state of its
 -- instrument
-pub record IsTimedScene (text : List ℕ) (state : SlowState) : Type 0 where
-  pub lines : List TimedLine
-  pub are : IsText IsTimedLine text lines
-  pub few : FitAnInstrument (rules_of lines)
-  pub few_delays : length (delays_of lines) ≤ 32
-  pub opens : state ≡ timed_opening lines
+abbrev pub IsTimedScene : List ℕ → SlowState → Type 0
+IsTimedScene text state = SetsUp IsTimedLine FitATimedInstrument timed_opening text state
 
 -- the text is a scene for `serve`, with more targets, faults, replies or delays than an instrument has room for
-pub record IsOverfullTimed (text : List ℕ) : Type 0 where
-  pub lines : List TimedLine
-  pub are : IsText IsTimedLine text lines
-  pub many : OverfillATimedInstrument lines
+abbrev pub IsOverfullTimed : List ℕ → Type 0
+IsOverfullTimed text = SaysTooMuch IsTimedLine OverfillATimedInstrument text
 
 -- each line that isn't skipped has a form, and at least one is a line of a scene with rules: so memory is needed for a list of such lines
 pub record GathersRules (text : List ℕ) : Type 0 where
@@ -83,10 +92,8 @@ pub record GathersRules (text : List ℕ) : Type 0 where
   pub are : IsText IsTimedLine text lines
   pub some : rules_of lines ≡ [] → ⊥
 
--- why a text sets up no instrument: it is a scene of more than an instrument has room for; or memory was refused, at a line that has a
--- form or for the list of the lines that are lines of a scene with rules (`GathersRules`); or the text is too long, or one of
--- its lines that aren't skipped has no form (`TextFault`)
+-- why a text sets up no instrument, where it should be a scene for `serve`: as `SceneFaultBy` says; or it isn't too long, and memory was
+-- refused for the list of the lines that are lines of a scene with rules (`GathersRules`)
 abbrev pub TimedFault : List ℕ → RunFault → Type 0
-TimedFault text SceneFull = (length text ≤ TEXT_LIMIT) × IsOverfullTimed text
 TimedFault text Memory = (length text ≤ TEXT_LIMIT) × (ReachesASoundLine IsTimedLine text ⊎ GathersRules text)
-TimedFault text fault = TextFault IsTimedLine text fault
+TimedFault text fault = SceneFaultBy IsTimedLine IsOverfullTimed text fault

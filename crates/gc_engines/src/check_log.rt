@@ -3,9 +3,8 @@
 ghost use Rattle.std.specs.Prelude.{◌≡◌, ◌+◌, ◌<◌, ◌≤◌, ◌++◌, ℕ, List, [], ◌∷◌, length, codes, ◌^◌, OnOk, IfErr};
 ghost use Rattle.arrayvec.specs.ArrayVec.{array_vec_len};
 ghost use Rattle.gc_lines.specs.Ports.{FailsWith};
-ghost use Rattle.gc_texts.specs.Logs.{mark_text};
-ghost use Rattle.gc_engines.specs.LogChecking.{IsWholeVerdict, part_verdict, ends_cleared, IsMarkedVerdict, IsLogVerdict, KeepsLine, TakesPiece, TakesPieceInPart, IsCheckingLog};
-ghost use Rattle.gc_lines.specs.Answering.{ports_of};
+ghost use Rattle.gc_engines.specs.LogChecking.{IsWholeVerdict, IsVerdictLine, part_verdict, ends_cleared, IsMarkedVerdict, IsLogVerdict, KeepsLine, TakesPiece, TakesPieceInPart, IsCheckingLog};
+ghost use Rattle.gc_lines.specs.Answering.{AppendsText, ports_of};
 
 use crate::verdict::{Verdict, line_verdict, push_verdict};
 use arrayvec::ArrayVec;
@@ -48,6 +47,13 @@ impl PartialLine {
     }
 }
 
+// How far a check has come: the bytes since the last line feed, and how many verdicts went out whole.
+#[derive(Drop)]
+struct LogCheck {
+    kept: PartialLine,
+    replies: u64,
+}
+
 /// Checks the lines of a log, as `station --log` writes them, until the end of a source, in at most `max_reads` reads of at
 /// most 256 bytes. For each line it writes one with LF into a sink: the moment and the mark as they are in the log, and the verdict
 /// on the bytes.
@@ -75,40 +81,46 @@ pub fn run_check_log<S: Source, K: Sink>(
         (ports_of S.Source source.new K.Sink sink.new)
         max_reads result }
 {
-    let mut kept = PartialLine::new();
-    let mut replies = 0u64;
+    let mut check = LogCheck {
+        kept: PartialLine::new(),
+        replies: 0,
+    };
     let mut buf = [0u8; PIECE];
     for _ in 0..max_reads {
         match source.read(&mut buf) {
-            Ok(0) => return Ok(Served { replies }),
+            Ok(0) => return Ok(Served {
+                replies: check.replies,
+            }),
             Ok(n) => {
-                if let Err(bytes) = check_piece(&mut kept, &mut replies, sink, &buf[..n]) {
-                    return Err(ServeFault::Write { replies, bytes });
+                if let Err(bytes) = check_piece(&mut check, sink, &buf[..n]) {
+                    return Err(ServeFault::Write {
+                        replies: check.replies,
+                        bytes,
+                    });
                 }
             }
-            Err(_) => return Err(ServeFault::Read { replies }),
+            Err(_) => return Err(ServeFault::Read {
+                replies: check.replies,
+            }),
         }
     }
-    Err(ServeFault::TooManyReads { replies })
+    Err(ServeFault::TooManyReads {
+        replies: check.replies,
+    })
 }
 
 // Checks the lines of a log that end in a piece, and adds to `replies` how many verdicts went out whole. After `Ok` what came
 // after the last line feed is in `kept`. `Err(n)`: the sink took the first n bytes of one more verdict's line, which aren't all,
 // and failed; what comes after that line in the piece isn't looked at.
-fn check_piece<K: Sink>(
-    kept: &mut PartialLine,
-    replies: &mut u64,
-    sink: &mut K,
-    piece: &[u8],
-) -> Result<(), usize>
-    requires { replies.old + length piece.now < 2 ^ 64 }
+fn check_piece<K: Sink>(check: &mut LogCheck, sink: &mut K, piece: &[u8]) -> Result<(), usize>
+    requires { check.old.replies + length piece.now < 2 ^ 64 }
     ensures failed { FailsWith result (K.failed sink.old) (K.failed sink.new) }
-    ensures ok { OnOk result (TakesPiece kept.old kept.new piece.now (K.taken sink.old) (K.taken sink.new) replies.old replies.new) }
-    ensures err { IfErr result (TakesPieceInPart kept.old piece.now (K.taken sink.old) (K.taken sink.new) replies.old replies.new) }
-    ensures few { OnOk result (replies.new ≤ replies.old + length piece.now) }
+    ensures ok { OnOk result (TakesPiece check.old check.new piece.now (K.taken sink.old) (K.taken sink.new)) }
+    ensures err { IfErr result (TakesPieceInPart check.old check.new piece.now (K.taken sink.old) (K.taken sink.new)) }
+    ensures few { OnOk result (check.new.replies ≤ check.old.replies + length piece.now) }
 {
     for b in piece {
-        if let Err(n) = check_byte(kept, replies, sink, *b) {
+        if let Err(n) = check_byte(check, sink, *b) {
             return Err(n);
         }
     }
@@ -118,28 +130,23 @@ fn check_piece<K: Sink>(
 // Takes one more byte of a log. A line feed ends a line of the log: that line's verdict is written and counted in `replies`, and the next
 // line begins. Any other byte goes to `PartialLine::keep`. `Err(n)`: the sink took the first n bytes of the verdict's line, which
 // aren't all, and failed; the verdict isn't counted then.
-fn check_byte<K: Sink>(
-    kept: &mut PartialLine,
-    replies: &mut u64,
-    sink: &mut K,
-    b: u8,
-) -> Result<(), usize>
-    requires { replies.old + 1 < 2 ^ 64 }
+fn check_byte<K: Sink>(check: &mut LogCheck, sink: &mut K, b: u8) -> Result<(), usize>
+    requires { check.old.replies + 1 < 2 ^ 64 }
     ensures failed { FailsWith result (K.failed sink.old) (K.failed sink.new) }
-    ensures ok { OnOk result (TakesPiece kept.old kept.new (b ∷ []) (K.taken sink.old) (K.taken sink.new) replies.old replies.new) }
-    ensures err { IfErr result (TakesPieceInPart kept.old (b ∷ []) (K.taken sink.old) (K.taken sink.new) replies.old replies.new) }
-    ensures few { OnOk result (replies.new ≤ replies.old + 1) }
+    ensures ok { OnOk result (TakesPiece check.old check.new (b ∷ []) (K.taken sink.old) (K.taken sink.new)) }
+    ensures err { IfErr result (TakesPieceInPart check.old check.new (b ∷ []) (K.taken sink.old) (K.taken sink.new)) }
+    ensures few { OnOk result (check.new.replies ≤ check.old.replies + 1) }
 {
     if b != b'\n' {
-        kept.keep(b);
+        check.kept.keep(b);
         return Ok(());
     }
-    let text = log_verdict_of(kept);
-    *kept = PartialLine::new();
+    let text = log_verdict_of(&check.kept);
+    check.kept = PartialLine::new();
     if let Err(n) = write_whole(sink, &text) {
         return Err(n);
     }
-    *replies += 1;
+    check.replies += 1;
     Ok(())
 }
 
@@ -170,8 +177,7 @@ fn no_log_line() -> Outgoing
 fn log_line_verdict(line: &LogLine<'_>) -> Outgoing
     requires { length line.now.moment.now ≤ 2100 }
     ensures room { length line.now.bytes.items ≤ 514 }
-    ensures verdict { (words : List ℕ) × IsMarkedVerdict line.now.mark line.now.bytes.items words
-        × (result.items ≡ line.now.moment.now ++ 32 ∷ (mark_text line.now.mark ++ 32 ∷ (words ++ 10 ∷ []))) }
+    ensures verdict { IsVerdictLine line.now.moment.now line.now.mark line.now.bytes.items result.items }
 {
     let mut text = Outgoing::new();
     append(&mut text, line.moment);
@@ -188,7 +194,7 @@ fn log_line_verdict(line: &LogLine<'_>) -> Outgoing
 fn push_marked_verdict(text: &mut Outgoing, mark: LogMark, bytes: &[u8])
     requires few { length bytes.now ≤ 514 }
     requires room { length text.old.items + 2100 ≤ 8192 }
-    ensures items { (words : List ℕ) × IsMarkedVerdict mark bytes.now words × (text.new.items ≡ text.old.items ++ words) }
+    ensures items { AppendsText (IsMarkedVerdict mark bytes.now) text.old.items text.new.items }
     ensures bound { length text.new.items ≤ length text.old.items + 2100 }
 {
     match mark {
@@ -201,7 +207,7 @@ fn push_marked_verdict(text: &mut Outgoing, mark: LogMark, bytes: &[u8])
 // Appends the verdict on a line that went or came whole: `overlong` if it has more than 512 bytes, else that of `check`.
 fn push_whole(text: &mut Outgoing, bytes: &[u8])
     requires { length text.old.items + 100 ≤ 8192 }
-    ensures items { (words : List ℕ) × IsWholeVerdict bytes.now words × (text.new.items ≡ text.old.items ++ words) }
+    ensures items { AppendsText (IsWholeVerdict bytes.now) text.old.items text.new.items }
     ensures bound { length text.new.items ≤ length text.old.items + 100 }
 {
     if bytes.len() > 512 {

@@ -6,10 +6,10 @@ ghost use Rattle.gc_texts.specs.Procedures.{IsNumber};
 ghost use Rattle.gc_engines.specs.RuleScenes.{IsRuleLine, IsFault, IsAfter, IsAnswer, IsBlocked, IsOffset, IsDrift, IsNoise, IsSpan, IsTimes, IsStillLine, Scripts, GivesClock, way_line};
 
 use crate::event::COUNT_MAX;
-use crate::scene_line::{AnySceneLine, SceneLine, put_found, read_scene_line};
+use crate::scene_line::{AnySceneLine, SceneLine, offset_of, put_found, read_scene_line};
 use gc_catalogue::raw_call;
 use gc_scenes::{Fault, Noise, Offset, Scripted, Way};
-use gc_texts::{LineForm, before, behind, is_word, number_of, read_double};
+use gc_texts::{LineForm, before, behind, is_word, number_of};
 
 // How many requests a fault meets whose line has no `for`: if its `after` isn't 0, it then never ends (`Span`).
 const NO_END: u32 = 4294967295;
@@ -164,6 +164,26 @@ pub(crate) fn code_of(digits: &[u8]) -> Option<u16>
     }
 }
 
+// The count, look or seed that the digits write. `None`: they write no number up to 4294967295.
+fn count_of(digits: &[u8]) -> Option<u32>
+    ensures { IsReadAs (λ n. IsNumber digits.now n 4294967295) result }
+{
+    match number_of(digits, COUNT_MAX) {
+        Some(n) => Some(n as u32),
+        None => None,
+    }
+}
+
+// The number of a target that the digits write. `None`: they write no number up to 32.
+fn scene_target_of(digits: &[u8]) -> Option<u32>
+    ensures { IsReadAs (λ n. IsNumber digits.now n 32) result }
+{
+    match number_of(digits, SCENE_TARGET_MAX) {
+        Some(n) => Some(n as u32),
+        None => None,
+    }
+}
+
 // How many requests a fault meets: reads `for COUNT`, or nothing, which gives `NO_END`. `None`: the words have no such form.
 fn read_times(words: &[u8]) -> Option<u32>
     ensures { IsReadAs (IsTimes words.now) result }
@@ -174,24 +194,18 @@ fn read_times(words: &[u8]) -> Option<u32>
     if !is_word(b"for", before(b' ', words)) {
         return None;
     }
-    match number_of(behind(b' ', words), COUNT_MAX) {
-        Some(n) => Some(n as u32),
-        None => None,
-    }
+    count_of(behind(b' ', words))
 }
 
 // Reads `COUNT [for COUNT]`, the words that follow `after`. `None`: they have no such form.
 fn read_after(words: &[u8]) -> Option<Span>
     ensures { IsReadAs (IsAfter words.now) result }
 {
-    let Some(after) = number_of(before(b' ', words), COUNT_MAX) else {
+    let Some(after) = count_of(before(b' ', words)) else {
         return None
     };
     match read_times(behind(b' ', words)) {
-        Some(times) => Some(Span {
-            after: after as u32,
-            times,
-        }),
+        Some(times) => Some(Span { after, times }),
         None => None,
     }
 }
@@ -234,7 +248,7 @@ fn read_fault(line: &[u8]) -> Option<Fault>
 // The reply with this code and these parameters to a procedure that isn't in the table. `None`: the procedure is in the table, or the
 // parameters can't be those of a request (`raw_call`), or have more than the 490 bytes that a reply has room for.
 fn scripted(rpc: u16, rc: u16, params: &[u8]) -> Option<Scripted>
-    ensures { Scripts rpc rc params.now result }
+    ensures { IsReadAs (Scripts rpc rc params.now) result }
 {
     match raw_call(rpc, params) {
         Ok(call) => Scripted::new(call, rc),
@@ -269,39 +283,26 @@ fn read_blocked(line: &[u8]) -> Option<Blocked>
         return None;
     }
     let rest = behind(b' ', line);
-    let Some(target) = number_of(before(b' ', rest), SCENE_TARGET_MAX) else {
+    let Some(target) = scene_target_of(before(b' ', rest)) else {
         return None
     };
     let rest = behind(b' ', rest);
-    let Some(from) = number_of(before(b' ', rest), COUNT_MAX) else {
+    let Some(from) = count_of(before(b' ', rest)) else {
         return None
     };
-    match number_of(behind(b' ', rest), COUNT_MAX) {
-        Some(to) => Some(Blocked {
-            target: target as u32,
-            from: from as u32,
-            to: to as u32,
-        }),
+    match count_of(behind(b' ', rest)) {
+        Some(to) => Some(Blocked { target, from, to }),
         None => None,
     }
 }
 
-// Reads `HZ V D`: two angles in radians and a distance in metres. `None`: the words have no such form, or `read_double` refuses
-// one of them, as one further than 10^13 from zero.
+// Reads `HZ V D`: two angles in radians and a distance in metres. `None`: the words have no such form, or `offset_of` refuses
+// one of them.
 fn read_offset(words: &[u8]) -> Option<Offset>
     ensures { IsReadAs (IsOffset words.now) result }
 {
-    let Some(hz) = read_double(before(b' ', words)) else {
-        return None
-    };
     let rest = behind(b' ', words);
-    let Some(v) = read_double(before(b' ', rest)) else {
-        return None
-    };
-    match read_double(behind(b' ', rest)) {
-        Some(distance) => Some(Offset { hz, v, distance }),
-        None => None,
-    }
+    offset_of(before(b' ', words), before(b' ', rest), behind(b' ', rest))
 }
 
 // Reads `drift TARGET HZ V D`: a target, and the offset by which it moves with each measurement of it, in radians and metres.
@@ -313,44 +314,39 @@ fn read_drift(line: &[u8]) -> Option<Drift>
         return None;
     }
     let rest = behind(b' ', line);
-    let Some(target) = number_of(before(b' ', rest), SCENE_TARGET_MAX) else {
+    let Some(target) = scene_target_of(before(b' ', rest)) else {
         return None
     };
     match read_offset(behind(b' ', rest)) {
-        Some(by) => Some(Drift {
-            target: target as u32,
-            by,
-        }),
+        Some(by) => Some(Drift { target, by }),
         None => None,
     }
 }
 
 // Reads `noise HZ V D SEED`: the most by which measurements deviate, in radians and metres, and the seed. `None`: the line has no
-// such form, or `read_double` refuses a number, as one further than 10^13 from zero.
+// such form, or `offset_of` refuses a number.
 fn read_noise(line: &[u8]) -> Option<Noise>
     ensures { IsReadAs (IsNoise line.now) result }
 {
     if !is_word(b"noise", before(b' ', line)) {
         return None;
     }
-    let rest = behind(b' ', line);
-    let Some(hz) = read_double(before(b' ', rest)) else {
+    let angles = behind(b' ', line);
+    let others = behind(b' ', angles);
+    let last = behind(b' ', others);
+    let Some(most) = offset_of(
+        before(b' ', angles),
+        before(b' ', others),
+        before(b' ', last),
+    ) else {
         return None
     };
-    let rest = behind(b' ', rest);
-    let Some(v) = read_double(before(b' ', rest)) else {
-        return None
-    };
-    let rest = behind(b' ', rest);
-    let Some(distance) = read_double(before(b' ', rest)) else {
-        return None
-    };
-    match number_of(behind(b' ', rest), COUNT_MAX) {
+    match count_of(behind(b' ', last)) {
         Some(seed) => Some(Noise {
-            hz,
-            v,
-            distance,
-            seed: seed as u32,
+            hz: most.hz,
+            v: most.v,
+            distance: most.distance,
+            seed,
         }),
         None => None,
     }

@@ -4,7 +4,7 @@ ghost use Rattle.std.specs.Prelude.{◌≡◌, ◌⊎◌, ◌<◌, ◌≤◌, le
 ghost use Rattle.gc_texts.specs.LineForms.{FirstFaulty, NamesFaulty, RefusesLong};
 ghost use Rattle.gc_texts.specs.declared.fault.RunFault.{RunFault};
 ghost use Rattle.gc_scenes.specs.Laws.{still};
-ghost use Rattle.gc_engines.specs.RuleScenes.{AreRulesOf, FitAnInstrument, OverfillAnInstrument, IsOverfullOf, IsSceneOf, SceneFaultOf, ruled, rules_answers, rules_faults, rules_opening, rules_prism, rules_prisms};
+ghost use Rattle.gc_engines.specs.RuleScenes.{AreRulesOf, FitAnInstrument, OverfillAnInstrument, IsOverfullOf, IsSceneOf, SceneFaultOf, ruled, answers_of, faults_of, rules_opening, rules_prism, rules_prisms};
 
 use crate::rule_line::RuleLine;
 use crate::scene::base_of;
@@ -67,7 +67,7 @@ pub(crate) fn set_up(lines: &[RuleLine]) -> Option<SceneInstrument>
 // The rules that these lines set up, with these targets. Of several lines `noise` the last one counts. `None`: they have more
 // than 32 faults or 16 replies.
 fn scene_rules_of(lines: &[RuleLine], prisms: ArrayVec<Prism, 32>) -> Option<SceneRules>
-    ensures { MatchOption result ((32 < length (rules_faults lines.now)) ⊎ (16 < length (rules_answers lines.now)))
+    ensures { MatchOption result ((32 < length (faults_of lines.now)) ⊎ (16 < length (answers_of lines.now)))
         (λ rules. AreRulesOf lines.now prisms.items rules) }
 {
     let mut faults = ArrayVec::new();
@@ -110,16 +110,13 @@ fn ruled(number: u32, line: &RuleLine, prism: &Prism) -> Prism
 {
     match *line {
         RuleLine::Blocked(blocked) if blocked.target == number => Prism {
-            at: prism.at,
-            drift: prism.drift,
             from: blocked.from,
             to: blocked.to,
+            ..*prism
         },
         RuleLine::Drift(drift) if drift.target == number => Prism {
-            at: prism.at,
             drift: Some(drift.by),
-            from: prism.from,
-            to: prism.to,
+            ..*prism
         },
         _ => *prism,
     }

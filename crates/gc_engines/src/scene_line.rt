@@ -4,10 +4,11 @@ ghost use Rattle.std.specs.Prelude.{◌≡◌, MatchOption, IsTrue, IsFalse};
 ghost use Rattle.gc_values.specs.Text.{IsText};
 ghost use Rattle.gc_values.specs.Whole.{NamesWhole, FitsLong};
 ghost use Rattle.gc_texts.specs.LineForms.{IsReadAs};
-ghost use Rattle.gc_engines.specs.Scenes.{IsSerial, IsName, IsTargetWords, IsTarget, IsSceneLine};
+ghost use Rattle.gc_engines.specs.Scenes.{AreOffsetWords, IsSerial, IsName, IsTargetWords, IsTarget, IsSceneLine};
 ghost use Rattle.gc_engines.specs.declared.scene_line.SceneLine.{SceneLine};
 
 use gc_instrument::Target;
+use gc_scenes::Offset;
 use gc_texts::{LineForm, after_word, cut_at, read_double};
 use gc_values::{Text, read_long};
 
@@ -132,7 +133,7 @@ fn name_from(bytes: &[u8]) -> Option<Text>
 }
 
 // Reads `target HZ V DISTANCE`: a target's angles in radians and its slope distance in metres. `None`: the line has no such form,
-// or `read_double` refuses a number, as one further than 10^13 from zero.
+// or `offset_of` refuses a number.
 fn read_target(line: &[u8]) -> Option<Target>
     ensures { IsReadAs (IsTarget line.now) result }
 {
@@ -142,8 +143,23 @@ fn read_target(line: &[u8]) -> Option<Target>
     }
 }
 
+// Reads these three words: two angles in radians and a distance in metres. `None`: `read_double` refuses one of them, as one further
+// than 10^13 from zero.
+pub(crate) fn offset_of(hz: &[u8], v: &[u8], distance: &[u8]) -> Option<Offset>
+    ensures { IsReadAs (AreOffsetWords hz.now v.now distance.now) result }
+{
+    let Some(hz) = read_double(hz) else {
+        return None
+    };
+    let Some(v) = read_double(v) else { return None };
+    match read_double(distance) {
+        Some(distance) => Some(Offset { hz, v, distance }),
+        None => None,
+    }
+}
+
 // Reads `HZ V DISTANCE`: where a target stands, by its angles in radians and its slope distance in metres. `None`: they aren't
-// three words, with one space between each two, or `read_double` refuses one of them.
+// three words, with one space between each two, or `offset_of` refuses them.
 fn read_target_words(words: &[u8]) -> Option<Target>
     ensures { IsReadAs (IsTargetWords words.now) result }
 {
@@ -153,12 +169,8 @@ fn read_target_words(words: &[u8]) -> Option<Target>
     let Some(distance) = distance else {
         return None
     };
-    let Some(hz) = read_double(hz) else {
-        return None
-    };
-    let Some(v) = read_double(v) else { return None };
-    match read_double(distance) {
-        Some(distance) => Some(Target { hz, v, distance }),
+    match offset_of(hz, v, distance) {
+        Some(Offset { hz, v, distance }) => Some(Target { hz, v, distance }),
         None => None,
     }
 }

@@ -4,9 +4,9 @@ ghost use Rattle.std.specs.Prelude.{◌≡◌, ◌++◌, IsTrue, OnOk, codes};
 ghost use Rattle.std.specs.Io.KnownBytes.{Appends};
 ghost use Rattle.gc_texts.specs.Faults.{run_fault_text, fault_line};
 ghost use Rattle.gc_texts.specs.LineForms.{IsReadAs};
-ghost use Rattle.gc_texts.specs.Words.{first_word};
 ghost use Rattle.gc_texts.specs.declared.fault.RunFault.{RunFault};
-ghost use Rattle.gc_engines.specs.SceneTroubles.{IsReplyTrouble, IsSceneTrouble, NeedsClock, NoDecimal, NotNumber, form_text, scene_trouble_text, scene_trouble_line, word_text};
+ghost use Rattle.gc_engines.specs.SceneTroubles.{BeginsWith, IsReplyTrouble, IsSceneTrouble, NeedsClock, NoDecimal, NotNumber, form_text, scene_trouble_text, scene_trouble_line, word_text};
+ghost use Rattle.gc_engines.specs.declared.scene_trouble.SceneWord.{SceneWord};
 
 use crate::event::COUNT_MAX;
 use crate::rule_line::{CODE_MAX, SCENE_TARGET_MAX, gives_clock};
@@ -238,7 +238,7 @@ fn word_of(first: &[u8]) -> Option<SceneWord>
 // What is at fault in a line that begins with this word. A line `repeats`, `behave` or `busy` has no fields that could be named, so it has
 // `Form`.
 fn trouble_behind(word: SceneWord, line: &[u8]) -> SceneTrouble
-    requires { first_word line.now ≡ word_text word }
+    requires { BeginsWith word line.now }
     ensures { IsSceneTrouble line.now result }
 {
     match word {
@@ -285,7 +285,7 @@ fn fields_in(line: &[u8]) -> usize {
 
 // What is at fault in a line that begins with `serial`: if it has one field, `Serial` if that doesn't read; else `Form`.
 fn serial_trouble(line: &[u8]) -> SceneTrouble
-    requires { first_word line.now ≡ codes "serial" }
+    requires { BeginsWith SceneWord.Serial line.now }
     ensures { IsSceneTrouble line.now result }
 {
     if fields_in(line) == 1 {
@@ -298,7 +298,7 @@ fn serial_trouble(line: &[u8]) -> SceneTrouble
 
 // What is at fault in a line that begins with `name`: `Name` if its text doesn't read, else `Form`.
 fn name_trouble(line: &[u8]) -> SceneTrouble
-    requires { first_word line.now ≡ codes "name" }
+    requires { BeginsWith SceneWord.Name line.now }
     ensures { IsSceneTrouble line.now result }
 {
     if Text::new(behind(b' ', line)).is_err() {
@@ -310,7 +310,7 @@ fn name_trouble(line: &[u8]) -> SceneTrouble
 // What is at fault in a line that begins with `target`: if it has three fields, the first of `Hz`, `V` and `Distance` that doesn't read;
 // else `Form`.
 fn target_trouble(line: &[u8]) -> SceneTrouble
-    requires { first_word line.now ≡ codes "target" }
+    requires { BeginsWith SceneWord.Target line.now }
     ensures { IsSceneTrouble line.now result }
 {
     let rest = behind(b' ', line);
@@ -331,7 +331,7 @@ fn target_trouble(line: &[u8]) -> SceneTrouble
 // What is at fault in a line that begins with `fault`: if it has two fields or more, the first of `Rpc` and `Rc` that doesn't read; else
 // `Form`.
 fn fault_trouble(line: &[u8]) -> SceneTrouble
-    requires { first_word line.now ≡ codes "fault" }
+    requires { BeginsWith SceneWord.Fault line.now }
     ensures { IsSceneTrouble line.now result }
 {
     let rest = behind(b' ', line);
@@ -348,7 +348,7 @@ fn fault_trouble(line: &[u8]) -> SceneTrouble
 
 // What is at fault in a line that begins with `answer`: the first of `Rpc` and `Rc` that doesn't read, or else what `reply_trouble` gives.
 fn answer_trouble(line: &[u8]) -> SceneTrouble
-    requires { first_word line.now ≡ codes "answer" }
+    requires { BeginsWith SceneWord.Answer line.now }
     ensures { IsSceneTrouble line.now result }
 {
     let rest = behind(b' ', line);
@@ -381,7 +381,7 @@ fn reply_trouble(rpc: u16, params: &[u8]) -> SceneTrouble
 // What is at fault in a line that begins with `blocked`: if it has three fields, the first of `Target`, `From` and `To` that doesn't read;
 // else `Form`.
 fn blocked_trouble(line: &[u8]) -> SceneTrouble
-    requires { first_word line.now ≡ codes "blocked" }
+    requires { BeginsWith SceneWord.Blocked line.now }
     ensures { IsSceneTrouble line.now result }
 {
     let rest = behind(b' ', line);
@@ -402,7 +402,7 @@ fn blocked_trouble(line: &[u8]) -> SceneTrouble
 // What is at fault in a line that begins with `drift`: if it has four fields, the first of `Target`, `Hz`, `V` and `Distance` that doesn't
 // read; else `Form`.
 fn drift_trouble(line: &[u8]) -> SceneTrouble
-    requires { first_word line.now ≡ codes "drift" }
+    requires { BeginsWith SceneWord.Drift line.now }
     ensures { IsSceneTrouble line.now result }
 {
     let rest = behind(b' ', line);
@@ -426,7 +426,7 @@ fn drift_trouble(line: &[u8]) -> SceneTrouble
 // What is at fault in a line that begins with `noise`: if it has four fields, the first of `Hz`, `V`, `Distance` and `Seed` that doesn't
 // read; else `Form`.
 fn noise_trouble(line: &[u8]) -> SceneTrouble
-    requires { first_word line.now ≡ codes "noise" }
+    requires { BeginsWith SceneWord.Noise line.now }
     ensures { IsSceneTrouble line.now result }
 {
     let rest = behind(b' ', line);
@@ -449,7 +449,7 @@ fn noise_trouble(line: &[u8]) -> SceneTrouble
 
 // What is at fault in a line that begins with `delay`: if it has two fields, the first of `Rpc` and `Ms` that doesn't read; else `Form`.
 fn delay_trouble(line: &[u8]) -> SceneTrouble
-    requires { first_word line.now ≡ codes "delay" }
+    requires { BeginsWith SceneWord.Delay line.now }
     ensures { IsSceneTrouble line.now result }
 {
     let rest = behind(b' ', line);

@@ -1,8 +1,8 @@
 //! The text of a schedule, read into its events.
 
 ghost use Rattle.std.specs.Prelude.{◌≡◌, Err, IfOk, IfErr};
-ghost use Rattle.gc_texts.specs.LineForms.{NamesFaulty, ReachesASoundLine, RefusesLong, TextFault};
-ghost use Rattle.gc_engines.specs.Schedule.{IsEvent, IsSchedule, IsFirstFaulty};
+ghost use Rattle.gc_texts.specs.LineForms.{FirstFaulty, NamesFaulty, ReachesASoundLine, RefusesLong, TextFault};
+ghost use Rattle.gc_engines.specs.Schedule.{IsEvent, IsSchedule};
 ghost use Rattle.gc_texts.specs.declared.fault.RunFault.{RunFault};
 
 use crate::event::EventForm;
@@ -23,7 +23,7 @@ use std::alloc::Global;
 pub fn read_schedule(alloc: Global, text: &[u8]) -> Result<Vec<Event>, RunFault>
     ensures found { IfOk result (λ events. IsSchedule text.now events.items) }
     ensures too_long { RefusesLong text.now result }
-    ensures faulty { NamesFaulty (IsFirstFaulty text.now) result }
+    ensures faulty { NamesFaulty (FirstFaulty IsEvent text.now) result }
     ensures memory { result ≡ Err RunFault.Memory → ReachesASoundLine IsEvent text.now }
     ensures faults { IfErr result (λ e. TextFault IsEvent text.now e) }
 {

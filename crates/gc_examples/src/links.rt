@@ -7,6 +7,15 @@ use gc_probes::{PieceSink, PieceSource, Pipe};
 use gc_texts::RunFault;
 use std::alloc::Global;
 
+// The most bytes that one write takes, where whole lines are to go at once.
+const LINK_MOST: usize = 1000;
+
+// How many reads `ask` may make.
+const ASK_READS: u32 = 9;
+
+// How many reads `loop` may make.
+const LOOP_READS: u32 = 100;
+
 /// Asks two commands over a link that gives a stray and then the two answers. The outcome is that of `Outcome::of`, with these
 /// exceptions: `PortLacksMemory` if memory ran out for what was sent, and `Other` if a run that ended well sent anything but the
 /// two requests, or one for which memory ran out sent anything.
@@ -15,7 +24,7 @@ pub fn ask(alloc: Global) -> Outcome {
     let told = b"0 7 answered %R1P,0,0:0,123456\n1 8 answered %R1P,0,1:0\n";
     let gives = b"%R1P,0,3:0\r\n%R1P,0,0:0,123456\r\n%R1P,0,1:0\r\n";
     let mut link_in = PieceSource::new(gives, &[], u64::MAX);
-    let mut link_out = PieceSink::new(alloc, 1000, u64::MAX);
+    let mut link_out = PieceSink::new(alloc, LINK_MOST, u64::MAX);
     let mut sink = PieceSink::new(alloc, 5, u64::MAX);
     let end = run_ask(
         alloc,
@@ -23,7 +32,7 @@ pub fn ask(alloc: Global) -> Outcome {
         &mut link_in,
         &mut link_out,
         &mut sink,
-        9,
+        ASK_READS,
     );
     match end {
         Err(RunFault::Write { .. }) if link_out.lacks_memory() => Outcome::PortLacksMemory,
@@ -40,8 +49,9 @@ pub fn loop_commands(alloc: Global) -> Outcome {
     let told =
         b"0 7 answered %R1P,0,0:0,123456\n1 8 answered %R1P,0,1:0\n2 9 answered %R1P,0,2:0,1\n";
     let (up, down) = (Pipe::new(alloc), Pipe::new(alloc));
-    let (mut client_out, mut instrument_out) = (up.sink(1000, u64::MAX), down.sink(1000, u64::MAX));
-    let mut sink = PieceSink::new(alloc, 1000, u64::MAX);
+    let mut client_out = up.sink(LINK_MOST, u64::MAX);
+    let mut instrument_out = down.sink(LINK_MOST, u64::MAX);
+    let mut sink = PieceSink::new(alloc, LINK_MOST, u64::MAX);
     let end = run_loop(
         alloc,
         &mut PieceSource::new(b"7 5003\n8 9028 0,0,0\n9 2026\n", &[], u64::MAX),
@@ -50,7 +60,7 @@ pub fn loop_commands(alloc: Global) -> Outcome {
         &mut up.source(u64::MAX),
         &mut instrument_out,
         &mut sink,
-        100,
+        LOOP_READS,
     );
     let has_failed = client_out.has_failed() || instrument_out.has_failed();
     match end {

@@ -43,13 +43,13 @@ fn play_without_files(rt: &HostRuntime) -> io::Result<bool> {
     Ok(is_right)
 }
 
-// Plays an example of the folder with its engine, and prints a line; a schedule without a scene goes to `play_schedule`, which prints two.
-// Returns whether no run gave a wrong answer.
+// Plays an example of the folder with its engine, and prints a line; a schedule without a scene goes to `play_schedule`, which prints two. Returns
+// whether no run gave a wrong answer.
 fn play_example(rt: &HostRuntime, name: &str, example: &Example) -> io::Result<bool> {
     let alloc = rt.alloc();
     match example.setup.engine {
-        Engine::Exec => print_outcome(rt, name, "served", answer_stream(example)),
-        Engine::Check => print_outcome(rt, name, "checked", answer_stream(example)),
+        Engine::Exec => print_outcome(rt, name, "served", serve_requests(example)),
+        Engine::Check => print_outcome(rt, name, "checked", check_recording(example)),
         Engine::Rules => print_outcome(rt, name, "served", answer_on_scene(alloc, example)),
         Engine::DrillRules => print_outcome(rt, name, "drilled", drill_on_scene(alloc, example)),
         _ => play_schedule(rt, name, example),
@@ -74,23 +74,31 @@ fn print_outcome(rt: &HostRuntime, name: &str, done: &str, outcome: Outcome) -> 
 // Room for the output of each stream of the folder, in bytes, with at least one byte to spare.
 const ROOM: usize = 4096;
 
-// Runs `check` on the example's input, or `exec` if its engine is another one: `Exact` if the run ended well and wrote the expected output,
-// and else `Other`.
-fn answer_stream(example: &Example) -> Outcome {
+// Runs `exec` on the example's input: `Exact` if the run ended well and wrote the expected output, and else `Other`.
+fn serve_requests(example: &Example) -> Outcome {
     let mut taken = [0; ROOM];
-    let is_done = answer_stream_into(example, &mut taken[..]);
-    Outcome::of_answer(is_done && holds(&taken, example.expected.as_slice()))
+    let mut sink = ToWriter::new(&mut taken[..]);
+    let is_done = run_exec(&mut source_of(example), &mut sink, u32::MAX).is_ok();
+    outcome_of(is_done, &taken, example)
 }
 
-// Runs `check` on the example's input, or `exec` if its engine is another one, and writes the output into `taken`. Returns whether the run
-// ended well: it doesn't if `taken` has no room for the whole output.
-fn answer_stream_into(example: &Example, taken: &mut [u8]) -> bool {
-    let mut source = PieceSource::new(example.setup.input.as_slice(), &[], u64::MAX);
-    let mut sink = ToWriter::new(taken);
-    match example.setup.engine {
-        Engine::Check => run_check(&mut source, &mut sink, u32::MAX).is_ok(),
-        _ => run_exec(&mut source, &mut sink, u32::MAX).is_ok(),
-    }
+// Runs `check` on the example's input: `Exact` if the run ended well and wrote the expected output, and else `Other`.
+fn check_recording(example: &Example) -> Outcome {
+    let mut taken = [0; ROOM];
+    let mut sink = ToWriter::new(&mut taken[..]);
+    let is_done = run_check(&mut source_of(example), &mut sink, u32::MAX).is_ok();
+    outcome_of(is_done, &taken, example)
+}
+
+// The example's input, given whole.
+fn source_of(example: &Example) -> PieceSource<'_> {
+    PieceSource::new(example.setup.input.as_slice(), &[], u64::MAX)
+}
+
+// The outcome of a run that wrote into `taken`, an array of zeros before: `Exact` if it ended well (`is_done`) and `taken` holds the
+// expected output, and else `Other`.
+fn outcome_of(is_done: bool, taken: &[u8; ROOM], example: &Example) -> Outcome {
+    Outcome::of_answer(is_done && holds(taken, example.expected.as_slice()))
 }
 
 // Has the instrument of the example's scene answer its requests: `Exact` if it ended well with the expected replies, `NoMemory` if memory
@@ -105,10 +113,9 @@ fn answer_on_scene(alloc: Global, example: &Example) -> Outcome {
 // Has this instrument answer the example's requests: `Exact` if it ended well with the expected replies, and else `Other`.
 fn answer_on_instrument(instrument: &mut SceneInstrument, example: &Example) -> Outcome {
     let mut taken = [0; ROOM];
-    let mut source = PieceSource::new(example.setup.input.as_slice(), &[], u64::MAX);
     let mut sink = ToWriter::new(&mut taken[..]);
-    let is_done = serve_scene(instrument, &mut source, &mut sink, u32::MAX).is_ok();
-    Outcome::of_answer(is_done && holds(&taken, example.expected.as_slice()))
+    let is_done = serve_scene(instrument, &mut source_of(example), &mut sink, u32::MAX).is_ok();
+    outcome_of(is_done, &taken, example)
 }
 
 // Whether `expected`, which has no zero, is all that was written into `taken`, an array of zeros before: `taken` begins with it and has a
@@ -120,9 +127,8 @@ fn holds(taken: &[u8; ROOM], expected: &[u8]) -> bool {
 // Drills the example's schedule on the simulator, as `drill --totals` does, into a sink that takes at most 5 bytes of a write.
 // The outcome is that of `Outcome::of`: `Exact` if the drill ended well with the expected output.
 fn drill_schedule(alloc: Global, example: &Example) -> Outcome {
-    let mut source = PieceSource::new(example.setup.input.as_slice(), &[], u64::MAX);
     let mut sink = PieceSink::new(alloc, 5, u64::MAX);
-    let end = run_drill(alloc, &mut source, &mut sink, true);
+    let end = run_drill(alloc, &mut source_of(example), &mut sink, true);
     Outcome::of(end, &sink, example.expected.as_slice())
 }
 
@@ -138,9 +144,15 @@ fn drill_on_scene(alloc: Global, example: &Example) -> Outcome {
 // Drills the example's schedule on this instrument, with totals and a window of 7 requests, into a sink that takes at most 5
 // bytes of a write. The outcome is that of `Outcome::of`: `Exact` if the drill ended well with the expected output.
 fn drill_on_instrument(alloc: Global, instrument: SceneInstrument, example: &Example) -> Outcome {
-    let mut source = PieceSource::new(example.setup.input.as_slice(), &[], u64::MAX);
     let mut sink = PieceSink::new(alloc, 5, u64::MAX);
-    let end = run_drill_on(alloc, instrument, &mut source, &mut sink, true, 7);
+    let end = run_drill_on(
+        alloc,
+        instrument,
+        &mut source_of(example),
+        &mut sink,
+        true,
+        7,
+    );
     Outcome::of(end, &sink, example.expected.as_slice())
 }
 

@@ -5,11 +5,6 @@ use Rattle.gc_fates.specs.Rules.{IsFirstFaultyRule}
 use Rattle.gc_fates.specs.declared.reading.Refusal.{Refusal}
 use Rattle.gc_fates.specs.declared.reading.Refusal.TheVariants.{TooLong, Line}
 
--- why a text that isn't too long has no rules: this line is its first faulty one
-abbrev pub RefusesLine : List ℕ → Refusal → Type 0
-RefusesLine text TooLong = ⊥
-RefusesLine text (Line n fault) = IsFirstFaultyRule text n fault
-
 -- why a text has no rules: it is too long; or it isn't, and this line is its first faulty one
 abbrev pub RefusesText : List ℕ → Refusal → Type 0
 RefusesText text TooLong = TEXT_LIMIT < length text

@@ -23,8 +23,8 @@ pub enum Direction {
     Down,
 }
 
-/// The next output of splitmix64 in this state.
-pub fn output_of_state(state: u64) -> u64
+// The next output of splitmix64 in this state.
+fn output_of_state(state: u64) -> u64
     ensures { result ≡ output_at state }
 {
     let mut generator = SplitMix64::seed_from_u64(state);

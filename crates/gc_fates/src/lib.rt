@@ -13,8 +13,8 @@ mod share;
 mod spaced;
 
 pub use chance::Chance;
-pub use draw::{Direction, Draws, among, output_of_state};
+pub use draw::{Direction, Draws, among};
 pub use fate::{Fate, fate_of, restarts_at};
 pub use reading::{Refusal, read_rules};
-pub use rule::{MILLIS_MAX, RuleFault, Word};
+pub use rule::{RuleFault, Word};
 pub use rules::Rules;

@@ -3,14 +3,14 @@
 ghost use Rattle.std.specs.Prelude.{◌≡◌, ◌+◌, ◌<◌, ◌≤◌, ◌↔◌, ℕ, length, Err, IfOk, IfErr, OnOk, ◌++◌, codes};
 ghost use Rattle.gc_fates.specs.Rules.{AreRules, Leads, IsFirstFaultyRule, IsRuleFault, without_comment};
 ghost use Rattle.gc_fates.specs.Spaced.{IsBlank};
-ghost use Rattle.gc_fates.specs.Refusals.{RefusesText, RefusesLine};
+ghost use Rattle.gc_fates.specs.Refusals.{RefusesText};
 ghost use Rattle.gc_fates.specs.declared.reading.Refusal.{Refusal};
 ghost use Rattle.gc_texts.specs.declared.text.TheConstants.{TEXT_LIMIT};
 
 use crate::rule::{RuleFault, read_rule};
 use crate::rules::Rules;
 use crate::spaced::is_blank;
-use gc_texts::{TEXT_LIMIT, before, cut_at, line_at};
+use gc_texts::{TEXT_LIMIT, before, cut_line};
 
 /// Why a text has no rules.
 #[derive(Clone, Copy)]
@@ -60,14 +60,14 @@ pub fn read_rules(text: &[u8]) -> Result<Rules, Refusal>
 fn read_lines(text: &[u8]) -> Result<Rules, Refusal>
     requires { length text.now ≤ TEXT_LIMIT }
     ensures found { IfOk result (λ rules. AreRules text.now rules) }
-    ensures fault { IfErr result (λ refusal. RefusesLine text.now refusal) }
+    ensures fault { IfErr result (λ refusal. RefusesText text.now refusal) }
 {
     let mut rules = Rules::none();
     let mut left = Some(text);
     let mut number = 0u32;
     while let Some(text) = left {
-        let line = line_at(text, 1);
-        left = cut_at(b'\n', text).1;
+        let (line, rest) = cut_line(text);
+        left = rest;
         number += 1;
         match read_line(&rules, line) {
             Ok(new) => rules = new,

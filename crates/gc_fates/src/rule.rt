@@ -10,11 +10,11 @@ use crate::share::{WHOLE, read_share};
 use crate::spaced::{first_word, is_blank, other_words};
 use gc_texts::number_of;
 
-/// The longest time that a rule may name, in milliseconds: a day.
-pub const MILLIS_MAX: u64 = 86_400_000;
+// The longest time that a rule may name, in milliseconds: a day.
+const MILLIS_MAX: u32 = 86_400_000;
 
 // The greatest number of kills a night.
-const TIMES_MAX: u64 = 1000;
+const TIMES_MAX: u32 = 1000;
 
 // How many words there are.
 pub(crate) const WORDS: usize = 8;
@@ -158,11 +158,10 @@ pub enum RuleFault {
 }
 
 // Reads a whole number of at most `most`. `None`: the word is no such number.
-fn read_number(word: &[u8], most: u64) -> Option<u32>
-    requires { most < 4294967296 }
+fn read_number(word: &[u8], most: u32) -> Option<u32>
     ensures { IsReadAs (λ n. IsNumber word.now n most) result }
 {
-    match number_of(word, most) {
+    match number_of(word, u64::from(most)) {
         Some(number) => Some(number as u32),
         None => None,
     }

@@ -1,9 +1,9 @@
 -- A synchronization over a line of ids alone: the line, its two ends, what may happen, and a run. The *word* of a
 -- synchronization is the list of the ids of its null procedures. The client asks them one after the other, each until it is
 -- answered.
-use Rattle.std.specs.Prelude.{◌≡◌, ℕ, zero, suc, ◌+◌, ◌%◌, nat_eq, Bool, true, false, List, [], ◌∷◌, ◌++◌, map, Option, Some, None}
+use Rattle.std.specs.Prelude.{◌≡◌, ℕ, zero, suc, ◌+◌, ◌%◌, Bool, true, false, List, [], ◌∷◌, ◌++◌, map, Option, Some, None}
 use Rattle.std.specs.List.{AllByRecursion}
-use Rattle.gc_client.specs.Beginning.{IsSubsequence, left_by_one}
+use Rattle.gc_client.specs.Beginning.{IsSubsequence, left_by}
 use Rattle.gc_field.specs.World.{without, doubled}
 
 -- The line.
@@ -43,11 +43,9 @@ pub data Move : Type 0 where
   -- the instrument starts again, whatever is in flight
   Anew : Move
 
--- the ids that are left of the word once a reply with this id came: the reply answers the first of them if it has that id, and
--- else is discarded
+-- the ids that are left of the word once a reply with this id came
 abbrev pub heard : List ℕ → ℕ → List ℕ
-heard [] id = []
-heard (asked ∷ rest) id = left_by_one (nat_eq id asked) asked rest
+heard left id = left_by left (Some id)
 
 -- the state once the client sent the null procedure of the first id that is left, if any is (the list has those that are left)
 abbrev pub asks : Model → List ℕ → Model
@@ -107,6 +105,10 @@ AllDiffer ids = Pairs (λ i j. i ≡ j → ⊥) ids
 abbrev pub ids_of : List IdSent → List ℕ
 ids_of xs = map (λ x. x.id) xs
 
+-- the ids in flight, those of replies first
+abbrev pub ids_in_flight : Model → List ℕ
+ids_in_flight s = ids_of s.down ++ ids_of s.up
+
 -- `last z word` is the last id of the word, or z if the word is empty
 abbrev pub last : ℕ → List ℕ → ℕ
 last z [] = z
@@ -114,13 +116,13 @@ last z (i ∷ ids) = last i ids
 
 -- A synchronization.
 
--- the start of a synchronization: the whole word is left, all that is in flight is old, and the ids in flight, those of replies
--- first, don't contain the word
+-- the start of a synchronization: the whole word is left, all that is in flight is old, and the ids in flight don't contain the
+-- word
 pub record Begins (word : List ℕ) (s : Model) : Type 0 where
   pub left : s.left ≡ word
   pub up : AllByRecursion (λ x. x.old ≡ true) s.up
   pub down : AllByRecursion (λ x. x.old ≡ true) s.down
-  pub absent : IsSubsequence word (ids_of s.down ++ ids_of s.up) → ⊥
+  pub absent : IsSubsequence word (ids_in_flight s) → ⊥
 
 -- a synchronization that ended cleanly: nothing old is in flight, and all that is in flight has this id; so has what
 -- the instrument retains, if it retains anything

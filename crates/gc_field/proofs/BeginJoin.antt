@@ -18,11 +18,11 @@ use Rattle.gc_field.specs.World.{Ends, Request, without, doubled}
 use Rattle.std.proofs.lemmas.Option.{same_Some, none-some}
 use Rattle.gc_world.proofs.Rows.{each_without, each_doubled}
 use Rattle.gc_field.specs.Begin.{InFlight, IsWellFormed, LacksTheWord, AreTurns, Model, Turn, Asks, Comes, Foreign, Reaches, Up_lose, Up_repeat, Down_lose, Down_repeat, Anew, Changes, UnderWay, begins, leaves, ids_under_way, asks, comes, reaches, turns, turned}
-use Rattle.gc_field.specs.Begun.{HasBegunCleanly, eighth}
+use Rattle.gc_field.specs.Begun.{HasSynchronizedCleanly, NoneIsOld, eighth}
 use Rattle.gc_field.specs.Instrument.{IsAnInstrument, IsOwnOrNone}
 use Rattle.gc_field.proofs.BeginIds as ids
-use Rattle.gc_field.proofs.BeginIds.{IdSent, IsClean, aged, begun_anew, ids_of, moved}
-use Rattle.gc_field.proofs.BeginKilled.{SplitWord, absent_behind, begins_anew, ids_before, ids_upto, under_way}
+use Rattle.gc_field.proofs.BeginIds.{IdSent, IsClean, aged, begun_anew, ids_in_flight, ids_of, moved}
+use Rattle.gc_field.proofs.BeginKilled.{SplitWord, absent_behind, begins_anew, ids_before, ids_upto}
 use Rattle.gc_field.proofs.BeginLists.{each_map}
 use Rattle.gc_lines.proofs.Lists.{all_append}
 use Rattle.gc_values.proofs.Every.{every_front as all_front}
@@ -72,9 +72,9 @@ same_left (asked ∷ rest) (Some id) h = refl
 same_left (asked ∷ rest) None h = ap (λ b. left_by_one b asked rest) (ne_eqb 8 asked (λ e. omega (arith, e, h.0)))
 
 -- a line without an id leaves all ids
-none_left : (left : List ℕ) → left_by left None ≡ left
-none_left [] = refl
-none_left (asked ∷ rest) = refl
+left_by_none : (left : List ℕ) → left_by left None ≡ left
+left_by_none [] = refl
+left_by_none (asked ∷ rest) = refl
 
 -- One state shows another.
 
@@ -127,7 +127,7 @@ module _ {State : Type 0} (ends : Ends State) (Good : State → Type 0) (kept : 
   shows_foreign s p line e g = record {
     up = g.up;
     down = g.down;
-    left = g.left ∙ sym (ap (left_by s.left) e ∙ none_left s.left);
+    left = g.left ∙ sym (ap (left_by s.left) e ∙ left_by_none s.left);
     keeps = g.keeps;
     good = g.good;
     known = g.known;
@@ -341,7 +341,7 @@ module _ {State : Type 0} (ends : Ends State) (Good : State → Type 0) (kept : 
       split (Some id) word h = h
 
   -- a word of ids below 8 that isn't in the ids in flight isn't in those of the marks
-  absent_marks : (u : UnderWay State) (word : List ℕ) → IsSmall word → (IsSubsequence word (ids_under_way u) → ⊥) → IsSubsequence word (under_way (marks u)) → ⊥
+  absent_marks : (u : UnderWay State) (word : List ℕ) → IsSmall word → (IsSubsequence word (ids_under_way u) → ⊥) → IsSubsequence word (ids_in_flight (marks u)) → ⊥
   absent_marks u word s none h = none (marked_lines u.down word (ids_of (marks u).up) (map (λ x. x.id) u.up) (ids_of_marked u.up) s h)
 
   -- the ids of the requests that a synchronization leaves are those of their marks
@@ -349,7 +349,7 @@ module _ {State : Type 0} (ends : Ends State) (Good : State → Type 0) (kept : 
   up_left xs = map-map _ _ xs ∙ sym (map-map _ mark_up xs)
 
   -- where `Shows` holds of s and p, a word that is in the ids of what s leaves in flight is in the ids in flight in p
-  left_marks : (s : Model State) (p : ids.Model) (word : List ℕ) → Shows s p → IsSubsequence word (ids_under_way (leaves s)) → IsSubsequence word (under_way p)
+  left_marks : (s : Model State) (p : ids.Model) (word : List ℕ) → Shows s p → IsSubsequence word (ids_under_way (leaves s)) → IsSubsequence word (ids_in_flight p)
   left_marks s p word g h =
       subst (λ l. IsSubsequence word (ids_of l ++ ids_of p.up)) (sym g.down)
       (subst (λ l. IsSubsequence word (ids_of (map mark_down s.down) ++ ids_of l)) (sym g.up)
@@ -366,31 +366,35 @@ module _ {State : Type 0} (ends : Ends State) (Good : State → Type 0) (kept : 
   request_is : (x : Request) → x.id ≡ 7 → x.call ≡ (Table NullProc) → x ≡ eighth
   request_is x e f = ap₂ (λ (i : ℕ) (c : Asked). record { id = i; call = c }) e f
 
-  -- requests in flight that are `IsNullIfOwn`, and by their marks not old and of id 7, are copies of the eighth null procedure,
-  -- and not old
+  -- requests in flight that are `IsNullIfOwn`, and by their marks not old and of id 7, are not old, and copies of the eighth null
+  -- procedure
   up_is_clean : (xs : List (InFlight Request)) → AllByRecursion IsNullIfOwn xs → AllByRecursion (λ x. (x.old ≡ false) × (x.id ≡ 7)) (map mark_up xs)
-      → AllByRecursion (λ x. (x.old ≡ false) × (x.line ≡ eighth)) xs
-  up_is_clean [] k h = tt
-  up_is_clean (x ∷ xs) k h = ((h.0.0, request_is x.line h.0.1 (k.0.1 h.0.0)), up_is_clean xs k.1 h.1)
+      → NoneIsOld xs × AllByRecursion (λ x. x ≡ eighth) (map (λ (x : InFlight Request). x.line) xs)
+  up_is_clean [] k h = (tt, tt)
+  up_is_clean (x ∷ xs) k h = let others = up_is_clean xs k.1 h.1 in ((h.0.0, others.0), (request_is x.line h.0.1 (k.0.1 h.0.0), others.1))
 
   -- replies in flight that are by their marks not old and of id 7 are not old, and read as replies with id 7
-  down_is_clean : (xs : List (InFlight (List ℕ))) → AllByRecursion (λ x. (x.old ≡ false) × (x.id ≡ 7)) (map mark_down xs) → AllByRecursion (λ x. (x.old ≡ false) × (rule.heard x.line ≡ Some 7)) xs
-  down_is_clean [] h = tt
-  down_is_clean (x ∷ xs) h = ((h.0.0, heard_seven (rule.heard x.line) h.0.1), down_is_clean xs h.1)
+  down_is_clean : (xs : List (InFlight (List ℕ))) → AllByRecursion (λ x. (x.old ≡ false) × (x.id ≡ 7)) (map mark_down xs)
+      → NoneIsOld xs × AllByRecursion (λ line. rule.heard line ≡ Some 7) (map (λ (x : InFlight (List ℕ)). x.line) xs)
+  down_is_clean [] h = (tt, tt)
+  down_is_clean (x ∷ xs) h = let others = down_is_clean xs h.1 in ((h.0.0, others.0), (heard_seven (rule.heard x.line) h.0.1, others.1))
 
-  -- where `Shows` holds of s and p, and the synchronization over ids ended cleanly in p, that over lines ended cleanly in s
-  clean : (s : Model State) (p : ids.Model) → Shows s p → IsClean 7 p → HasBegunCleanly kept s
-  clean s p g c = record {
-    up = up_is_clean s.up g.known (subst (AllByRecursion (λ x. (x.old ≡ false) × (x.id ≡ 7))) g.up c.up);
-    down = down_is_clean s.down (subst (AllByRecursion (λ x. (x.old ≡ false) × (x.id ≡ 7))) g.down c.down);
-    keeps = λ k e. c.kept k.id (g.keeps k e);
-  }
+  -- where `Shows` holds of s and p, and the synchronization over ids ended cleanly in p, that over lines was clean in s
+  clean : (s : Model State) (p : ids.Model) → Shows s p → IsClean 7 p → HasSynchronizedCleanly Good kept s
+  clean s p g c =
+      let up = up_is_clean s.up g.known (subst (AllByRecursion (λ x. (x.old ≡ false) × (x.id ≡ 7))) g.up c.up) in
+      let down = down_is_clean s.down (subst (AllByRecursion (λ x. (x.old ≡ false) × (x.id ≡ 7))) g.down c.down) in
+      record {
+        up = up.0;
+        down = down.0;
+        clean = record { good = g.good; up = up.1; down = down.1; keeps = λ k e. c.kept k.id (g.keeps k e) };
+      }
 
   -- if what is in flight at the start of a synchronization is well formed, its turns are possible, the ids in flight at its start
-  -- don't contain the word, and no id is left after its turns, it has ended cleanly
+  -- don't contain the word, and no id is left after its turns, it has synchronized cleanly
   pub begins_cleanly : (u : UnderWay State) (ts : List (Turn State)) → IsWellFormed Good u → AreTurns ends Good kept ts (begins u)
       → LacksTheWord u → (turned ends ts (begins u)).left ≡ []
-      → HasBegunCleanly kept (turned ends ts (begins u))
+      → HasSynchronizedCleanly Good kept (turned ends ts (begins u))
   begins_cleanly u ts lines possible none done =
       let r = shown ts (begins u) (begun_anew the_word (marks u)) possible (shows_begins u lines) in
       clean (turned ends ts (begins u)) (moved r.0 (begun_anew the_word (marks u))) r.1

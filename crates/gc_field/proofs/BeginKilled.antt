@@ -8,7 +8,7 @@ use mathlib.Core.List.{map-map}
 use Rattle.std.proofs.lemmas.Bool.{eqb-true, false≢true}
 use Rattle.std.proofs.lemmas.List.{append_cancel_left, map-append}
 use Rattle.gc_client.specs.Beginning.{left_by_one, IsSubsequence, the_word}
-use Rattle.gc_field.proofs.BeginIds.{IdSent, Model, Move, heard, moved, aged, begun_anew, Pairs, AllDiffer, Begins, ids_of}
+use Rattle.gc_field.proofs.BeginIds.{IdSent, Model, Move, heard, moved, aged, begun_anew, Pairs, AllDiffer, Begins, ids_in_flight, ids_of}
 use Rattle.gc_field.specs.World.{without, doubled}
 use Rattle.gc_lines.proofs.Lists.{all_append}
 use Rattle.gc_values.proofs.Every.{every_behind as all_behind, every_weaker as all_on}
@@ -274,20 +274,16 @@ ids_aged xs = map-map _ _ xs
 all_aged : (xs : List IdSent) → AllByRecursion IsOld (aged xs)
 all_aged xs = each_to_map IsOld (λ (x : IdSent). record { id = x.id; old = true }) xs (each_all (λ (x : IdSent). true ≡ true) (λ x. refl) xs)
 
--- the ids in flight, those of replies first
-abbrev pub under_way : Model → List ℕ
-under_way s = ids_of s.down ++ ids_of s.up
-
 -- if a synchronization starts again, the ids in flight stay the same
-ids_anew : (s : Model) → under_way (begun_anew the_word s) ≡ under_way s
+ids_anew : (s : Model) → ids_in_flight (begun_anew the_word s) ≡ ids_in_flight s
 ids_anew s = ap (λ l. l ++ ids_of (aged s.up)) (ids_aged s.down) ∙ ap (λ l. ids_of s.down ++ l) (ids_aged s.up)
 
 -- `Begins` holds of a synchronization that starts over what is in flight, if the ids in flight don't contain the word
-pub begins_anew : (s : Model) → (IsSubsequence the_word (under_way s) → ⊥) → Begins the_word (begun_anew the_word s)
+pub begins_anew : (s : Model) → (IsSubsequence the_word (ids_in_flight s) → ⊥) → Begins the_word (begun_anew the_word s)
 begins_anew s none = record { left = refl; up = all_aged s.up; down = all_aged s.down; absent = λ h. none (subst (λ ids. IsSubsequence the_word ids) (ids_anew s) h) }
 
 -- `IsTrying` holds at the start of a synchronization (`Begins`)
-trying_at_start : (s : Model) → Begins the_word s → IsTrying 7 the_word (under_way s) s.left (s.down ++ s.up)
+trying_at_start : (s : Model) → Begins the_word s → IsTrying 7 the_word (ids_in_flight s) s.left (s.down ++ s.up)
 trying_at_start s h =
     let same = olds_all s.down s.up h.down h.up in
     record {
@@ -299,13 +295,13 @@ trying_at_start s h =
 
 -- where the word is split at its id c, and the ids in flight don't contain those of the word before c (`ids_before`): the ids in
 -- flight after any moves of a synchronization, wherever it is killed, don't contain them with c after them (`ids_upto`)
-pub absent_behind : (s : Model) (ms : List Move) (w : SplitWord the_word) → (IsSubsequence (ids_before w) (under_way s) → ⊥)
-    → IsSubsequence (ids_upto w) (under_way (moved ms (begun_anew the_word s))) → ⊥
+pub absent_behind : (s : Model) (ms : List Move) (w : SplitWord the_word) → (IsSubsequence (ids_before w) (ids_in_flight s) → ⊥)
+    → IsSubsequence (ids_upto w) (ids_in_flight (moved ms (begun_anew the_word s))) → ⊥
 absent_behind s ms w none h =
     let anew : Model = begun_anew the_word s in
     let end : Model = moved ms anew in
-    let begins : Begins the_word anew = begins_anew s (λ g. none (subword_front (ids_before w) (w.c ∷ w.tail) (under_way s) (subst (λ l. IsSubsequence l (under_way s)) w.is g))) in
-    let trying = holds_moved (IsTrying 7 the_word (under_way anew)) (trying_lasts 7 the_word (under_way anew)) ms anew (trying_at_start anew begins) in
-    next_absent 7 the_word (under_way anew) end.left (end.down ++ end.up) w word_differs
+    let begins : Begins the_word anew = begins_anew s (λ g. none (subword_front (ids_before w) (w.c ∷ w.tail) (ids_in_flight s) (subst (λ l. IsSubsequence l (ids_in_flight s)) w.is g))) in
+    let trying = holds_moved (IsTrying 7 the_word (ids_in_flight anew)) (trying_lasts 7 the_word (ids_in_flight anew)) ms anew (trying_at_start anew begins) in
+    next_absent 7 the_word (ids_in_flight anew) end.left (end.down ++ end.up) w word_differs
     (λ g. none (subst (λ ids. IsSubsequence (ids_before w) ids) (ids_anew s) g)) trying
     (subst (λ ids. IsSubsequence (ids_upto w) ids) (sym (map-append (λ (x : IdSent). x.id) end.down end.up)) h)

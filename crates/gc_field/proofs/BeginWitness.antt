@@ -11,7 +11,7 @@ use Rattle.gc_instrument.specs.Replying.{handed}
 use Rattle.gc_field.specs.Simulator.{ends}
 use Rattle.gc_field.specs.World.{Numbered}
 use Rattle.gc_field.specs.Begun.{WasMadeOn}
-use Rattle.gc_field.specs.BeginWitness.{AreSomeRuns, IsBookedFromBefore, clean, next}
+use Rattle.gc_field.specs.BeginWitness.{AreSomeRuns, IsBookedFromBefore, from, next}
 use Rattle.gc_field.proofs.Witness.{fits, units}
 
 -- the reply to the first command
@@ -23,7 +23,7 @@ abbrev other_reply : Numbered (List ℕ)
 other_reply = record { number = 9; line = codes "%R1P,0,1:0,123456" }
 
 -- the first command's answer was made on executing its request
-was_made : WasMadeOn WINDOW ends clean next.moves 8 (Table InstrumentNo) (codes "%R1P,0,0:0,123456")
+was_made : WasMadeOn WINDOW ends from next.moves 8 (Table InstrumentNo) (codes "%R1P,0,0:0,123456")
 unfolding header_at reply_at handed exec digits
 was_made =
     record {

@@ -1,17 +1,14 @@
 -- One run after the other: each that is killed while it synchronizes makes the front of the word that may be in flight longer
 -- by one id at most. The *word* is the list of the ids of a synchronization's eight null procedures: 6 down to 0, and then 7.
-use Rattle.std.proofs.Common.{◌≡◌, ℕ, suc, ◌+◌, ◌≤◌, false, List, [], ◌∷◌, ◌++◌, length, map, Option, Some, refl, sym, ◌∙◌, ap, subst, arith, append_assoc}
-use Rattle.std.specs.List.{AllByRecursion}
+use Rattle.std.proofs.Common.{◌≡◌, ℕ, suc, ◌+◌, ◌≤◌, List, [], ◌∷◌, ◌++◌, length, Option, refl, sym, ◌∙◌, ap, subst, arith, append_assoc}
 use Rattle.gc_client.specs.Beginning.{IsSubsequence, the_word}
-use Rattle.gc_client.specs.Rule.{heard}
 use Rattle.gc_instrument.specs.State.{KeptReply}
-use Rattle.gc_field.specs.World.{Ends, Request}
-use Rattle.gc_field.specs.Begin.{InFlight, IsWellFormed, LacksTheWord, AreTurns, Model, UnderWay, begins, ids_under_way, leaves}
+use Rattle.gc_field.specs.World.{Ends}
+use Rattle.gc_field.specs.Begin.{IsWellFormed, LacksTheWord, AreTurns, UnderWay, begins, ids_under_way, leaves}
 use Rattle.gc_field.specs.Beginnings.{AreFewKilled, AreOwn, AreRuns, ArePossibleIf, IsOwnIf, HasRisingIds, Run, killed_if, left_by_run, left_if, on_line, after_turns}
-use Rattle.gc_field.specs.Begun.{HasBegunCleanly, IsClean, behind, eighth}
+use Rattle.gc_field.specs.Begun.{behind}
 use Rattle.gc_field.specs.Instrument.{IsAnInstrument}
 use Rattle.gc_field.proofs.BeginJoin.{begins_cleanly, left_absent, left_lines}
-use Rattle.gc_field.proofs.BeginLists.{each_map}
 use Rattle.gc_field.proofs.BeginWords.{subword_front}
 use Rattle.gc_field.proofs.BegunFaithful.{faithful}
 use Rattle.gc_field.proofs.BegunRising.{rising_lack_three, runs_leave_rising_ids, runs_leave_good}
@@ -33,17 +30,7 @@ short_rising u h = record { more = 4 ∷ []; tail = 3 ∷ 2 ∷ 1 ∷ 0 ∷ 7 �
 pub short_word : {State : Type 0} (n : ℕ) (u : UnderWay State) → IsShort n u → LacksTheWord u
 short_word n u h s = h.none (subword_front (6 ∷ 5 ∷ h.more) h.tail (ids_under_way u) (subst (λ w. IsSubsequence w (ids_under_way u)) h.split s))
 
-module _ {Line : Type 0} (P : Line → Type 0) where
-  -- where no line in flight is old, and P holds of each, P holds of the lines without their marks
-  lines_have : (xs : List (InFlight Line)) → AllByRecursion (λ x. (x.old ≡ false) × P x.line) xs → AllByRecursion P (map (λ x. x.line) xs)
-  lines_have xs h = each_map (λ (x : InFlight Line). (x.old ≡ false) × P x.line) P (λ x. x.line) (λ x both. both.1) xs h
-
 module _ {State : Type 0} (ends : Ends State) (Good : State → Type 0) (kept : State → Option KeptReply) (is : IsAnInstrument ends Good kept) (width : ℕ) (narrow : width ≤ 7) where
-  -- what a clean synchronization leaves is `IsClean`
-  pub clean_lines : (s : Model State) → Good s.state → HasBegunCleanly kept s → IsClean Good kept (leaves s)
-  clean_lines s good h =
-      record { good = good; up = lines_have (λ (x : Request). x ≡ eighth) s.up h.up; down = lines_have (λ (line : List ℕ). heard line ≡ Some 7) s.down h.down; keeps = h.keeps }
-
   -- where what is in flight is `IsShort` for n killed runs, fewer than five, and one more run is killed while it synchronizes,
   -- what that run leaves is `IsShort` for n + 1
   short_killed : (n : ℕ) (u : UnderWay State) (r : Run State) → IsWellFormed Good u → AreTurns ends Good kept r.turns (begins u) → n + 1 ≤ 5 → (tail : List ℕ)
@@ -73,13 +60,12 @@ module _ {State : Type 0} (ends : Ends State) (Good : State → Type 0) (kept : 
       → ArePossibleIf width ends Good kept left (after_turns ends u r) r.moves → killed_if left n ≤ 5 → RunResult n u r left
   run_result n u r [] e lines short turns p few =
       let s = after_turns ends u r in
-      let clean = begins_cleanly ends Good kept is u r.turns lines turns (short_word n u short) e in
-      let good = (left_lines ends Good kept is u r.turns lines turns).good in
-      let after = runs_leave_good ends Good kept is width narrow (leaves s) (clean_lines s good clean) r.moves p in
+      let ended = begins_cleanly ends Good kept is u r.turns lines turns (short_word n u short) e in
+      let after = runs_leave_good ends Good kept is width narrow (leaves s) ended.clean r.moves p in
       record {
-        own = (clean, faithful ends Good kept is width narrow (leaves s) (clean_lines s good clean) r.moves p);
+        own = (ended, faithful ends Good kept is width narrow (leaves s) ended.clean r.moves p);
         lines = record { ids = after.1; good = after.0 };
-        short = short_rising (on_line (behind width ends (leaves s) r.moves).wire) (runs_leave_rising_ids ends Good kept is width narrow (leaves s) (clean_lines s good clean) r.moves p);
+        short = short_rising (on_line (behind width ends (leaves s) r.moves).wire) (runs_leave_rising_ids ends Good kept is width narrow (leaves s) ended.clean r.moves p);
       }
   run_result n u r (asked ∷ rest) e lines short turns p few = record {
     own = tt;

@@ -17,7 +17,7 @@ use Rattle.gc_station.specs.declared.plan.Plan.{Plan}
 use Rattle.gc_links.specs.Acts.{Act}
 use Rattle.gc_texts.specs.Endings.{line_of}
 use Rattle.gc_station.specs.Parts as part
-use Rattle.gc_station.specs.Parts.{Part, MarksAsk, mark_of}
+use Rattle.gc_station.specs.Parts.{Part, mark_of}
 use Rattle.gc_station.specs.Records.{Record}
 use Rattle.gc_station.specs.Runs.{state_after}
 use Rattle.gc_station.specs.Scopes.{Scope}
@@ -27,7 +27,7 @@ use Rattle.gc_station.proofs.Lists.{all_at, get_more, all_on, cons_head, cons_ta
 use Rattle.gc_station.proofs.Going.{runs_front}
 use Rattle.gc_field.specs.World.{Ends, Up_deliver}
 use Rattle.std.proofs.lemmas.Option.{same_Some, slice_get_within}
-use Rattle.gc_field.specs.Begin.{AreTurns, UnderWay, begins, leaves, turned}
+use Rattle.gc_field.specs.Begin.{AreTurns, UnderWay, begins, leaves, left_by_turns}
 use Rattle.gc_field.specs.Begin.{Model as SyncModel}
 use Rattle.gc_field.specs.Beginnings.{ArePossibleIf, AreRuns, Run, after_turns, left_by_run}
 use Rattle.gc_field.specs.Begun.{IsSafe, WasMadeOn, behind, ids_begun}
@@ -36,7 +36,7 @@ use Rattle.gc_field.specs.Field.{Move, Sends, Tells, Comes, Foreign, OnLine, Ane
 use Rattle.gc_field.specs.Instrument.{IsAnInstrument}
 use Rattle.gc_field.specs.Laws.{asked}
 use Rattle.gc_station.specs.Links.{AreChained, IsBefore, IsAnsweredEarlier, ChainsStay, MarksGoOn, RecordsStay, parts}
-use Rattle.gc_field.specs.Runs.{IsInField, IsItsOwn, IsOwnAnswer, AreSentAs, own_sent, own_settled, world}
+use Rattle.gc_field.specs.Runs.{IsInField, IsItsOwn, IsOwnAnswer, own_sent, own_settled, world}
 use Rattle.gc_field.specs.Shown.{AreShownAs, Stretch, shown, stretches}
 use Rattle.gc_field.proofs.InTime.{clean_of, front_nil}
 use Rattle.gc_field.proofs.Possible.{front_possible}
@@ -91,19 +91,7 @@ record IsCutOf {State : Type 0} (t s : Stretch State) : Type 0 where
   is : t ≡ record { from = s.from; moves = front }
   order : s.moves ≡ front ++ later
 
--- if one list has a front of the stretch s as its only stretch, and another list begins with s, the stretch at place 0 of the
--- first is a cut (`IsCutOf`) of the one at place 0 of the second
-first_cut : {State : Type 0} (s : Stretch State) (ss : List (Stretch State)) (front later : List (Move State)) → s.moves ≡ front ++ later → (i : ℕ) (u v : Stretch State) → i ≡ 0
-    → slice_get (record { from = s.from; moves = front } ∷ []) i ≡ Some u → slice_get (s ∷ ss) i ≡ Some v → IsCutOf u v
-first_cut s ss front later order zero u v is a b =
-    subst (λ w. IsCutOf u w) (same_Some s v b) (record { front = front; later = later; is = sym (same_Some (record { from = s.from; moves = front }) u a); order = order })
-first_cut s ss front later order (suc i) u v is a b = absurd (omega (arith, is))
-
 module _ {State : Type 0} (ends : Ends State) (Good : State → Type 0) (kept : State → Option KeptReply) where
-  -- what a run leaves in flight once it has synchronized
-  abbrev from_of : UnderWay State → Run State → UnderWay State
-  from_of u r = leaves (turned ends r.turns (begins u))
-
   -- the front of possible moves is possible
   possible_cut : (left : List ℕ) (s : SyncModel State) (ms front later : List (Move State)) → ms ≡ front ++ later → ArePossibleIf 7 ends Good kept left s ms
       → ArePossibleIf 7 ends Good kept left s front
@@ -126,8 +114,16 @@ module _ {State : Type 0} (ends : Ends State) (Good : State → Type 0) (kept : 
     runs = record { turns = r.turns; moves = x.front } ∷ [];
     shown = (e, x.steps, tt);
     possible = ((turns, possible_cut (after_turns ends u r).left (after_turns ends u r) r.moves x.front x.later x.order possible), tt);
-    last = λ i t v size a b. first_cut (record { from = from_of u r; moves = r.moves }) (stretches ends (left_by_run 7 ends u r) rs) x.front x.later x.order i t v (omega (arith, size)) a b;
+    last = only;
   }
+    where
+      -- the only stretch of the cut run is a front of the first stretch of the runs
+      only : (i : ℕ) (t v : Stretch State) → length (p ∷ []) ≡ suc i → slice_get (stretches ends u (record { turns = r.turns; moves = x.front } ∷ [])) i ≡ Some t
+          → slice_get (stretches ends u (r ∷ rs)) i ≡ Some v → IsCutOf t v
+      only zero t v size a b =
+          subst (λ w. IsCutOf t w) (same_Some (record { from = left_by_turns ends r.turns u; moves = r.moves }) v b)
+          (record { front = x.front; later = x.later; is = sym (same_Some (record { from = left_by_turns ends r.turns u; moves = x.front }) t a); order = x.order })
+      only (suc i) t v size a b = absurd (omega (arith, size))
 
   -- if `CutRuns` (`c`) holds of the later parts, the last stretch of the runs of `c` with the run r before them is a cut
   -- (`IsCutOf`) of the stretch at its place among those of r and `rs`
@@ -176,14 +172,6 @@ module _ {State : Type 0} (ends : Ends State) (Good : State → Type 0) (kept : 
   cut_field [] qs u rs h w marked e good = absurd h
   cut_field (p ∷ []) qs u rs h w marked e good = cut_last p qs u rs h w marked e good
   cut_field (p ∷ next ∷ ps) qs u rs h w marked e good = cut_on p next ps qs u rs h w e good (λ xs v ts g x f well. cut_field (next ∷ ps) xs v ts g x marked f well)
-
--- What is at a place.
-
--- where the requests of stretches are those of their parts (`AreSentAs`), the requests of the stretch at place i are those of the
--- part at place i (`MarksAsk`)
-pub sent_at : {State : Type 0} (ends : Ends State) (commands : List Task) (ps : List Part) (ss : List (Stretch State)) (i : ℕ) (p : Part) (s : Stretch State)
-    → AreSentAs ends commands ps ss → slice_get ps i ≡ Some p → slice_get ss i ≡ Some s → MarksAsk commands p.marks (map asked (own_sent ends s))
-sent_at ends commands ps ss i p s h e f = zip_at (λ (q : Part) (t : Stretch _). MarksAsk commands q.marks (map asked (own_sent ends t))) ps ss i p s h e f
 
 -- Pairs of numbers: a cycle and a place in it, or a part of the run and a request in it.
 
@@ -262,7 +250,7 @@ module _ {State : Type 0} (ends : Ends State) (Good : State → Type 0) (kept : 
       let of_ss : slice_get ss i ≡ Some o.of.stretch = subst (λ k. slice_get ss k ≡ Some o.of.stretch) at.0 o.of.of_stretches in
       let size : length first.marks ≡ length (own_sent ends o.of.stretch) =
       marks_ask_length commands first.marks (map asked (own_sent ends o.of.stretch))
-      (sent_at ends commands (parts plan commands scope before) ss i first o.of.stretch f.sent of_first of_ss) ∙ length-map (own_sent ends o.of.stretch) asked in (
+      (zip_at _ (parts plan commands scope before) ss i first o.of.stretch f.sent of_first of_ss) ∙ length-map (own_sent ends o.of.stretch) asked in (
         o.of.stretch,
         of_ss,
         sym size ∙ count,

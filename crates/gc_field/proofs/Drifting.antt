@@ -8,7 +8,7 @@ use Rattle.gc_catalogue.specs.declared.asked.Asked.TheVariants.{Raw}
 use Rattle.gc_catalogue.specs.declared.raw.RawCall.{RawCall}
 use Rattle.gc_client.specs.declared.window.TheConstants.{WINDOW}
 use Rattle.gc_field.specs.Instrument.{IsAnInstrument, AnyState, nothing}
-use Rattle.gc_field.specs.Begin.{begins, leaves, none_under_way, turned}
+use Rattle.gc_field.specs.Begin.{begins, left_by_turns, none_under_way}
 use Rattle.gc_field.specs.Begun.{WasMadeOn}
 use Rattle.gc_field.specs.Drifting.{IsAnsweredByDrifting, acts, answer, null_replies, commands, drifting, moves, plan, runs, scope, turns}
 use Rattle.gc_texts.specs.Nears.{is_elsewhere}
@@ -23,11 +23,11 @@ use Rattle.gc_field.proofs.Instruments.{keeps_none}
 
 -- `drifting` is an instrument
 drifting_is : IsAnInstrument drifting AnyState nothing
-drifting_is = keeps_none ℕ drifting (λ line. refl) (λ s id call small. reply_heard 0 id 0 (decimal s) (lit< tt) small (lit< tt)) (λ s id call. refl)
+drifting_is = keeps_none ℕ drifting (λ line. refl) (λ s id call good small. reply_heard 0 id 0 (decimal s) (lit< tt) small (lit< tt)) (λ s id call. refl)
 
 module _ (raw : RawCall) where
   -- the answer was made on executing the second command's request
-  was_made : WasMadeOn WINDOW drifting (leaves (turned drifting turns (begins (none_under_way 5)))) (moves raw) 9 (Raw raw) answer
+  was_made : WasMadeOn WINDOW drifting (left_by_turns drifting turns (none_under_way 5)) (moves raw) 9 (Raw raw) answer
   unfolding is_elsewhere header_at reply_at digits
   was_made = record { front = take 11 (moves raw); later = drop 12 (moves raw); split = refl; id = 1; rest = []; reaches = refl; executed = refl; reply = refl }
 

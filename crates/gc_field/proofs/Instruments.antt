@@ -132,7 +132,7 @@ pub keeps_none : (State : Type 0) → KeepingNothingSuffices State
 keeps_none State e hears replies anew =
     record {
       hears = hears;
-      replies = λ s id call good small. replies s id call small;
+      replies = replies;
       repeats = λ s id call good small not. absurd (true≢false (sym (anew s id call) ∙ not));
       keeps = λ s id call good small. inl (inl refl);
       starts = λ s good. inl refl;

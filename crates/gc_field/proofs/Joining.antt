@@ -38,18 +38,17 @@ use Rattle.gc_world.specs.Clients.{by_ids}
 use Rattle.gc_world.specs.Record.{IsReplyTo}
 use Rattle.std.proofs.lemmas.Option.{slice_get_within}
 use Rattle.gc_field.specs.World.{Ends}
-use Rattle.gc_field.specs.Begin.{IsWellFormed, LacksTheWord, AreTurns, UnderWay, begins, leaves, turned}
+use Rattle.gc_field.specs.Begin.{IsWellFormed, LacksTheWord, AreTurns, UnderWay, begins, leaves, left_by_turns}
 use Rattle.gc_field.specs.Beginnings.{AreOwn, ArePossibleIf, AreRuns, IsOwnIf, Run, after_turns, left_by_run, left_if, on_line}
-use Rattle.gc_field.specs.Begun.{IsClean, IsFaithful, IsSafe, WasMadeOn, behind, ids_begun}
+use Rattle.gc_field.specs.Begun.{IsFaithful, IsSafe, WasMadeOn, behind, ids_begun}
 use Rattle.gc_field.specs.Field.{ArePossible, seen}
 use Rattle.gc_field.specs.Instrument.{IsAnInstrument}
 use Rattle.gc_field.specs.Laws.{asked}
 use Rattle.gc_field.specs.Runs.{IsInField, IsOwnAnswer, LateHasExecution, RunsInFieldAreFaithful, IsFaithfulThroughout, IsInTime, AreSentAs, own_sent, own_settled, world, written_over}
 use Rattle.gc_field.specs.Shown.{AreShownAs, Stretch, shown, stretches}
-use Rattle.gc_field.proofs.BeginJoin.{begins_cleanly, left_lines}
+use Rattle.gc_field.proofs.BeginJoin.{begins_cleanly}
 use Rattle.gc_field.proofs.BegunFaithful.{sent_is}
 use Rattle.gc_field.proofs.BegunRising.{rising_lack_the_word, runs_leave_good, runs_leave_rising_ids}
-use Rattle.gc_field.proofs.BegunRuns.{clean_lines}
 use Rattle.gc_field.proofs.InTime.{IsSoundStretch, in_time, clean_faithful, throughout}
 use Rattle.gc_field.proofs.Meant.{are_meant}
 use Rattle.gc_field.proofs.Safe.{goes_out}
@@ -68,14 +67,8 @@ module _ {State : Type 0} (ends : Ends State) (Good : State → Type 0) (kept : 
   -- and faithful
   record IsSoundRun (u : UnderWay State) (r : Run State) (left : List ℕ) : Type 0 where
     own : IsOwnIf 7 ends Good kept left (after_turns ends u r) r.moves
-    sound : IsSoundStretch ends Good kept is (record { from = leaves (turned ends r.turns (begins u)); moves = r.moves })
-    faithful : IsFaithful 7 ends (leaves (turned ends r.turns (begins u))) r.moves Good kept
-
-  -- a run over what is well formed, without the word in its ids, that has synchronized by possible turns has synchronized cleanly
-  begun_clean : (u : UnderWay State) (r : Run State) → IsWellFormed Good u → LacksTheWord u
-      → AreTurns ends Good kept r.turns (begins u) → (after_turns ends u r).left ≡ [] → IsClean Good kept (leaves (after_turns ends u r))
-  begun_clean u r lines none turns e =
-      clean_lines ends Good kept is 7 (omega arith) (after_turns ends u r) (left_lines ends Good kept is u r.turns lines turns).good (begins_cleanly ends Good kept is u r.turns lines turns none e)
+    sound : IsSoundStretch ends Good kept is (record { from = left_by_turns ends r.turns u; moves = r.moves })
+    faithful : IsFaithful 7 ends (left_by_turns ends r.turns u) r.moves Good kept
 
   -- each possible run over what is well formed, without the word in its ids, is `IsSoundRun`
   sound_run : (u : UnderWay State) (r : Run State) (left : List ℕ) → (after_turns ends u r).left ≡ left → IsWellFormed Good u
@@ -83,9 +76,9 @@ module _ {State : Type 0} (ends : Ends State) (Good : State → Type 0) (kept : 
       → ArePossibleIf 7 ends Good kept left (after_turns ends u r) r.moves → IsSoundRun u r left
   sound_run u r [] e lines none turns p =
       let from = leaves (after_turns ends u r) in
-      let clean = begun_clean u r lines none turns e in
-      let f = clean_faithful ends Good kept is from clean r.moves p in
-      record { own = (begins_cleanly ends Good kept is u r.turns lines turns none e, f); sound = record { possible = p; clean = inl clean }; faithful = f }
+      let ended = begins_cleanly ends Good kept is u r.turns lines turns none e in
+      let f = clean_faithful ends Good kept is from ended.clean r.moves p in
+      record { own = (ended, f); sound = record { possible = p; clean = inl ended.clean }; faithful = f }
   sound_run u r (asked ∷ rest) e lines none turns p =
       let from = leaves (after_turns ends u r) in
       record {
@@ -101,7 +94,7 @@ module _ {State : Type 0} (ends : Ends State) (Good : State → Type 0) (kept : 
       → (after_turns ends u r).left ≡ [] → IsWellFormed Good (left_by_run 7 ends u r) × LacksTheWord (left_by_run 7 ends u r)
   leaves_next u r lines none turns p e =
       let s = after_turns ends u r in
-      let clean = begun_clean u r lines none turns e in
+      let clean = (begins_cleanly ends Good kept is u r.turns lines turns none e).clean in
       let possible = subst (λ w. ArePossibleIf 7 ends Good kept w s r.moves) e p in
       let good = runs_leave_good ends Good kept is 7 (omega arith) (leaves s) clean r.moves possible in
       let row = runs_leave_rising_ids ends Good kept is 7 (omega arith) (leaves s) clean r.moves possible in

@@ -13,56 +13,7 @@ use Rattle.gc_field.specs.World.{Request, Sent, Numbered, Ends, World, written}
 use Rattle.gc_world.proofs.Booked.{Has}
 use Rattle.gc_world.proofs.Replay.{IsOf}
 use Rattle.gc_field.specs.Instrument.{IsKeptAfter, IsOwnOrNone, KeepsItsReply}
-use Rattle.gc_field.proofs.Once.{IsUnknown, IsUnknownOrRetained}
-
--- What is kept.
-
--- the retained reply `k` is to request `number`, which is `table` or a later one, from `since` on and before `top`: it has that
--- request's id, and the property P
-pub record IsKept (P : ℕ → List ℕ → Type 0) (since top table : ℕ) (k : KeptReply) : Type 0 where
-  pub number : ℕ
-  pub recent : since ≤ number
-  pub before : number < top
-  pub behind : table ≤ number
-  pub id : k.id ≡ (number - since) % 8
-  pub line : P number k.line
-
--- if anything is retained, `IsKept` holds of it
-abbrev pub KeptIs : (P : ℕ → List ℕ → Type 0) (since top table : ℕ) → Option KeptReply → Type 0
-KeptIs P since top table None = Unit {0}
-KeptIs P since top table (Some k) = IsKept P since top table k
-
--- where P implies Q of each number below `top`, `KeptIs` of P gives `KeptIs` of Q
-pub kept_below : (P Q : ℕ → List ℕ → Type 0) (since top table : ℕ) → ((n : ℕ) (line : List ℕ) → n < top → P n line → Q n line) → (k : Option KeptReply)
-    → KeptIs P since top table k → KeptIs Q since top table k
-kept_below P Q since top table f None h = tt
-kept_below P Q since top table f (Some k) h =
-    record { number = h.number; recent = h.recent; before = h.before; behind = h.behind; id = h.id; line = f h.number k.line h.before h.line }
-
--- where P implies Q, `KeptIs` of P gives `KeptIs` of Q
-pub kept_more : (P Q : ℕ → List ℕ → Type 0) → ((n : ℕ) (line : List ℕ) → P n line → Q n line) → (since top table : ℕ) (k : Option KeptReply)
-    → KeptIs P since top table k → KeptIs Q since top table k
-kept_more P Q f since top table k h = kept_below P Q since top table (λ n line l p. f n line p) k h
-
--- if nothing is retained, `KeptIs` holds
-pub kept_none : (P : ℕ → List ℕ → Type 0) (since top table : ℕ) (k : Option KeptReply) → k ≡ None → KeptIs P since top table k
-kept_none P since top table k e = subst (λ k. KeptIs P since top table k) (sym e) tt
-
--- if `IsKept` holds of a line with an id, and what is retained is that line with that id, or nothing, `KeptIs` holds
-pub kept_one : (P : ℕ → List ℕ → Type 0) (since top table id : ℕ) (line : List ℕ) (k : Option KeptReply)
-    → IsKept P since top table (record { id = id; line = line }) → IsOwnOrNone id line k → KeptIs P since top table k
-kept_one P since top table id line k is (inl none) = kept_none P since top table k none
-kept_one P since top table id line k is (inr e) = subst (λ k. KeptIs P since top table k) (sym e) is
-
--- `KeptIs` is preserved if what is retained stays, or nothing is retained any more
-pub kept_still : (P : ℕ → List ℕ → Type 0) (since top table : ℕ) (k after : Option KeptReply) → (after ≡ None) ⊎ (after ≡ k) → KeptIs P since top table k → KeptIs P since top table after
-kept_still P since top table k after (inl none) h = kept_none P since top table after none
-kept_still P since top table k after (inr same) h = subst (λ k. KeptIs P since top table k) (sym same) h
-
--- where `KeptIs` holds with `top`, it holds with `next` in its place, if `top` is at most `next`
-kept_longer : (P : ℕ → List ℕ → Type 0) (since top next table : ℕ) (k : Option KeptReply) → top ≤ next → KeptIs P since top table k → KeptIs P since next table k
-kept_longer P since top next table None le h = tt
-kept_longer P since top next table (Some k) le h = record { number = h.number; recent = h.recent; before = omega (arith, h.before, le); behind = h.behind; id = h.id; line = h.line }
+use Rattle.gc_field.proofs.Once.{IsUnknown, IsUnknownOrRetained, Log}
 
 -- The newest known request.
 
@@ -91,16 +42,68 @@ pub newest_dealt : (knows : Asked → Bool) (sent : List Sent) (known : Bool) (n
 newest_dealt knows sent true n table f = inl (omega arith)
 newest_dealt knows sent false n table f = inr (f refl)
 
--- where request n is handed to the instrument, and no later one was handed before (`top`), `KeptIs` is preserved, with n + 1 for
--- `top`, and the newest known request for `table`: by what is retained afterwards (`IsKeptAfter`), if `IsKept` holds of the
--- reply to n, `line` with its id
-pub kept_handed : (P : ℕ → List ℕ → Type 0) (since top table n id : ℕ) (known : Bool) (line : List ℕ) (k after : Option KeptReply) → top ≤ n + 1
-    → IsKept P since (n + 1) (newest known n table) (record { id = id; line = line })
-    → IsKeptAfter known id line k after → KeptIs P since top table k → KeptIs P since (n + 1) (newest known n table) after
-kept_handed P since top table n id known line k after le is (inl now) h = kept_one P since (n + 1) (newest known n table) id line after is now
-kept_handed P since top table n id known line k after le is (inr same) h =
-    subst (λ t. KeptIs P since (n + 1) t after) (sym (ap (λ b. newest b n table) same.0))
-    (kept_longer P since top (n + 1) table after le (kept_still P since top table k after (inr same.1) h))
+-- What is kept.
+
+module _ (P : ℕ → List ℕ → Type 0) (since : ℕ) where
+  -- the retained reply `k` is to request `number`, which is `table` or a later one, from `since` on and before `top`: it has that
+  -- request's id, and the property P
+  pub record IsKept (top table : ℕ) (k : KeptReply) : Type 0 where
+    pub number : ℕ
+    pub recent : since ≤ number
+    pub before : number < top
+    pub behind : table ≤ number
+    pub id : k.id ≡ (number - since) % 8
+    pub line : P number k.line
+
+  -- if anything is retained, `IsKept` holds of it
+  abbrev pub KeptIs : (top table : ℕ) → Option KeptReply → Type 0
+  KeptIs top table None = Unit {0}
+  KeptIs top table (Some k) = IsKept top table k
+
+  -- if nothing is retained, `KeptIs` holds
+  pub kept_none : (top table : ℕ) (k : Option KeptReply) → k ≡ None → KeptIs top table k
+  kept_none top table k e = subst (λ k. KeptIs top table k) (sym e) tt
+
+  -- if `IsKept` holds of a line with an id, and what is retained is that line with that id, or nothing, `KeptIs` holds
+  pub kept_one : (top table id : ℕ) (line : List ℕ) (k : Option KeptReply)
+      → IsKept top table (record { id = id; line = line }) → IsOwnOrNone id line k → KeptIs top table k
+  kept_one top table id line k is (inl none) = kept_none top table k none
+  kept_one top table id line k is (inr e) = subst (λ k. KeptIs top table k) (sym e) is
+
+  -- `KeptIs` is preserved if what is retained stays, or nothing is retained any more
+  pub kept_still : (top table : ℕ) (k after : Option KeptReply) → (after ≡ None) ⊎ (after ≡ k) → KeptIs top table k → KeptIs top table after
+  kept_still top table k after (inl none) h = kept_none top table after none
+  kept_still top table k after (inr same) h = subst (λ k. KeptIs top table k) (sym same) h
+
+  -- where `KeptIs` holds with `top`, it holds with `next` in its place, if `top` is at most `next`
+  kept_longer : (top next table : ℕ) (k : Option KeptReply) → top ≤ next → KeptIs top table k → KeptIs next table k
+  kept_longer top next table None le h = tt
+  kept_longer top next table (Some k) le h = record { number = h.number; recent = h.recent; before = omega (arith, h.before, le); behind = h.behind; id = h.id; line = h.line }
+
+  -- where request n is handed to the instrument, and no later one was handed before (`top`), `KeptIs` is preserved, with n + 1
+  -- for `top`, and the newest known request for `table`: by what is retained afterwards (`IsKeptAfter`), if `IsKept` holds of
+  -- the reply to n, `line` with its id
+  pub kept_handed : (top table n id : ℕ) (known : Bool) (line : List ℕ) (k after : Option KeptReply) → top ≤ n + 1
+      → IsKept (n + 1) (newest known n table) (record { id = id; line = line })
+      → IsKeptAfter known id line k after → KeptIs top table k → KeptIs (n + 1) (newest known n table) after
+  kept_handed top table n id known line k after le is (inl now) h = kept_one (n + 1) (newest known n table) id line after is now
+  kept_handed top table n id known line k after le is (inr same) h =
+      subst (λ t. KeptIs (n + 1) t after) (sym (ap (λ b. newest b n table) same.0))
+      (kept_longer top (n + 1) table after le (kept_still top table k after (inr same.1) h))
+
+-- where P implies Q of each number below `top`, `KeptIs` of P gives `KeptIs` of Q
+pub kept_below : (P Q : ℕ → List ℕ → Type 0) (since top table : ℕ) → ((n : ℕ) (line : List ℕ) → n < top → P n line → Q n line) → (k : Option KeptReply)
+    → KeptIs P since top table k → KeptIs Q since top table k
+kept_below P Q since top table f None h = tt
+kept_below P Q since top table f (Some k) h =
+    record { number = h.number; recent = h.recent; before = h.before; behind = h.behind; id = h.id; line = f h.number k.line h.before h.line }
+
+-- where P implies Q, `KeptIs` of P gives `KeptIs` of Q
+pub kept_more : (P Q : ℕ → List ℕ → Type 0) → ((n : ℕ) (line : List ℕ) → P n line → Q n line) → (since top table : ℕ) (k : Option KeptReply)
+    → KeptIs P since top table k → KeptIs Q since top table k
+kept_more P Q f since top table k h = kept_below P Q since top table (λ n line l p. f n line p) k h
+
+-- What is vouched for.
 
 -- what the invariant of `Vouched` speaks of: of the client, the number that its ids are counted from (`since`) and how many of
 -- its requests are settled (`count`); the fields of the wire; and the reply that the instrument retains
@@ -132,13 +135,17 @@ fields_of kept w =
       retained = kept w.wire.state;
     }
 
+-- what these fields say of the instrument
+abbrev pub log_of : VouchedFields → Log
+log_of v = record { sent = v.sent; executed = v.executed; starts = v.starts; retained = v.retained }
+
 module _ {State : Type 0} (ends : Ends State) (Good : State → Type 0) (kept : State → Option KeptReply) where
   -- in a good state, if the instrument retains its reply to each request that `keeps` names: `keeps` doesn't name request x,
   -- which it is handed; or the reply to x is retained, with its id
   pub unknown_or_retained : (w : World (ByNumber Asked) State) (x : Numbered Request) (hd : Handed State) (keeps : Asked → Bool) (b : Bool) → keeps x.line.call ≡ b
       → KeepsItsReply ends Good kept keeps → ends.handed w.wire.state x.line.id x.line.call ≡ hd → Good w.wire.state → (since : ℕ) → x.line.id ≡ (x.number - since) % 8
       → IsOf written w.wire.sent x
-      → IsUnknownOrRetained keeps w.wire.sent x.number ((x.number + 1 - 1 - since) % 8) (kept hd.state)
+      → IsUnknownOrRetained keeps w.wire.sent since x.number (kept hd.state)
   unknown_or_retained w x hd keeps true e is handed good since own o =
       let back : x.number ≡ x.number + 1 - 1 = omega arith in
       inr (

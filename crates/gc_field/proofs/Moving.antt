@@ -25,8 +25,8 @@ use Rattle.gc_field.specs.Field.{Move, Sends, Tells, Comes, Foreign, OnLine, Ane
 use Rattle.gc_field.specs.Instrument.{IsAnInstrumentFor, IsKeptAfter, KeepsItsOwn, KeepsItsReply}
 use Rattle.gc_field.proofs.Answered.{HoldsOfAll, HoldsOfOutcome, holds_get}
 use Rattle.gc_field.specs.Once.{ActsOnce, IsInOrder}
-use Rattle.gc_field.proofs.Once.{IsUnknownOrRetained, acts_once, once_few, climbing_first, order_few, ordered_first}
-use Rattle.gc_field.proofs.KeptReplies.{IsVouched, kept_one, ReplyHas}
+use Rattle.gc_field.proofs.Once.{acts_once, once_few, climbing_first, order_few, ordered_first}
+use Rattle.gc_field.proofs.KeptReplies.{IsVouched, fields_of, kept_one, log_of, unknown_or_retained, ReplyHas}
 use Rattle.gc_field.proofs.Vouched.{Vouched, AllVouched, vouched_requested, vouched_down, vouched_line, vouched_started, vouched_changed}
 use Rattle.gc_field.specs.Made.{WasMadeOn}
 use Rattle.gc_field.proofs.BeginLists.{each_all}
@@ -290,8 +290,8 @@ module _ {State : Type 0} (width : ℕ) (narrow : width ≤ 7) (knows : Asked �
           answers = subst (λ l. HoldsOfAll P 0 l) (sym f.settled) tt;
           order = ordered_first x.number v.executed hd.executed f.executed nought;
           once = λ keeps k.
-              climbing_first keeps ((1 - 1 - b.client.since) % 8) x.number v.sent v.executed v.starts hd.executed (kept hd.state) f.executed nought
-              (held keeps k (keeps x.line.call) refl o.0 id);
+              climbing_first keeps b.client.since x.number (log_of (fields_of kept b)) hd.executed (kept hd.state) f.executed nought
+              (unknown_or_retained ends Good kept b x hd keeps (keeps x.line.call) refl k refl s.good b.client.since g.0.id o.0);
         }
       where
         -- in a fresh world at most one request was sent
@@ -306,15 +306,6 @@ module _ {State : Type 0} (width : ℕ) (narrow : width ≤ 7) (knows : Asked �
             → KeepsItsOwn ends Good kept b.wire.state x.line.id x.line.call
         own_kept known (inl own) = own
         own_kept known (inr third) = absurd (true≢false (sym known ∙ third.0))
-
-        -- if the instrument retains its reply to each request that `keeps` names: `keeps` doesn't name x; or the reply to x is
-        -- retained, with its id, which is that of request 0
-        held : (keeps : Asked → Bool) → KeepsItsReply ends Good kept keeps → (t : Bool) → keeps x.line.call ≡ t → IsOf written b.wire.sent x → x.line.id ≡ (0 - b.client.since) % 8
-            → IsUnknownOrRetained keeps b.wire.sent x.number ((1 - 1 - b.client.since) % 8) (kept (ends.handed b.wire.state x.line.id x.line.call).state)
-        held keeps k true e o id =
-            let reply : KeptReply = record { id = x.line.id; line = (ends.handed b.wire.state x.line.id x.line.call).reply } in
-            inr (reply, k.always b.wire.state x.line.id x.line.call s.good o.small e, id)
-        held keeps k false e o id = inl (o.request, o.found, ap keeps o.call ∙ e)
 
     -- if no request is in flight, a fresh world stays fresh; else the front one reaches the instrument, and the world becomes
     -- `TrustedIfKnown`

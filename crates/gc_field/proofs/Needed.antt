@@ -17,7 +17,7 @@ use Rattle.gc_field.specs.Begin.{none_under_way}
 use Rattle.gc_field.specs.Begun.{IsClean, wire_over_empty_line}
 use Rattle.gc_field.specs.Instrument.{IsAnInstrument, IsKeptAfter, AnyState, nothing}
 use Rattle.gc_field.specs.Laws.{WasExecuted}
-use Rattle.gc_field.specs.Needed.{Keeper, IsAllNeeded, IsUnbroken, giving, refusal, kept, keeper, held, again_else, again_or, refuses_or, answers_in, deals_anew, refuses_raws, sound, forgets, repeated_request}
+use Rattle.gc_field.specs.Needed.{Keeper, IsAllNeeded, IsUnbroken, giving, refusal, kept, keeper, held, again_else, again_or, refuses_or, answers_in, executes_again, refuses_raws, sound, forgets, repeated_request}
 use Rattle.gc_field.specs.Once.{ActsOnce}
 use Rattle.gc_field.specs.World.{Sent}
 use Rattle.gc_field.proofs.Instruments.{keeps_none}
@@ -139,9 +139,9 @@ raws_is =
     after k id true = inl (inr (again_keeps k id (held k id) refl))
     after k id false = inr (refl, refl)
 
--- `deals_anew` is an instrument
-anew_is : IsAnInstrument deals_anew AnyState kept
-anew_is =
+-- `executes_again` is an instrument
+again_is : IsAnInstrument executes_again AnyState kept
+again_is =
     record {
       hears = λ line. refl;
       replies = λ k id call good small. reads_giving id 0 small;
@@ -154,7 +154,7 @@ anew_is =
 
 -- `forgets` is an instrument
 forgets_is : IsAnInstrument forgets AnyState nothing
-forgets_is = keeps_none Bool forgets (λ line. refl) (λ b id call small. reads_giving id 0 small) (λ b id call. refl)
+forgets_is = keeps_none Bool forgets (λ line. refl) (λ b id call good small. reads_giving id 0 small) (λ b id call. refl)
 
 -- an instrument in order replies to a request with an id below 8 with that id
 in_order : (b : Bool) (id : ℕ) → IsUnbroken b → id < 8 → heard (answers_in b id b).reply ≡ Some id
@@ -410,11 +410,11 @@ all_needed =
       sound_is = sound_is;
       changes_good = record { beyond = omega arith; clean = clean_any; field = (tt, (tt, ((8, [], refl), ((tt, refl), (tt, (tt, (tt, ((9, [], refl), tt)))))))); settled = refl; executed = not_10 };
       again = record {
-        instrument = anew_is;
+        instrument = again_is;
         good = tt;
         clean = clean_kept;
         field = (tt, (tt, ((8, [], refl), (tt, (tt, (tt, (tt, tt)))))));
-        twice = not_once (wire_over_empty_line deals_anew None repeated_request).sent twice_sent refl refl;
+        twice = not_once (wire_over_empty_line executes_again None repeated_request).sent twice_sent refl refl;
       };
       again_keeps = λ k id call. refl;
       always_again = λ b id call line e. let never : ⊥ = cc in absurd never;

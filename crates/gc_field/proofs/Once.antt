@@ -64,22 +64,34 @@ pub known_not : (knows : Asked → Bool) (sent : List Sent) (n : ℕ) (r : Sent)
 known_not knows sent n r found known h =
     true≢false (sym known ∙ ap (λ (x : Sent). knows x.call) (same_Some r h.0 (sym found ∙ h.1)) ∙ h.2)
 
--- if nothing is retained (`k`), nothing was executed since the last start; and what is retained, if anything, has this id
-pub record IsHeld (id : ℕ) (executed starts : List ℕ) (k : Option KeptReply) : Type 0 where
-  pub idle : k ≡ None → IsIdle executed starts
-  pub same : (r : KeptReply) → k ≡ Some r → r.id ≡ id
+-- what an instrument did so far, and the reply that it retains, if any: the requests that were sent, those that it executed, in
+-- order, and for each of its starts how many executions came before it
+pub record Log : Type 0 where
+  pub sent : List Sent
+  pub executed : List ℕ
+  pub starts : List ℕ
+  pub retained : Option KeptReply
+
+-- if nothing is retained, nothing was executed since the last start; and what is retained, if anything, has this id
+pub record IsHeld (id : ℕ) (l : Log) : Type 0 where
+  pub idle : l.retained ≡ None → IsIdle l.executed l.starts
+  pub same : (r : KeptReply) → l.retained ≡ Some r → r.id ≡ id
 
 -- of any two executions with no start between them, the later one is of a request that was sent later, or of one that isn't known
 abbrev pub RiseUnlessUnknown : (Asked → Bool) → List Sent → (executed starts : List ℕ) → Type 0
 RiseUnlessUnknown knows sent executed starts =
     (i j m n : ℕ) → i < j → HasNoStart starts i j → slice_get executed i ≡ Some m → slice_get executed j ≡ Some n → (m < n) ⊎ IsUnknown knows sent n
 
--- `RiseUnlessUnknown` holds of what was executed, and each number is below `top`; and the request handed last, top - 1, isn't
--- known, or `IsHeld` holds of what is retained (`k`) with its id, `id`
-pub record IsClimbing (knows : Asked → Bool) (id top : ℕ) (sent : List Sent) (executed starts : List ℕ) (k : Option KeptReply) : Type 0 where
-  pub once : RiseUnlessUnknown knows sent executed starts
-  pub below : AllByRecursion (λ n. n < top) executed
-  pub last : IsUnknown knows sent (top - 1) ⊎ IsHeld id executed starts k
+-- the request handed last, top - 1, isn't known, or `IsHeld` holds with its id, which is counted from `since`
+abbrev pub LastIs : (knows : Asked → Bool) (since top : ℕ) → Log → Type 0
+LastIs knows since top l = IsUnknown knows l.sent (top - 1) ⊎ IsHeld ((top - 1 - since) % 8) l
+
+-- `RiseUnlessUnknown` holds of what was executed, and each number is below `top`; and of the request handed last, top - 1,
+-- `LastIs` holds
+pub record IsClimbing (knows : Asked → Bool) (since top : ℕ) (l : Log) : Type 0 where
+  pub once : RiseUnlessUnknown knows l.sent l.executed l.starts
+  pub below : AllByRecursion (λ n. n < top) l.executed
+  pub last : LastIs knows since top l
 
 -- what was executed is in order, and each number is below `top`
 pub record IsOrdered (top : ℕ) (executed : List ℕ) : Type 0 where
@@ -144,18 +156,17 @@ acts_once knows sent executed starts once i j m n r lt run a b found known =
     ]
 
 -- `IsClimbing` is preserved where more requests are sent
-pub climbing_sent : (knows : Asked → Bool) (id top : ℕ) (sent more : List Sent) (executed starts : List ℕ) (k : Option KeptReply)
-    → IsClimbing knows id top sent executed starts k → IsClimbing knows id top (sent ++ more) executed starts k
-climbing_sent knows id top sent more executed starts k h =
+pub climbing_sent : (knows : Asked → Bool) (since top : ℕ) (l : Log) (more : List Sent) → IsClimbing knows since top l → IsClimbing knows since top (record l { sent = l.sent ++ more })
+climbing_sent knows since top l more h =
     record {
       once = λ i j m n lt run a b. elim (h.once i j m n lt run a b) [
-        | inl l ↦ inl l
-        | inr u ↦ inr (unknown_more knows sent more n u)
+        | inl low ↦ inl low
+        | inr u ↦ inr (unknown_more knows l.sent more n u)
       ];
       below = h.below;
       last = elim h.last [
-        | inl u ↦ inl (unknown_more knows sent more (top - 1) u)
-        | inr g ↦ inr g
+        | inl u ↦ inl (unknown_more knows l.sent more (top - 1) u)
+        | inr g ↦ inr (record { idle = g.idle; same = g.same })
       ];
     }
 
@@ -166,45 +177,43 @@ pub still_retained : (Q : KeptReply → Type 0) (k after : Option KeptReply) →
 still_retained Q k after (inl none) f r e = absurd (none-some r (sym none ∙ e))
 still_retained Q k after (inr same) f r e = f r (sym same ∙ e)
 
--- `IsClimbing` is preserved by a start of the instrument, which retains what it retained (`k`), or nothing
-pub climbing_started : (knows : Asked → Bool) (id top : ℕ) (sent : List Sent) (executed starts : List ℕ) (k after : Option KeptReply) → (after ≡ None) ⊎ (after ≡ k)
-    → IsClimbing knows id top sent executed starts k → IsClimbing knows id top sent executed (starts ++ length executed ∷ []) after
-climbing_started knows id top sent executed starts k after now h =
+-- `IsClimbing` is preserved by a start of the instrument, which then retains what it retained, or nothing (`after`)
+pub climbing_started : (knows : Asked → Bool) (since top : ℕ) (l : Log) (after : Option KeptReply) → (after ≡ None) ⊎ (after ≡ l.retained)
+    → IsClimbing knows since top l → IsClimbing knows since top (record l { starts = l.starts ++ length l.executed ∷ []; retained = after })
+climbing_started knows since top l after now h =
     record {
-      once = λ i j m n lt run a b. h.once i j m n lt (all_front (λ s. (s ≤ i) ⊎ (j < s)) starts (length executed ∷ []) run) a b;
+      once = λ i j m n lt run a b. h.once i j m n lt (all_front (λ s. (s ≤ i) ⊎ (j < s)) l.starts (length l.executed ∷ []) run) a b;
       below = h.below;
       last = elim h.last [
         | inl u ↦ inl u
-        | inr g ↦ inr (record { idle = λ e. inr (starts, refl); same = still_retained (λ (r : KeptReply). r.id ≡ id) k after now g.same })
+        | inr g ↦ inr (record { idle = λ e. inr (l.starts, refl); same = still_retained (λ (r : KeptReply). r.id ≡ (top - 1 - since) % 8) l.retained after now g.same })
       ];
     }
 
--- request n isn't known; or a reply with the id `new` is retained (`after`)
-abbrev pub IsUnknownOrRetained : (knows : Asked → Bool) (sent : List Sent) (n new : ℕ) (after : Option KeptReply) → Type 0
-IsUnknownOrRetained knows sent n new after = IsUnknown knows sent n ⊎ ((r : KeptReply) × (after ≡ Some r) × (r.id ≡ new))
+-- request n isn't known; or a reply with its id, which is counted from `since`, is retained
+abbrev pub IsUnknownOrRetained : (knows : Asked → Bool) (sent : List Sent) (since n : ℕ) → Option KeptReply → Type 0
+IsUnknownOrRetained knows sent since n after = IsUnknown knows sent n ⊎ ((r : KeptReply) × (after ≡ Some r) × (r.id ≡ (n + 1 - 1 - since) % 8))
 
--- `IsUnknownOrRetained` gives what `IsClimbing` says of the request handed last (`last`), where that is request n
-pub last_of : (knows : Asked → Bool) (new n : ℕ) (sent : List Sent) (executed starts : List ℕ) (after : Option KeptReply)
-    → IsUnknownOrRetained knows sent n new after → IsUnknown knows sent (n + 1 - 1) ⊎ IsHeld new executed starts after
-last_of knows new n sent executed starts after (inl u) =
+-- `IsUnknownOrRetained` gives `LastIs`, where request n was handed last
+pub last_of : (knows : Asked → Bool) (since n : ℕ) (l : Log) → IsUnknownOrRetained knows l.sent since n l.retained → LastIs knows since (n + 1) l
+last_of knows since n l (inl u) =
     let back : n ≡ n + 1 - 1 = omega arith in
-    inl (subst (λ i. IsUnknown knows sent i) back u)
-last_of knows new n sent executed starts after (inr kept) =
+    inl (subst (λ i. IsUnknown knows l.sent i) back u)
+last_of knows since n l (inr kept) =
     inr (record {
       idle = λ none. absurd (none-some kept.0 (sym none ∙ kept.1));
       same = λ y e. ap (λ (x : KeptReply). x.id) (sym (same_Some kept.0 y (sym kept.1 ∙ e))) ∙ kept.2;
     })
 
 -- where request n is handed to the instrument and isn't executed, and no later one was handed before (`top`), `IsClimbing` is
--- preserved, with the id `new` and n + 1 for `top`, if n isn't known, or a reply with the id `new` is retained then (`after`)
-pub climbing_handed : (knows : Asked → Bool) (id new top n : ℕ) (sent : List Sent) (executed starts : List ℕ) (k after : Option KeptReply) → top ≤ n + 1
-    → IsUnknownOrRetained knows sent n new after
-    → IsClimbing knows id top sent executed starts k → IsClimbing knows new (n + 1) sent executed starts after
-climbing_handed knows id new top n sent executed starts k after le why h =
+-- preserved, with n + 1 for `top`, if n isn't known, or a reply with its id is retained then (`after`)
+pub climbing_handed : (knows : Asked → Bool) (since top n : ℕ) (l : Log) (after : Option KeptReply) → top ≤ n + 1 → IsUnknownOrRetained knows l.sent since n after
+    → IsClimbing knows since top l → IsClimbing knows since (n + 1) (record l { retained = after })
+climbing_handed knows since top n l after le why h =
     record {
       once = h.once;
-      below = below_handed top n executed le h.below;
-      last = last_of knows new n sent executed starts after why;
+      below = below_handed top n l.executed le h.below;
+      last = last_of knows since n (record l { retained = after }) why;
     }
 
 -- if nothing was executed since the last start, an execution, at place j, and the next one to come, at place k, have a start
@@ -218,81 +227,83 @@ never_idle executed starts j k m (inr h) run a e =
       | inr l ↦ omega (arith, l, e)
     ]
 
--- where request n is executed, and no later one was handed before (`top`), `IsClimbing` is preserved, with the id `new` and n + 1
--- for `top`, if two things hold: n isn't known, or nothing was executed since the last start, or n is later than all that were
--- handed before; and n isn't known, or a reply with the id `new` is retained then (`after`)
-pub climbing_acted : (knows : Asked → Bool) (id new top n : ℕ) (sent : List Sent) (executed starts : List ℕ) (k after : Option KeptReply) → top ≤ n + 1
-    → IsUnknown knows sent n ⊎ (IsIdle executed starts ⊎ (top ≤ n)) → IsUnknownOrRetained knows sent n new after
-    → IsClimbing knows id top sent executed starts k → IsClimbing knows new (n + 1) sent (executed ++ n ∷ []) starts after
-climbing_acted knows id new top n sent executed starts k after le why retained h =
+-- where request n is executed, and no later one was handed before (`top`), `IsClimbing` is preserved, with n + 1 for `top`, if
+-- two things hold: n isn't known, or nothing was executed since the last start, or n is later than all that were handed before;
+-- and n isn't known, or a reply with its id is retained then (`after`)
+pub climbing_acted : (knows : Asked → Bool) (since top n : ℕ) (l : Log) (after : Option KeptReply) → top ≤ n + 1
+    → IsUnknown knows l.sent n ⊎ (IsIdle l.executed l.starts ⊎ (top ≤ n)) → IsUnknownOrRetained knows l.sent since n after
+    → IsClimbing knows since top l → IsClimbing knows since (n + 1) (record l { executed = l.executed ++ n ∷ []; retained = after })
+climbing_acted knows since top n l after le why retained h =
     record {
       once = λ i j x y lt run a b.
-          let two = pushed_two executed n i j x y lt a b in
+          let two = pushed_two l.executed n i j x y lt a b in
           elim two.1 [
             | inl old ↦ h.once i j x y lt run two.0 old
-            | inr new ↦ subst (λ z. (x < z) ⊎ IsUnknown knows sent z) new.1 (later i j x run two.0 new.0 why)
+            | inr new ↦ subst (λ z. (x < z) ⊎ IsUnknown knows l.sent z) new.1 (later i j x run two.0 new.0 why)
           ];
-      below = below_acted top n executed le h.below;
-      last = last_of knows new n sent (executed ++ n ∷ []) starts after retained;
+      below = below_acted top n l.executed le h.below;
+      last = last_of knows since n (record l { executed = l.executed ++ n ∷ []; retained = after }) retained;
     }
   where
     -- an earlier execution, at place i, with no start between it and the execution of request n, at place j, is of a request
     -- before n, or n isn't known
-    later : (i j x : ℕ) → HasNoStart starts i j → slice_get executed i ≡ Some x → j ≡ length executed
-        → IsUnknown knows sent n ⊎ (IsIdle executed starts ⊎ (top ≤ n)) → (x < n) ⊎ IsUnknown knows sent n
+    later : (i j x : ℕ) → HasNoStart l.starts i j → slice_get l.executed i ≡ Some x → j ≡ length l.executed
+        → IsUnknown knows l.sent n ⊎ (IsIdle l.executed l.starts ⊎ (top ≤ n)) → (x < n) ⊎ IsUnknown knows l.sent n
     later i j x run first e (inl u) = inr u
-    later i j x run first e (inr (inl idle)) = absurd (never_idle executed starts i j x idle run first e)
-    later i j x run first e (inr (inr above)) = let l : x < top = all_at (λ m. m < top) executed i x h.below first in inl (omega (arith, l, above))
+    later i j x run first e (inr (inl idle)) = absurd (never_idle l.executed l.starts i j x idle run first e)
+    later i j x run first e (inr (inr above)) = let low : x < top = all_at (λ m. m < top) l.executed i x h.below first in inl (omega (arith, low, above))
 
 -- where `IsClimbing` holds, request n is known and has the id n - `since` modulo 8, no later one was handed before, and the
 -- instrument retains no reply with that id: nothing was executed since the last start, or n is later than all that the instrument
 -- was handed
-pub why_acted : (knows : Asked → Bool) (since top n id : ℕ) (sent : List Sent) (executed starts : List ℕ) (k : Option KeptReply)
-    → (IsUnknown knows sent n → ⊥) → id ≡ (n - since) % 8 → top ≤ n + 1 → ((line : List ℕ) → k ≡ Some (record { id = id; line = line }) → ⊥)
-    → IsClimbing knows ((top - 1 - since) % 8) top sent executed starts k → IsIdle executed starts ⊎ (top ≤ n)
-why_acted knows since top n id sent executed starts k known mine le other h = chosen (ltb n top) refl where
+pub why_acted : (knows : Asked → Bool) (since top n id : ℕ) (l : Log) → (IsUnknown knows l.sent n → ⊥) → id ≡ (n - since) % 8 → top ≤ n + 1
+    → ((line : List ℕ) → l.retained ≡ Some (record { id = id; line = line }) → ⊥) → IsClimbing knows since top l → IsIdle l.executed l.starts ⊎ (top ≤ n)
+why_acted knows since top n id l known mine le other h = chosen (ltb n top) refl where
   -- where `IsHeld` holds with the id of the request handed last, and that is request n, nothing is retained, so nothing was
   -- executed since the last start
-  again : top - 1 ≡ n → (o : Option KeptReply) → k ≡ o → IsHeld ((top - 1 - since) % 8) executed starts k → IsIdle executed starts
+  again : top - 1 ≡ n → (o : Option KeptReply) → l.retained ≡ o → IsHeld ((top - 1 - since) % 8) l → IsIdle l.executed l.starts
   again last None e g = g.idle e
   again last (Some r) e g =
       let same : r.id ≡ id = g.same r e ∙ ap (λ i. (i - since) % 8) last ∙ sym mine in
       absurd (other r.line (e ∙ ap (λ i. Some (record { id = i; line = r.line })) same))
 
   -- the lemma above, by whether n is below `top` (`b`)
-  chosen : (b : Bool) → ltb n top ≡ b → IsIdle executed starts ⊎ (top ≤ n)
+  chosen : (b : Bool) → ltb n top ≡ b → IsIdle l.executed l.starts ⊎ (top ≤ n)
   chosen false t = inr (ltb-false n top t)
   chosen true t =
-      let l : n < top = ltb-true n top t in
-      let last : top - 1 ≡ n = omega (arith, l, le) in
+      let low : n < top = ltb-true n top t in
+      let last : top - 1 ≡ n = omega (arith, low, le) in
       elim h.last [
-        | inl u ↦ absurd (known (subst (λ i. IsUnknown knows sent i) last u))
-        | inr g ↦ inl (again last k refl g)
+        | inl u ↦ absurd (known (subst (λ i. IsUnknown knows l.sent i) last u))
+        | inr g ↦ inl (again last l.retained refl g)
       ]
 
--- `IsClimbing` holds, with the id `new` and 1 for `top`, once request 0 (`n`) reached the instrument, executed or not (`acted`),
--- if nothing was executed before, and that request isn't known, or a reply with the id `new` is retained (`IsUnknownOrRetained`)
-pub climbing_first : (knows : Asked → Bool) (new n : ℕ) (sent : List Sent) (executed starts : List ℕ) (acted : Bool) (after : Option KeptReply) → executed ≡ [] → n ≡ 0
-    → IsUnknownOrRetained knows sent n new after
-    → IsClimbing knows new 1 sent (cond acted (executed ++ n ∷ []) executed) starts after
-climbing_first knows new n sent executed starts acted after none nought why =
+-- `IsClimbing` holds, with 1 for `top`, once request 0 (`n`) reached the instrument, executed or not (`acted`), if nothing was
+-- executed before, and that request isn't known, or a reply with its id is retained then (`after`)
+pub climbing_first : (knows : Asked → Bool) (since n : ℕ) (l : Log) (acted : Bool) (after : Option KeptReply) → l.executed ≡ [] → n ≡ 0
+    → IsUnknownOrRetained knows l.sent since n after
+    → IsClimbing knows since 1 (record l { executed = cond acted (l.executed ++ n ∷ []) l.executed; retained = after })
+climbing_first knows since n l acted after none nought why =
     record {
-      once = once_few knows sent (cond acted (executed ++ n ∷ []) executed) starts (few acted);
+      once = once_few knows l.sent (cond acted (l.executed ++ n ∷ []) l.executed) l.starts (few acted);
       below = low acted;
-      last = subst (λ i. IsUnknown knows sent i ⊎ IsHeld new (cond acted (executed ++ n ∷ []) executed) starts after)
-          back (last_of knows new n sent (cond acted (executed ++ n ∷ []) executed) starts after why);
+      last = subst (λ m. LastIs knows since m by_then) one (last_of knows since n by_then why);
     }
   where
+    -- what the instrument did by then
+    by_then : Log
+    by_then = record l { executed = cond acted (l.executed ++ n ∷ []) l.executed; retained = after }
+
     -- the request handed last has the number 0
-    back : n + 1 - 1 ≡ 0
-    back = omega (arith, nought)
+    one : n + 1 ≡ 1
+    one = omega (arith, nought)
 
     -- at most one request was executed, whether this one was (`acted`) or not
-    few : (acted : Bool) → length (cond acted (executed ++ n ∷ []) executed) ≤ 1
-    few true = subst (λ l. length (l ++ n ∷ []) ≤ 1) (sym none) (omega arith)
-    few false = subst (λ l. length l ≤ 1) (sym none) (omega arith)
+    few : (acted : Bool) → length (cond acted (l.executed ++ n ∷ []) l.executed) ≤ 1
+    few true = subst (λ e. length (e ++ n ∷ []) ≤ 1) (sym none) (omega arith)
+    few false = subst (λ e. length e ≤ 1) (sym none) (omega arith)
 
     -- each execution is of a request below 1
-    low : (acted : Bool) → AllByRecursion (λ m. m < 1) (cond acted (executed ++ n ∷ []) executed)
-    low true = subst (λ l. AllByRecursion (λ m. m < 1) (l ++ n ∷ [])) (sym none) (omega (arith, nought), tt)
-    low false = subst (λ l. AllByRecursion (λ m. m < 1) l) (sym none) tt
+    low : (acted : Bool) → AllByRecursion (λ m. m < 1) (cond acted (l.executed ++ n ∷ []) l.executed)
+    low true = subst (λ e. AllByRecursion (λ m. m < 1) (e ++ n ∷ [])) (sym none) (omega (arith, nought), tt)
+    low false = subst (λ e. AllByRecursion (λ m. m < 1) e) (sym none) tt

@@ -41,7 +41,8 @@ use Rattle.gc_field.specs.Laws.{asked, kept_of}
 use Rattle.gc_field.specs.Pointing.{AreStill, IsMeasuredWhereItPointed, IsPointedInChain, SimulatorHasItsEffect, after_call, turns_telescope, PointsAs}
 use Rattle.gc_field.specs.Runs.{IsInField, own_sent, world}
 use Rattle.gc_field.specs.Shown.{Stretch, stretches}
-use Rattle.gc_field.proofs.Chained.{chains_executed, sent_at}
+use Rattle.gc_field.proofs.Among.{zip_at}
+use Rattle.gc_field.proofs.Chained.{chains_executed}
 use Rattle.gc_field.proofs.Instruments.{simulator}
 use Rattle.gc_field.proofs.Joining.{run_faithful}
 use Rattle.gc_station.proofs.Lists.{all_on, get_dropped}
@@ -201,7 +202,7 @@ module _ (plan : Plan) (commands : List Task) (scope : Scope) (acts : List Act) 
     still_at : (x : ℕ) (r : Sent) → h.m < x → x < h.n → slice_get (own_sent ends h.stretch) x ≡ Some r → turns_telescope r.call ≡ false
     still_at x r above under got =
         let f = run_faithful ends IsFittingState kept_of simulator.instrument plan commands scope acts u rs field in
-        let of = sent_at ends commands (parts plan commands scope acts) ss h.i h.part h.stretch f.sent h.of_parts h.of_stretches in
+        let of = zip_at _ (parts plan commands scope acts) ss h.i h.part h.stretch f.sent h.of_parts h.of_stretches in
         let size : h.n < length h.part.marks = slice_get_within h.part.marks h.n _ h.mark_b in
         let mark = element_at h.part.marks x (omega (arith, under, size)) in
         let y = marks_ask_at commands h.part.marks (map asked (own_sent ends h.stretch)) x mark.0 of mark.1 in

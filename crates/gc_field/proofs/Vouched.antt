@@ -27,7 +27,7 @@ use Rattle.gc_field.specs.Field.{IsLineStep}
 use Rattle.gc_field.specs.Instrument.{IsAnInstrumentFor, IsKeptAfter, KeepsItsReply}
 use Rattle.gc_field.proofs.Answered.{HoldsOfAll, holds_more, holds_append, holds_settled}
 use Rattle.gc_field.proofs.Once.{IsClimbing, IsIdle, IsOrdered, IsUnknown, climbing_started, climbing_acted, climbing_handed, climbing_sent, known_not, ordered_acted, ordered_handed, unknown_more, why_acted}
-use Rattle.gc_field.proofs.KeptReplies.{VouchedFields, fields_of, unknown_or_retained, KeptIs, kept_more, kept_still, newest, newest_up, newest_low, IsDealt, newest_dealt, kept_handed, IsVouched, ReplyHas}
+use Rattle.gc_field.proofs.KeptReplies.{VouchedFields, fields_of, log_of, unknown_or_retained, KeptIs, kept_more, kept_still, newest, newest_up, newest_low, IsDealt, newest_dealt, kept_handed, IsVouched, ReplyHas}
 use Rattle.gc_field.proofs.NearTable.{IsNear, near_same, near_on, near_of}
 
 module _ {State : Type 0} (width : ℕ) (narrow : width ≤ 7) (knows : Asked → Bool) (ends : Ends State) (Good : State → Type 0)
@@ -88,7 +88,7 @@ module _ {State : Type 0} (width : ℕ) (narrow : width ≤ 7) (knows : Asked �
     pub coming : AllByRecursion (λ x. Vouched v.sent v.executed v.made table x.number x.line) v.down
     pub answers : HoldsOfAll (Vouched v.sent v.executed v.made table) 0 v.settled
     pub order : IsOrdered top v.executed
-    pub once : (keeps : Asked → Bool) → KeepsItsReply ends Good kept keeps → IsClimbing keeps ((top - 1 - v.since) % 8) top v.sent v.executed v.starts v.retained
+    pub once : (keeps : Asked → Bool) → KeepsItsReply ends Good kept keeps → IsClimbing keeps v.since top (log_of v)
 
   -- the invariant of a world
   abbrev pub AllVouched : World (ByNumber Asked) State → Type 0
@@ -120,7 +120,7 @@ module _ {State : Type 0} (width : ℕ) (narrow : width ≤ 7) (knows : Asked �
         coming = all_on (λ (x : Numbered (List ℕ)). P x.number x.line) (λ x. Q x.number x.line) v.down (λ x. f x.number x.line) h.coming;
         answers = holds_more P Q f 0 v.settled h.answers;
         order = h.order;
-        once = λ keeps is. climbing_sent keeps ((h.top - 1 - v.since) % 8) h.top v.sent (r ∷ []) v.executed v.starts v.retained (h.once keeps is);
+        once = λ keeps is. climbing_sent keeps v.since h.top (log_of v) (r ∷ []) (h.once keeps is);
       }
     where
       -- `IsNear` is preserved if the request r is sent, which is known if all have to be
@@ -182,7 +182,7 @@ module _ {State : Type 0} (width : ℕ) (narrow : width ≤ 7) (knows : Asked �
     new : E x.number ⊎ IsVouched ends Good M w.wire.sent executed (w.wire.made ++ record { number = x.number; line = line } ∷ []) x.number line
     order : IsOrdered (x.number + 1) executed
     once : (keeps : Asked → Bool) → KeepsItsReply ends Good kept keeps
-        → IsClimbing keeps ((x.number + 1 - 1 - w.client.since) % 8) (x.number + 1) w.wire.sent executed w.wire.starts after
+        → IsClimbing keeps w.client.since (x.number + 1) (record { sent = w.wire.sent; executed = executed; starts = w.wire.starts; retained = after })
 
   -- `AllVouchedIn` is preserved if the front request, x, is handed to the instrument, as `WasHanded` says
   vouched_on : (w : World (ByNumber Asked) State) (x : Numbered Request) (rest : List (Numbered Request)) (known : Bool) (line executed : List ℕ) (after : Option KeptReply) → w.wire.up ≡ x ∷ rest
@@ -264,8 +264,8 @@ module _ {State : Type 0} (width : ℕ) (narrow : width ≤ 7) (knows : Asked �
         new = again_own w x known hd.reply (kept v.state) h front refl same;
         order = ordered_handed h.top x.number v.executed front.top h.order;
         once = λ keeps k.
-            climbing_handed keeps ((h.top - 1 - c.since) % 8) ((x.number + 1 - 1 - c.since) % 8) h.top x.number v.sent v.executed v.starts (kept v.state) (kept hd.state)
-            front.top (unknown_or_retained ends Good kept w x hd keeps (keeps x.line.call) refl k is s.good c.since front.id front.of) (h.once keeps k);
+            climbing_handed keeps c.since h.top x.number (log_of (fields_of kept w)) (kept hd.state) front.top
+            (unknown_or_retained ends Good kept w x hd keeps (keeps x.line.call) refl k is s.good c.since front.id front.of) (h.once keeps k);
       })
 
   -- in a good state, if the front request, x, is executed, and the instrument retains its reply to each request that `keeps`
@@ -276,7 +276,7 @@ module _ {State : Type 0} (width : ℕ) (narrow : width ≤ 7) (knows : Asked �
   acted_by w x hd known keeps true e k is exe good h front =
       let v = w.wire in
       let o = front.of in
-      inr (why_acted keeps w.client.since h.top x.number x.line.id v.sent v.executed v.starts (kept v.state) (known_not keeps v.sent x.number o.request o.found (ap keeps o.call ∙ e))
+      inr (why_acted keeps w.client.since h.top x.number x.line.id (log_of (fields_of kept w)) (known_not keeps v.sent x.number o.request o.found (ap keeps o.call ∙ e))
       front.id front.top (λ line same. true≢false (sym exe ∙ sym (ap (λ (k : Handed State). k.executed) is) ∙ k.again v.state x.line.id x.line.call line good o.small e same)) (h.once keeps k))
   acted_by w x hd known keeps false e k is exe good h front = inl (front.of.request, front.of.found, ap keeps front.of.call ∙ e)
 
@@ -311,8 +311,7 @@ module _ {State : Type 0} (width : ℕ) (narrow : width ≤ 7) (knows : Asked �
         });
         order = ordered_acted h.top n v.executed front.top h.order;
         once = λ keeps k.
-            climbing_acted keeps ((h.top - 1 - c.since) % 8) ((n + 1 - 1 - c.since) % 8) h.top n v.sent v.executed v.starts (kept v.state) (kept hd.state)
-            front.top (acted_by w x hd known keeps (keeps x.line.call) refl k is exe s.good h front)
+            climbing_acted keeps c.since h.top n (log_of (fields_of kept w)) (kept hd.state) front.top (acted_by w x hd known keeps (keeps x.line.call) refl k is exe s.good h front)
             (unknown_or_retained ends Good kept w x hd keeps (keeps x.line.call) refl k is s.good c.since front.id front.of) (h.once keeps k);
       })
 
@@ -390,7 +389,8 @@ module _ {State : Type 0} (width : ℕ) (narrow : width ≤ 7) (knows : Asked �
   -- `AllVouchedIn` is preserved if what is retained stays, or nothing is retained any more, and executions still act once, also
   -- with these starts
   still_kept : (w : World (ByNumber Asked) State) (starts : List ℕ) (state : State) → (kept state ≡ None) ⊎ (kept state ≡ kept w.wire.state) → (h : AllVouched w)
-      → ((keeps : Asked → Bool) → KeepsItsReply ends Good kept keeps → IsClimbing keeps ((h.top - 1 - w.client.since) % 8) h.top w.wire.sent w.wire.executed starts (kept state))
+      → ((keeps : Asked → Bool) → KeepsItsReply ends Good kept keeps → IsClimbing keeps w.client.since h.top
+      (record { sent = w.wire.sent; executed = w.wire.executed; starts = starts; retained = kept state }))
       → AllVouchedIn (record (fields_of kept w) { starts = starts; retained = kept state })
   still_kept w starts state now h once =
       let v = w.wire in
@@ -419,14 +419,14 @@ module _ {State : Type 0} (width : ℕ) (narrow : width ≤ 7) (knows : Asked �
       let v = w.wire in
       let now = keeper.starts v.state good in
       still_kept w (v.starts ++ length v.executed ∷ []) (ends.restarted v.state) now h
-      (λ keeps k. climbing_started keeps ((h.top - 1 - w.client.since) % 8) h.top v.sent v.executed v.starts (kept v.state) (kept (ends.restarted v.state)) now (h.once keeps k))
+      (λ keeps k. climbing_started keeps w.client.since h.top (log_of (fields_of kept w)) (kept (ends.restarted v.state)) now (h.once keeps k))
 
   -- `AllVouched` is preserved if the instrument's state changes, and it retains the same
   pub vouched_changed : (w : World (ByNumber Asked) State) (state : State) → kept state ≡ kept w.wire.state → AllVouched w → AllVouched (on_wire w (record w.wire { state = state }))
   vouched_changed w state same h =
       let v = w.wire in
       still_kept w v.starts state (inr same) h
-      (λ keeps k. subst (λ o. IsClimbing keeps ((h.top - 1 - w.client.since) % 8) h.top v.sent v.executed v.starts o) (sym same) (h.once keeps k))
+      (λ keeps k. subst (λ o. IsClimbing keeps w.client.since h.top (record { sent = v.sent; executed = v.executed; starts = v.starts; retained = o })) (sym same) (h.once keeps k))
 
   -- `AllVouched` is preserved if the lines in flight change to others that meet its clauses on lines in flight
   vouched_queues : (w : World (ByNumber Asked) State) (up : List (Numbered Request)) (down : List (Numbered (List ℕ))) (h : AllVouched w)

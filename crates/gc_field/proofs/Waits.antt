@@ -20,13 +20,7 @@ use Rattle.gc_world.proofs.Places.{get_map}
 abbrev pub after_moves : {State : Type 0} → Pending Asked → List (Move State) → Pending Asked
 after_moves p [] = p
 after_moves p (Tells now ∷ ms) = after_moves (expired now p) ms
-after_moves p (Sends target call deadline ∷ ms) = after_moves p ms
-after_moves p (Comes line ∷ ms) = after_moves p ms
-after_moves p (Foreign line ∷ ms) = after_moves p ms
-after_moves p (OnLine step ∷ ms) = after_moves p ms
-after_moves p (Anew ∷ ms) = after_moves p ms
-after_moves p (Changes state ∷ ms) = after_moves p ms
-after_moves p (Joins line ∷ ms) = after_moves p ms
+after_moves p (_ ∷ ms) = after_moves p ms
 
 -- after moves a request has timed out just if it had before, or if a moment at or past its deadline is read; all else of it stays
 pub after_is : {State : Type 0} (p : Pending Asked) (ms : List (Move State)) → after_moves p ms ≡ record p { given_up = p.given_up || times_out p.deadline ms }

@@ -23,7 +23,7 @@ use Rattle.gc_station.proofs.Going.{runs-append}
 use Rattle.gc_station.specs.Model.{Runs, opening}
 use Rattle.gc_field.specs.Plain.{plain_expected}
 use Rattle.gc_field.specs.Simulator.{ends}
-use Rattle.gc_field.specs.Begin.{begins, leaves, turned}
+use Rattle.gc_field.specs.Begin.{begins, left_by_turns}
 use Rattle.gc_field.specs.Begun.{WasMadeOn}
 use Rattle.gc_field.specs.Field.{seen}
 use Rattle.gc_field.specs.Shown.{AreShownAs, shown}
@@ -54,8 +54,8 @@ unfolding is_elsewhere header_at reply_at digits
 opens width tasks reads =
     (tt, (refl, (tt, (refl, (tt, (tt, (refl, (tt, (tt, (refl, (tt, (tt, (refl, (tt, (tt, (refl, (tt, (tt, (refl, (tt, (tt, (refl, (tt, (tt, (refl, (tt, (tt, tt)))))))))))))))))))))))))))
 
--- the part with these steps, of a synchronization and of the client, whose requests are of the first cycle: each by its place, and the moment before it was
--- sent
+-- the part with these steps, of a synchronization and of the client, whose requests are of the first cycle: each by its place,
+-- and the moment before it was sent
 abbrev pub part_of : List part.SyncStep → List (Step Asked) → List (ℕ × ℕ) → Part
 part_of sync_steps steps sent = record { sync_steps = sync_steps; steps = steps; marks = map (λ x. Some (record { cycle = 1; place = x.0; sent = x.1; expected = plain_expected })) sent }
 
@@ -113,7 +113,7 @@ none_here (inr (inl h)) = not_six_and_zero 6 0 h.0 refl refl
 none_here (inr (inr h)) = h
 
 -- the answer was made on executing the command's request, the client's first one
-was_made : WasMadeOn WINDOW ends (leaves (turned ends turns (begins at_start))) moves 8 (Table InstrumentNo) answer
+was_made : WasMadeOn WINDOW ends (left_by_turns ends turns at_start) moves 8 (Table InstrumentNo) answer
 unfolding is_elsewhere header_at reply_at handed exec digits
 was_made = record { front = take 3 moves; later = drop 4 moves; split = refl; id = 0; rest = []; reaches = refl; executed = refl; reply = refl }
 

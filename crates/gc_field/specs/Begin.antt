@@ -120,6 +120,10 @@ module _ {State : Type 0} where
   turned ends [] s = s
   turned ends (t ∷ ts) s = turned ends ts (turns ends s t)
 
+  -- what is in flight after these turns of a synchronization that begins over `u`
+  abbrev pub left_by_turns : Ends State → List (Turn State) → UnderWay State → UnderWay State
+  left_by_turns ends ts u = leaves (turned ends ts (begins u))
+
   -- a turn is possible: a foreign line is no reply with an id, but an echo, noise, or what is left of a line that was cut; and
   -- the instrument changes by itself only as `MayBecome` allows
   abbrev pub IsTurn : (State → Type 0) → (State → Option KeptReply) → Model State → Turn State → Type 0

@@ -8,7 +8,7 @@ use Rattle.gc_instrument.specs.State.{State, IsFittingState, simulator_opening}
 use Rattle.gc_world.specs.Clients.{by_ids}
 use Rattle.gc_field.specs.Simulator.{ends}
 use Rattle.gc_field.specs.World.{Up_deliver}
-use Rattle.gc_field.specs.Begin.{IsWellFormed, Turn, Asks, Comes, Reaches, Up_lose, Up_repeat, Anew, UnderWay, begins, leaves, turned}
+use Rattle.gc_field.specs.Begin.{IsWellFormed, Turn, Asks, Comes, Reaches, Up_lose, Up_repeat, Anew, UnderWay, begins, left_by_turns, turned}
 use Rattle.gc_field.specs.Beginnings.{AreFewKilled, AreRuns, HasRisingIds, Run, left_by_run}
 use Rattle.gc_field.specs.Begun.{WasMadeOn, behind, ids_begun, nulls_settled}
 use Rattle.gc_field.specs.Field as field
@@ -56,9 +56,9 @@ next =
           ∷ [];
     }
 
--- what the second run had in flight once it had synchronized
-abbrev pub clean : UnderWay State
-clean = leaves (turned ends next.turns (begins (left_by_run WINDOW ends at_start killed)))
+-- what is in flight once the second run has synchronized
+abbrev pub from : UnderWay State
+from = left_by_turns ends next.turns (left_by_run WINDOW ends at_start killed)
 
 -- these runs meet the premises of `simulators_runs_are_their_own`; both commands of the second are answered, and the first
 -- answer was made on executing its request
@@ -68,10 +68,10 @@ pub record AreSomeRuns : Type 0 where
   pub runs : AreRuns WINDOW ends IsFittingState kept_of at_start (killed ∷ next ∷ [])
   pub few : AreFewKilled WINDOW ends 0 at_start (killed ∷ next ∷ [])
   pub settled :
-      (behind WINDOW ends clean next.moves).wire.settled
+      (behind WINDOW ends from next.moves).wire.settled
       ≡ nulls_settled ++ record { target = 7; call = Table InstrumentNo; outcome = Answered (codes "%R1P,0,0:0,123456") }
       ∷ record { target = 8; call = Table InstrumentNo; outcome = Answered (codes "%R1P,0,1:0,123456") } ∷ []
-  pub made_on : WasMadeOn WINDOW ends clean next.moves 8 (Table InstrumentNo) (codes "%R1P,0,0:0,123456")
+  pub made_on : WasMadeOn WINDOW ends from next.moves 8 (Table InstrumentNo) (codes "%R1P,0,0:0,123456")
 
 -- The word: the ids of the eight null procedures of a synchronization, in order: 6 down to 0, and then 7.
 
@@ -91,7 +91,7 @@ eight_come = Comes ∷ Comes ∷ Comes ∷ Comes ∷ Comes ∷ Comes ∷ Comes �
 
 -- what that synchronization leaves in flight: the reply after the eight
 abbrev pub left_by_eight : UnderWay State
-left_by_eight = leaves (turned ends eight_come (begins with_the_word))
+left_by_eight = left_by_turns ends eight_come with_the_word
 
 -- the moves after that synchronization: the first command is sent, and the reply after the eight comes
 abbrev pub ninth_comes : List (Move State)

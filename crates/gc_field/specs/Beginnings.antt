@@ -11,9 +11,9 @@ use Rattle.gc_field.specs.Simulator.{ends}
 use Rattle.gc_world.specs.Order.{Rising}
 use Rattle.gc_field.specs.World.{Ends, Wire}
 use Rattle.gc_field.specs.Begin.{IsWellFormed, LacksTheWord, AreTurns, Model, Turn, UnderWay, begins, ids_under_way, leaves, turned}
-use Rattle.gc_field.specs.Begun.{HasBegunCleanly, IsClean, IsFaithful, behind, ids_begun}
+use Rattle.gc_field.specs.Begun.{HasSynchronizedCleanly, IsClean, IsFaithful, behind, ids_begun}
 use Rattle.gc_field.specs.Field.{Move, ArePossible}
-use Rattle.gc_field.specs.Instrument.{AnyState, IsAnInstrument, OfAnyInstrument}
+use Rattle.gc_field.specs.Instrument.{OfAnyInstrument}
 use Rattle.gc_field.specs.Laws.{kept_of}
 
 -- what is in flight on a wire
@@ -37,10 +37,9 @@ RisingIdsLackTheWord State = (u : UnderWay State) → HasRisingIds u → LacksTh
 -- for any instrument, and a client with a window of at most `WINDOW` requests: once a run has synchronized cleanly (`IsClean`),
 -- `HasRisingIds` holds of what is in flight after any moves that are possible
 abbrev pub RunsLeaveRisingIds : Type 0 → Type 0
-RunsLeaveRisingIds State =
-    (ends : Ends State) (kept : State → Option KeptReply) → IsAnInstrument ends AnyState kept →
-    (width : ℕ) → width ≤ WINDOW → (u : UnderWay State) → IsClean AnyState kept u →
-    (ms : List (Move State)) → ArePossible ends AnyState kept (by_ids width ends) ms (ids_begun u) → HasRisingIds (on_line (behind width ends u ms).wire)
+RunsLeaveRisingIds State = OfAnyInstrument {State = State} (λ ends Good kept.
+    (width : ℕ) → width ≤ WINDOW → (u : UnderWay State) → IsClean Good kept u →
+    (ms : List (Move State)) → ArePossible ends Good kept (by_ids width ends) ms (ids_begun u) → HasRisingIds (on_line (behind width ends u ms).wire))
 
 -- Runs.
 
@@ -96,7 +95,7 @@ module _ {State : Type 0} (width : ℕ) (ends : Ends State) where
 
     -- if a run has synchronized (no id of its word is left), it has synchronized cleanly, and its moves are faithful
     abbrev pub IsOwnIf : List ℕ → Model State → List (Move State) → Type 0
-    IsOwnIf [] s ms = HasBegunCleanly kept s × IsFaithful width ends (leaves s) ms Good kept
+    IsOwnIf [] s ms = HasSynchronizedCleanly Good kept s × IsFaithful width ends (leaves s) ms Good kept
     IsOwnIf (asked ∷ rest) s ms = Unit {0}
 
     -- each run that has synchronized has synchronized cleanly, and is faithful, over what the one before it left

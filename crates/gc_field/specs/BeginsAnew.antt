@@ -21,7 +21,7 @@ use Rattle.gc_station.specs.Scopes.{Scope}
 use Rattle.gc_field.specs.Plain.{plain_task, plain_turn}
 use Rattle.gc_field.specs.World.{Up_deliver, Up_lose}
 use Rattle.gc_field.specs.Begin as turn
-use Rattle.gc_field.specs.Begin.{Turn, Asks, Reaches, UnderWay, begins, leaves, turned}
+use Rattle.gc_field.specs.Begin.{Turn, Asks, Reaches, UnderWay, left_by_turns}
 use Rattle.gc_field.specs.Beginnings.{Run, left_by_run}
 use Rattle.gc_field.specs.Begun.{WasMadeOn}
 use Rattle.gc_field.specs.CountingChain.{Counter, at_start, null_replies, counting, first_reply, kept_by}
@@ -153,7 +153,7 @@ left_by_first = left_by_run WINDOW counting at_start run
 
 -- what is in flight once the run has synchronized again
 abbrev pub from : UnderWay Counter
-from = leaves (turned counting turns (begins left_by_first))
+from = left_by_turns counting turns left_by_first
 
 -- the record of a lost command, at this place and for this target
 abbrev pub lost_record : (place target : ℕ) → Record

@@ -15,9 +15,9 @@ use Rattle.gc_instrument.specs.State.{KeptReply, IsFittingState}
 use Rattle.gc_world.specs.Clients.{ByNumber, by_ids}
 use Rattle.gc_field.specs.Simulator.{ends}
 use Rattle.gc_field.specs.World.{Ends, Request, Sent, Wire, World}
-use Rattle.gc_field.specs.Begin.{IsWellFormed, LacksTheWord, AreTurns, Model, Turn, UnderWay, begins, none_under_way, turned}
+use Rattle.gc_field.specs.Begin.{InFlight, IsWellFormed, LacksTheWord, AreTurns, Model, Turn, UnderWay, begins, leaves, none_under_way, turned}
 use Rattle.gc_field.specs.Field.{Move, Sends, ArePossible, AsksTheTable, moved}
-use Rattle.gc_field.specs.Instrument.{AnyState, IsAnInstrument, OfAnyInstrument, TreatsRawsAlike}
+use Rattle.gc_field.specs.Instrument.{OfAnyInstrument, TreatsRawsAlike}
 use Rattle.gc_field.specs.Laws.{IsFaithfulFrom, kept_of}
 use Rattle.gc_field.specs.Made as making
 use Rattle.gc_catalogue.specs.Asked.{is_of_table}
@@ -32,25 +32,6 @@ eighth = record { id = 7; call = Table NullProc }
 abbrev pub IsOfEighth : {State : Type 0} → (State → Option KeptReply) → State → Type 0
 IsOfEighth kept state = (k : KeptReply) → kept state ≡ Some k → k.id ≡ 7
 
--- a synchronization ended cleanly: all that is in flight is copies of its eighth null procedure, and replies to it; and what the
--- instrument retains, if it retains anything, has its id. No request from before is in flight, nor a reply to one, and none of
--- the other null procedures
-pub record HasBegunCleanly {State : Type 0} (kept : State → Option KeptReply) (s : Model State) : Type 0 where
-  pub up : AllByRecursion (λ x. (x.old ≡ false) × (x.line ≡ eighth)) s.up
-  pub down : AllByRecursion (λ x. (x.old ≡ false) × (heard x.line ≡ Some 7)) s.down
-  pub keeps : IsOfEighth kept s.state
-
--- for any instrument: unless the word is in flight when a synchronization begins (`LacksTheWord`), whatever is in flight then and
--- well formed (`IsWellFormed`), and whatever happens that is possible (`AreTurns`), once it has synchronized, it has synchronized
--- cleanly
-abbrev pub BeginsCleanly : Type 0 → Type 0
-BeginsCleanly State =
-    (ends : Ends State) (kept : State → Option KeptReply) → IsAnInstrument ends AnyState kept →
-    (u : UnderWay State) (ts : List (Turn State)) → IsWellFormed AnyState u → AreTurns ends AnyState kept ts (begins u) →
-    LacksTheWord u → (turned ends ts (begins u)).left ≡ [] → HasBegunCleanly kept (turned ends ts (begins u))
-
--- The client after a synchronization.
-
 -- what a synchronization leaves once it has synchronized cleanly: the instrument in a good state, copies of the eighth null
 -- procedure, replies with its id (7), and a retained reply with that id, or none
 pub record IsClean {State : Type 0} (Good : State → Type 0) (kept : State → Option KeptReply) (u : UnderWay State) : Type 0 where
@@ -58,6 +39,27 @@ pub record IsClean {State : Type 0} (Good : State → Type 0) (kept : State → 
   pub up : AllByRecursion (λ x. x ≡ eighth) u.up
   pub down : AllByRecursion (λ line. heard line ≡ Some 7) u.down
   pub keeps : IsOfEighth kept u.state
+
+-- none of these requests or replies in flight is from before the synchronization
+abbrev pub NoneIsOld : {Line : Type 0} → List (InFlight Line) → Type 0
+NoneIsOld xs = AllByRecursion (λ x. x.old ≡ false) xs
+
+-- the synchronization that led to `s` was clean: no request from before it is in flight, nor a reply to one, and what it leaves
+-- is `IsClean`
+pub record HasSynchronizedCleanly {State : Type 0} (Good : State → Type 0) (kept : State → Option KeptReply) (s : Model State) : Type 0 where
+  pub up : NoneIsOld s.up
+  pub down : NoneIsOld s.down
+  pub clean : IsClean Good kept (leaves s)
+
+-- for any instrument: unless the word is in flight when a synchronization begins (`LacksTheWord`), whatever is in flight then and
+-- well formed (`IsWellFormed`), and whatever happens that is possible (`AreTurns`), once it has synchronized, it has synchronized
+-- cleanly
+abbrev pub BeginsCleanly : Type 0 → Type 0
+BeginsCleanly State = OfAnyInstrument {State = State} (λ ends Good kept.
+    (u : UnderWay State) (ts : List (Turn State)) → IsWellFormed Good u → AreTurns ends Good kept ts (begins u) →
+    LacksTheWord u → (turned ends ts (begins u)).left ≡ [] → HasSynchronizedCleanly Good kept (turned ends ts (begins u)))
+
+-- The client after a synchronization.
 
 -- the null procedures of a synchronization, as requests: none of them is the client's
 abbrev pub nulls : List Sent

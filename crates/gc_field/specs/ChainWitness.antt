@@ -20,7 +20,7 @@ use Rattle.gc_station.specs.Scopes.{Scope}
 use Rattle.gc_field.specs.Plain.{plain_task, plain_turn}
 use Rattle.gc_field.specs.Simulator.{ends}
 use Rattle.gc_field.specs.World.{Up_deliver}
-use Rattle.gc_field.specs.Begin.{UnderWay, begins, leaves, none_under_way, turned}
+use Rattle.gc_field.specs.Begin.{UnderWay, left_by_turns, none_under_way}
 use Rattle.gc_field.specs.Beginnings.{Run}
 use Rattle.gc_field.specs.Chains.{IsUndisturbed, stretch_wire}
 use Rattle.gc_field.specs.Field.{Move, Sends, Tells, Comes, OnLine}
@@ -138,7 +138,7 @@ at_start = none_under_way simulator_opening
 
 -- the run as one stretch
 abbrev pub stretch : Stretch State
-stretch = record { from = leaves (turned ends eight_answered (begins at_start)); moves = moves }
+stretch = record { from = left_by_turns ends eight_answered at_start; moves = moves }
 
 -- what happens on the line: in this run, and after its end in one more, in which nothing happens
 abbrev pub runs : List (Run State)

@@ -24,7 +24,7 @@ use Rattle.gc_field.specs.Begin.{UnderWay}
 use Rattle.gc_field.specs.Beginnings.{Run}
 use Rattle.gc_field.specs.Begun.{WasMadeOn}
 use Rattle.gc_field.specs.Field.{Move, OnLine, Anew, Changes, Joins}
-use Rattle.gc_field.specs.Instrument.{IsAnInstrument, KeepsItsReply, AnyState}
+use Rattle.gc_field.specs.Instrument.{KeepsItsReply, OfAnyInstrument}
 use Rattle.gc_field.specs.Once.{IsInOrder}
 use Rattle.gc_field.specs.Runs.{IsInField, world_at}
 use Rattle.gc_field.specs.Shown.{Stretch, stretches}
@@ -60,6 +60,12 @@ pub record HasEffect {State : Type 0} (ends : Ends State) (apart : State → Sta
 -- the wire after these moves of a stretch
 abbrev pub stretch_wire : {State : Type 0} → Ends State → Stretch State → List (Move State) → Wire State
 stretch_wire ends s ms = (world_at ends s ms).wire
+
+-- if a reply in time ended the command of record b (`line_of`), which is of a cycle and not of the setup, P holds of its line and
+-- of the place of each command of that cycle before it in its chain
+abbrev pub OfEachBeforeInChain : Plan → List Task → (b : Record) → (P : List ℕ → ℕ → Type 0) → Type 0
+OfEachBeforeInChain plan commands b P =
+    (line : List ℕ) (a : ℕ) → line_of b.end ≡ Some line → 0 < b.cycle → plan.setup ≤ a → a < b.place → AreChained commands a b.place → P line a
 
 module _ {State : Type 0} (ends : Ends State) (Good : State → Type 0) (kept : State → Option KeptReply) where
   -- Two executions of a stretch.
@@ -119,12 +125,11 @@ module _ {State : Type 0} (ends : Ends State) (Good : State → Type 0) (kept : 
       -- and they were executed in this order, with these replies
       pub executed : IsExecutedAfter stretch (8 + m) (8 + n) earlier.answer.command.call b.command.call earlier.good.line line_b
 
-  -- if a reply in time ended the command of record b (`line_of`), which is of a cycle and not of the setup, each command of that
-  -- cycle before it in its chain was executed before it (`IsChainedTo`)
+  -- if a reply in time ended the command of record b, each command before it in its chain was executed before it (`IsChainedTo`)
   abbrev pub IsExecutedInChain : Plan → List Task → Scope → List Act → UnderWay State → List (Run State) → Record → Type 0
   IsExecutedInChain plan commands scope acts u rs b =
-      (line : List ℕ) (a : ℕ) → line_of b.end ≡ Some line → 0 < b.cycle → plan.setup ≤ a → a < b.place → AreChained commands a b.place
-      → IsChainedTo scope.reads commands (parts plan commands scope acts) (stretches ends u rs) (state_after plan commands scope acts).records a b line
+      OfEachBeforeInChain plan commands b (λ line a.
+      IsChainedTo scope.reads commands (parts plan commands scope acts) (stretches ends u rs) (state_after plan commands scope acts).records a b line)
 
   -- each record of a run is `IsExecutedInChain`
   abbrev pub AreExecutedInChain : Plan → List Task → Scope → List Act → UnderWay State → List (Run State) → Type 0
@@ -133,7 +138,6 @@ module _ {State : Type 0} (ends : Ends State) (Good : State → Type 0) (kept : 
 -- each record is `IsExecutedInChain`: for any instrument, every plan, all commands, every run of the station in the field
 -- (`IsInField`), and all that the line and the instrument may do meanwhile
 abbrev pub ChainsAreExecuted : Type 0 → Type 0
-ChainsAreExecuted State =
-    (ends : Ends State) (kept : State → Option KeptReply) → IsAnInstrument ends AnyState kept →
-    (plan : Plan) (commands : List Task) (scope : Scope) (acts : List Act) (u : UnderWay State) (rs : List (Run State)) → IsInField ends AnyState kept plan commands scope acts u rs →
-    AreExecutedInChain ends AnyState kept plan commands scope acts u rs
+ChainsAreExecuted State = OfAnyInstrument {State = State} (λ ends Good kept.
+    (plan : Plan) (commands : List Task) (scope : Scope) (acts : List Act) (u : UnderWay State) (rs : List (Run State)) → IsInField ends Good kept plan commands scope acts u rs →
+    AreExecutedInChain ends Good kept plan commands scope acts u rs)

@@ -11,7 +11,7 @@ use Rattle.gc_station.specs.Links.{AreChained}
 use Rattle.gc_station.specs.Runs.{state_after}
 use Rattle.gc_field.specs.World.{Ends}
 use Rattle.gc_field.specs.ChainWitness.{points, reads_all, commands, scope, acts_with, moves_with, records_with}
-use Rattle.gc_field.specs.Begin.{UnderWay, begins, leaves, none_under_way, turned}
+use Rattle.gc_field.specs.Begin.{UnderWay, left_by_turns, none_under_way}
 use Rattle.gc_field.specs.Beginnings.{Run}
 use Rattle.gc_field.specs.Begun.{WasMadeOn}
 use Rattle.gc_field.specs.Chains.{HasEffect, IsUndisturbed, stretch_wire}
@@ -85,7 +85,7 @@ at_start = none_under_way (record { count = 27; keeps = None })
 
 -- the run as one stretch
 abbrev pub stretch : Stretch Counter
-stretch = record { from = leaves (turned counting eight_answered (begins at_start)); moves = moves }
+stretch = record { from = left_by_turns counting eight_answered at_start; moves = moves }
 
 -- what happens on the line: in this run, and after its end in one more, in which nothing happens
 abbrev pub runs : List (Run Counter)

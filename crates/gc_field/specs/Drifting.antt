@@ -23,14 +23,14 @@ use Rattle.gc_station.specs.Runs.{state_after}
 use Rattle.gc_station.specs.Scopes.{Scope}
 use Rattle.gc_field.specs.Plain.{plain_task, plain_turn}
 use Rattle.gc_field.specs.World.{Ends, Up_deliver, Down_lose}
-use Rattle.gc_field.specs.Begin.{Turn, Asks, Reaches, begins, leaves, none_under_way, turned}
+use Rattle.gc_field.specs.Begin.{Turn, Asks, Reaches, left_by_turns, none_under_way}
 use Rattle.gc_field.specs.Begin as turn
 use Rattle.gc_field.specs.Beginnings.{Run}
 use Rattle.gc_field.specs.Begun.{WasMadeOn}
 use Rattle.gc_field.specs.Field.{Move, Sends, Tells, Comes, OnLine, Anew, Changes}
 use Rattle.gc_field.specs.Instrument.{IsAnInstrument, AnyState, nothing}
 use Rattle.gc_field.specs.Runs.{IsInField}
-use Rattle.gc_field.specs.Witness.{scope_saying, null_lines, at, eight_answered, exchanged, replies, run_and_end}
+use Rattle.gc_field.specs.Witness.{plan_of, scope_saying, null_lines, at, eight_answered, exchanged, replies, run_and_end}
 
 -- an instrument that retains no reply, and answers every request with its state: `text` gives the parameters of the reply in a
 -- state, and `new` is the state after a start
@@ -47,9 +47,9 @@ tells_its_state text new =
 abbrev pub drifting : Ends ℕ
 drifting = tells_its_state {State = ℕ} decimal 0
 
--- the plan of this run: one request at a time, deadlines of 100 ms, one cycle, a quiet time of 10 ms, and three retries
+-- the plan of this run: one request at a time, and three retries
 abbrev pub plan : Plan
-plan = record { width = 1; deadline = 100; every = 0; cycles = 1; quiet = 10; retries = 3; setup = 0; stale = 0; watched = false }
+plan = record (plan_of 1) { retries = 3 }
 
 -- the two commands of this run: one asks for the instrument's number, the other for a procedure that isn't in the table
 abbrev pub commands : RawCall → List Task
@@ -154,7 +154,7 @@ pub record IsAnsweredByDrifting (raw : RawCall) : Type 0 where
       ≡ record { sent = Some 220; utc = 360; cycle = 1; place = 0; turn = plain_turn; command = record { target = 7; call = Table InstrumentNo }; end = end.Lost }
       ∷ record { sent = Some 320; utc = 360; cycle = 1; place = 1; turn = plain_turn; command = record { target = 8; call = Raw raw }; end = end.Answered Fine (Some Nothing) answer }
       ∷ []
-  pub made_on : WasMadeOn WINDOW drifting (leaves (turned drifting turns (begins (none_under_way 5)))) (moves raw) 9 (Raw raw) answer
+  pub made_on : WasMadeOn WINDOW drifting (left_by_turns drifting turns (none_under_way 5)) (moves raw) 9 (Raw raw) answer
 
 -- `IsAnsweredByDrifting` holds whichever procedure the second command asks for
 abbrev pub SomeRunIsOverADriftingInstrument : Type 0

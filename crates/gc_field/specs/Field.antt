@@ -44,8 +44,8 @@ IsLineStep Restart_client = ⊥
 IsLineStep Restart_instrument = ⊥
 IsLineStep Nothing = Unit {0}
 
--- the wire once the two front ones of these requests, which are in flight to the instrument, reached it as one line, which has
--- this reply: the reply counts as that to the first of them. Nothing counts as executed, and the instrument's state stays. If
+-- the wire once the first two of these requests, which are in flight to the instrument, reached it as one line, with this reply:
+-- the reply counts as that to the first of them. Nothing counts as executed, and the instrument's state stays. If
 -- fewer than two are in flight, nothing happens
 abbrev pub joined : {State : Type 0} → Wire State → List (Numbered Request) → List ℕ → Wire State
 joined w (x ∷ y ∷ rest) line =

@@ -119,11 +119,10 @@ all_known call = true
 abbrev pub nothing : {State : Type 0} → State → Option KeptReply
 nothing state = None
 
--- what retains no reply and executes each request is an instrument, if the client reads its lines by the grammar of replies, and
--- each of its replies to a request with an id from 0 to 7 reads as one with that id
+-- what retains no reply and executes each request is an instrument, if the client reads its lines by the grammar of replies
+-- (`ReadsByGrammar`), and each of its replies to a request with an id from 0 to 7 reads as one with that id (`RepliesWithItsId`)
 abbrev pub KeepingNothingSuffices : Type 0 → Type 0
 KeepingNothingSuffices State =
-    (ends : Ends State) → ReadsByGrammar ends →
-    ((state : State) (id : ℕ) (call : Asked) → id < IDS → heard (ends.handed state id call).reply ≡ Some id) →
+    (ends : Ends State) → ReadsByGrammar ends → RepliesWithItsId ends AnyState →
     ((state : State) (id : ℕ) (call : Asked) → (ends.handed state id call).executed ≡ true) →
     IsAnInstrument ends AnyState nothing

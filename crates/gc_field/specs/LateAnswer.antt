@@ -15,7 +15,7 @@ use Rattle.gc_station.specs.Runs.{state_after}
 use Rattle.gc_field.specs.Plain.{plain_task, plain_turn}
 use Rattle.gc_field.specs.Simulator.{ends}
 use Rattle.gc_field.specs.World.{Up_deliver}
-use Rattle.gc_field.specs.Begin.{UnderWay, begins, leaves, turned}
+use Rattle.gc_field.specs.Begin.{UnderWay, left_by_turns}
 use Rattle.gc_field.specs.Beginnings.{Run}
 use Rattle.gc_field.specs.Begun.{WasMadeOn}
 use Rattle.gc_field.specs.ChainWitness.{at_start}
@@ -81,7 +81,7 @@ runs = run_and_end eight_answered moves
 
 -- what is in flight once the run has synchronized
 abbrev pub from : UnderWay State
-from = leaves (turned ends eight_answered (begins at_start))
+from = left_by_turns ends eight_answered at_start
 
 -- this is a run in the field over a line with nothing in flight, after which no act follows. It recorded the first command as
 -- late, and the second one's answer; and each of these lines was made on executing its own request

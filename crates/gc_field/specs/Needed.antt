@@ -8,10 +8,11 @@ use Rattle.gc_lines.specs.Replies.{reply_text}
 use Rattle.gc_catalogue.specs.declared.asked.Asked.{Asked}
 use Rattle.gc_catalogue.specs.declared.asked.Asked.TheVariants.{Table, Raw}
 use Rattle.gc_catalogue.specs.declared.call.Call.TheVariants.{NullProc, InstrumentNo}
+use Rattle.gc_catalogue.specs.declared.fault.CallFault.TheVariants.{Unknown}
 use Rattle.gc_catalogue.specs.declared.raw.RawCall.{RawCall}
 use Rattle.gc_client.specs.declared.window.TheConstants.{WINDOW}
 use Rattle.gc_client.specs.Rule.{Answered, heard}
-use Rattle.gc_instrument.specs.Replying.{Handed}
+use Rattle.gc_instrument.specs.Replying.{Handed, refusal_line}
 use Rattle.gc_instrument.specs.State.{KeptReply}
 use Rattle.gc_world.specs.Clients.{by_ids}
 use Rattle.gc_field.specs.World.{Ends, Up_deliver, Up_repeat}
@@ -66,7 +67,7 @@ giving id n = reply_text (record { rc_com = 0; id = Some id; rc = 0; params = de
 
 -- a reply with this id that refuses the request (communication code 3081)
 abbrev pub refusal : ℕ → List ℕ
-refusal id = reply_text (record { rc_com = 3081; id = Some id; rc = 0; params = [] })
+refusal id = refusal_line id Unknown
 
 -- the moves by which this request is sent, reaches the instrument, and is answered with this line; and then the moves `ms`
 abbrev pub one_answered : {State : Type 0} → Asked → List ℕ → List (Move State) → List (Move State)
@@ -192,8 +193,8 @@ abbrev pub repeated_request : {State : Type 0} → List (Move State)
 repeated_request = one_answered (Table NullProc) (giving 0 0) (Sends 7 (Table InstrumentNo) 9 ∷ OnLine (Up_repeat 0) ∷ OnLine Up_deliver ∷ OnLine Up_deliver ∷ [])
 
 -- an instrument that retains its reply, but executes also a request that comes again
-abbrev pub deals_anew : Ends Keeper
-deals_anew = record keeper { handed = λ k id call. again_or id k None }
+abbrev pub executes_again : Ends Keeper
+executes_again = record keeper { handed = λ k id call. again_or id k None }
 
 -- an instrument that retains no reply
 abbrev pub forgets : Ends Bool
@@ -235,8 +236,8 @@ pub record IsAllNeeded : Type 0 where
   -- an instrument that retains its reply executes a request that comes twice only once (`ActsOnce`), and both clauses on that
   -- are needed: here are an instrument that lacks the first clause and has the second, and one that lacks the second and has
   -- the first
-  pub again : IsExecutedTwice deals_anew AnyState kept None
-  pub again_keeps : (state : Keeper) (id : ℕ) (call : Asked) → kept (deals_anew.handed state id call).state ≡ Some (record { id = id; line = (deals_anew.handed state id call).reply })
+  pub again : IsExecutedTwice executes_again AnyState kept None
+  pub again_keeps : (state : Keeper) (id : ℕ) (call : Asked) → kept (executes_again.handed state id call).state ≡ Some (record { id = id; line = (executes_again.handed state id call).reply })
   pub always : IsExecutedTwice forgets AnyState nothing false
   pub always_again :
       (state : Bool) (id : ℕ) (call : Asked) (line : List ℕ) → nothing state ≡ Some (record { id = id; line = line }) → (forgets.handed state id call).executed ≡ false

@@ -9,8 +9,7 @@ use Rattle.gc_texts.specs.declared.turn.Turn.{Turn}
 use Rattle.gc_texts.specs.declared.wish.Wish.{Wish}
 use Rattle.gc_station.specs.NextCommand.{expected_first, no_turn}
 
--- the turn of every plain command: place 0 of its section and of its chain, first attempt. So it is the turn that stands in where
--- there is no command
+-- the turn of every plain command: place 0 of its section and of its chain, first attempt, as where there is no command
 abbrev pub plain_turn : Turn
 plain_turn = no_turn
 
@@ -19,6 +18,6 @@ abbrev pub plain_task : Wish → ℕ → Bool → Task
 plain_task wish deadline chained =
     record { command = wish; deadline = deadline; chained = chained; near = None; accepted = no_codes; again = no_again; turn = plain_turn; others = 0; now = false }
 
--- what the text says of the answer that it expects to a plain command: nothing, as where there is no command
+-- what is expected of the answer to a plain command: nothing in particular, as where there is no command
 abbrev pub plain_expected : Expected
 plain_expected = expected_first []

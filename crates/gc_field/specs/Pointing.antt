@@ -1,7 +1,7 @@
 -- Where the telescope pointed when a command of a chain was executed, of the simulated instrument: this project's own. A part
 -- is what a station sees of its run from one synchronization to the next, and a stretch what happens on the line meanwhile,
 -- once it has synchronized.
-use Rattle.std.specs.Prelude.{◌≡◌, ℕ, ◌<◌, ◌≤◌, Bool, true, false, List, Some, slice_get}
+use Rattle.std.specs.Prelude.{◌≡◌, ℕ, ◌<◌, Bool, true, false, List, Some, slice_get}
 use Rattle.std.specs.List.{AllByRecursion}
 use Rattle.gc_values.specs.declared.decimal.Decimal.{Decimal}
 use Rattle.gc_catalogue.specs.declared.answer.Reading.{Reading}
@@ -13,8 +13,7 @@ use Rattle.gc_instrument.specs.Replying.{without_kept}
 use Rattle.gc_instrument.specs.State.{State, IsFittingState}
 use Rattle.gc_links.specs.Acts.{Act}
 use Rattle.gc_texts.specs.declared.tasks.Task.{Task}
-use Rattle.gc_texts.specs.Endings.{line_of}
-use Rattle.gc_station.specs.Links.{AreChained, parts}
+use Rattle.gc_station.specs.Links.{parts}
 use Rattle.gc_station.specs.Parts.{Part}
 use Rattle.gc_station.specs.Records.{Record}
 use Rattle.gc_station.specs.Runs.{state_after}
@@ -23,7 +22,7 @@ use Rattle.gc_station.specs.declared.plan.Plan.{Plan}
 use Rattle.gc_field.specs.Simulator.{ends}
 use Rattle.gc_field.specs.Begin.{UnderWay}
 use Rattle.gc_field.specs.Beginnings.{Run}
-use Rattle.gc_field.specs.Chains.{HasEffect, IsChainedTo, IsUndisturbed, stretch_wire}
+use Rattle.gc_field.specs.Chains.{HasEffect, IsChainedTo, IsUndisturbed, OfEachBeforeInChain, stretch_wire}
 use Rattle.gc_field.specs.Laws.{kept_of}
 use Rattle.gc_field.specs.Runs.{IsInField}
 use Rattle.gc_field.specs.Shown.{Stretch, stretches}
@@ -60,16 +59,16 @@ pub record IsMeasuredWhereItPointed {reads : Asked → List ℕ → Reading} {co
       → ((stretch_wire ends h.stretch h.executed.second.front).state.pointing ≡ record { hz = hz; v = v })
       × ((stretch_wire ends h.stretch h.executed.second.front).state.face ≡ (stretch_wire ends h.stretch h.executed.first.front).state.face)
 
--- if a reply in time ended the command of record b (`line_of`), which is of a cycle and not of the setup, and that command is
--- chained to the command of its cycle at place a, then it was executed after the one at place a (`h`). If no command of the
--- places between turns the telescope, and the instrument neither started again nor changed by itself between the two executions,
--- it was executed with the telescope as the one at place a had left it (`IsMeasuredWhereItPointed`)
+-- if a reply in time ended the command of record b, it was executed after each command before it in its chain (`h`, for the one
+-- at place a). If no command of the places between turns the telescope, and the instrument neither started again nor changed by
+-- itself between the two executions, it was executed with the telescope as the earlier one had left it
+-- (`IsMeasuredWhereItPointed`)
 abbrev pub IsPointedInChain : Plan → List Task → Scope → List Act → UnderWay State → List (Run State) → Record → Type 0
 IsPointedInChain plan commands scope acts u rs b =
-    (line : List ℕ) (a : ℕ) → line_of b.end ≡ Some line → 0 < b.cycle → plan.setup ≤ a → a < b.place → AreChained commands a b.place
-    → (h : IsChainedTo ends IsFittingState kept_of scope.reads commands (parts plan commands scope acts) (stretches ends u rs)
+    OfEachBeforeInChain plan commands b (λ line a.
+    (h : IsChainedTo ends IsFittingState kept_of scope.reads commands (parts plan commands scope acts) (stretches ends u rs)
     (state_after plan commands scope acts).records a b line)
-    × (AreStill commands a b.place → IsUndisturbed h.executed.between → IsMeasuredWhereItPointed h)
+    × (AreStill commands a b.place → IsUndisturbed h.executed.between → IsMeasuredWhereItPointed h))
 
 -- each record is `IsPointedInChain`: for every plan, all commands, every run of the station in the field (`IsInField`) over the
 -- simulator, and all that the line and the simulator may do meanwhile

@@ -5,7 +5,7 @@ use Rattle.gc_client.specs.declared.window.TheConstants.{WINDOW}
 use Rattle.gc_station.specs.Parts as part
 use Rattle.gc_station.specs.Parts.{Part}
 use Rattle.gc_field.specs.World.{Ends}
-use Rattle.gc_field.specs.Begin.{InFlight, Model, Turn, Asks, Comes, Foreign, Reaches, Up_lose, Up_repeat, Down_lose, Down_repeat, Anew, Changes, UnderWay, begins, leaves, turned, turns}
+use Rattle.gc_field.specs.Begin.{InFlight, Model, Turn, Asks, Comes, Foreign, Reaches, Up_lose, Up_repeat, Down_lose, Down_repeat, Anew, Changes, UnderWay, begins, left_by_turns, turns}
 use Rattle.gc_field.specs.Beginnings.{Run, left_by_run}
 use Rattle.gc_field.specs.Field.{Move, seen}
 
@@ -44,7 +44,7 @@ module _ {State : Type 0} (ends : Ends State) where
   -- the runs are possible
   abbrev pub stretches : UnderWay State → List (Run State) → List (Stretch State)
   stretches u [] = []
-  stretches u (r ∷ rs) = record { from = leaves (turned ends r.turns (begins u)); moves = r.moves } ∷ stretches (left_by_run WINDOW ends u r) rs
+  stretches u (r ∷ rs) = record { from = left_by_turns ends r.turns u; moves = r.moves } ∷ stretches (left_by_run WINDOW ends u r) rs
 
   -- each run goes with one part of the station's run, in order: what its synchronization shows are the part's steps of a
   -- synchronization, and what its moves show the client are the part's steps of the client

@@ -22,7 +22,7 @@ use Rattle.gc_field.specs.Plain.{plain_task, plain_turn}
 use Rattle.gc_field.specs.Simulator.{ends}
 use Rattle.gc_field.specs.World.{Up_deliver}
 use Rattle.gc_field.specs.Begin as turn
-use Rattle.gc_field.specs.Begin.{Turn, Asks, Reaches, UnderWay, begins, leaves, turned}
+use Rattle.gc_field.specs.Begin.{Turn, Asks, Reaches, UnderWay, left_by_turns}
 use Rattle.gc_field.specs.Beginnings.{Run}
 use Rattle.gc_field.specs.Begun.{WasMadeOn}
 use Rattle.gc_field.specs.Field.{Move, Sends, Tells, Comes, OnLine}
@@ -140,4 +140,4 @@ pub record SomeRunIsInField : Type 0 where
         command = record { target = 7; call = Table InstrumentNo };
         end = end.Answered Fine (Some (Long (pos 123456))) answer;
       } ∷ []
-  pub made_on : WasMadeOn WINDOW ends (leaves (turned ends turns (begins at_start))) moves 8 (Table InstrumentNo) answer
+  pub made_on : WasMadeOn WINDOW ends (left_by_turns ends turns at_start) moves 8 (Table InstrumentNo) answer

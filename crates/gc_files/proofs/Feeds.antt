@@ -1,49 +1,18 @@
 -- A file that is copied block by block: `at` is how many of its bytes were copied so far, and each line feed among them is
 -- counted.
-use Rattle.std.proofs.Common.{◌≡◌, inl, inr, ℕ, zero, suc, ◌+◌, ◌≤◌, ◌<◌, ◌==◌, List, [], ◌∷◌, ◌++◌, length, take, drop, slice_index, refl, sym, ◌∙◌, ap, subst, arith, Option}
+use Rattle.std.proofs.Common.{◌≡◌, ℕ, ◌+◌, ◌≤◌, ◌==◌, List, [], ◌∷◌, ◌++◌, length, take, drop, refl, sym, ◌∙◌, ap, subst, arith, length-append, Option}
+use Rattle.std.specs.Prelude.{filter}
 use Rattle.std.proofs.Math.Seq.{take-add}
-use Rattle.std.proofs.lemmas.Bool.{cases_Bool}
 use Rattle.std.proofs.lemmas.List.{append-nil, take_all}
-use Rattle.gc_files.specs.Failing.{feed_of, feeds}
+use Rattle.std.proofs.lemmas.List.Elements.{filter-append}
+use Rattle.gc_files.specs.Failing.{feeds}
 use Rattle.gc_files.specs.Files.{Sync, Life, Adds}
 use Rattle.gc_files.specs.Rows.{PutsAll}
 use Rattle.gc_files.proofs.Adding.{puts_two}
 
--- the first n + 1 bytes have the line feeds of the first n, and one more if byte n is a line feed
-feeds_suc : (xs : List ℕ) (n : ℕ) → n < length xs → feeds (take (suc n) xs) ≡ feeds (take n xs) + feed_of (slice_index xs n)
-feeds_suc [] n less = absurd (omega (arith, less))
-feeds_suc (b ∷ xs) zero less = omega arith
-feeds_suc (b ∷ xs) (suc n) less = omega (arith, feeds_suc xs n (omega (arith, less)))
-
--- a byte counts as one line feed at most
-one_feed : (b : ℕ) → feed_of b ≤ 1
-one_feed b = elim (cases_Bool (b == 10)) [
-  | inl is ↦ rw (is) (omega arith)
-  | inr isnt ↦ rw (isnt) (omega arith)
-]
-
--- there are at least `at` bytes, and `count`, at most `at`, is the number of line feeds among the first `at`
-pub record Counted (xs : List ℕ) (count at : ℕ) : Type 0 where
-  pub within : at ≤ length xs
-  pub few : count ≤ at
-  pub is : count ≡ feeds (take at xs)
-
--- one more byte is counted: if `count` is the number of line feeds among the first `at` bytes, and `more` is 1 if the byte after
--- them is a line feed, and else 0, then `count + more` is the number among the first `at + 1` bytes (`Counted`)
-pub counted_next : (xs : List ℕ) (count at more : ℕ)
-    → at < length xs → count ≤ at → count ≡ feeds (take at xs) → more ≡ feed_of (slice_index xs at) → Counted xs (count + more) (at + 1)
-counted_next xs count at more less few is feed =
-    let next : at + 1 ≡ suc at = omega arith in
-    record {
-      within = omega (arith, less);
-      few = omega (arith, few, feed, one_feed (slice_index xs at));
-      is = omega (arith, is, feed, feeds_suc xs at less, ap (λ n. feeds (take n xs)) next);
-    }
-
 -- two texts together have the line feeds of both
 pub feeds_two : (xs ys : List ℕ) → feeds (xs ++ ys) ≡ feeds xs + feeds ys
-feeds_two [] ys = omega arith
-feeds_two (b ∷ xs) ys = omega (arith, feeds_two xs ys)
+feeds_two xs ys = ap length (filter-append (λ b. b == 10) xs ys) ∙ length-append (filter (λ b. b == 10) xs) (filter (λ b. b == 10) ys)
 
 -- where `xs` were appended from `old` to `mid`, and one sync was made from `mid` to `new`, `xs` were appended from `old` to `new`
 pub puts_synced : (old mid new : Option Life) (xs : List ℕ) → PutsAll old mid xs → Adds mid new (Sync ∷ []) → PutsAll old new xs

@@ -58,14 +58,14 @@ synced_run run = record run { steps = run.steps ++ Sync ∷ [] }
 
 -- a file after a run that ended by itself or by a kill has first rows of the run, at least those that count as kept (`RunHas`)
 killed_has : (head held : List ℕ) (run : Run) → IsHead head → IsKilled head held run → RunHas head held run (held_after held run.steps)
-killed_has head held run heads one = elim one.written [
-  | inl none ↦ run_moments head held run (held_after held run.steps) heads (record { rows = one.rows; steps = one.steps; few = one.few; kept = inl none }) (may_stay held run.steps)
+killed_has head held run heads one = elim one.is.kept [
+  | inl none ↦ run_moments head held run (held_after held run.steps) heads (record { rows = one.is.rows; steps = one.is.steps; few = one.is.few; kept = inl none }) (may_stay held run.steps)
   | inr whole ↦
       let bytes = whole.0 in
       let ran = whole.1 in
       let with : Run = synced_run run in
       let is : IsRun head held with = record {
-        rows = one.rows;
+        rows = one.is.rows;
         steps = inr (
           bytes,
           record {
@@ -78,7 +78,7 @@ killed_has head held run heads one = elim one.written [
           },
           whole.2,
         );
-        few = one.few;
+        few = one.is.few;
         kept = inr (subst (λ (all : List ℕ). IsFront (start_of head held ++ lines (take run.kept run.rows)) all) (sym (ran_synced held run.steps bytes ran)) whole.3);
       } in
       let same : held_after held with.steps ≡ held_after held run.steps = behind_two held run.steps (Sync ∷ []) in

@@ -1,18 +1,13 @@
 -- Files in which a sync failed: what the system may have lost of them, and what becomes of their rows. This project's own.
-use Rattle.std.specs.Prelude.{◌≡◌, ◌⊎◌, ℕ, Bool, true, false, List, [], ◌∷◌, ◌++◌, ◌+◌, ◌==◌, if◌then◌else◌, Option}
+use Rattle.std.specs.Prelude.{◌≡◌, ◌⊎◌, ℕ, Bool, true, false, not, List, [], ◌∷◌, ◌++◌, ◌==◌, length, filter, Option}
 use Rattle.gc_files.specs.Files.{Step, Life, IfKnown, content, later_by, MayLeave}
 pub use Rattle.gc_files.specs.Files.{settled}
 use Rattle.gc_files.specs.Rows.{has_feed, table}
 use Rattle.gc_files.specs.Runs.{Run, IsHead, IsRun, HasRows}
 
--- 1 for a line feed, and 0 for any other byte
-abbrev pub feed_of : ℕ → ℕ
-feed_of b = if b == 10 then 1 else 0
-
 -- how many line feeds are among these bytes
 abbrev pub feeds : List ℕ → ℕ
-feeds [] = 0
-feeds (b ∷ bs) = feed_of b + feeds bs
+feeds bytes = length (filter (λ b. b == 10) bytes)
 
 -- `count` is how many line feeds are among the bytes that the file holds, if its life is known
 abbrev pub IsFeedCount : Option Life → (count : ℕ) → Type 0
@@ -54,14 +49,18 @@ pub data Event : Type 0 where
   -- the machine crashed, which left this
   Crashed : (left : List ℕ) → Event
 
+-- both sides, after this event, of a file that had the sides `sides` before it
+abbrev pub sides_by : Event → Sides → Sides
+sides_by (Ran run) sides = done_by run.steps sides
+sides_by (Failed run read disk) sides = record { read = settled read; disk = settled disk }
+sides_by (Copied true) sides = same_sides (settled (content sides.read))
+sides_by (Copied false) sides = record { read = settled (content sides.read); disk = sides.disk }
+sides_by (Crashed left) sides = same_sides (settled left)
+
 -- both sides, after these events, of a file that had the sides `sides` before them
 abbrev pub sides_after : Sides → List Event → Sides
 sides_after sides [] = sides
-sides_after sides (Ran run ∷ events) = sides_after (done_by run.steps sides) events
-sides_after sides (Failed run read disk ∷ events) = sides_after (record { read = settled read; disk = settled disk }) events
-sides_after sides (Copied true ∷ events) = sides_after (same_sides (settled (content sides.read))) events
-sides_after sides (Copied false ∷ events) = sides_after (record { read = settled (content sides.read); disk = sides.disk }) events
-sides_after sides (Crashed left ∷ events) = sides_after (same_sides (settled left)) events
+sides_after sides (event ∷ events) = sides_after (sides_by event sides) events
 
 -- these events can happen to a file with these sides; `head` is what a new file gets first. `doubted` is whether the file is in
 -- doubt, so that its sides may differ. A run is one over what a read returns (`IsRun`), and goes on only where `goes` allows it
@@ -71,16 +70,14 @@ sides_after sides (Crashed left ∷ events) = sides_after (same_sides (settled l
 abbrev pub Occur : (goes : Bool → Type 0) (head : List ℕ) → Sides → (doubted : Bool) → List Event → Type 0
 Occur goes head sides doubted [] = Unit {0}
 Occur goes head sides doubted (Ran run ∷ events) =
-    goes doubted × IsRun head (content sides.read) run × Occur goes head (done_by run.steps sides) doubted events
+    goes doubted × IsRun head (content sides.read) run × Occur goes head (sides_by (Ran run) sides) doubted events
 Occur goes head sides doubted (Failed run read disk ∷ events) =
     goes doubted × IsRun head (content sides.read) run
     × Loses (later_by run.steps sides.read) read × Loses (later_by run.steps sides.disk) disk
-    × Occur goes head (record { read = settled read; disk = settled disk }) true events
-Occur goes head sides doubted (Copied true ∷ events) = Occur goes head (same_sides (settled (content sides.read))) false events
-Occur goes head sides doubted (Copied false ∷ events) =
-    Occur goes head (record { read = settled (content sides.read); disk = sides.disk }) true events
+    × Occur goes head (sides_by (Failed run read disk) sides) true events
+Occur goes head sides doubted (Copied named ∷ events) = Occur goes head (sides_by (Copied named) sides) (not named) events
 Occur goes head sides doubted (Crashed left ∷ events) =
-    MayLeave sides.disk.start sides.disk.steps left × Occur goes head (same_sides (settled left)) false events
+    MayLeave sides.disk.start sides.disk.steps left × Occur goes head (sides_by (Crashed left) sides) false events
 
 -- the runs among these events, in order
 abbrev pub runs_of : List Event → List Run

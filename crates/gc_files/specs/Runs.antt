@@ -36,14 +36,18 @@ IsHead head = (head ≡ []) ⊎ ((row : List ℕ) × (has_feed row ≡ false) ×
 abbrev pub WereKept : (head held : List ℕ) (rows : List (List ℕ)) (kept : ℕ) → List Step → Type 0
 WereKept head held rows kept steps = (kept ≡ 0) ⊎ IsFront (start_of head held ++ lines (take kept rows)) (synced steps)
 
--- what a run can be over a file that held `held`: it mended the file, and then wrote the head where no whole row was there, and
--- its rows, none of which has a line feed in it, as far as it came; and as many of its first rows as it counts as kept were
--- kept
-pub record IsRun (head held : List ℕ) (run : Run) : Type 0 where
+-- a run over a file that held `held`: it mended the file, and then wrote the head where no whole row was there, and its rows,
+-- none of which has a line feed in it, as far as it came; and `Counts` says what its steps did with those of its first rows that
+-- it counts as kept
+pub record IsRunBy (Counts : (head held : List ℕ) (rows : List (List ℕ)) (kept : ℕ) → List Step → Type 0) (head held : List ℕ) (run : Run) : Type 0 where
   pub rows : AreRows run.rows
   pub steps : ComesTo held (start_of head held ++ lines run.rows) run.steps
   pub few : run.kept ≤ length run.rows
-  pub kept : WereKept head held run.rows run.kept run.steps
+  pub kept : Counts head held run.rows run.kept run.steps
+
+-- what a run can be over a file that held `held`; as many of its first rows as it counts as kept were kept
+abbrev pub IsRun : (head held : List ℕ) → Run → Type 0
+IsRun head held run = IsRunBy WereKept head held run
 
 -- the file's life once the run has ended: the life before with the run's steps; or, where a crash of the machine ended the run, a
 -- new life that starts with what the crash left
@@ -102,10 +106,7 @@ WereWritten head held rows count steps =
 
 -- a run that ended by itself or by a kill, with the machine going on; only rows that went out whole count as kept
 pub record IsKilled (head held : List ℕ) (run : Run) : Type 0 where
-  pub rows : AreRows run.rows
-  pub steps : ComesTo held (start_of head held ++ lines run.rows) run.steps
-  pub few : run.kept ≤ length run.rows
-  pub written : WereWritten head held run.rows run.kept run.steps
+  pub is : IsRunBy WereWritten head held run
   pub killed : run.left ≡ None
 
 -- these runs happened to the file, one after the other, each ended by itself or by a kill

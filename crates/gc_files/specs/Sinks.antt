@@ -2,6 +2,7 @@
 use Rattle.std.specs.Prelude.{◌≡◌, ◌⊎◌, ℕ, List, [], ◌∷◌, Bool, true, not, if◌then◌else◌, Option, Some, None}
 use Rattle.gc_files.specs.declared.appending.Appending.{Ghosts}
 use Rattle.gc_files.specs.declared.rows_file.RowsFile.{RowsFile}
+use Rattle.gc_files.specs.declared.rows_file.RowsOptions.{RowsOptions}
 use Rattle.gc_files.specs.declared.system.SystemFile.{SystemFile}
 use Rattle.gc_files.specs.Files.{Step, Life, Sync, content, Adds}
 use Rattle.gc_files.specs.Rows.{appended}
@@ -33,15 +34,7 @@ has_failed sink = sink.broken
 
 -- whether the sink was opened with `sync`; without it no sync of the sink syncs the file
 abbrev pub asks_sync : {F : Type 0} {D : Ghosts F} → RowsFile F D → Bool
-asks_sync sink = sink.sync
-
--- the head that the sink was opened with: what a new file gets first
-abbrev pub head_in : {F : Type 0} {D : Ghosts F} → RowsFile F D → List ℕ
-head_in sink = sink.head.now
-
--- the sign that the sink was opened with: what each file of its rows begins with
-abbrev pub sign_in : {F : Type 0} {D : Ghosts F} → RowsFile F D → List ℕ
-sign_in sink = sink.sign.now
+asks_sync sink = sink.options.sync
 
 -- how many bytes of a torn row the opening of this sink cut off
 abbrev pub torn_in : {F : Type 0} {D : Ghosts F} → RowsFile F D → ℕ
@@ -49,13 +42,17 @@ torn_in sink = sink.torn
 
 -- the sink was opened as it was asked to: with this head and this sign, and to sync or not
 pub record IsOpenedAs {F : Type 0} {D : Ghosts F} (head sign : List ℕ) (sync : Bool) (sink : RowsFile F D) : Type 0 where
-  pub has_head : head_in sink ≡ head
-  pub has_sign : sign_in sink ≡ sign
+  pub has_head : sink.options.head.now ≡ head
+  pub has_sign : sink.options.sign.now ≡ sign
   pub asks : asks_sync sink ≡ sync
+
+-- the sink was opened with these options
+abbrev pub HasOptions : {F : Type 0} {D : Ghosts F} → RowsOptions → RowsFile F D → Type 0
+HasOptions options sink = IsOpenedAs options.head.now options.sign.now options.sync sink
 
 -- whether all that the sink's file holds is known to be on the disk, or needn't be there
 abbrev pub is_durable : {F : Type 0} {D : Ghosts F} → RowsFile F D → Bool
-is_durable sink = if sink.sync then not sink.unkept else true
+is_durable sink = if asks_sync sink then not sink.unkept else true
 
 -- whether a file of the system is in doubt
 abbrev pub is_in_doubt : SystemFile → Bool

@@ -1,7 +1,8 @@
 //! A file that is only appended to and cut at its end: what its calls do to it, and what a crash may leave of it.
 
-ghost use Rattle.std.specs.Prelude.{◌≡◌, ◌<◌, ◌≤◌, Bool, true, false, Option, Some, length, take, IfOk, OnOk, OnErr};
-ghost use Rattle.gc_files.specs.Files.{Life, Append, Cut, Sync, content, IsKept, Makes, ReadsAt};
+ghost use Rattle.std.specs.Prelude.{◌≡◌, ◌<◌, ◌≤◌, Bool, true, false, Option, length, take, IfOk, OnOk, OnErr};
+ghost use Rattle.gc_files.specs.Files.{Life, Append, Cut, Sync, content, IfKnown, IsKeptFile, Makes, ReadsAt};
+ghost use Rattle.gc_files.specs.Rows.{IsLengthOf};
 
 use gc_lines::PortFailed;
 
@@ -25,18 +26,18 @@ pub trait Appending {
 
     /// How many bytes the file holds.
     fn len(&self) -> Result<u64, PortFailed>
-        ensures { IfOk result (λ n. (known : Life) → life self.now ≡ Some known → n ≡ length (content known)) };
+        ensures { IfOk result (λ n. IsLengthOf (life self.now) n) };
 
     /// Reads some of the bytes after the first `at` into the front of `buf`, which is not empty, and returns how many: 0
     /// only where there are none.
     fn read_at(&self, at: u64, buf: &mut [u8]) -> Result<usize, PortFailed>
         requires { 0 < length buf.old }
         ensures room { IfOk result (λ n. n ≤ length buf.new) }
-        ensures bytes { IfOk result (λ n. (known : Life) → life self.now ≡ Some known → ReadsAt known at n buf.new) };
+        ensures bytes { IfOk result (λ n. IfKnown (life self.now) (λ known. ReadsAt known at n buf.new)) };
 
     /// Cuts the file to its first `len` bytes; it holds at least that many.
     fn cut(&mut self, len: u64) -> Result<(), PortFailed>
-        requires { (known : Life) → life self.old ≡ Some known → len ≤ length (content known) }
+        requires { IfKnown (life self.old) (λ known. len ≤ length (content known)) }
         ensures { Makes (life self.old) (life self.new) result (λ _. Cut len) };
 
     /// Appends bytes from the front of `bytes`, which is not empty, and returns how many: at least one.
@@ -48,7 +49,7 @@ pub trait Appending {
     /// Syncs all that the file holds. After `Ok` a crash leaves all of it, unless the file was in doubt. After `Err` the file
     /// is in doubt.
     fn sync(&mut self) -> Result<(), PortFailed>
-        ensures durable { OnOk result (doubted self.old ≡ false → (known : Life) → life self.new ≡ Some known → IsKept known) }
+        ensures durable { OnOk result (doubted self.old ≡ false → IsKeptFile (life self.new)) }
         ensures doubt { OnErr result (doubted self.new ≡ true) }
         ensures step { Makes (life self.old) (life self.new) result (λ _. Sync) };
 }

@@ -3,12 +3,12 @@
 //! file, because after a failed sync no later sync of it counts.
 
 ghost use Rattle.std.specs.Prelude.{◌≡◌, [], false, IfOk};
-ghost use Rattle.gc_files.specs.Sinks.{has_failed, is_in_doubt, steps_in, IsOpenedAs};
+ghost use Rattle.gc_files.specs.Sinks.{has_failed, is_in_doubt, steps_in, HasOptions};
 
 use crate::appending::Appending;
 use crate::copying::copy_lines;
 use crate::opening::{extent_of, open_rows};
-use crate::rows_file::RowsFile;
+use crate::rows_file::{RowsFile, RowsOptions};
 use crate::system::{SystemFile, Unfit, open_file};
 use std::alloc::Global;
 use std::fs::{self, File, OpenFile, OpenOptions};
@@ -188,11 +188,9 @@ pub fn open_at<R: Files<File = File>>(
     rt: &R,
     alloc: Global,
     path: &str,
-    head: &'static [u8],
-    sign: &'static [u8],
-    sync: bool,
+    options: RowsOptions,
 ) -> Result<(RowsFile<SystemFile>, u64), Unfit>
-    ensures asked { IfOk result (λ opened. IsOpenedAs head.now sign.now sync opened.0) }
+    ensures asked { IfOk result (λ opened. HasOptions options opened.0) }
     ensures sound { IfOk result (λ opened. has_failed opened.0 ≡ false) }
     ensures fresh { IfOk result (λ opened. steps_in opened.0 ≡ []) }
 {
@@ -202,25 +200,25 @@ pub fn open_at<R: Files<File = File>>(
     if !file.is_at(rt, path) {
         return Err(Unfit::Held);
     }
-    let extent = extent_of(&file, sign)?;
+    let extent = extent_of(&file, options.sign)?;
     let beside = Beside::of(rt, alloc, path)?;
     let file = beside.doubt_if_marked(rt, file)?;
     // Where the last row is torn, the opening cuts it off and syncs that: so this counts as a sync to come.
     let is_torn = extent.end < extent.len;
-    let needs_mark = sync || is_torn || file.is_doubted();
+    let needs_mark = options.sync || is_torn || file.is_doubted();
     let (file, lines) = beside.replace_if_doubted(rt, file)?;
     if needs_mark {
         sync_link(rt, path)?;
         beside.make_mark(rt)?;
     }
-    let rows = match open_rows(file, head, sign, sync) {
+    let rows = match open_rows(file, options) {
         Ok(rows) => rows,
         Err((why, _)) => return Err(why.into()),
     };
-    if needs_mark && !sync {
+    if needs_mark && !options.sync {
         beside.remove_mark(rt);
     }
-    Ok((rows, row_count(lines, head)))
+    Ok((rows, row_count(lines, options.head)))
 }
 
 /// Ends the appending to a file that [`open_at`] opened at this path. A file opened without `sync` is only closed. One opened
@@ -234,7 +232,7 @@ pub fn end_at<R: Files<File = File>>(
     path: &str,
     rows: RowsFile<SystemFile>,
 ) {
-    if !rows.asks_sync() {
+    if !rows.options().sync {
         return;
     }
     let (file, is_kept) = rows.finish();

@@ -1,7 +1,7 @@
 //! A synced copy of a file of rows: after a sync of the file failed, further rows go into the copy.
 
 ghost use Rattle.std.specs.Prelude.{◌≡◌, ◌≤◌, length, IfOk, OnOk};
-ghost use Rattle.gc_files.specs.Failing.{IsFeedCount, feed_of, feeds};
+ghost use Rattle.gc_files.specs.Failing.{IsFeedCount, feeds};
 ghost use Rattle.gc_files.specs.Files.{IsKeptFile};
 ghost use Rattle.gc_files.specs.Rows.{CopiesAll};
 
@@ -9,28 +9,12 @@ use crate::appending::Appending;
 use crate::opening::{BLOCK, append_all, read_all};
 use gc_lines::PortFailed;
 
-// 1 for a line feed, and 0 for any other byte.
-fn feed_of(byte: u8) -> u64
-    ensures { result ≡ feed_of byte }
-{
-    match byte {
-        b'\n' => 1,
-        _ => 0,
-    }
-}
-
 // How many line feeds are among these bytes.
 fn feeds_in(block: &[u8]) -> u64
     ensures is { result ≡ feeds block.now }
     ensures within { result ≤ length block.now }
 {
-    let mut count = 0u64;
-    let mut at = 0usize;
-    while at < block.len() {
-        count += feed_of(block[at]);
-        at += 1;
-    }
-    count
+    block.iter().filter(|byte| **byte == b'\n').count() as u64
 }
 
 /// Appends all that `old` holds to `fresh`, syncs `fresh`, and returns how many lines were copied, each ended by a line feed.

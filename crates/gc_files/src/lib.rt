@@ -49,5 +49,5 @@ pub use copying::copy_lines;
 pub use memory_file::{Call, MemoryFile};
 pub use opening::{Refused, open_rows};
 pub use past::{Done, Past};
-pub use rows_file::RowsFile;
+pub use rows_file::{RowsFile, RowsOptions};
 pub use system::{SystemFile, Unfit, open_file};

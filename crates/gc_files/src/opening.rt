@@ -1,15 +1,15 @@
 //! A file of rows is looked at before it is touched: only what begins as such a file is taken, and what a crash left of its
 //! last row is cut off.
 
-ghost use Rattle.std.specs.Prelude.{◌≡◌, ◌<◌, ◌≤◌, ◌+◌, ◌-◌, ◌^◌, ◌++◌, [], List, ℕ, length, take, drop, true, false, Some, IfOk, IfErr, OnOk, OnErr, IsErrOf};
+ghost use Rattle.std.specs.Prelude.{◌≡◌, ◌<◌, ◌≤◌, ◌+◌, ◌-◌, ◌^◌, ◌++◌, [], List, ℕ, length, take, drop, true, false, IfOk, IfErr, OnOk, OnErr, IsErrOf};
 ghost use Rattle.gc_files.specs.declared.opening.Refused.TheVariants.{Foreign};
-ghost use Rattle.gc_files.specs.Sinks.{life_in, has_failed, torn_in, steps_in, IsOpenedAs};
-ghost use Rattle.gc_files.specs.Files.{Life, content};
+ghost use Rattle.gc_files.specs.Sinks.{life_in, has_failed, torn_in, steps_in, HasOptions};
+ghost use Rattle.gc_files.specs.Files.{IfKnown, content};
 ghost use Rattle.gc_files.specs.Extents.{IsExtentOf};
-ghost use Rattle.gc_files.specs.Rows.{Fits, IsEndOfRows, IsLengthOf, IsMended, IsMendedInPart, IsTorn, LeavesForeign, whole, fits, Opens, OpensInPart, PutsAll, IsFront};
+ghost use Rattle.gc_files.specs.Rows.{Fits, IsEndOfRows, IsLengthOf, IsMended, IsMendedInPart, IsTorn, LeavesForeign, whole, Opens, OpensInPart, PutsAll, IsFront};
 
 use crate::appending::Appending;
-use crate::rows_file::RowsFile;
+use crate::rows_file::{RowsFile, RowsOptions};
 use gc_lines::PortFailed;
 use memchr::memrchr;
 
@@ -47,8 +47,8 @@ fn behind(bytes: &[u8], at: usize) -> &[u8]
 // Fills the buffer with the file's bytes after the first `at`. It fails where a read failed or gave nothing.
 pub(crate) fn read_all<F: Appending>(file: &F, at: u64, buf: &mut [u8]) -> Result<(), PortFailed>
     requires room { at + length buf.old < 2 ^ 64 }
-    requires known { (known : Life) → F.life file.now ≡ Some known → at + length buf.old ≤ length (content known) }
-    ensures { OnOk result ((known : Life) → F.life file.now ≡ Some known → buf.new ≡ take (length buf.new) (drop at (content known))) }
+    requires known { IfKnown (F.life file.now) (λ known. at + length buf.old ≤ length (content known)) }
+    ensures { OnOk result (IfKnown (F.life file.now) (λ known. buf.new ≡ take (length buf.new) (drop at (content known)))) }
 {
     let mut done = 0;
     while done < buf.len() {
@@ -68,7 +68,7 @@ pub(crate) fn read_all<F: Appending>(file: &F, at: u64, buf: &mut [u8]) -> Resul
 // Whether a file of `len` bytes begins with the sign, or is a front of it. It fails where a read failed or gave nothing.
 fn has_sign<F: Appending>(file: &F, len: u64, sign: &[u8]) -> Result<bool, PortFailed>
     requires { IsLengthOf (F.life file.now) len }
-    ensures { IfOk result (λ b. (known : Life) → F.life file.now ≡ Some known → b ≡ fits sign.now (content known)) }
+    ensures { IfOk result (λ is. Fits sign.now (F.life file.now) is) }
 {
     let mut buf = [0u8; BLOCK];
     let mut at = 0usize;
@@ -198,69 +198,44 @@ pub(crate) fn extent_of<F: Appending>(file: &F, sign: &[u8]) -> Result<Extent, R
     }
 }
 
-// Checks that a file begins with the sign or is a front of it, and makes a table of it (`make_table`). It returns how many bytes
-// were cut off. `Foreign`: the file neither begins with the sign nor is a front of it, and was not touched. `Failed`: a call of
-// the file failed, or a read gave nothing, and a part of the table may be made.
-fn check_and_make_table<F: Appending>(
-    file: &mut F,
-    head: &[u8],
-    sign: &[u8],
-) -> Result<u64, Refused>
-    ensures opened { OnOk result (Opens head.now (F.life file.old) (F.life file.new)) }
-    ensures torn { IfOk result (λ torn. IsTorn (F.life file.old) torn) }
-    ensures taken { OnOk result (Fits sign.now (F.life file.old) true) }
-    ensures foreign { IsErrOf result Refused.Foreign → F.life file.new ≡ F.life file.old }
-    ensures why { IsErrOf result Refused.Foreign → Fits sign.now (F.life file.old) false }
-    ensures failed { OnErr result (OpensInPart head.now (F.life file.old) (F.life file.new)) }
-    ensures untouched { OnErr result (LeavesForeign sign.now (F.life file.old) (F.life file.new)) }
-{
-    match extent_of(file, sign) {
-        Ok(extent) => match make_table(file, extent, head) {
-            Ok(()) => Ok(extent.len - extent.end),
-            Err(_) => Err(Refused::Failed),
-        },
-        Err(why) => Err(why),
-    }
-}
-
-/// Opens a file of rows: one that begins with `sign`, or that is a front of it, as an empty one is. It cuts off what follows
-/// the last whole row, and writes `head` into a file that is empty then. With an error it returns the file, too.
-///
-/// For a table, `head` and `sign` are its header. For rows without a header, `head` is empty, and `sign` is what each row
-/// begins with. With `sync` what was appended is on the disk after each sync of the sink that succeeds.
+/// Opens a file of rows: one that begins with the sign that `options` name, or that is a front of it, as an empty one is. It
+/// cuts off what follows the last whole row, and writes the head into a file that is empty then. With an error it returns the
+/// file, too.
 ///
 /// A file that is in doubt is refused with `Failed`, and not touched. [`copy_lines`](crate::copy_lines) makes a copy of it
 /// that isn't in doubt.
 pub fn open_rows<F: Appending>(
     mut file: F,
-    head: &'static [u8],
-    sign: &'static [u8],
-    sync: bool,
+    options: RowsOptions,
 ) -> Result<RowsFile<F>, (Refused, F)>
     // A file that is opened began with the sign or was a front of it; what followed its last whole row was cut off, and the
     // head was written where there was no whole row.
-    ensures opened { IfOk result (λ rows. Opens head.now (F.life file) (life_in rows)) }
-    ensures taken { OnOk result (Fits sign.now (F.life file) true) }
+    ensures opened { IfOk result (λ rows. Opens options.head.now (F.life file) (life_in rows)) }
+    ensures taken { OnOk result (Fits options.sign.now (F.life file) true) }
     ensures torn { IfOk result (λ rows. IsTorn (F.life file) (torn_in rows)) }
     ensures sound { IfOk result (λ rows. has_failed rows ≡ false) }
-    ensures asked { IfOk result (λ rows. IsOpenedAs head.now sign.now sync rows) }
+    ensures asked { IfOk result (λ rows. HasOptions options rows) }
     ensures trusted { OnOk result (F.doubted file ≡ false) }
     ensures fresh { IfOk result (λ rows. steps_in rows ≡ []) }
 
     // `Foreign`: the file neither begins with the sign nor is a front of it, and was not touched.
     ensures foreign { IfErr result (λ why. why.0 ≡ Foreign → F.life why.1 ≡ F.life file) }
-    ensures why { IfErr result (λ why. why.0 ≡ Foreign → Fits sign.now (F.life file) false) }
+    ensures why { IfErr result (λ why. why.0 ≡ Foreign → Fits options.sign.now (F.life file) false) }
 
     // With an error the file may be mended in part. One that neither begins with the sign nor is a front of it was not
     // touched, whatever the error.
-    ensures failed { IfErr result (λ why. OpensInPart head.now (F.life file) (F.life why.1)) }
-    ensures untouched { IfErr result (λ why. LeavesForeign sign.now (F.life file) (F.life why.1)) }
+    ensures failed { IfErr result (λ why. OpensInPart options.head.now (F.life file) (F.life why.1)) }
+    ensures untouched { IfErr result (λ why. LeavesForeign options.sign.now (F.life file) (F.life why.1)) }
 {
     if file.is_doubted() {
         return Err((Refused::Failed, file));
     }
-    match check_and_make_table(&mut file, head, sign) {
-        Ok(torn) => Ok(RowsFile::new(file, head, sign, sync, torn)),
-        Err(why) => Err((why, file)),
+    let extent = match extent_of(&file, options.sign) {
+        Ok(extent) => extent,
+        Err(why) => return Err((why, file)),
+    };
+    match make_table(&mut file, extent, options.head) {
+        Ok(()) => Ok(RowsFile::new(file, options, extent.len - extent.end)),
+        Err(_) => Err((Refused::Failed, file)),
     }
 }

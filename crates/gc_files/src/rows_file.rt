@@ -1,7 +1,7 @@
 //! A sink whose bytes stay in a file: a row is appended as it ends, and synced where that is asked for.
 
 ghost use Rattle.std.specs.Prelude.{◌≡◌, ◌<◌, ◌⊎◌, ◌++◌, ◌∷◌, [], true, false, length, Some, OnOk, IsTrue};
-ghost use Rattle.gc_files.specs.Files.{Life, IsKept, IsKeptFile, Makes};
+ghost use Rattle.gc_files.specs.Files.{IsKeptFile, Makes};
 ghost use Rattle.gc_files.specs.Noted.{MayNoteSync, Notes, append_front};
 ghost use Rattle.gc_files.specs.Rows.{cuts_none, appended, Puts};
 ghost use Rattle.gc_files.specs.Runs.{synced};
@@ -12,17 +12,24 @@ use crate::appending::Appending;
 use crate::past::{Done, Past};
 use gc_lines::{Durable, PortFailed, Sink};
 
+/// How a file of rows is opened.
+#[derive(Clone, Copy)]
+pub struct RowsOptions {
+    /// What a new file gets first: the header of a table, or nothing for rows without a header.
+    pub head: &'static [u8],
+    /// What each such file begins with: the header of a table, or for rows without a header what each of them begins with.
+    pub sign: &'static [u8],
+    /// Whether a sync of the sink syncs the file, so that what was appended before is on the disk once the sync succeeded.
+    pub sync: bool,
+}
+
 /// A file that rows are appended to, as a sink. What was appended since its opening counts as taken, also over a file of the
 /// system. After a failure it stays failed, so that no row follows half of another.
 #[derive(Drop)]
 pub struct RowsFile<F: Appending> {
     file: F,
-    // What a new file of its rows gets first.
-    head: &'static [u8],
-    // What each file of its rows begins with.
-    sign: &'static [u8],
-    // Whether the file was opened with `sync`. Without it no sync of the sink syncs the file.
-    sync: bool,
+    // How the file was opened.
+    options: RowsOptions,
     // How many bytes of a torn last row the opening cut off.
     torn: u64,
     // Whether something that the file holds may not be on the disk.
@@ -36,32 +43,24 @@ pub struct RowsFile<F: Appending> {
     // Where `unkept` is false, all that was appended since the opening was appended before a sync.
     ghost kept: { unkept ≡ false → synced past.steps ≡ appended past.steps },
     // Where `unkept` is false, all that the file holds is on the disk.
-    ghost durable: { unkept ≡ false → (known : Life) → F.life file ≡ Some known → IsKept known },
+    ghost durable: { unkept ≡ false → IsKeptFile (F.life file) },
 }
 
 impl<F: Appending> RowsFile<F> {
-    ghost use Rattle.gc_files.specs.Sinks.{life_in, has_failed, torn_in, asks_sync, is_durable, head_in, sign_in, steps_in, taken_in, IsOpenedAs};
+    ghost use Rattle.gc_files.specs.Sinks.{life_in, has_failed, torn_in, asks_sync, is_durable, steps_in, taken_in, HasOptions};
 
     // A sink over a file that ends in a whole row, or has none, after its opening cut off `torn` bytes. What the file holds may
     // not be on the disk yet.
-    pub(crate) fn new(
-        file: F,
-        head: &'static [u8],
-        sign: &'static [u8],
-        sync: bool,
-        torn: u64,
-    ) -> RowsFile<F>
+    pub(crate) fn new(file: F, options: RowsOptions, torn: u64) -> RowsFile<F>
         ensures life { life_in result ≡ F.life file }
         ensures failed { has_failed result ≡ false }
         ensures torn { torn_in result ≡ torn }
-        ensures asked { IsOpenedAs head.now sign.now sync result }
+        ensures asked { HasOptions options result }
         ensures fresh { steps_in result ≡ [] }
     {
         RowsFile {
             file,
-            head,
-            sign,
-            sync,
+            options,
             torn,
             unkept: true,
             broken: false,
@@ -69,25 +68,11 @@ impl<F: Appending> RowsFile<F> {
         }
     }
 
-    /// What a new file of its rows gets first: the names of the columns, or nothing.
-    pub fn head(&self) -> &'static [u8]
-        ensures { result.now ≡ head_in self.now }
+    /// How the file was opened.
+    pub fn options(&self) -> RowsOptions
+        ensures { HasOptions result self.now }
     {
-        self.head
-    }
-
-    /// What each file of its rows begins with.
-    pub fn sign(&self) -> &'static [u8]
-        ensures { result.now ≡ sign_in self.now }
-    {
-        self.sign
-    }
-
-    /// Whether the file was opened with `sync`. Without it no sync of the sink syncs the file.
-    pub fn asks_sync(&self) -> bool
-        ensures { result ≡ asks_sync self.now }
-    {
-        self.sync
+        self.options
     }
 
     /// How many bytes of a torn last row the opening of the file cut off.
@@ -104,9 +89,7 @@ impl<F: Appending> RowsFile<F> {
     {
         let RowsFile {
             mut file,
-            head: _,
-            sign: _,
-            sync: _,
+            options: _,
             torn: _,
             unkept,
             broken: _,
@@ -204,7 +187,7 @@ impl<F: Appending> Durable for RowsFile<F> {
         if self.broken {
             return Err(PortFailed);
         }
-        if !self.sync || !self.unkept {
+        if !self.options.sync || !self.unkept {
             return Ok(());
         }
         // No sync of a file in doubt says that its bytes are on the disk.

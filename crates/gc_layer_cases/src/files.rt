@@ -2,7 +2,7 @@
 //! written.
 
 use gc_cases::{Rows, Told, bytes_of, cut_word};
-use gc_files::{MemoryFile, Refused, RowsFile, copy_lines, open_rows};
+use gc_files::{MemoryFile, Refused, RowsFile, RowsOptions, copy_lines, open_rows};
 use gc_lines::{Durable, PortFailed, Sink};
 use std::alloc::{AllocError, Global};
 
@@ -45,7 +45,12 @@ impl Files {
 
     // Opens this file, and reports what opening it gave. If the opening is refused, the file that was open before stays.
     fn open_file(&mut self, file: MemoryFile, is_synced: bool, came: &mut Told) {
-        match open_rows(file, HEAD, HEAD, is_synced) {
+        let options = RowsOptions {
+            head: HEAD,
+            sign: HEAD,
+            sync: is_synced,
+        };
+        match open_rows(file, options) {
             Ok(rows) => {
                 tell_opened(&rows, came);
                 self.rows = Some(rows);

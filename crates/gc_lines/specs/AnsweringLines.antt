@@ -5,7 +5,7 @@ use Rattle.gc_lines.specs.Answering.{AnswerRule}
 use Rattle.gc_lines.specs.Lines.{with_end}
 use Rattle.gc_lines.specs.Requests.{RequestFields, IsRequest, IsNoRequest}
 use Rattle.gc_lines.specs.declared.frame.Frame.{Frame}
-use Rattle.gc_lines.specs.declared.frame.Frame.TheVariants.{Line, Cleared, Overlong, More}
+use Rattle.gc_lines.specs.declared.frame.Frame.TheVariants.{Line}
 
 -- what an answerer does with a line, and its reply, if there is one. `does` says what it does with a request, and what it replies
 pub data RepliesTo {State : Type 0} (does : State → RequestFields → State → List ℕ → Type 0) (before : State) (line : List ℕ) (after : State)
@@ -31,6 +31,4 @@ abbrev pub AnswersLines : {State : Type 0} → (replies : ReplyRule State) → (
     → (text : Option (List ℕ)) → Type 0
 AnswersLines replies before (Line line) after text =
     (reply : Option (List ℕ)) × replies before line.items after reply × (text ≡ option_map with_end reply)
-AnswersLines replies before Cleared after text = (after ≡ before) × (text ≡ None)
-AnswersLines replies before Overlong after text = (after ≡ before) × (text ≡ None)
-AnswersLines replies before More after text = (after ≡ before) × (text ≡ None)
+AnswersLines replies before _ after text = (after ≡ before) × (text ≡ None)

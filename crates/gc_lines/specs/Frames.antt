@@ -4,7 +4,7 @@ use Rattle.std.specs.Prelude.{◌≡◌, ◌≢◌, ℕ, ◌-◌, ◌==◌, ◌&
 pub use Rattle.std.specs.Char.{is_newline as is_line_feed}
 use Rattle.std.specs.List.{flat_map, filter_map, AllByRecursion}
 use Rattle.gc_lines.specs.declared.frame.Frame.{Frame}
-use Rattle.gc_lines.specs.declared.frame.Frame.TheVariants.{Line, Cleared, Overlong, More}
+use Rattle.gc_lines.specs.declared.frame.Frame.TheVariants.{Line, Cleared, Overlong}
 
 -- whether the last byte is a carriage return
 abbrev pub ends_in_return : List ℕ → Bool
@@ -45,9 +45,7 @@ frames stream = map frame_of (pieces stream)
 -- the bytes of a frame's line, where the frame is a line
 abbrev pub line_in : Frame → Option (List ℕ)
 line_in (Line line) = Some line.items
-line_in Cleared = None
-line_in Overlong = None
-line_in More = None
+line_in _ = None
 
 -- the lines of a stream, without the frames that are cleared or overlong
 abbrev pub lines : List ℕ → List (List ℕ)

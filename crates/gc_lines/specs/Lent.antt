@@ -15,6 +15,4 @@ lent_seen More = frame.More
 -- where a lent frame is a line, it has at most 512 bytes
 abbrev pub IsLineWithin : Lent → Type 0
 IsLineWithin (Line line) = length line.now ≤ 512
-IsLineWithin Cleared = Unit {0}
-IsLineWithin Overlong = Unit {0}
-IsLineWithin More = Unit {0}
+IsLineWithin _ = Unit {0}

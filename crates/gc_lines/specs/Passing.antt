@@ -1,6 +1,6 @@
 -- No part of a promise: what the functions inside the answering loop say of a piece of the stream. Their parameters `from` and
 -- `to` are the progress before and after the call, `old` and `new` the sessions, and `sink_old` and `sink_new` the sinks.
-use Rattle.std.specs.Prelude.{◌≡◌, ℕ, ◌+◌, ◌-◌, ◌<◌, ◌≤◌, Bool, false, List, [], ◌∷◌, ◌++◌, length, map, nat_lt, if◌then◌else◌, Option}
+use Rattle.std.specs.Prelude.{◌≡◌, ℕ, ◌+◌, ◌-◌, ◌<◌, ◌≤◌, Bool, false, List, [], ◌∷◌, ◌++◌, length, map, nat_lt, if◌then◌else◌, Option, Result, Ok, Err}
 use Rattle.std.specs.List.{filter_map}
 use Rattle.std.specs.Io.KnownBytes.{Appends}
 use Rattle.gc_lines.specs.Answering.{AnswerRule, AnswersInOrder, AnswersAll, AnswersPart, Progress, all_of, progress}
@@ -8,7 +8,7 @@ use Rattle.gc_lines.specs.Assembler.{StandsFor}
 use Rattle.gc_lines.specs.Frames.{frame_of, line_in, pieces_behind, rest_behind}
 use Rattle.gc_lines.specs.Ports.{TakesFront}
 use Rattle.gc_lines.specs.declared.frame.Frame.{Frame}
-use Rattle.gc_lines.specs.declared.frame.Frame.TheVariants.{Line, Cleared, Overlong, More}
+use Rattle.gc_lines.specs.declared.frame.Frame.TheVariants.{More}
 use Rattle.gc_lines.specs.declared.ports.Sink.{Ghosts as Sink}
 use Rattle.gc_lines.specs.declared.session.Session.{Session}
 
@@ -23,9 +23,7 @@ lines_completed rest piece = filter_map line_in (frames_behind rest piece)
 -- the frame, in a list of its own, where a line feed has ended it; the empty list where none came yet
 abbrev pub completed : Frame → List Frame
 completed More = []
-completed (Line line) = Line line ∷ []
-completed Cleared = Cleared ∷ []
-completed Overlong = Overlong ∷ []
+completed frame = frame ∷ []
 
 -- the progress of an answerer in this state, of this sink, and of a session
 abbrev pub session_progress : {State K : Type 0} → Sink K → State → K → Session → Progress State
@@ -53,38 +51,30 @@ pub record GathersPart {State : Type 0} (rule : AnswerRule State Frame) (from to
   pub part : AnswersPart rule from (progress reached to.taken to.whole) seen bytes
   pub alone : gathers ≡ false → reached ≡ to.state
 
--- one more frame was answered, or none where `frame` is `More`: if, from some `start`, `Gathering` was true of the frames `seen`
--- before the call, then after the call `Gathering` is true, from that `start`, of `seen` and then `frame`, or of `seen` alone
--- where `frame` is `More`
-abbrev pub GathersFrame : {State : Type 0} → AnswerRule State Frame → (from to : Progress State) → (old new : Session) → Frame → Type 0
-GathersFrame {State} rule from to old new frame =
+-- what became of one more frame, by the result of the call; where `frame` is `More`, there is none. If, from some `start`,
+-- `Gathering` was true of the frames `seen` before the call, then with the frame after them, after the call, from that `start`:
+-- `Gathering` is true (`Ok`), or `GathersPart` is, of some text of which the sink took only the first `bytes` bytes (`Err`)
+abbrev pub GathersFrame : {State : Type 0} → AnswerRule State Frame → (from to : Progress State) → (old new : Session) → Frame
+    → Result (Unit {0}) ℕ → Type 0
+GathersFrame {State} rule from to old new frame (Ok _) =
     (start : Progress State) (seen : List Frame)
     → Gathering rule start from seen old.text.items old.lengths
     → Gathering rule start to (seen ++ completed frame) new.text.items new.lengths
-
--- one more frame was answered, or none where `frame` is `More`, and of some text the sink took only the first `bytes` bytes: if,
--- from some `start`, `Gathering` was true of the frames `seen` before the call, then after the call `GathersPart` is true, from
--- that `start`, of `seen` and then `frame`, or of `seen` alone where `frame` is `More`
-abbrev pub GathersFramePart : {State : Type 0} → AnswerRule State Frame → (from to : Progress State) → (old : Session) → Frame → (bytes : ℕ) → Type 0
-GathersFramePart {State} rule from to old frame bytes =
+GathersFrame {State} rule from to old new frame (Err bytes) =
     (start : Progress State) (seen : List Frame)
     → Gathering rule start from seen old.text.items old.lengths
     → GathersPart rule start to (seen ++ completed frame) bytes old.gathers
 
--- for whatever bytes `rest` the assembler stood for before the piece: all frames that the piece completes were answered, and all
--- of their texts went out; and the assembler then stands for what follows the piece's last line feed, or, where the piece has
--- none, for `rest` and then the whole piece
-abbrev pub AnswersPiece : {State : Type 0} → AnswerRule State Frame → (from to : Progress State) → (old new : Session) → (piece : List ℕ) → Type 0
-AnswersPiece rule from to old new piece =
+-- what became of a piece, by the result of the call, for whatever bytes `rest` the assembler stood for before it. `Ok`: all frames
+-- that the piece completes were answered, and all of their texts went out; and the assembler then stands for what follows the
+-- piece's last line feed, or, where the piece has none, for `rest` and then the whole piece. `Err`: these frames were answered up
+-- to one of whose text the sink took only the first `bytes` bytes, as `GathersPart` has it
+abbrev pub AnswersPiece : {State : Type 0} → AnswerRule State Frame → (from to : Progress State) → (old new : Session) → (piece : List ℕ)
+    → Result (Unit {0}) ℕ → Type 0
+AnswersPiece rule from to old new piece (Ok _) =
     (rest : List ℕ) → StandsFor old.assembler rest
     → StandsFor new.assembler (rest_behind rest piece) × AnswersAll rule from to (frames_behind rest piece)
-
--- for whatever bytes `rest` the assembler stood for before the piece: the frames that the piece completes were answered up to one
--- of whose text the sink took only the first `bytes` bytes; where texts are gathered, the answerer may also have got frames after
--- that one (`GathersPart`)
-abbrev pub AnswersPiecePart : {State : Type 0} → AnswerRule State Frame → (from to : Progress State) → (old : Session) → (piece : List ℕ)
-    → (bytes : ℕ) → Type 0
-AnswersPiecePart rule from to old piece bytes =
+AnswersPiece rule from to old new piece (Err bytes) =
     (rest : List ℕ) → StandsFor old.assembler rest → GathersPart rule from to (frames_behind rest piece) bytes old.gathers
 
 -- no text waits
@@ -107,19 +97,17 @@ abbrev pub whole_and_part : (whole taken : ℕ) → List ℕ → ℕ × ℕ
 whole_and_part whole taken [] = (whole, taken)
 whole_and_part whole taken (n ∷ ns) = if nat_lt taken n then (whole, taken) else whole_and_part (whole + 1) (taken - n) ns
 
--- all texts that waited were written, and were counted
-abbrev pub WritesWaiting : {K : Type 0} → Sink K → (sink_old sink_new : K) → (old new : Session) → Type 0
-WritesWaiting of_sink sink_old sink_new old new =
-    Appends (of_sink.taken sink_old) (of_sink.taken sink_new) old.text.items × (new.replies ≡ old.replies + length old.lengths)
-
 -- of texts with these lengths, one after the other in `text`, a sink took only the first bytes, some number n of them, and not
 -- all: with the texts that it took whole their count grew from `whole` to `total`, and of the next one it took `bytes` bytes.
 -- `old` and `new` are what it has taken, before and after
 abbrev pub TakesTextsPart : (old new : Option (List ℕ)) → (whole total : ℕ) → (text lengths : List ℕ) → (bytes : ℕ) → Type 0
 TakesTextsPart old new whole total text lengths bytes = (n : ℕ) × TakesFront old new n text × ((total, bytes) ≡ whole_and_part whole n lengths)
 
--- of the texts that waited the sink took only a first part, which may be empty: the texts that it took whole were counted, and of
--- the next one it took `bytes` bytes
-abbrev pub WritesWaitingPart : {K : Type 0} → Sink K → (sink_old sink_new : K) → (old new : Session) → (bytes : ℕ) → Type 0
-WritesWaitingPart of_sink sink_old sink_new old new bytes =
+-- what became of the texts that waited, by the result of the call that writes them. `Ok`: all were written, and were counted.
+-- `Err`: the sink took only a first part of them, which may be empty; the texts that it took whole were counted, and of the next
+-- one it took `bytes` bytes
+abbrev pub WritesWaiting : {K : Type 0} → Sink K → (sink_old sink_new : K) → (old new : Session) → Result (Unit {0}) ℕ → Type 0
+WritesWaiting of_sink sink_old sink_new old new (Ok _) =
+    Appends (of_sink.taken sink_old) (of_sink.taken sink_new) old.text.items × (new.replies ≡ old.replies + length old.lengths)
+WritesWaiting of_sink sink_old sink_new old new (Err bytes) =
     TakesTextsPart (of_sink.taken sink_old) (of_sink.taken sink_new) old.replies new.replies old.text.items old.lengths bytes

@@ -1,7 +1,7 @@
 //! A source over a reader of std. Each error of the reader, an interruption too, is a failure.
 
 ghost use Rattle.std.specs.Prelude.{◌≡◌, ◌^◌, ◌-◌, ◌<◌, false, IsErr, length};
-ghost use Rattle.gc_lines.specs.Reads.{SourceGivesBytes, SourceCountsRead, SourceFails};
+ghost use Rattle.gc_lines.specs.Ports.{GivesBytes, CountsRead, Fails};
 
 use crate::ports::{PortFailed, Source};
 use std::io::Read;
@@ -49,10 +49,10 @@ impl<R: Read> Source for FromReader<R> {
 
     fn read(&mut self, buf: &mut [u8]) -> Result<usize, PortFailed>
         requires { 0 < length buf.old }
-        ensures bytes { SourceGivesBytes ⟦<FromReader<R> as Source>⟧ self.old self.new result buf.new }
-        ensures counts { SourceCountsRead ⟦<FromReader<R> as Source>⟧ self.old self.new result }
-        ensures fails { SourceFails ⟦<FromReader<R> as Source>⟧ self.old self.new result }
-        ensures limit { ⟦<FromReader<R> as Source>⟧.reads self.old ≡ 2 ^ 64 - 1 → IsErr result }
+        ensures bytes { GivesBytes (R.remaining self.old.reader) (R.remaining self.new.reader) result buf.new }
+        ensures counts { CountsRead self.old.answered self.new.answered self.old.at_end self.new.at_end result }
+        ensures fails { Fails self.old.broken self.new.broken result }
+        ensures limit { self.old.answered ≡ 2 ^ 64 - 1 → IsErr result }
     {
         // A read fails where one has failed before, and where 2^64 - 1 were answered, since no further one can be counted.
         if self.broken || self.answered == u64::MAX {

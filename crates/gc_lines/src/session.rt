@@ -1,11 +1,11 @@
 //! What the answering loop keeps from one read to the next, and how texts are sent: each at once, or gathered. All writing
 //! of a whole run lives here.
 
-ghost use Rattle.std.specs.Prelude.{◌≡◌, ◌+◌, ◌<◌, ◌≤◌, ◌^◌, [], length, IfErr, OnOk, true};
+ghost use Rattle.std.specs.Prelude.{◌≡◌, ◌+◌, ◌<◌, ◌≤◌, ◌^◌, [], length, OnOk, true};
 ghost use Rattle.gc_lines.specs.Assembler.{StandsFor};
 ghost use Rattle.gc_lines.specs.Lent.{lent_seen};
-ghost use Rattle.gc_lines.specs.Passing.{AnswersPiece, AnswersPiecePart, GathersFrame, GathersFramePart, WritesWaiting, WritesWaitingPart};
-ghost use Rattle.gc_lines.specs.Passing.{ChangesTextsAlone, HasRoom, NoneWait, session_progress, whole_and_part};
+ghost use Rattle.gc_lines.specs.Passing.{AnswersPiece, ChangesTextsAlone, GathersFrame, HasRoom, NoneWait, WritesWaiting};
+ghost use Rattle.gc_lines.specs.Passing.{session_progress, whole_and_part};
 ghost use Rattle.gc_lines.specs.Ports.{FailsWith};
 
 use crate::answering::{Answers, Outgoing};
@@ -61,10 +61,8 @@ impl Session {
         ensures gathers { self.new.gathers ≡ self.old.gathers }
         ensures nothing { OnOk result (NoneWait self.new) }
         ensures failed { FailsWith result (K.failed sink.old) (K.failed sink.new) }
-        ensures ok { OnOk result (AnswersPiece A.answers (session_progress K.Sink answerer.old sink.old self.old)
-            (session_progress K.Sink answerer.new sink.new self.new) self.old self.new piece.now) }
-        ensures err { IfErr result (λ bytes. AnswersPiecePart A.answers (session_progress K.Sink answerer.old sink.old self.old)
-            (session_progress K.Sink answerer.new sink.new self.new) self.old piece.now bytes) }
+        ensures answered { AnswersPiece A.answers (session_progress K.Sink answerer.old sink.old self.old)
+            (session_progress K.Sink answerer.new sink.new self.new) self.old self.new piece.now result }
     {
         let mut left = piece;
         while !left.is_empty() {
@@ -74,7 +72,7 @@ impl Session {
                 return Err(bytes);
             }
         }
-        // The result is passed on as it is, but by two branches, since `ok` and `err` are proved in one each.
+        // The result is passed on as it is, but by two branches, since each outcome is proved in one.
         if let Err(bytes) = self.write_texts(sink) {
             return Err(bytes);
         }
@@ -97,10 +95,8 @@ impl Session {
         ensures room { OnOk result (HasRoom self.new.text.items self.new.lengths self.new.gathers) }
         ensures same { ChangesTextsAlone self.old self.new }
         ensures failed { FailsWith result (K.failed sink.old) (K.failed sink.new) }
-        ensures ok { OnOk result (GathersFrame A.answers (session_progress K.Sink answerer.old sink.old self.old)
-            (session_progress K.Sink answerer.new sink.new self.new) self.old self.new (lent_seen frame.entry)) }
-        ensures err { IfErr result (λ bytes. GathersFramePart A.answers (session_progress K.Sink answerer.old sink.old self.old)
-            (session_progress K.Sink answerer.new sink.new self.new) self.old (lent_seen frame.entry) bytes) }
+        ensures answered { GathersFrame A.answers (session_progress K.Sink answerer.old sink.old self.old)
+            (session_progress K.Sink answerer.new sink.new self.new) self.old self.new (lent_seen frame.entry) result }
     {
         if let Lent::More = frame {
             return Ok(());
@@ -138,8 +134,7 @@ impl Session {
         ensures same { ChangesTextsAlone self.old self.new }
         ensures failed { FailsWith result (K.failed sink.old) (K.failed sink.new) }
         ensures nothing { OnOk result (NoneWait self.new) }
-        ensures ok { OnOk result (WritesWaiting K.Sink sink.old sink.new self.old self.new) }
-        ensures err { IfErr result (λ bytes. WritesWaitingPart K.Sink sink.old sink.new self.old self.new bytes) }
+        ensures written { WritesWaiting K.Sink sink.old sink.new self.old self.new result }
     {
         match write_whole(sink, self.text.as_slice()) {
             Ok(()) => {

@@ -39,15 +39,11 @@ impl<W: Write> Sink for ToWriter<W> {
             return Err(PortFailed);
         }
         match self.writer.write(bytes) {
-            Ok(0) => {
+            Ok(0) | Err(_) => {
                 self.broken = true;
                 Err(PortFailed)
             }
             Ok(n) => Ok(n),
-            Err(_) => {
-                self.broken = true;
-                Err(PortFailed)
-            }
         }
     }
 

@@ -1,5 +1,5 @@
 -- The acts of a link: each call adds its result, in the order of the calls. This project's own.
-use Rattle.std.specs.Prelude.{◌≡◌, ℕ, ◌<◌, ◌≤◌, List, ◌++◌, length, take, Option, Some, None, Result, Ok, Err}
+use Rattle.std.specs.Prelude.{◌≡◌, ℕ, ◌<◌, ◌≤◌, List, ◌++◌, length, take, Option, Some, None, Result, Ok, Err, IfOk, IfSome}
 use Rattle.gc_links.specs.declared.link.Came.{Came}
 use Rattle.gc_links.specs.declared.link.Came.TheVariants.{Bytes, Silence, End, Failure, NoMoment}
 use Rattle.gc_links.specs.declared.link.Moment.{Moment}
@@ -63,6 +63,10 @@ open_act (Err _) = Unopened
 abbrev pub IsWithin : Came → (buf : List ℕ) → Type 0
 IsWithin (Bytes n moment) buf = (0 < n) × (n ≤ length buf)
 IsWithin _ buf = Unit {0}
+
+-- where a read that may also give nothing (`None`) gave bytes, they are no more than the buffer has room for
+abbrev pub GivesAtMost : {E : Type 0} → Result (Option ℕ) E → (buf : List ℕ) → Type 0
+GivesAtMost result buf = IfOk result (λ given. IfSome given (λ n. n ≤ length buf))
 
 -- where a write of these bytes failed, fewer than all of them went out
 abbrev pub IsPart : Result (Unit {0}) ℕ → (bytes : List ℕ) → Type 0

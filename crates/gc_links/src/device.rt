@@ -1,7 +1,7 @@
 //! A serial device: opened so that no call waits in the system, held against other programs, and a link over it.
 
-ghost use Rattle.std.specs.Prelude.{ℕ, ◌≤◌, List, length, None, IfOk, IfSome};
-ghost use Rattle.gc_links.specs.Acts.{IsWithin};
+ghost use Rattle.std.specs.Prelude.{ℕ, ◌≤◌, List, length, None, IfOk};
+ghost use Rattle.gc_links.specs.Acts.{GivesAtMost, IsWithin};
 
 use crate::connection::PATIENCE;
 use crate::link::{Came, Link, Moment};
@@ -74,10 +74,23 @@ fn set_nonblocking(file: &File) -> io::Result<()> {
     other.set_nonblocking(true)
 }
 
-/// Whether an error of a read or a write says only that nothing has come, or nothing can go, yet, or that the call was interrupted:
-/// it is to be made again after a rest.
-pub(crate) fn is_not_ready(kind: ErrorKind) -> bool {
+// Whether an error of a read or a write says only that nothing has come, or nothing can go, yet, or that the call was interrupted:
+// it is to be made again after a rest.
+fn is_not_ready(kind: ErrorKind) -> bool {
     matches!(kind, ErrorKind::WouldBlock | ErrorKind::Interrupted)
+}
+
+/// Reads what has come over a device, and returns how many bytes that is: 0 where the device has ended. `None`: nothing has come
+/// yet, or the read was interrupted.
+pub(crate) fn read_some(file: &File, buf: &mut [u8]) -> io::Result<Option<usize>>
+    ensures { GivesAtMost result buf.new }
+{
+    let mut file = file;
+    match file.read(buf) {
+        Ok(n) => Ok(Some(n)),
+        Err(error) if is_not_ready(error.kind()) => Ok(None),
+        Err(error) => Err(error),
+    }
 }
 
 /// Sleeps for [`REST`] milliseconds, before the next read or write of a device.
@@ -154,18 +167,13 @@ impl<'a, R: Files<File = File> + Clock> DeviceLink<'a, R> {
         if held.is_terminal() { Some(held) } else { None }
     }
 
-    // Reads once, and returns how many bytes came: 0 where the device has ended or isn't open. `None`: nothing has come
-    // yet, or the read was interrupted.
-    fn read_once(&mut self, buf: &mut [u8]) -> io::Result<Option<usize>>
-        ensures { IfOk result (λ read. IfSome read (λ n. n ≤ length buf.new)) }
+    // Reads the device as `read_some` does. One that isn't open counts as ended.
+    fn read_once(&self, buf: &mut [u8]) -> io::Result<Option<usize>>
+        ensures { GivesAtMost result buf.new }
     {
-        let Some(file) = &mut self.file else {
-            return Ok(Some(0));
-        };
-        match file.read(buf) {
-            Ok(n) => Ok(Some(n)),
-            Err(error) if is_not_ready(error.kind()) => Ok(None),
-            Err(error) => Err(error),
+        match &self.file {
+            Some(file) => read_some(file, buf),
+            None => Ok(Some(0)),
         }
     }
 

@@ -43,18 +43,14 @@ pub fn place_of(word: &str) -> Option<Place<'_>>
             Some(Place::Device(word))
         };
     }
-    match memrchr(b':', bytes) {
-        None => match port_of(bytes) {
-            Some(port) => Some(Place::Port(port)),
-            None => None,
-        },
-        Some(0) => None,
-        Some(at) if !is_host(&bytes[..at]) => None,
-        Some(at) => match port_of(&bytes[at + 1..]) {
-            Some(_) => Some(Place::Host(word)),
-            None => None,
-        },
+    let Some(at) = memrchr(b':', bytes) else {
+        return Some(Place::Port(port_of(bytes)?));
+    };
+    if at == 0 || !is_host(&bytes[..at]) {
+        return None;
     }
+    port_of(&bytes[at + 1..])?;
+    Some(Place::Host(word))
 }
 
 // Whether `://` is in a word.

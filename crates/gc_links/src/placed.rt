@@ -29,15 +29,12 @@ impl<
     /// link's first opening. One that isn't there yet, or can't be opened, locked or set up for a reason without a name, is
     /// not refused. `None` as the reason: the clock can't be read.
     pub fn new(rt: &'a R, place: Place<'a>) -> Result<PlacedLink<'a, R>, Option<Unusable>> {
-        match place {
-            Place::Port(port) => TcpLink::new(rt, port)
-                .map(PlacedLink::Tcp)
-                .map_err(|_| None),
-            Place::Host(host) => TcpLink::to_host(rt, host)
-                .map(PlacedLink::Tcp)
-                .map_err(|_| None),
-            Place::Device(path) => PlacedLink::to_device(rt, path),
-        }
+        let link = match place {
+            Place::Port(port) => TcpLink::new(rt, port),
+            Place::Host(host) => TcpLink::to_host(rt, host),
+            Place::Device(path) => return PlacedLink::to_device(rt, path),
+        };
+        link.map(PlacedLink::Tcp).map_err(|_| None)
     }
 
     // A link to a device, which is opened at once, as `new` says.

@@ -1,8 +1,8 @@
 //! A link over a real connection, to a port of 127.0.0.1 or to a host. None of its calls waits for ever, but for what the system
 //! takes to look up a name.
 
-ghost use Rattle.std.specs.Prelude.{◌≤◌, length, None, IfOk, IfSome};
-ghost use Rattle.gc_links.specs.Acts.{IsWithin};
+ghost use Rattle.std.specs.Prelude.{◌≤◌, None};
+ghost use Rattle.gc_links.specs.Acts.{GivesAtMost, IsWithin};
 
 use crate::connection::{PATIENCE, Peer, connect};
 use crate::link::{Came, Link, Moment};
@@ -63,7 +63,7 @@ impl<'a, R: Net<Listener = TcpListener, Stream = TcpStream> + Clock> TcpLink<'a,
 
     // Reads the connection as `read_timed` does. `None`: as there, or there is no connection.
     fn read_for(&self, buf: &mut [u8], millis: u64) -> io::Result<Option<usize>>
-        ensures { IfOk result (λ read. IfSome read (λ n. n ≤ length buf.new)) }
+        ensures { GivesAtMost result buf.new }
     {
         match &self.stream {
             Some(stream) => read_timed(stream, buf, millis),
@@ -109,7 +109,7 @@ pub(crate) fn read_timed(
     buf: &mut [u8],
     millis: u64,
 ) -> io::Result<Option<usize>>
-    ensures { IfOk result (λ read. IfSome read (λ n. n ≤ length buf.new)) }
+    ensures { GivesAtMost result buf.new }
 {
     let mut stream = stream;
     // A timeout of zero would be an error, and without one the read would wait for ever.

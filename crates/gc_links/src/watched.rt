@@ -37,9 +37,8 @@ impl<'a, R: Files, L> Watched<'a, R, L> {
     // A moment that the link inside reported. Its `stops` is `true` also where the file is there.
     fn seen(&self, moment: Moment) -> Moment {
         Moment {
-            elapsed: moment.elapsed,
-            utc: moment.utc,
             stops: moment.stops || self.is_there(),
+            ..moment
         }
     }
 }

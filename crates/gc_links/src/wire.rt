@@ -1,9 +1,10 @@
 //! Connections whose reads may wait without a deadline, for `ask` and `serve`.
 
-ghost use Rattle.std.specs.Prelude.{◌≤◌, length, IfOk, IfSome};
+ghost use Rattle.std.specs.Prelude.{◌≤◌, length, IfOk};
+ghost use Rattle.gc_links.specs.Acts.{GivesAtMost};
 
 use crate::connection::{PATIENCE, Peer, connect};
-use crate::device::{REST, Unusable, is_not_ready, open_device, rest, write_some};
+use crate::device::{REST, Unusable, open_device, read_some, rest, write_some};
 use crate::place::Place;
 use crate::tcp::read_timed;
 use std::fs::File;
@@ -58,7 +59,7 @@ impl<'a, R: Clock> Wire<'a, R> {
     /// time, or a read over TCP was interrupted. The first look at a device is at once, and there is one every 2 milliseconds; what
     /// comes after the last look is left for the next read.
     pub fn read_within(&self, buf: &mut [u8], millis: u64) -> io::Result<Option<usize>>
-        ensures { IfOk result (λ read. IfSome read (λ n. n ≤ length buf.new)) }
+        ensures { GivesAtMost result buf.new }
     {
         match self {
             Wire::Tcp(stream) => read_stream_within(stream, buf, millis, None),
@@ -119,7 +120,7 @@ pub fn read_stream_within(
     millis: u64,
     longest: Option<Duration>,
 ) -> io::Result<Option<usize>>
-    ensures { IfOk result (λ read. IfSome read (λ n. n ≤ length buf.new)) }
+    ensures { GivesAtMost result buf.new }
 {
     let read = read_timed(stream, buf, millis);
     stream.set_read_timeout(longest)?;
@@ -134,15 +135,13 @@ fn read_device_within<R: Clock>(
     buf: &mut [u8],
     millis: u64,
 ) -> io::Result<Option<usize>>
-    ensures { IfOk result (λ read. IfSome read (λ n. n ≤ length buf.new)) }
+    ensures { GivesAtMost result buf.new }
 {
-    let mut file = file;
     for _ in 0..millis / REST + 1 {
-        match file.read(buf) {
-            Ok(n) => return Ok(Some(n)),
-            Err(error) if is_not_ready(error.kind()) => rest(rt),
+        match read_some(file, buf) {
+            Ok(None) => rest(rt),
             Err(error) if error.raw_os_error() == Some(PULLED_OUT) => return Ok(Some(0)),
-            Err(error) => return Err(error),
+            ended => return ended,
         }
     }
     Ok(None)

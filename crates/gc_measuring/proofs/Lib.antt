@@ -1,3 +1,4 @@
+mod AtLink
 mod Measured
 mod Unbegun
 mod Wants

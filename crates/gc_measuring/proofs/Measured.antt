@@ -1,7 +1,6 @@
 -- Status 0 is reported only of a run that is done, or whose end was asked for.
 use Rattle.std.proofs.Common.{◌≡◌, ℕ, List, Option, Result, Ok, Err, inl, inr, arith}
-use Rattle.std.specs.Io.KnownBytes.{Consumes}
-use Rattle.gc_measuring.specs.Measuring.{PortsSeen, Measures, IsMeasured, ReportsEndOfRun}
+use Rattle.gc_measuring.specs.Measuring.{PortsSeen, MeasuresGiven, IsMeasured, ReportsEndOfRun}
 use Rattle.gc_words.specs.declared.settings.Settings.{Settings}
 use Rattle.gc_measuring.specs.declared.stop.Stop.{Stop}
 use Rattle.gc_measuring.specs.declared.stop.Stop.TheVariants.{Run}
@@ -13,10 +12,11 @@ ok_is_no_stop : {A : Type 0} (x : A) (stop : Stop) → ◌≡◌ {A = Result A S
 ok_is_no_stop x stop is = cc
 
 -- where status 0 is reported, the source gave a text to its end, and the run over its tasks is done, or its end was asked for
-pub done_at_0 : (given : List ℕ) (station : Settings) (old new : PortsSeen) (end : Result Tally Stop) (status : ℕ) (before after : Option (List ℕ))
-    → Consumes old.input.remaining new.input.remaining given → Measures given station 18446744073709551615 old new end → ReportsEndOfRun end status before after → status ≡ 0
-    → IsMeasured station old new
-done_at_0 given station old new (Ok tally) status before after takes (inl refused) tells zero = absurd (ok_is_no_stop tally refused.0 refused.1)
-done_at_0 given station old new (Ok tally) status before after takes (inr (setup, tasks, names, gives, inl front)) tells zero = absurd (ok_is_no_stop tally (Run Output) front.is)
-done_at_0 given station old new (Ok tally) status before after takes (inr (setup, tasks, names, gives, inr behind)) tells zero = (given, takes, (setup, tasks, names, tally, gives, behind))
-done_at_0 given station old new (Err stop) status before after takes measures tells zero = absurd (omega (arith, tells.0, zero))
+pub done_at_0 : (station : Settings) (old new : PortsSeen) (end : Result Tally Stop) (status : ℕ) (before after : Option (List ℕ))
+    → MeasuresGiven station old new end → ReportsEndOfRun end status before after → status ≡ 0 → IsMeasured station old new
+done_at_0 station old new (Ok tally) status before after (given, takes, inl refused) tells zero = absurd (ok_is_no_stop tally refused.0 refused.1)
+done_at_0 station old new (Ok tally) status before after (given, takes, inr (setup, tasks, names, gives, inl front)) tells zero =
+    absurd (ok_is_no_stop tally (Run Output) front.is)
+done_at_0 station old new (Ok tally) status before after (given, takes, inr (setup, tasks, names, gives, inr behind)) tells zero =
+    record { given = given; takes = takes; setup = setup; tasks = tasks; names = names; gives = gives; tally = tally; ran = behind }
+done_at_0 station old new (Err stop) status before after measured tells zero = absurd (omega (arith, tells.0, zero))

@@ -8,7 +8,6 @@ use Rattle.gc_texts.specs.WholeTexts.{Input, Gave}
 use Rattle.gc_measuring.specs.Choices.{plan_of}
 use Rattle.gc_measuring.specs.Stops.{stop_text, end_of_run}
 use Rattle.gc_measuring.specs.TaskTexts.{GivesTasks, RefusesTasks}
-use Rattle.gc_words.specs.Stations.{begun_at}
 use Rattle.gc_words.specs.declared.layout.Layout.{Layout}
 use Rattle.gc_words.specs.declared.settings.Settings.{Settings}
 use Rattle.gc_measuring.specs.declared.stop.Stop.{Stop}
@@ -121,15 +120,15 @@ MeasuresGiven station old new result =
 
 -- a source gave a text to its end, and the run over its tasks, in at most as many acts as a u64 counts, is done, or its end was
 -- asked for
-abbrev pub IsMeasured : Settings → (old new : PortsSeen) → Type 0
-IsMeasured station old new = (given : List ℕ) × Consumes old.input.remaining new.input.remaining given
-    × ((setup : ℕ) × (tasks : List Task) × (names : List Name) × (tally : Tally)
-    × GivesTasks given old.input new.input station.choice setup tasks names
-    × RunsAfterFront (survey_of station 18446744073709551615 setup tasks names) old new (Ok tally))
-
--- of what a source gave `MeasuresGiven` holds, for a run that began at some moment
-abbrev pub MeasuresBegun : Settings → (old new : PortsSeen) → Result Tally Stop → Type 0
-MeasuresBegun station old new result = (run : ℕ) × MeasuresGiven (begun_at run station) old new result
+pub record IsMeasured (station : Settings) (old new : PortsSeen) : Type 0 where
+  pub given : List ℕ
+  pub takes : Consumes old.input.remaining new.input.remaining given
+  pub setup : ℕ
+  pub tasks : List Task
+  pub names : List Name
+  pub gives : GivesTasks given old.input new.input station.choice setup tasks names
+  pub tally : Tally
+  pub ran : RunsAfterFront (survey_of station 18446744073709551615 setup tasks names) old new (Ok tally)
 
 -- if the text was refused nothing was done over the link, and nothing written
 abbrev pub IsUntouched : (old new : PortsSeen) → Result Tally Stop → Type 0

@@ -3,7 +3,7 @@
 use Rattle.std.specs.Prelude.{◌≡◌, ℕ, Bool, true, ◌⊎◌, List, [], Option, Some, None, Result, Err}
 use Rattle.std.specs.Io.KnownBytes.{Appends}
 use Rattle.gc_measuring.specs.Logging.{ReportsLoss}
-use Rattle.gc_measuring.specs.Measuring.{PortsSeen, MeasuresGiven, MeasuresBegun, IsMeasured, AllLast, ReportsEndOfRun}
+use Rattle.gc_measuring.specs.Measuring.{PortsSeen, MeasuresGiven, IsMeasured, AllLast, ReportsEndOfRun}
 use Rattle.gc_measuring.specs.Recording.{unfit_text}
 use Rattle.gc_measuring.specs.Stops.{IsFaultWithoutLink, with_fault}
 use Rattle.gc_words.specs.Stations.{begun_at, for_file}
@@ -105,13 +105,14 @@ pub record IsUnbegun {S K E : Type 0} (has_log : Bool) (old new : Stage S K E) (
   pub acts : new.acts ≡ None
   pub turns : new.turns ≡ old.turns
 
--- a text was refused, or its commands were measured, from `old` to `new`, in a run that began at some moment, over a link that has
--- then recorded the acts `told`. All records last; nothing is said of that if the text was refused or the sink failed
+-- a text was refused, or its commands were measured, from `old` to `new`, in a run that began at some moment (`run`), over a link
+-- that has then recorded the acts `told`. All records last; nothing is said of that if the text was refused or the sink failed
 pub record MeasuresAtLink {S K E : Type 0} (views : Views S K E) (station : Settings) (old new : Stage S K E) (end : Result Tally Stop)
     : Type 0 where
   pub told : List Act
   pub is : new.acts ≡ Some told
-  pub measured : MeasuresBegun station (seen_at views old) (seen_at views (record new { acts = Some told })) end
+  pub run : ℕ
+  pub measured : MeasuresGiven (begun_at run station) (seen_at views old) (seen_at views new) end
   pub all_last : AllLast (views.lasts new.streams.output) end
 
 -- a run measured over its link, or it didn't begin; and the status and the messages report how it ended, and then whether the log,
@@ -130,11 +131,12 @@ pub record ReportsRun {S K E : Type 0} (views : Views S K E) (has_log : Bool) (s
   pub counts : ReportsEndOfRun end status (views.shown between) (views.shown behind)
   pub loss : ReportsLoss is_lost (views.shown behind) (views.shown new.streams.messages)
 
--- a source gave a text to its end, and the run over its commands, from `old` to `new`, is done, or its end was asked for, over a
--- link that has then recorded the acts `told`
-abbrev pub MeasuresAllAtLink : {S K E : Type 0} → Views S K E → Settings → (old new : Stage S K E) → Type 0
-MeasuresAllAtLink views station old new =
-    (told : List Act) × (new.acts ≡ Some told) × ((run : ℕ) × MeasuresAll views (begun_at run station) old (record new { acts = Some told }))
+-- as `MeasuresAll` says, of a run that began at some moment (`run`), over a link that has recorded the acts `told`
+pub record MeasuresAllAtLink {S K E : Type 0} (views : Views S K E) (station : Settings) (old new : Stage S K E) : Type 0 where
+  pub told : List Act
+  pub is : new.acts ≡ Some told
+  pub run : ℕ
+  pub all : MeasuresAll views (begun_at run station) old new
 
 -- a file of records can't be had, which is reported with status 1, and nothing was read
 pub record RefusesFile {S K E : Type 0} (shown : E → Option (List ℕ)) (old new : Streams S K E) (status : ℕ) : Type 0 where
@@ -143,39 +145,44 @@ pub record RefusesFile {S K E : Type 0} (shown : E → Option (List ℕ)) (old n
   pub tells : Appends (shown old.messages) (shown new.messages) (unfit_text why)
   pub unread : new.input ≡ old.input
 
--- the streams of a run that appends to a file: `begun` and `ended` are the run's own, with a file of rows as output, and `old`
--- and `new` its caller's. The file had taken nothing at first, and is handed back as the run left it. The run reads the
--- caller's source, and the caller gets the messages as the run left them
-pub record IsFiled {S F K E : Type 0} (sink : Sink F) (old new : Streams S K E) (begun ended : Streams S F E) (file : Option F) : Type 0 where
+-- a run that appends to a file: the run before it and after it, with the streams of its caller, and the file that it left, if
+-- there is one
+pub record AppendingRun (S F K E : Type 0) : Type 0 where
+  pub before : Stage S K E
+  pub after : Stage S K E
+  pub file : Option F
+
+-- the own streams of a run that appends to a file, at its start (`begun`) and at its end (`ended`), have the file as output. It
+-- had taken nothing at first, and is handed back as the run left it. The run reads its caller's source, and the caller gets the
+-- messages as the run left them
+pub record IsFiled {S F K E : Type 0} (sink : Sink F) (whole : AppendingRun S F K E) (begun ended : Streams S F E) : Type 0 where
   pub fresh : sink.taken begun.output ≡ Some []
-  pub left : file ≡ Some ended.output
-  pub input : begun.input ≡ old.input
-  pub read : new.input ≡ ended.input
-  pub messages : new.messages ≡ ended.messages
+  pub left : whole.file ≡ Some ended.output
+  pub input : begun.input ≡ whole.before.streams.input
+  pub read : whole.after.streams.input ≡ ended.input
+  pub messages : whole.after.streams.messages ≡ ended.messages
 
 -- a run that appends to a file is reported after what was written of the file's opening, and the file has the rows of what was
--- measured. `old` and `new` are the run with the streams of its caller; `begun` and `ended` are the run's own streams, with the file
--- as output (`IsFiled`)
-pub record ReportsAppended {S F K E : Type 0} (views : Views S F E) (has_log : Bool) (station : Settings) (old new : Stage S K E)
-    (file : Option F) (status : ℕ) : Type 0 where
+-- measured. `begun` and `ended` are the run's own streams, with the file as output (`IsFiled`)
+pub record ReportsAppended {S F K E : Type 0} (views : Views S F E) (has_log : Bool) (station : Settings) (whole : AppendingRun S F K E)
+    (status : ℕ) : Type 0 where
   pub begun : Streams S F E
   pub ended : Streams S F E
-  pub filed : IsFiled views.sink old.streams new.streams begun ended file
-  pub run : ReportsRun views has_log (for_file station) (stage begun old.acts old.turns) (stage ended new.acts new.turns) status
+  pub filed : IsFiled views.sink whole begun ended
+  pub run : ReportsRun views has_log (for_file station)
+      (stage begun whole.before.acts whole.before.turns) (stage ended whole.after.acts whole.after.turns) status
 
 -- a file of records can't be had, which is reported (`RefusesFile`); or a run appended to it, and its end is reported
 -- (`ReportsAppended`)
-abbrev pub ReportsAppending : {S F K E : Type 0} → Views S F E → (has_log : Bool) → Settings → (old new : Stage S K E)
-    → (file : Option F) → (status : ℕ) → Type 0
-ReportsAppending views has_log station old new file status =
-    RefusesFile views.shown old.streams new.streams status ⊎ ReportsAppended views has_log station old new file status
+abbrev pub ReportsAppending : {S F K E : Type 0} → Views S F E → (has_log : Bool) → Settings → AppendingRun S F K E → (status : ℕ) → Type 0
+ReportsAppending views has_log station whole status =
+    RefusesFile views.shown whole.before.streams whole.after.streams status ⊎ ReportsAppended views has_log station whole status
 
 -- a source gave a text to its end, and the run over its commands, which appended to a file, is done, or its end was asked for.
--- `old` and `new` are the run with the streams of its caller; `begun` and `ended` are the run's own streams, with the file as
--- output (`IsFiled`)
-pub record AppendsAll {S F K E : Type 0} (views : Views S F E) (station : Settings) (old new : Stage S K E) (file : Option F)
-    : Type 0 where
+-- `begun` and `ended` are the run's own streams, with the file as output (`IsFiled`)
+pub record AppendsAll {S F K E : Type 0} (views : Views S F E) (station : Settings) (whole : AppendingRun S F K E) : Type 0 where
   pub begun : Streams S F E
   pub ended : Streams S F E
-  pub filed : IsFiled views.sink old.streams new.streams begun ended file
-  pub all : MeasuresAllAtLink views (for_file station) (stage begun old.acts old.turns) (stage ended new.acts new.turns)
+  pub filed : IsFiled views.sink whole begun ended
+  pub all : MeasuresAllAtLink views (for_file station)
+      (stage begun whole.before.acts whole.before.turns) (stage ended whole.after.acts whole.after.turns)

@@ -6,9 +6,9 @@ ghost use Rattle.std.specs.Process.{exit_status};
 ghost use Rattle.gc_measuring.specs.TaskTexts.{IsCheckable};
 ghost use Rattle.gc_texts.specs.WholeTexts.{input_of};
 
+use crate::plan::commands_per_cycle;
 use crate::stop::Stop;
 use crate::task_text::read_task_text;
-use crate::work::commands_in;
 use gc_lines::{Sink, Source, write_whole};
 use gc_messages::{Streams, report_odd_angles, report_spaces, report_unasked, report_unused_names};
 use gc_texts::{Again, RunFault, Task, Tasks};
@@ -87,7 +87,7 @@ fn outline_tasks<W: Write>(tasks: &Tasks, outline: &mut W) -> io::Result<()> {
         outline_command(task, outline)?;
         writeln!(outline)?;
     }
-    let commands = commands_in(tasks);
+    let commands = commands_per_cycle(tasks);
     writeln!(outline, "each cycle, commands: {commands}")?;
     outline_chains(tasks, outline)
 }

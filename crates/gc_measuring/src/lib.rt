@@ -16,16 +16,14 @@ mod station;
 mod stop;
 mod task_text;
 mod wanted;
-mod work;
 
 pub use checking::{check_task_text, write_target};
 pub use counts::{write_main_counts, write_other_counts};
 pub use measure::run_station_text;
-pub use plan::plan_of;
+pub use plan::{commands_per_cycle, plan_of};
 pub use recording::{Appended, append_at};
 pub use row::write_station_row;
 pub use spot::Spot;
 pub use station::measure_at;
 pub use stop::Stop;
 pub use task_text::read_task_text;
-pub use work::{Work, work_of};

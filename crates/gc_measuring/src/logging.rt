@@ -10,7 +10,7 @@ ghost use Rattle.gc_logs.specs.Bounds.{has_ended, sink_of};
 
 use crate::spot::Spot;
 use crate::station::measure_over;
-use gc_files::{Appending, RowsFile, SystemFile, Unfit, open_file, open_rows};
+use gc_files::{Appending, RowsFile, RowsOptions, SystemFile, Unfit, open_file, open_rows};
 use gc_lines::{Durable, PortFailed, Sink, Source};
 use gc_links::Link;
 use gc_logs::{Bounded, Logged};
@@ -60,7 +60,12 @@ fn open_log<R: Files<File = File>>(rt: &R, path: &str) -> Result<RowsFile<System
     if !begins_log(&front[..count]) {
         return Err(Unfit::Foreign);
     }
-    match open_rows(file, b"", b"", false) {
+    let options = RowsOptions {
+        head: b"",
+        sign: b"",
+        sync: false,
+    };
+    match open_rows(file, options) {
         Ok(rows) => Ok(rows),
         Err((why, _)) => Err(why.into()),
     }
@@ -130,28 +135,31 @@ impl<'a, K: Sink> Sink for LogSink<'a, K> {
 
 // Notes that the log ended, at its bound (`is_full`) or because it couldn't be written.
 fn note_log_end(noticed: &Cell<Noticed>, is_full: bool) {
-    let seen = noticed.get();
     let log = if is_full {
         LogSeen::Full
     } else {
         LogSeen::Lost
     };
-    noticed.set(Noticed {
-        files: FilesSeen { log, ..seen.files },
-        ..seen
-    });
+    let files = noticed.get().files;
+    note_files(noticed, FilesSeen { log, ..files });
 }
 
 // Notes how many bytes of a torn line of the log were cut off (`torn`).
 fn note_torn(noticed: &Cell<Noticed>, torn: u64) {
-    let seen = noticed.get();
-    noticed.set(Noticed {
-        files: FilesSeen {
+    let files = noticed.get().files;
+    note_files(
+        noticed,
+        FilesSeen {
             log_torn: torn,
-            ..seen.files
+            ..files
         },
-        ..seen
-    });
+    );
+}
+
+// Notes what was seen of the station's files.
+fn note_files(noticed: &Cell<Noticed>, files: FilesSeen) {
+    let seen = noticed.get();
+    noticed.set(Noticed { files, ..seen });
 }
 
 /// Measures over a link with a log, and reports how the run ended, as `measure_over` does. If the log isn't complete, because it

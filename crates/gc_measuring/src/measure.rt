@@ -9,19 +9,18 @@ ghost use Rattle.gc_lines.specs.Ports.{FailsWith, TakesFront};
 ghost use Rattle.gc_station.specs.Runs.{FailsAtOutput, LastUnlessFailed};
 ghost use Rattle.gc_texts.specs.declared.text.TheConstants.{TEXT_LIMIT};
 
-use crate::plan::plan_of;
+use crate::plan::{commands_per_cycle, plan_of};
 use crate::reporter::Reporter;
 use crate::row::write_station_row;
 use crate::spot::Spot;
 use crate::stop::Stop;
 use crate::task_text::read_task_text;
-use crate::work::{Work, work_of};
 use gc_lines::{Durable, PortFailed, Source, write_whole};
 use gc_links::{Link, Moment};
 use gc_messages::{Noticed, Streams, report_odd_angles, report_unasked};
 use gc_rows::write_head;
 use gc_station::{Book, Kept, LinkHealth, Tally, is_well, run_station};
-use gc_texts::{Ending, RunFault, Stamp, Tasks, Wish};
+use gc_texts::{Ending, Name, RunFault, Stamp, Tasks, Wish};
 use gc_words::{Layout, Settings};
 use std::alloc::Global;
 use std::cell::Cell;
@@ -85,29 +84,28 @@ pub fn run_station_text<L: Link, S: Source, K: Durable, E: Write>(
     let _ = report_unasked(&tasks, &mut streams.messages);
     // A run may take months: the memory of the text is given back first.
     drop(text);
-    let work = work_of(alloc, tasks);
-    let (streams, end) = measure(link, station, work, max_turns, spot, streams, kept);
+    let (streams, end) = measure(link, station, tasks, max_turns, spot, streams, kept);
     match end {
         Ok(tally) => (streams, Ok(tally)),
         Err(fault) => (streams, Err(Stop::Run(fault))),
     }
 }
 
-// Measures the tasks of `work` over a link by the settings of `station`, in at most `max_turns` acts, and writes their records on
-// the output. The streams are handed back, with how the run ended. What was seen of link and output at each act is noted in
+// Measures these tasks over a link by the settings of `station`, in at most `max_turns` acts, and writes their records on the
+// output. The streams are handed back, with how the run ended. What was seen of link and output at each act is noted in
 // `kept`.
 fn measure<L: Link, S, K: Durable, E: Write>(
     link: &mut L,
     station: Settings,
-    work: Work,
+    tasks: Tasks,
     max_turns: u64,
     spot: Spot<'_>,
     streams: Streams<S, K, E>,
     kept: &mut Kept,
 ) -> (Streams<S, K, E>, Result<Tally, RunFault>)
-    ensures ran { RunsSurvey (survey_of station max_turns work.setup work.tasks.items work.named.names.items)
+    ensures ran { RunsSurvey (survey_of station max_turns tasks.setup tasks.tasks.items tasks.names.items)
         (L.acts link.old) (L.acts link.new) (K.taken streams.output) (K.taken result.0.output) result.1 }
-    ensures keeps { SurveyKeepsUp (survey_of station max_turns work.setup work.tasks.items work.named.names.items)
+    ensures keeps { SurveyKeepsUp (survey_of station max_turns tasks.setup tasks.tasks.items tasks.names.items)
         (L.acts link.old) (L.acts link.new) (K.taken streams.output) kept.old.turns kept.new.turns result.1 }
     ensures output { FailsAtOutput (K.failed streams.output) (K.failed result.0.output) result.1 }
     ensures is_durable { LastUnlessFailed (K.is_durable result.0.output) result.1 }
@@ -118,19 +116,20 @@ fn measure<L: Link, S, K: Durable, E: Write>(
         output,
         messages,
     } = streams;
-    let Work {
+    let commands = commands_per_cycle(&tasks);
+    let Tasks {
         setup,
         tasks,
-        named,
-        commands,
-    } = work;
+        names,
+        nears: _,
+    } = tasks;
     let plan = plan_of(station.choice, setup, tasks.as_slice());
     let mut reporter = Reporter::new(station.choice.watch, messages);
     reporter.begin(spot.site.place, commands);
     let mut records = Records {
         sink: output,
         layout: station.layout,
-        named,
+        names,
         noticed: spot.noticed,
         fresh: station.layout.run,
         reporter,
@@ -170,8 +169,8 @@ fn fresh_after(fresh: u64, utc: u64, ending: Ending<'_>) -> u64 {
 struct Records<'a, K, E> {
     sink: K,
     layout: Layout,
-    // The names of targets, in a `Tasks` whose own tasks are empty.
-    named: Tasks,
+    // The names of targets.
+    names: Vec<Name>,
     // What was noticed of the line and of the station's files.
     noticed: &'a Cell<Noticed>,
     // When an answer of a good quality came last, or when the run began if none came yet, in milliseconds since 1970.
@@ -188,7 +187,7 @@ impl<'a, K, E: Write> Records<'a, K, E> {
         let Records {
             sink,
             layout: _,
-            named: _,
+            names: _,
             noticed: _,
             fresh,
             mut reporter,
@@ -201,7 +200,7 @@ impl<'a, K, E: Write> Records<'a, K, E> {
 }
 
 impl<'a, K: Durable, E: Write> Book for Records<'a, K, E> {
-    ghost text = { λ book. text_in book.layout book.named.names.items };
+    ghost text = { λ book. text_in book.layout book.names.items };
 
     ghost taken = { λ book. K.taken book.sink };
 
@@ -221,7 +220,7 @@ impl<'a, K: Durable, E: Write> Book for Records<'a, K, E> {
         write_station_row(
             &mut self.sink,
             self.layout,
-            &self.named,
+            self.names.as_slice(),
             stamp,
             command,
             ending,

@@ -1,10 +1,10 @@
-//! The plan that an operator's choice makes with the tasks of a text.
+//! What a run makes of the tasks of a text: the plan, by an operator's choice, and the number of a cycle's commands.
 
 ghost use Rattle.std.specs.Prelude.{◌≡◌};
 ghost use Rattle.gc_measuring.specs.Choices.{longest, plan_of};
 
 use gc_station::Plan;
-use gc_texts::Task;
+use gc_texts::{Task, Tasks};
 use gc_words::Choice;
 
 /// The plan of a choice for these tasks, of which the first `setup` are the setup. Its deadline is the longest in use: the
@@ -34,4 +34,10 @@ fn longest(deadline: u64, tasks: &[Task]) -> u64
         longest = longest.max(task.deadline);
     }
     longest
+}
+
+/// How many commands a cycle of these tasks has, each counted once, however often its chain may be sent again.
+pub fn commands_per_cycle(tasks: &Tasks) -> usize {
+    let cycle = tasks.tasks.iter().skip(tasks.setup);
+    cycle.filter(|task| task.turn.attempt == 1).count()
 }

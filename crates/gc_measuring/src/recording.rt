@@ -5,15 +5,15 @@ ghost use Rattle.std.specs.Io.KnownBytes.{Appends};
 ghost use Rattle.std.specs.Option.{is_some};
 ghost use Rattle.std.specs.Process.{exit_status};
 ghost use Rattle.gc_measuring.specs.Recording.{IsOpenedFor, ReportsOpening, fault_of_unfit, opened_lines, rotation_line, unfit_text};
-ghost use Rattle.gc_measuring.specs.Appending.{AppendsWhole, TellsAppending, appending_run};
-ghost use Rattle.gc_measuring.specs.Telling.{views_by};
+ghost use Rattle.gc_measuring.specs.Appending.{appending_run};
+ghost use Rattle.gc_measuring.specs.Telling.{AppendsAll, ReportsAppending, views_by};
 ghost use Rattle.gc_files.specs.Sinks.{steps_in};
 
 use crate::counts::report_end_of_run;
 use crate::spot::Spot;
 use crate::station::measure_at;
 use crate::stop::Stop;
-use gc_files::{RowsFile, SystemFile, Unfit, open_at};
+use gc_files::{RowsFile, RowsOptions, SystemFile, Unfit, open_at};
 use gc_lines::{Durable, Sink, Source};
 use gc_links::{PlacedLink, Telling, Watched};
 use gc_messages::{Followed, Streams, report_copied, report_torn};
@@ -95,14 +95,12 @@ fn open_records<R: Files<File = File>, E: Write>(
     ensures untold { OnErr result (E.contents messages.new ≡ E.contents messages.old) }
 {
     let form = station.form_of_rows();
-    let opened = open_at(
-        rt,
-        alloc,
-        recording.path,
-        head(form),
-        sign(form),
-        recording.sync,
-    );
+    let options = RowsOptions {
+        head: head(form),
+        sign: sign(form),
+        sync: recording.sync,
+    };
+    let opened = open_at(rt, alloc, recording.path, options);
     match opened {
         Ok((rows, copied)) => {
             let told = report_opened(copied, rows.torn(), messages);
@@ -162,13 +160,13 @@ pub fn append_at<
     // Either the file can't be had, which is reported with status 1, and nothing was read. Or the messages report the file's
     // opening and then, with the status, how the run ended; and the file that is handed back has the run's rows: those of the
     // acts that the link recorded. At each act the file had all rows that the acts before it settled, and they lasted.
-    ensures told { IfOk result.1 (λ status. TellsAppending
+    ensures told { IfOk result.1 (λ status. ReportsAppending
         (views_by S.Source ⟦<Followed<'a, R> as Sink>⟧ ⟦<Followed<'a, R> as Durable>⟧.is_durable E.contents)
         (is_some spot.entry.site.log) station
         (appending_run streams result.0 kept.old.turns kept.new.turns result.2) (exit_status status)) }
 
     // Status 0 only if the source gave a text to its end, and the run over its commands is done, or its end was asked for.
-    ensures done { IfOk result.1 (λ status. exit_status status ≡ 0 → AppendsWhole
+    ensures done { IfOk result.1 (λ status. exit_status status ≡ 0 → AppendsAll
         (views_by S.Source ⟦<Followed<'a, R> as Sink>⟧ ⟦<Followed<'a, R> as Durable>⟧.is_durable E.contents) station
         (appending_run streams result.0 kept.old.turns kept.new.turns result.2)) }
 

@@ -17,7 +17,6 @@ use std::io::{self, Write};
 
 /// The messages of a station, with what was seen of the station and reported so far.
 pub(crate) struct Reporter<E> {
-    watch: Watch,
     signs: Signs,
     // What was reported of the station's files.
     files: FilesTold,
@@ -28,7 +27,6 @@ impl<E: Write> Reporter<E> {
     /// A reporter that has reported nothing yet. `watch`: who watches the station.
     pub(crate) fn new(watch: Watch, messages: E) -> Reporter<E> {
         Reporter {
-            watch,
             signs: Signs::new(watch),
             files: FilesTold::new(),
             messages,
@@ -37,7 +35,7 @@ impl<E: Write> Reporter<E> {
 
     /// Writes at the start how many commands a cycle has (`count`), and to which place they go; nothing if nobody watches.
     pub(crate) fn begin(&mut self, place: Place<'_>, count: usize) {
-        if self.watch != Watch::Nobody {
+        if self.signs.is_watched() {
             let _ = report_start(place, count, &mut self.messages);
         }
     }
@@ -75,7 +73,7 @@ impl<E: Write> Reporter<E> {
     pub(crate) fn report_overrun(&mut self, cycle: u64) {
         if self.signs.may_report_overrun() {
             let _ = self.signs.clear(&mut self.messages);
-            let _ = tell_overrun(&mut self.messages, cycle);
+            let _ = tell_overrun(cycle, &mut self.messages);
         }
     }
 
@@ -89,7 +87,6 @@ impl<E: Write> Reporter<E> {
     /// terminal, and hands the messages back. What became of the files since the last `report` isn't written.
     pub(crate) fn end(self) -> E {
         let Reporter {
-            watch: _,
             mut signs,
             files: _,
             mut messages,
@@ -110,7 +107,7 @@ fn report_start<E: Write>(place: Place<'_>, count: usize, messages: &mut E) -> i
 }
 
 // Writes the line of a cycle that was not done when the next was due.
-fn tell_overrun<E: Write>(messages: &mut E, cycle: u64) -> io::Result<()>
+fn tell_overrun<E: Write>(cycle: u64, messages: &mut E) -> io::Result<()>
     ensures { OnOk result (Appends (E.contents messages.old) (E.contents messages.new) (overrun_line cycle)) }
 {
     writeln!(

@@ -129,6 +129,11 @@ impl Signs {
         }
     }
 
+    /// Whether somebody watches the station.
+    pub(crate) fn is_watched(&self) -> bool {
+        self.watch != Watch::Nobody
+    }
+
     /// Counts a record by its ending, and notes its cycle, whether a command was answered or skipped, and whether the setup isn't done.
     pub(crate) fn count(&mut self, stamp: Stamp, ending: Ending<'_>)
         ensures { self.new.counts ≡ counted (ending_seen ending.entry) self.old.counts }
@@ -178,7 +183,7 @@ impl Signs {
     /// Whether a line on a cycle that wasn't done when the next was due may be written now: somebody watches, and none was written in
     /// the last minute. If so, it counts as written.
     pub(crate) fn may_report_overrun(&mut self) -> bool {
-        self.watch != Watch::Nobody && self.overrun.allows(self.elapsed, MINUTE)
+        self.is_watched() && self.overrun.allows(self.elapsed, MINUTE)
     }
 
     /// Takes in the health of the link and the moment, and writes the lines that are due. `is_lost`: the last connection was lost
@@ -191,7 +196,7 @@ impl Signs {
         moment: Moment,
         messages: &mut E,
     ) -> io::Result<()> {
-        if self.watch == Watch::Nobody {
+        if !self.is_watched() {
             return Ok(());
         }
         let before = self.health;
@@ -246,7 +251,7 @@ impl Signs {
         odd: Oddities,
         messages: &mut E,
     ) -> io::Result<()> {
-        if self.watch == Watch::Nobody || self.odd == odd {
+        if !self.is_watched() || self.odd == odd {
             return Ok(());
         }
         let told = self.odd;
@@ -412,7 +417,7 @@ impl Signs {
     /// Writes at the end of a run how many commands were skipped that no line reported yet, unless nobody watches or a line of this
     /// kind was written in the last minute, and clears the status line of a terminal.
     pub(crate) fn end<E: Write>(&mut self, messages: &mut E) -> io::Result<()> {
-        if self.watch != Watch::Nobody {
+        if self.is_watched() {
             self.report_skipped(messages)?;
         }
         self.clear(messages)

@@ -90,10 +90,7 @@ impl<'a, R: Files<File = File>> Sink for Followed<'a, R> {
 
     // Writes into the file that takes the rows now. `Err`: that file failed, now or before.
     fn write(&mut self, bytes: &[u8]) -> Result<usize, PortFailed> {
-        match self.rows.write(bytes) {
-            Ok(n) => Ok(n),
-            Err(failed) => Err(failed),
-        }
+        self.rows.write(bytes)
     }
 
     fn has_failed(&self) -> bool {
@@ -118,14 +115,7 @@ impl<'a, R: Files<File = File>> Durable for Followed<'a, R> {
             self.note_astray(false);
             return Ok(());
         }
-        let opened = open_at(
-            self.rt,
-            self.alloc,
-            self.path,
-            self.rows.head(),
-            self.rows.sign(),
-            self.rows.asks_sync(),
-        );
+        let opened = open_at(self.rt, self.alloc, self.path, self.rows.options());
         match opened {
             Ok((rows, copied)) => {
                 let files = self.noticed.get().files;

@@ -21,9 +21,7 @@ impl<const N: usize> ShortText<N> {
 impl<const N: usize> Write for ShortText<N> {
     // Takes the bytes that there is room for, and discards the others. It never fails.
     fn write(&mut self, buf: &[u8]) -> io::Result<usize> {
-        for b in buf {
-            let _ = self.bytes.try_push(*b);
-        }
+        let _ = self.bytes.write(buf);
         Ok(buf.len())
     }
 

@@ -5,24 +5,17 @@ use std::io::{self, Write};
 /// Writes a line for each line of a text that ends with a space or a tab, with its number, counted from 1. CRs after that space or tab
 /// don't count. `Err`: a message couldn't be written; those after that one aren't.
 pub fn report_spaces<E: Write>(text: &[u8], messages: &mut E) -> io::Result<()> {
-    let mut line = 1u32;
-    let mut last = b'\n';
-    for byte in text {
-        if *byte == b'\n' {
-            report_space(line, last, messages)?;
-            line = line.saturating_add(1);
-        }
-        if *byte != b'\r' {
-            last = *byte;
+    for (at, line) in text.split(|byte| *byte == b'\n').enumerate() {
+        if ends_with_a_space(line) {
+            let number = at + 1;
+            writeln!(messages, "geocom: line {number} ends with a space")?;
         }
     }
-    report_space(line, last, messages)
+    Ok(())
 }
 
-// Writes the message on the line with the number `line`, whose last byte before its end is `last`, if that is a space or a tab.
-fn report_space<E: Write>(line: u32, last: u8, messages: &mut E) -> io::Result<()> {
-    if last != b' ' && last != b'\t' {
-        return Ok(());
-    }
-    writeln!(messages, "geocom: line {line} ends with a space")
+// Whether the last byte of a line that is no CR is a space or a tab.
+fn ends_with_a_space(line: &[u8]) -> bool {
+    let last = line.iter().rev().find(|byte| **byte != b'\r');
+    last.is_some_and(|byte| *byte == b' ' || *byte == b'\t')
 }

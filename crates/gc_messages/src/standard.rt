@@ -77,10 +77,7 @@ pub struct Places<F> {
 // above those of the three streams, so it takes no stream's place. If the system refuses the handle though the stream is open, as
 // when the process may open nothing more, the stream counts as closed, too.
 fn is_open<F: AsFd>(stream: &F) -> bool {
-    match stream.as_fd().try_clone_to_owned() {
-        Ok(_) => true,
-        Err(_) => false,
-    }
+    stream.as_fd().try_clone_to_owned().is_ok()
 }
 
 // `/dev/null`, which takes all and gives nothing, for a stream that is closed, and `None` for one that is open. `Err`: it couldn't be

@@ -16,14 +16,9 @@ fn one_turn_back() -> Decimal {
     Decimal::literal(-6_283_185_307_179_586_476_925_286, 24)
 }
 
-// Whether a horizontal angle is outside one turn: above one turn, or below one backwards.
-fn is_hz_outside_a_turn(hz: Decimal) -> bool {
-    hz > one_turn() || hz < one_turn_back()
-}
-
-// Whether a vertical angle is outside one turn: above one turn, or below 0.
-fn is_v_outside_a_turn(v: Decimal) -> bool {
-    v > one_turn() || v < Decimal::zero()
+// Whether an angle is outside one turn: above one turn, or below `least`.
+fn is_outside(angle: Decimal, least: Decimal) -> bool {
+    angle > one_turn() || angle < least
 }
 
 /// Writes a line for each angle outside one turn that a positioning of `text` has, with the number of its line, counted from 1. `all`
@@ -61,15 +56,16 @@ fn is_setup_after(line: &[u8], is_setup: bool) -> bool {
     }
 }
 
-// Writes a line for each angle outside one turn, if the task of the line with this number is a positioning; else nothing.
+// Writes a line for each angle outside one turn, if the task of the line with this number is a positioning; else nothing. A horizontal
+// angle may be one turn backwards, and a vertical one not below 0.
 fn report_odd_angles_of<E: Write>(line: usize, task: &Task, messages: &mut E) -> io::Result<()> {
     let Asked::Table(Call::Position { hz, v, .. }) = task.command.call else {
         return Ok(());
     };
-    if is_hz_outside_a_turn(hz) {
+    if is_outside(hz, one_turn_back()) {
         report_angle(line, "HZ", hz, messages)?;
     }
-    if is_v_outside_a_turn(v) {
+    if is_outside(v, Decimal::zero()) {
         report_angle(line, "V", v, messages)?;
     }
     Ok(())

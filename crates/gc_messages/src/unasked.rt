@@ -8,8 +8,12 @@ use std::io::{self, Write};
 /// measures its direction. `Err`: a message couldn't be written; those after that one aren't.
 pub fn report_unasked<E: Write>(tasks: &Tasks, messages: &mut E) -> io::Result<()> {
     for near in tasks.nears.as_slice() {
-        if !tasks.asks_direction_of(near.target) {
-            report_unasked_target(near.target, messages)?;
+        let target = near.target;
+        if !tasks.asks_direction_of(target) {
+            writeln!(
+                messages,
+                "geocom: near {target}: no command measures the direction of target {target}"
+            )?;
         }
     }
     Ok(())
@@ -19,12 +23,8 @@ pub fn report_unasked<E: Write>(tasks: &Tasks, messages: &mut E) -> io::Result<(
 /// the cycle. `Err`: a message couldn't be written; those after that one aren't.
 pub fn report_unused_names<E: Write>(tasks: &Tasks, messages: &mut E) -> io::Result<()> {
     for name in tasks.names.as_slice() {
-        if !tasks
-            .tasks
-            .iter()
-            .any(|task| task.command.target == name.target)
-        {
-            let target = name.target;
+        let target = name.target;
+        if !tasks.tasks.iter().any(|task| task.command.target == target) {
             writeln!(
                 messages,
                 "geocom: name {target}: no command is for target {target}"
@@ -32,12 +32,4 @@ pub fn report_unused_names<E: Write>(tasks: &Tasks, messages: &mut E) -> io::Res
         }
     }
     Ok(())
-}
-
-// Writes the line of a target whose direction no command measures.
-fn report_unasked_target<E: Write>(target: u32, messages: &mut E) -> io::Result<()> {
-    writeln!(
-        messages,
-        "geocom: near {target}: no command measures the direction of target {target}"
-    )
 }

@@ -11,7 +11,7 @@ use gc_lines::{Line, PortFailed, Sink, line_from};
 use gc_links::Moment;
 use gc_measuring::write_station_row;
 use gc_station::{Book, LinkHealth};
-use gc_texts::{Ending, Stamp, Tasks, Wish};
+use gc_texts::{Ending, Name, Stamp, Wish};
 use gc_words::Layout;
 
 /// What was seen of the rows: what those of the present run claim, and the counts of all runs.
@@ -92,8 +92,8 @@ fn line_of(ending: Ending<'_>) -> Option<Line> {
 pub(crate) struct RunBook<K> {
     sink: K,
     layout: Layout,
-    // The names of targets, in a `Tasks` whose own tasks are empty.
-    named: Tasks,
+    // The names of targets.
+    names: Vec<Name>,
     pub(crate) seen: Seen,
     // How many acts the station may yet make in the run, and whether it was killed at the end of them.
     left: u64,
@@ -109,11 +109,11 @@ pub(crate) struct RunBook<K> {
 
 impl<K> RunBook<K> {
     /// A book to which nothing was written. `begin` has to be called before each run.
-    pub(crate) fn new(sink: K, layout: Layout, named: Tasks, seen: Seen) -> RunBook<K> {
+    pub(crate) fn new(sink: K, layout: Layout, names: Vec<Name>, seen: Seen) -> RunBook<K> {
         RunBook {
             sink,
             layout,
-            named,
+            names,
             seen,
             left: 0,
             is_killed: false,
@@ -148,11 +148,11 @@ impl<K> RunBook<K> {
     }
 
     /// Ends the book, and hands back the sink, what was seen of the rows, and the names of targets.
-    pub(crate) fn end(self) -> (K, Seen, Tasks) {
+    pub(crate) fn end(self) -> (K, Seen, Vec<Name>) {
         let RunBook {
             sink,
             layout: _,
-            named,
+            names,
             seen,
             left: _,
             is_killed: _,
@@ -161,12 +161,12 @@ impl<K> RunBook<K> {
             is_cut_off: _,
             has_failed: _,
         } = self;
-        (sink, seen, named)
+        (sink, seen, names)
     }
 }
 
 impl<K: Sink> Book for RunBook<K> {
-    ghost text = { λ book. text_in book.layout book.named.names.items };
+    ghost text = { λ book. text_in book.layout book.names.items };
 
     ghost taken = { λ book. K.taken book.sink };
 
@@ -186,7 +186,7 @@ impl<K: Sink> Book for RunBook<K> {
         let written = write_station_row(
             &mut self.sink,
             self.layout,
-            &self.named,
+            self.names.as_slice(),
             stamp,
             command,
             ending,

@@ -13,7 +13,7 @@ use gc_fates::{Draws, among};
 use gc_lines::Sink;
 use gc_measuring::plan_of;
 use gc_rehearsal::Rehearsed;
-use gc_rehearsed::are_askable;
+use gc_rehearsed::commands_are_askable;
 use gc_rehearsed::laws::rehearsals_in_a_row_are_faithful;
 use gc_station::{Kept, Plan, run_station};
 use gc_texts::{RunFault, Task};
@@ -90,7 +90,7 @@ pub(crate) fn run_nights<K: Sink>(
     ensures { AreFaithfulRuns programme.entry.tasks.now link.new.carried }
 {
     let end = run_each_night(link, book, programme);
-    link.is_of_line();
+    link.line_keeps_order();
     rehearsals_in_a_row_are_faithful();
     end
 }
@@ -201,7 +201,7 @@ fn run_by_plan<K: Sink>(
 ) -> Option<RunFault>
     ensures { AreRuns programme.entry.tasks.now link.old.carried link.new.carried }
 {
-    are_askable(programme.tasks);
+    commands_are_askable(programme.tasks);
     // What is seen at each act, for proofs alone.
     let mut kept = Kept::new();
     run_station(link, book, programme.tasks, plan, u64::MAX, &mut kept).err()
@@ -232,8 +232,8 @@ fn run_once<K: Sink>(
 
 // How a run ended that stopped for this fault; `None`: it is done. The summary counts the last cycle of a run that is done, and
 // leaves out the last one of any other, also if it has a row for each command; but it counts how the run ended. A run that was
-// killed, or cut off at the end of its night, ended for that, whatever its fault. It fails with `Output` for any other run with that fault, and with `Memory` if
-// memory was refused for the last cycle.
+// killed, or cut off at the end of its night, ended for that, whatever its fault. It fails with `Output` for any other run with
+// that fault, and with `Memory` if memory was refused for the last cycle.
 fn end_of_run<K>(book: &mut RunBook<K>, fault: Option<RunFault>) -> Result<RunEnd, Halt> {
     let Some(fault) = fault else {
         if book.seen.summary.finish().is_err() {

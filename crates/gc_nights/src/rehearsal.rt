@@ -13,7 +13,7 @@ use crate::summary::Summary;
 use gc_engines::{RuleForm, read_rule_scene, scene_trouble_of};
 use gc_fates::{Rules, Word, read_rules};
 use gc_lines::{FromReader, Sink, Source};
-use gc_measuring::{Work, read_task_text, work_of};
+use gc_measuring::{commands_per_cycle, read_task_text};
 use gc_messages::Streams;
 use gc_rehearsal::Rehearsed;
 use gc_rows::write_head;
@@ -187,12 +187,13 @@ fn rehearse_texts<K: Sink + Drop, E: Write>(
         instrument,
         tasks,
     } = texts;
-    let Work {
+    let commands = commands_per_cycle(&tasks);
+    let Tasks {
         setup,
         tasks,
-        named,
-        commands,
-    } = work_of(alloc, tasks);
+        names,
+        nears: _,
+    } = tasks;
     let Ok(summary) = Summary::new(alloc, commands) else {
         return (output, Err(Halt::Fault(RunFault::Memory)));
     };
@@ -215,7 +216,7 @@ fn rehearse_texts<K: Sink + Drop, E: Write>(
         return (output, Err(Halt::Fault(RunFault::Memory)));
     };
     let seen = Seen::new(BEGINNING, deadlines, Vec::new(alloc), summary);
-    let book = RunBook::new(output, layout, named, seen);
+    let book = RunBook::new(output, layout, names, seen);
     let chance = Seeded::new(rules, rehearsal.seed);
     let link = Rehearsed::new(alloc, chance, instrument, BEGINNING);
     rehearse_over(programme, link, book, messages)
@@ -232,13 +233,13 @@ fn rehearse_over<K: Sink + Drop, E: Write>(
     requires { link.carried ≡ [] }
 {
     let end = run_nights(&mut link, &mut book, programme);
-    let (output, mut seen, named) = book.end();
+    let (output, mut seen, names) = book.end();
     if end.is_ok() {
         // If the summary can't be written, the rows are there all the same.
         let _ = tell_summary(
             programme,
             &mut seen.summary,
-            &named,
+            names.as_slice(),
             link.counts(),
             messages,
         );

@@ -6,7 +6,7 @@ use crate::summary::{Summary, TargetTally};
 use gc_measuring::{write_main_counts, write_other_counts, write_target};
 use gc_rehearsal::Counts;
 use gc_station::Tally;
-use gc_texts::Tasks;
+use gc_texts::{Name, name_text};
 use std::io::{self, Write};
 
 /// Writes the summary: of all nights, of all commands, of all cycles, of each target, of the line, and what a lost line cost, if
@@ -15,7 +15,7 @@ use std::io::{self, Write};
 pub(crate) fn tell_summary<E: Write>(
     programme: Programme<'_>,
     summary: &mut Summary,
-    named: &Tasks,
+    names: &[Name],
     counts: Counts,
     messages: &mut E,
 ) -> io::Result<()> {
@@ -25,7 +25,7 @@ pub(crate) fn tell_summary<E: Write>(
     let _ = summary.spans.sort();
     tell_cycles(programme, summary, messages)?;
     for target in &summary.targets {
-        tell_target(*target, named.name_of(target.target), messages)?;
+        tell_target(*target, name_text(target.target, names), messages)?;
     }
     tell_line(counts, messages)?;
     tell_cost(summary, counts, messages)

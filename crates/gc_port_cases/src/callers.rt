@@ -202,14 +202,7 @@ impl<'a> Played<'a> {
         let (count, reads) = cut_word(what);
         let count = came.number(count);
         let reads = came.number(reads);
-        let end = serve_on(
-            self.rt,
-            &self.listener,
-            count,
-            &mut self.instrument,
-            None,
-            reads,
-        );
+        let end = serve_on(self.rt, &self.listener, count, &mut self.instrument, reads);
         tell_end(end, came)
     }
 
@@ -223,19 +216,12 @@ impl<'a> Played<'a> {
             rpc: came.number(rpc),
             ms: came.number(ms),
         };
-        let drops = busy == "drop";
-        let (Ok(clock), Ok(begun)) = (BusyClock::new(self.rt, drops), Instant::now(self.rt)) else {
+        let slow = slow_instrument(delay, busy == "drop");
+        let (Ok(clock), Ok(begun)) = (BusyClock::new(self.rt, &slow), Instant::now(self.rt)) else {
             return came.text("no clock");
         };
-        let mut instrument = Slow::new(&clock, slow_instrument(delay, drops));
-        let end = serve_on(
-            self.rt,
-            &self.listener,
-            1,
-            &mut instrument,
-            Some(&clock),
-            99,
-        );
+        let mut instrument = Slow::new(&clock, slow);
+        let end = serve_on(self.rt, &self.listener, 1, &mut instrument, 99);
         tell_end(end, came);
         if has_passed(self.rt, &begun, delay.ms) {
             came.text(" late");
@@ -256,7 +242,6 @@ impl<'a> Played<'a> {
             &self.listener,
             keeping,
             &mut self.instrument,
-            None,
             &mut messages,
         );
         tell_kept(all, messages.as_slice(), came);
@@ -311,14 +296,7 @@ impl<'a> Played<'a> {
         came.text(", ");
         // Serving fails then: the port is in use, or this user can't bind it.
         let _taken = listen(self.rt, port);
-        let end = serve_tcp(
-            self.rt,
-            Address::Here(port),
-            1,
-            &mut self.instrument,
-            None,
-            9,
-        );
+        let end = serve_tcp(self.rt, Address::Here(port), 1, &mut self.instrument, 9);
         tell_end(end, came)
     }
 }

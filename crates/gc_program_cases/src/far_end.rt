@@ -21,21 +21,21 @@ const BEGIN: u64 = 1_795_388_880_000;
 // one millisecond, which the system may round up to 10.
 const NO_WAIT: u64 = 10;
 
-// What the far end saw.
+/// What the far end saw.
 #[derive(Drop)]
 pub struct Seen {
-    // How many milliseconds have passed.
+    /// How many milliseconds have passed.
     pub elapsed: u64,
-    // How often a connection was tried, with the attempts that were refused.
+    /// How often a connection was tried, with the attempts that were refused.
     pub tried: u32,
-    // What came, with a `>` wherever the station waited after it.
+    /// What came, with a `>` wherever the station waited after it.
     pub heard: Told,
-    // The paths of the files that were to be opened, a line each. None is there.
+    /// The paths of the files that were to be opened, a line each. None is there.
     pub files: Told,
 }
 
 impl Seen {
-    // Nothing was seen yet.
+    /// Nothing was seen yet.
     pub fn new(alloc: Global) -> Seen {
         Seen {
             elapsed: 0,
@@ -51,9 +51,9 @@ impl Seen {
     }
 }
 
-// Makes a connection, and returns both ends, the station's first. They are a pair of Unix sockets, because what is written to one
-// can be read at the other at once. No read of either waits. `Err`: the system gives no pair, or can't set an end so that no read
-// of it waits.
+/// Makes a connection, and returns both ends, the station's first. They are a pair of Unix sockets, because what is written to one
+/// can be read at the other at once. No read of either waits. `Err`: the system gives no pair, or can't set an end so that no read
+/// of it waits.
 pub fn both_ends(net: &impl Net) -> io::Result<(TcpStream, TcpStream)> {
     let ends = UnixStream::pair(net)?;
     unblock_both(&ends)?;
@@ -77,20 +77,20 @@ fn stream_of(end: UnixStream) -> TcpStream {
     TcpStream::from(OwnedFd::from(end))
 }
 
-// A stand-in for the system with this connection alone, and with a clock of its own.
+/// A stand-in for the system with this connection alone, and with a clock of its own.
 #[derive(Drop)]
 pub struct FarEnd<'a, 'b> {
     pub ends: &'a (TcpStream, TcpStream),
     pub seen: &'b RefCell<Seen>,
-    // How many milliseconds an answer takes; that has to be less than the station waits for it. `None`: nothing is answered.
+    /// How many milliseconds an answer takes; that has to be less than the station waits for it. `None`: nothing is answered.
     pub answer: Option<u64>,
-    // After this many milliseconds the monotonic clock can't be read any more.
+    /// After this many milliseconds the monotonic clock can't be read any more.
     pub until: u64,
-    // How many connections are refused before one is made.
+    /// How many connections are refused before one is made.
     pub refused: u64,
-    // After this many milliseconds nothing is answered any more.
+    /// After this many milliseconds nothing is answered any more.
     pub silent: u64,
-    // What the line does to what is sent over it.
+    /// What the line does to what is sent over it.
     pub odd: Oddities,
 }
 

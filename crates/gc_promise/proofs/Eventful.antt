@@ -44,7 +44,7 @@ use Rattle.gc_field.proofs.Instruments.{keeps_none}
 
 -- `reporting` is an instrument
 reporting_is : IsAnInstrument reporting AnyState instrument.nothing
-reporting_is = keeps_none (List ℕ) reporting (λ line. refl) (λ s id call small. reply_heard 0 id 0 s (lit< tt) small (lit< tt)) (λ s id call. refl)
+reporting_is = keeps_none (List ℕ) reporting (λ line. refl) (λ s id call good small. reply_heard 0 id 0 s (lit< tt) small (lit< tt)) (λ s id call. refl)
 
 -- What the station sees of the line.
 

@@ -31,7 +31,7 @@ use Rattle.gc_lines.specs.declared.ports.Source.{Ghosts as Source}
 use Rattle.gc_lines.specs.declared.ports.Sink.{Ghosts as Sink}
 use Rattle.gc_measuring.specs.Measuring.{PortsSeen, Measures, survey_of, Survey, text_in, front_text, RunsAfterFront}
 use Rattle.std.proofs.lemmas.Option.{same_Some}
-use Rattle.gc_promise.specs.Lasting.{RunOfFile, IsRunOfFile, AppendsAreRuns, RunMoment, IsRunMoment, rows_by, AreLeft, OpensFile, RowsOutlastCrashes, doubted_by, Ending, Stopped, Unsynced, MayEnd, sides_ended, doubt_of, sides_begun, RowsOutlastFailures}
+use Rattle.gc_promise.specs.Lasting.{HasRunOfFile, AppendsAreRuns, RunMoment, IsRunMoment, rows_by, AreLeft, OpensFile, RowsOutlastCrashes, doubted_by, Ending, Stopped, Unsynced, MayEnd, sides_ended, doubt_of, sides_begun, RowsOutlastFailures}
 use Rattle.gc_promise.specs.Tables.{scope_of}
 use Rattle.gc_promise.proofs.Ended.{text_whole}
 use Rattle.gc_promise.proofs.Pieces.{pieces, rows_left, whole_rest}
@@ -50,41 +50,30 @@ between_is survey between headed front =
 
 -- What `append_at` reports is a run of a file.
 
--- what was seen at each act is the same in `new` as in `old`, or there is a run of this file by the acts `told`, before which
--- what was seen is that of `old`, and after which it is that of `new`
-abbrev Found : (R : Type 0) (old new : PortsSeen) (told : List Act) (file : Followed R) → Type 0
-Found R old new told file =
-    (new.turns ≡ old.turns)
-    ⊎ ((run : RunOfFile R) × IsRunOfFile run × (run.file ≡ file) × (run.recorded ≡ told) × (run.old.turns ≡ old.turns) × (run.new.turns ≡ new.turns))
-
--- if a station whose output has its header already (`headed`) measured over a link that had recorded no acts, and then had
--- recorded `told`, into a file that had taken no bytes, and then had taken those of `file`, `Found` holds
+-- if a station whose output has its header already (`headed`) measured over a link that had recorded no acts, into a file that
+-- had taken no bytes, and then had taken those of `file`, either no act was made, or there is a run of that file (`HasRunOfFile`)
 found : {R : Type 0} (station : Settings) (given : List ℕ) (old new : PortsSeen) (end : Result Tally Stop) (told : List Act) (file : Followed R)
     → station.layout.headed ≡ true → old.acts ≡ Some [] → new.acts ≡ Some told → old.taken ≡ Some [] → new.taken ≡ Some (bytes_in file)
-    → Measures given station 18446744073709551615 old new end → Found R old new told file
+    → Measures given station 18446744073709551615 old new end → (new.turns ≡ old.turns) ⊎ HasRunOfFile file new.acts old.turns new.turns
 found station given old new end told file headed none acts fresh took (inl (stop, is, refuses, unused)) = inl unused.turns
 found station given old new end told file headed none acts fresh took (inr (setup, tasks, names, gives, inl front)) = inl front.turns
-found station given old new end told file headed none acts fresh took (inr (setup, tasks, names, gives, inr behind)) = inr (
-  record { survey = survey_of station 18446744073709551615 setup tasks names; old = old; new = new; end = end; recorded = told; file = file },
-  record { headed = headed; none = none; acts = acts; fresh = fresh; took = took; ran = behind },
-  refl,
-  refl,
-  refl,
-  refl,
-)
+found station given old new end told file headed none acts fresh took (inr (setup, tasks, names, gives, inr behind)) = inr (record {
+  run = record { survey = survey_of station 18446744073709551615 setup tasks names; old = old; new = new; end = end; recorded = told; file = file };
+  is = record { headed = headed; none = none; acts = acts; fresh = fresh; took = took; ran = behind };
+  of_file = refl;
+  by_acts = acts;
+  before = refl;
+  after = refl;
+})
 
 -- for a sink that has taken the bytes of its file (`bytes_in`), what `append_at` reports is a run of the file that it hands
 -- back, or no act was made (`AppendsAreRuns`)
 pub appends_are_runs : {S R : Type 0} (source : Source S) (sink : Sink (Followed R)) (K E : Type 0) → ((f : Followed R) → sink.taken f ≡ Some (bytes_in f)) → AppendsAreRuns source sink K E
-appends_are_runs source sink K E taken lasts shown has_log station old new file acts turns turns' status tells = elim tells.run.ran [
+appends_are_runs source sink K E taken lasts shown has_log station whole file status none left tells = elim tells.run.ran [
   | inl ran ↦
-      let it = same_Some file tells.ended.output tells.filed.left in
-      let m = ran.measured in
-      elim (found (begun_at m.0 (words.for_file station)) m.1.0 _ _ tells.run.end ran.told file refl refl refl tells.filed.fresh
-      (subst (λ f. sink.taken f ≡ Some (bytes_in file)) it (taken file)) m.1.2) [
-        | inl none ↦ inl none
-        | inr some ↦ inr (some.0, some.1, some.2, ran.is ∙ ap (λ (l : List Act). Some l) (sym some.3), some.4, some.5)
-      ]
+      let it = same_Some file tells.ended.output (sym left ∙ tells.filed.left) in
+      found (begun_at ran.run (words.for_file station)) ran.measured.0 _ _ tells.run.end ran.told file refl none ran.is tells.filed.fresh
+      (subst (λ f. sink.taken f ≡ Some (bytes_in file)) it (taken file)) ran.measured.2
   | inr unbegun ↦ inl unbegun.turns
 ]
 

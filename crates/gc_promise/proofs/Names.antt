@@ -275,12 +275,12 @@ answer_under_its_names call (Measured hz v distance) =
 answer_under_its_names call (MeasuredMode hz v distance mode) =
     (refl, (refl, (refl, (refl, (refl, (refl, (refl, (refl, (refl, (refl, (refl, (refl, (refl, (refl, (refl, (refl, (refl, (refl, (refl, (refl, (refl, (refl, (refl, (refl, tt))))))))))))))))))))))))
 
--- if all fields of quantities are empty, `blank_under` holds of each name of one
+-- if all fields of quantities are empty, the field under each name of a quantity is empty
 blank : AllByRecursion (λ (name : List ℕ). under name quantity_names (map escaped (replicate 24 [])) ≡ []) quantity_names
 blank =
     (refl, (refl, (refl, (refl, (refl, (refl, (refl, (refl, (refl, (refl, (refl, (refl, (refl, (refl, (refl, (refl, (refl, (refl, (refl, (refl, (refl, (refl, (refl, (refl, tt))))))))))))))))))))))))
 
--- if all fields of quantities are empty, the field under a name of a quantity is empty
+-- `blank`, of the name of the quantity at place k
 blank_under : (name : List ℕ) (k : ℕ) → slice_get quantity_names k ≡ Some name → under name quantity_names (map escaped (replicate 24 [])) ≡ []
 blank_under name k is = all_at (λ (n : List ℕ). under n quantity_names (map escaped (replicate 24 [])) ≡ []) quantity_names k name blank is
 

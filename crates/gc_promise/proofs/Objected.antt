@@ -101,13 +101,15 @@ module _ (survey : Survey) (r : Record) where
       let text = target_in survey r in
       record {
         is_of = record {
-          sent = member_sent when text r.command r.end;
-          cycle = member_cycle when text r.command r.end;
-          place = member_place when text r.command r.end;
+          command = record {
+            sent = member_sent when text r.command r.end;
+            cycle = member_cycle when text r.command r.end;
+            place = member_place when text r.command r.end;
+            target = member_target when text r.command r.end;
+            procedure = member_procedure when text r.command r.end;
+            outcome = member_outcome when text r.command r.end;
+          };
           attempt = member_attempt when text r.command r.end;
-          target = member_target when text r.command r.end;
-          procedure = member_procedure when text r.command r.end;
-          outcome = member_outcome when text r.command r.end;
         };
         quality = member_quality when text r.command r.end;
         rc_com = λ line n answered is. subst (λ (t : List ℕ). IsNumber t n) (sym (member_rc_com when text r.command r.end line answered)) (zeros_gone (com_of line) n is);

@@ -1,8 +1,9 @@
 -- The rows of a run in the field are their own: what is in a row of an answer was made by the instrument on executing the
 -- very request of the row's cycle and place.
-use Rattle.std.proofs.Common.{◌≡◌, ℕ, ◌<◌, Bool, true, false, List, [], ◌∷◌, length, Option, Some, Result, Ok, Err, refl, ap, ◌∙◌, arith}
+use Rattle.std.proofs.Common.{◌≡◌, ℕ, ◌<◌, Bool, true, false, List, [], ◌∷◌, length, Option, Some, Result, Ok, Err, refl, sym, subst, ap, ◌∙◌, arith}
 use Rattle.std.specs.Prelude.{codes}
 use Rattle.std.specs.List.{AllByRecursion}
+use Rattle.gc_lines.specs.Numbers.{IsNumber}
 use Rattle.gc_lines.specs.Readers.{reply_at}
 use Rattle.gc_lines.specs.Replies.{ReplyFields, IsReply}
 use Rattle.gc_lines.specs.declared.fault.LineFault.{LineFault}
@@ -76,16 +77,13 @@ says layout columns names r line answered reply =
     let rc : column (codes "rc") (row_fields columns when name r.command r.end) ≡ code_of line = on_line columns when name r.command r.end (codes "rc") line answered in
     let values : column (codes "values") (row_fields columns when name r.command r.end) ≡ values_of line = on_line columns when name r.command r.end (codes "values") line answered in
     record {
-      sent = refl;
-      cycle = refl;
-      place = refl;
-      target = refl;
-      procedure = refl;
-      outcome = refl;
-      reply = reply.0;
-      is_reply = reply.1;
-      rc_com = rw (rc_com) said.rc_com;
-      rc = rw (rc) said.rc;
+      command = record { sent = refl; cycle = refl; place = refl; target = refl; procedure = refl; outcome = refl };
+      says = record {
+        reply = reply.0;
+        is_reply = reply.1;
+        rc_com = subst (λ (t : List ℕ). IsNumber t reply.0.rc_com) (sym rc_com) said.rc_com;
+        rc = subst (λ (t : List ℕ). IsNumber t reply.0.rc) (sym rc) said.rc;
+      };
       values = values ∙ said.values;
     }
 

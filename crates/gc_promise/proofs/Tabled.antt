@@ -101,13 +101,15 @@ module _ (survey : Survey) (columns : Bool) (r : Record) where
       let text = target_in survey r in
       record {
         is_of = record {
-          sent = under_sent when text r.command r.end columns;
-          cycle = under_cycle when text r.command r.end columns;
-          place = under_place when text r.command r.end columns;
+          command = record {
+            sent = under_sent when text r.command r.end columns;
+            cycle = under_cycle when text r.command r.end columns;
+            place = under_place when text r.command r.end columns;
+            target = under_target when text r.command r.end columns;
+            procedure = under_procedure when text r.command r.end columns;
+            outcome = under_outcome when text r.command r.end columns;
+          };
           attempt = under_attempt when text r.command r.end columns;
-          target = under_target when text r.command r.end columns;
-          procedure = under_procedure when text r.command r.end columns;
-          outcome = under_outcome when text r.command r.end columns;
         };
         quality = under_quality when text r.command r.end columns;
         rc_com = λ line n answered is.

@@ -134,20 +134,22 @@ module _ (survey : Survey) (reads : Asked → List ℕ → Reading) (are : AreRe
       → IsJudged reads are accepted r.command.call line reply.0 reply.1 reading.0 told.0 reading.1 told.1 quality values =
       λ quality values l is. by quality values (subst (IsOfQuality reads accepted r.command.call quality values) (same_Some l line (ap line_of (sym is) ∙ answered)) (listed quality values l is)) in
       record {
-        reply = reply.0;
-        is_reply = reply.1;
-        rc_com = has.rc_com line reply.0.rc_com answered said.rc_com;
-        rc = has.rc line reply.0.rc answered said.rc;
+        says = record {
+          reply = reply.0;
+          is_reply = reply.1;
+          rc_com = has.rc_com line reply.0.rc_com answered said.rc_com;
+          rc = has.rc line reply.0.rc answered said.rc;
+        };
         values = has.values line answered ∙ ap escaped said.values;
         answer_reading = reading.0;
         is_answer_reading = reading.1;
         quality = λ answers.
-            let e = is_answered r.end (sym has.is_of.outcome ∙ answers) in
+            let e = is_answered r.end (sym has.is_of.command.outcome ∙ answers) in
             has.quality ∙ ap (λ (end : End). quality_text (quality_of end)) e.3 ∙ ap quality_word (judges e.0 e.1 e.2 e.3).quality_is;
         quantity_reading = told.0;
         is_quantity_reading = told.1;
         quantities = λ shows answers name quantity.
-            let e = is_answered r.end (sym has.is_of.outcome ∙ answers) in
+            let e = is_answered r.end (sym has.is_of.command.outcome ∙ answers) in
             has.quantities shows (quantity_source (quality_in accepted reading.0) reply.0) told.0 told.1 e.0 e.1 e.2 e.3 (judges e.0 e.1 e.2 e.3).values_are name quantity;
       }
 
@@ -160,14 +162,14 @@ module _ (survey : Survey) (reads : Asked → List ℕ → Reading) (are : AreRe
   own_if ends kept acts ps ss own came listed of =
       record {
         is_of = has.is_of;
-        clock = set_to at survey.tasks r of has.is_of.sent;
-        unsent = never_sent at survey.tasks r of has.is_of.sent;
+        clock = set_to at survey.tasks r of has.is_of.command.sent;
+        unsent = never_sent at survey.tasks r of has.is_of.command.sent;
         replied = λ is.
-            let replied = line_in r.end (subst IsOutcomeOfReply has.is_of.outcome is) in
+            let replied = line_in r.end (subst IsOutcomeOfReply has.is_of.command.outcome is) in
             let justified = came replied.0 replied.1 in
             (replied.0, says replied.0 replied.1 (a_reply replied.0 _ justified.id) listed, own replied.0 replied.1);
-        without = λ shows other name quantity. has.none shows (λ answers. other (has.is_of.outcome ∙ answers)) name quantity;
-        unqualified = λ other. has.quality ∙ without_quality r.end (λ answers. other (has.is_of.outcome ∙ answers));
+        without = λ shows other name quantity. has.none shows (λ answers. other (has.is_of.command.outcome ∙ answers)) name quantity;
+        unqualified = λ other. has.quality ∙ without_quality r.end (λ answers. other (has.is_of.command.outcome ∙ answers));
       }
 
 module _ {State : Type 0} (ends : Ends State) (kept : State → Option KeptReply) (is : IsAnInstrument ends AnyState kept) (survey : Survey)

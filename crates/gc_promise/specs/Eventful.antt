@@ -36,7 +36,7 @@ use Rattle.gc_station.specs.declared.plan.Plan.{Plan}
 use Rattle.gc_station.specs.declared.tally.Tally.{Tally}
 use Rattle.gc_field.specs.World.{Ends, Up_deliver, Up_lose, Up_repeat, Down_lose, Down_repeat}
 use Rattle.gc_field.specs.Begin as turn
-use Rattle.gc_field.specs.Begin.{Turn, Asks, Reaches, UnderWay, begins, leaves, turned}
+use Rattle.gc_field.specs.Begin.{Turn, Asks, Reaches, UnderWay, left_by_turns}
 use Rattle.gc_field.specs.Beginnings.{Run, left_by_run}
 use Rattle.gc_field.specs.BeginsAnew.{put_all, send_all}
 use Rattle.gc_field.specs.Begun.{WasMadeOn}
@@ -388,11 +388,11 @@ left_by_first = left_by_run WINDOW reporting at_start first_run
 
 -- the stretch of the first cycle
 abbrev pub first_stretch : Stretch (List ℕ)
-first_stretch = record { from = leaves (turned reporting begins_turns (begins at_start)); moves = breaks_moves }
+first_stretch = record { from = left_by_turns reporting begins_turns at_start; moves = breaks_moves }
 
 -- the stretch of the second cycle, which is missed, and of the third
 abbrev pub last_stretch : Stretch (List ℕ)
-last_stretch = record { from = leaves (turned reporting anew_turns (begins left_by_first)); moves = chain_moves }
+last_stretch = record { from = left_by_turns reporting anew_turns left_by_first; moves = chain_moves }
 
 -- The records of the run.
 

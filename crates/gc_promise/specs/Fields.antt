@@ -42,17 +42,28 @@ under name [] fields = []
 under name (n ∷ names) [] = []
 under name (n ∷ names) (field ∷ fields) = if pointwise nat_eq n name then field else under name names fields
 
--- the row has what its record says, however the command ended: when the request was sent, the cycle, the place and the attempt of
--- the turn, the target, the procedure and the outcome. Nothing is under `sent` if the record has no moment of sending. `at` gives
--- the text under a name
-pub record IsRowOf (at : List ℕ → List ℕ) (r : Record) : Type 0 where
+-- the row says of its record's command, however that ended, when the request was sent, the cycle, the place of the turn, the
+-- target, the procedure and the outcome. Nothing is under `sent` if the record has no moment of sending. `at` gives the text
+-- under a name
+pub record SaysCommand (at : List ℕ → List ℕ) (r : Record) : Type 0 where
   pub sent : at (codes "sent") ≡ moment_text r.sent
   pub cycle : at (codes "cycle") ≡ decimal r.cycle
   pub place : at (codes "place") ≡ decimal r.turn.place
-  pub attempt : at (codes "attempt") ≡ decimal r.turn.attempt
   pub target : at (codes "target") ≡ decimal r.command.target
   pub procedure : at (codes "procedure") ≡ decimal (procedure_of r.command.call)
   pub outcome : at (codes "outcome") ≡ word_of r.end
+
+-- the row has what its record says, however the command ended: what `SaysCommand` lists, and the attempt of the turn
+pub record IsRowOf (at : List ℕ → List ℕ) (r : Record) : Type 0 where
+  pub command : SaysCommand at r
+  pub attempt : at (codes "attempt") ≡ decimal r.turn.attempt
+
+-- the row has the codes of this line, which is a reply. `at` gives the text under a name
+pub record SaysCodes (at : List ℕ → List ℕ) (line : List ℕ) : Type 0 where
+  pub reply : ReplyFields
+  pub is_reply : IsReply line reply
+  pub rc_com : IsNumber (at (codes "rc_com")) reply.rc_com
+  pub rc : IsNumber (at (codes "rc")) reply.rc
 
 -- the row of a command that sets the clock: the request asked for the moment that is under `sent`, cut to seconds
 pub record IsSetTo (at : List ℕ → List ℕ) (r : Record) : Type 0 where
@@ -100,18 +111,15 @@ quantity_source Refused reply = reply
 -- accepted of the command; and, if rows have quantities, it has those of the line, `escaped`. The quantities of a warning are
 -- those that the line would have if its return code were 0
 pub record HasReply (has_quantities : Bool) (at : List ℕ → List ℕ) (accepted : Codes) (call : Asked) (line : List ℕ) : Type 0 where
-  pub reply : ReplyFields
-  pub is_reply : IsReply line reply
-  pub rc_com : IsNumber (at (codes "rc_com")) reply.rc_com
-  pub rc : IsNumber (at (codes "rc")) reply.rc
-  pub values : at (codes "values") ≡ escaped reply.params
+  pub says : SaysCodes at line
+  pub values : at (codes "values") ≡ escaped says.reply.params
   -- what the reply says of the call, and so which quality the answer has
   pub answer_reading : Reading
-  pub is_answer_reading : IsAskedReading call reply answer_reading
+  pub is_answer_reading : IsAskedReading call says.reply answer_reading
   pub quality : at (codes "outcome") ≡ codes "answered" → at (codes "quality") ≡ quality_word (quality_in accepted answer_reading)
   -- what the reply says of the call where its quantities are read, as `quantity_source` has it
   pub quantity_reading : Reading
-  pub is_quantity_reading : IsAskedReading call (quantity_source (quality_in accepted answer_reading) reply) quantity_reading
+  pub is_quantity_reading : IsAskedReading call (quantity_source (quality_in accepted answer_reading) says.reply) quantity_reading
   pub quantities :
       has_quantities ≡ true → at (codes "outcome") ≡ codes "answered" →
       (name : List ℕ) → IsQuantity name → at name ≡ escaped (quantity_in call quantity_reading name)

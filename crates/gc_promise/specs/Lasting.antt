@@ -14,13 +14,12 @@ use Rattle.gc_lines.specs.declared.ports.Source.{Ghosts as Source}
 use Rattle.gc_lines.specs.declared.ports.Sink.{Ghosts as Sink}
 use Rattle.gc_messages.specs.Following.{bytes_in}
 use Rattle.gc_messages.specs.declared.following.Followed.{Followed}
-use Rattle.gc_messages.specs.declared.streams.Streams.{Streams}
 use Rattle.gc_station.specs.Keeping.{Snapshot}
 use Rattle.gc_station.specs.Records.{texts_of}
 use Rattle.gc_station.specs.Scopes.{AreReadings}
 use Rattle.gc_station.specs.declared.tally.Tally.{Tally}
 use Rattle.gc_measuring.specs.Measuring.{PortsSeen, Survey, text_in, RunsAfterFront}
-use Rattle.gc_measuring.specs.Telling.{ReportsAppended, stage, views_by}
+use Rattle.gc_measuring.specs.Telling.{AppendingRun, ReportsAppended, views_by}
 use Rattle.gc_measuring.specs.declared.stop.Stop.{Stop}
 use Rattle.gc_words.specs.declared.settings.Settings.{Settings}
 use Rattle.gc_promise.specs.Tables.{records_in}
@@ -47,17 +46,26 @@ pub record IsRunOfFile {R : Type 0} (run : RunOfFile R) : Type 0 where
   pub took : run.new.taken ≡ Some (bytes_in run.file)
   pub ran : RunsAfterFront run.survey run.old run.new run.end
 
--- what clause `told` of `append_at` says (`ReportsAppended`) comes to this: either no act was made (`turns' ≡ turns`), or there
--- is a run of this file, with these acts, which took the turns (what was seen at each act) from `turns` to `turns'`. `source` and
--- `sink` are the ghost members of the program's input and of such files as sinks; `K` and `E` are the types of the output and the
--- messages. `lasts` says whether a file is durable, `shown` gives the bytes written to the messages, and `has_log` says whether
--- the run keeps a log
+-- there is a run of this file (`IsRunOfFile`) after which its link has recorded these acts; `turns` and `turns'` are what had
+-- been seen of link and file at each act so far, before the run and after it
+pub record HasRunOfFile {R : Type 0} (file : Followed R) (acts : Option (List Act)) (turns turns' : List Snapshot) : Type 0 where
+  pub run : RunOfFile R
+  pub is : IsRunOfFile run
+  pub of_file : run.file ≡ file
+  pub by_acts : acts ≡ Some run.recorded
+  pub before : run.old.turns ≡ turns
+  pub after : run.new.turns ≡ turns'
+
+-- what clause `told` of `append_at` says of a run that began without an act and left a file (`ReportsAppended`) comes to this:
+-- either no act was made, so that what was seen at each act stays the same, or the run is one of that file (`HasRunOfFile`).
+-- `source` and `sink` are the ghost members of the program's input and of such files as sinks; `K` and `E` are the types of the
+-- output and the messages. `lasts` says whether a file is durable, `shown` gives the bytes written to the messages, and `has_log`
+-- says whether the run keeps a log
 abbrev pub AppendsAreRuns : {S R : Type 0} → Source S → Sink (Followed R) → (K E : Type 0) → Type 0
-AppendsAreRuns {S = S} {R = R} source sink K E = (lasts : Followed R → Bool) (shown : E → Option (List ℕ)) (has_log : Bool) (station : Settings)
-    (old new : Streams S K E) (file : Followed R) (acts : Option (List Act)) (turns turns' : List Snapshot) (status : ℕ)
-    → ReportsAppended (views_by source sink lasts shown) has_log station (stage old (Some []) turns) (stage new acts turns') (Some file) status
-    → (turns' ≡ turns)
-    ⊎ ((run : RunOfFile R) × IsRunOfFile run × (run.file ≡ file) × (acts ≡ Some run.recorded) × (run.old.turns ≡ turns) × (run.new.turns ≡ turns'))
+AppendsAreRuns {S = S} {R = R} source sink K E =
+    (lasts : Followed R → Bool) (shown : E → Option (List ℕ)) (has_log : Bool) (station : Settings) (whole : AppendingRun S (Followed R) K E) (file : Followed R)
+    (status : ℕ) → whole.before.acts ≡ Some [] → whole.file ≡ Some file → ReportsAppended (views_by source sink lasts shown) has_log station whole status
+    → (whole.after.turns ≡ whole.before.turns) ⊎ HasRunOfFile file whole.after.acts whole.before.turns whole.after.turns
 
 -- a moment of a run that appends to a file, at an act or after it: what was seen at that act (`turn`), the acts that were done
 -- before it, the file as it was then, and the calls that this file had had by the moment, since it was opened

@@ -2,19 +2,15 @@
 -- instrument on executing the very request of that row's cycle and place. A part is what a station sees of its run from one
 -- synchronization to the next, and a stretch what happens on the line meanwhile, once it has synchronized.
 use Rattle.std.specs.Prelude.{◌≡◌, ℕ, Bool, List, [], ◌++◌, map, Option, Some, codes}
-use Rattle.std.specs.Fmt.{decimal}
 use Rattle.std.specs.List.{AllByRecursion}
 use Rattle.csv.specs.Machine.{next_record}
 use Rattle.csv.specs.Reading.{default_config}
 use Rattle.csv.specs.declared.parser.State.TheVariants.{StartRecord}
-use Rattle.gc_lines.specs.Numbers.{IsNumber}
-use Rattle.gc_lines.specs.Replies.{ReplyFields, IsReply}
 use Rattle.gc_instrument.specs.State.{KeptReply}
-use Rattle.gc_texts.specs.Endings.{word_of, line_of}
+use Rattle.gc_texts.specs.Endings.{line_of}
 use Rattle.gc_texts.specs.Logs.{escaped}
 use Rattle.gc_texts.specs.declared.name.Name.{Name}
 use Rattle.gc_texts.specs.declared.tasks.Task.{Task}
-use Rattle.gc_rows.specs.Rows.{moment_text, procedure_of}
 use Rattle.gc_rows.specs.Records as rows
 use Rattle.gc_rows.specs.Rows.{row_of}
 use Rattle.gc_links.specs.Acts.{Act}
@@ -32,27 +28,19 @@ use Rattle.gc_field.specs.Beginnings.{Run}
 use Rattle.gc_field.specs.Instrument.{IsAnInstrument, AnyState}
 use Rattle.gc_field.specs.Runs.{IsInField, IsItsOwn}
 use Rattle.gc_field.specs.Shown.{Stretch, stretches}
-use Rattle.gc_promise.specs.Fields.{under}
+use Rattle.gc_promise.specs.Fields.{SaysCodes, SaysCommand, under}
 use Rattle.gc_promise.specs.Tables.{table_form}
 
 -- the field in the column of this name, of a row with these fields; `name` is that of one of the first thirteen columns
 abbrev pub column : List ℕ → List (List ℕ) → List ℕ
 column name fields = under name rows.first_names fields
 
--- the fields of a row say when the record's request was sent, its cycle, the place of its turn, its target, procedure and
--- outcome, and the codes and parameters of the line of its reply
+-- the fields of a row say what the record says of its command (`SaysCommand`), and the codes and parameters of its reply, this
+-- line
 pub record FieldsSay (fields : List (List ℕ)) (r : Record) (line : List ℕ) : Type 0 where
-  pub sent : column (codes "sent") fields ≡ moment_text r.sent
-  pub cycle : column (codes "cycle") fields ≡ decimal r.cycle
-  pub place : column (codes "place") fields ≡ decimal r.turn.place
-  pub target : column (codes "target") fields ≡ decimal r.command.target
-  pub procedure : column (codes "procedure") fields ≡ decimal (procedure_of r.command.call)
-  pub outcome : column (codes "outcome") fields ≡ word_of r.end
-  pub reply : ReplyFields
-  pub is_reply : IsReply line reply
-  pub rc_com : IsNumber (column (codes "rc_com") fields) reply.rc_com
-  pub rc : IsNumber (column (codes "rc") fields) reply.rc
-  pub values : column (codes "values") fields ≡ reply.params
+  pub command : SaysCommand (λ name. column name fields) r
+  pub says : SaysCodes (λ name. column name fields) line
+  pub values : column (codes "values") fields ≡ says.reply.params
 
 module _ {State : Type 0} (ends : Ends State) (Good : State → Type 0) (kept : State → Option KeptReply) where
   -- the row of a record in a table is its own: a reader of comma-separated values gives it back as its fields, `escaped` as the

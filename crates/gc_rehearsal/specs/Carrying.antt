@@ -3,7 +3,7 @@
 -- the second time directly after the first.
 use Rattle.std.specs.Prelude.{◌≡◌, ◌⊎◌, ℕ, ◌≤◌, List, [], ◌∷◌, ◌++◌, length, Option, Some, None}
 use Rattle.gc_lines.specs.Lines.{IsPlain, with_end}
-use Rattle.gc_links.specs.Acts.{Act, Told, Untold, Put, Cut, Gave, Silent, Ended, Broke, Closed, Opened, Unopened}
+use Rattle.gc_links.specs.Acts.{Act, Put, Gave}
 use Rattle.gc_scenes.specs.SceneReplying.{IsPlayed}
 use Rattle.gc_scenes.specs.SceneState.{SceneState, scene_restarted, at_moment}
 
@@ -47,29 +47,13 @@ IsGiven l bytes m =
 abbrev pub Does : (l : Lines) → Act → (m : Lines) → Type 0
 Does l (Put bytes) m = IsPut l bytes m
 Does l (Gave bytes moment) m = IsGiven l bytes m
-Does l (Told moment) m = m ≡ l
-Does l Untold m = m ≡ l
-Does l (Cut bytes count) m = m ≡ l
-Does l (Silent moment) m = m ≡ l
-Does l Ended m = m ≡ l
-Does l Broke m = m ≡ l
-Does l Closed m = m ≡ l
-Does l Opened m = m ≡ l
-Does l Unopened m = m ≡ l
+Does l other m = m ≡ l
 
 -- an act that changes nothing on the line: neither a whole write nor a read of bytes
 abbrev pub IsQuiet : Act → Type 0
 IsQuiet (Put bytes) = ⊥
 IsQuiet (Gave bytes moment) = ⊥
-IsQuiet (Told moment) = Unit {0}
-IsQuiet Untold = Unit {0}
-IsQuiet (Cut bytes count) = Unit {0}
-IsQuiet (Silent moment) = Unit {0}
-IsQuiet Ended = Unit {0}
-IsQuiet Broke = Unit {0}
-IsQuiet Closed = Unit {0}
-IsQuiet Opened = Unit {0}
-IsQuiet Unopened = Unit {0}
+IsQuiet other = Unit {0}
 
 -- the replies in flight after the instrument made `reply` (`None`: it made none) are `new`: as before, or with the reply at the back, if
 -- it is one line of at most 512 bytes
@@ -110,14 +94,7 @@ LeadAll l (h ∷ hs) m = (n : Lines) × Leads l h n × LeadAll n hs m
 abbrev pub acts_of : List Happening → List Act
 acts_of [] = []
 acts_of (Call act ∷ hs) = act ∷ acts_of hs
-acts_of (Reaches ∷ hs) = acts_of hs
-acts_of (Restarts ∷ hs) = acts_of hs
-acts_of (Passes moment ∷ hs) = acts_of hs
-acts_of (Repeats_up ∷ hs) = acts_of hs
-acts_of (Repeats_down ∷ hs) = acts_of hs
-acts_of (Loses_up ∷ hs) = acts_of hs
-acts_of (Loses_down ∷ hs) = acts_of hs
-acts_of (Loses_front ∷ hs) = acts_of hs
+acts_of (other ∷ hs) = acts_of hs
 
 -- these acts are those of a line that keeps order, on which nothing was in flight at first, and whose instrument stored no reply then; it
 -- has now come to these lines

@@ -6,7 +6,9 @@ ghost use Rattle.gc_links.specs.Noted.{act_of};
 ghost use Rattle.gc_rehearsal.specs.Carrying.{IsOfLine, IsQuiet};
 ghost use Rattle.gc_rehearsal.specs.Queues.{MaySend};
 
-use crate::flight::{Flight, Origin, add, add_request, due, len_with_end, repeat_last, write_into};
+use crate::flight::{
+    Flight, Origin, Written, add, add_request, due, len_with_end, repeat_last, write_into,
+};
 use gc_lines::{Line, is_plain, line_from, read_request};
 use gc_links::{History, Moment, Note};
 use gc_scenes::SceneInstrument;
@@ -127,7 +129,7 @@ impl Carried {
     }
 
     /// The acts so far are those of a line that keeps order and loses lines whole (`IsOfLine`). A theorem, without effect.
-    pub fn is_of_line(&self)
+    pub fn line_keeps_order(&self)
         ensures { IsOfLine self.now }
     {
         // The invariant of `Carried` is known once one of its fields is read.
@@ -159,13 +161,12 @@ impl Carried {
         self.history = self.history.then(&Note::Put(bytes));
     }
 
-    /// Adds the act of a write of these bytes at the moment `sent`. If they are a line with its CR LF, and it has at most 512
-    /// bytes without that, it is the request with the number `request`, and arrives at the moment `arrives`, unless memory is
-    /// refused for it.
-    pub fn put(&mut self, bytes: &[u8], arrives: u64, request: u64, sent: u64)
+    /// Adds the act of a write of these bytes. If they are a line with its CR LF, and it has at most 512 bytes without that, it is the
+    /// request that `written` describes, and is in flight then, unless memory is refused for it.
+    pub fn put(&mut self, bytes: &[u8], written: Written)
         ensures { self.new ≡ self.old ++ Put bytes.now ∷ [] }
     {
-        add_request(&mut self.traffic.up, bytes, arrives, request, sent);
+        add_request(&mut self.traffic.up, bytes, written);
         self.history = self.history.then(&Note::Put(bytes));
     }
 

@@ -29,6 +29,15 @@ impl Origin {
     }
 }
 
+/// A request that is written: its number, when it is written and when it arrives. Times are in milliseconds since the link was made.
+#[derive(Clone, Copy)]
+pub(crate) struct Written {
+    // Its number among the requests that were written whole, from 0.
+    pub request: u64,
+    pub sent: u64,
+    pub arrives: u64,
+}
+
 /// A line in flight.
 #[derive(Drop)]
 pub(crate) struct Flight {
@@ -55,16 +64,9 @@ pub(crate) fn add(queue: &mut VecDeque<Flight>, flight: Flight)
     let _ = queue.push_back(flight);
 }
 
-/// Puts the line of these bytes at the back of a queue, as a request in flight: its number is `request`, it was written at the moment
-/// `sent`, and it arrives at the moment `arrives`. Bytes that are no line (`line_of`) are lost, and so is a line for which memory is
-/// refused.
-pub(crate) fn add_request(
-    queue: &mut VecDeque<Flight>,
-    bytes: &[u8],
-    arrives: u64,
-    request: u64,
-    sent: u64,
-)
+/// Puts the line of these bytes at the back of a queue, as the request that `written` describes. Bytes that are no line (`line_of`)
+/// are lost, and so is a line for which memory is refused.
+pub(crate) fn add_request(queue: &mut VecDeque<Flight>, bytes: &[u8], written: Written)
     ensures { MayAddLine queue.old.items bytes.now queue.new.items }
 {
     let Some(line) = line_of(bytes) else {
@@ -72,10 +74,10 @@ pub(crate) fn add_request(
     };
     let flight = Flight {
         line: line_from(line),
-        arrives,
+        arrives: written.arrives,
         origin: Origin {
-            request,
-            sent,
+            request: written.request,
+            sent: written.sent,
             asked: line_from(line),
         },
     };
@@ -99,10 +101,7 @@ pub(crate) fn repeat_last(queue: &mut VecDeque<Flight>)
 
 /// When the first line of a queue arrives. `None`: the queue is empty.
 pub(crate) fn due(queue: &VecDeque<Flight>) -> Option<u64> {
-    match queue.front() {
-        Some(flight) => Some(flight.arrives),
-        None => None,
-    }
+    queue.front().map(|flight| flight.arrives)
 }
 
 /// How many bytes a line has with its CR LF.

@@ -8,6 +8,7 @@ ghost use Rattle.gc_rehearsal.specs.Reading.{MayRead, Reads};
 use crate::carried::Carried;
 use crate::chance::{Chance, Fate};
 use crate::counts::Counts;
+use crate::flight::Written;
 use crate::line_state::{LineState, Next};
 use crate::truth::Truth;
 use gc_lines::PortFailed;
@@ -43,10 +44,10 @@ impl<C> Rehearsed<C> {
 
     /// The results of its calls are those of a line that keeps order and loses lines whole (`IsOfLine`), whatever its chance decided. A
     /// theorem, without effect.
-    pub fn is_of_line(&self)
+    pub fn line_keeps_order(&self)
         ensures { IsOfLine self.now.carried }
     {
-        self.carried.is_of_line();
+        self.carried.line_keeps_order();
     }
 
     /// Milliseconds since the start.
@@ -195,8 +196,12 @@ impl<C: Chance> Rehearsed<C> {
             self.carried.put_nothing(bytes);
             return;
         }
-        let request = self.state.counts.requests.saturating_sub(1);
-        self.carried.put(bytes, arrives, request, self.state.now);
+        let written = Written {
+            request: self.state.counts.requests.saturating_sub(1),
+            sent: self.state.now,
+            arrives,
+        };
+        self.carried.put(bytes, written);
         if fate.repeated {
             self.carried.repeat_request();
         }

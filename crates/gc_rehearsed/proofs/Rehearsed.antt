@@ -74,8 +74,9 @@ OnBegin b m ps done = FromBegin b (first_part ps).sync_steps (first_part ps).ste
 abbrev pub OnClient : SceneWorld → Lines → List Part → Bool → Type 0
 OnClient w m ps done = FromClient w (first_part ps).steps (other_parts ps) m done
 
--- if an act comes to the steps of the synchronization in its part p (`TurnsTo`), which has no steps of the client, and `OnBegin` holds of the later parts from each
--- state that these steps may lead to, it holds from b of the later parts with p as the front of the first one (`in_front`)
+-- if an act comes to the steps of the synchronization in its part p (`TurnsTo`), which has no steps of the client, and `OnBegin`
+-- holds of the later parts from each state that these steps may lead to, it holds from b of the later parts with p as the front of
+-- the first one (`in_front`)
 begin_first : (b : begin.Model SceneState) (p : Part) (word : List ℕ) (n m : Lines) (ps : List Part) (done : Bool) → HasSome ps → p.steps ≡ [] → TurnsTo b p.sync_steps word n
     → ((c : begin.Model SceneState) → Holds (leaves c) n → c.left ≡ word → OnBegin c m ps done) → OnBegin b m (in_front p false ps) done
 begin_first b p word n m [] done some none to on = absurd some

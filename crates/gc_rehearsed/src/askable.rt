@@ -6,8 +6,8 @@ ghost use Rattle.gc_rehearsed.specs.Rehearsals.{AreAskable, IsAskable};
 use gc_catalogue::encode_asked;
 use gc_texts::Task;
 
-// What this command asks is allowed, as `are_askable` has it of several.
-fn is_askable(task: &Task)
+// What this command asks is allowed, as `commands_are_askable` has it of several.
+fn command_is_askable(task: &Task)
     ensures { IsAskable task.entry.now }
 {
     let _ = encode_asked(None, &task.command.call);
@@ -15,10 +15,10 @@ fn is_askable(task: &Task)
 
 /// What each of these commands asks is allowed (`IsAskedFitting`), at whatever moment it is sent: a call's numbers lie in their
 /// types, and a procedure that isn't in the table may be asked for with its parameters.
-pub fn are_askable(commands: &[Task])
+pub fn commands_are_askable(commands: &[Task])
     ensures { AreAskable commands.now }
 {
     for task in commands {
-        is_askable(task);
+        command_is_askable(task);
     }
 }

@@ -4,4 +4,4 @@
 mod askable;
 pub mod laws;
 
-pub use askable::are_askable;
+pub use askable::commands_are_askable;

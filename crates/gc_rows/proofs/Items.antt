@@ -2,7 +2,7 @@
 -- parameters as its items.
 use Rattle.std.proofs.Common.{◌≡◌, ◌<◌, ◌≤◌, ◌+◌, ◌%◌, ◌==◌, ◌⊎◌, inl, inr, ℕ, zero, suc, List, [], ◌∷◌, ◌++◌, length, get_or, take, map, replicate, Bool, true, false, cond, Some, None, refl, sym, ap, ◌∙◌, subst, arith, append_assoc, append-nil}
 use Rattle.std.specs.Prelude.{not, nat_lt, ◌&&◌}
-use Rattle.std.specs.List.{AllByRecursion}
+use Rattle.std.specs.List.{AllByRecursion, onto_first}
 use Rattle.std.proofs.lemmas.Bool.{ne_eqb, eqb-true, eq-eqb, cond_both, lt-ltb, le-ltb, false≢true, false_from_ne_true}
 use Rattle.gc_values.specs.Params.{quotes, quoted_after, AreSpaces, HasCommasInQuotes, IsParam, IsPadded, ArePieces, joined, IsParams, bytes_in}
 use Rattle.gc_values.specs.declared.fault.ValueFault.{ValueFault}
@@ -12,7 +12,7 @@ use Rattle.gc_values.proofs.ParamLists.{IsPiece, pieces_of, params_even}
 use Rattle.gc_values.proofs.Quotes.{quotes-append, quotes-cons}
 use Rattle.gc_values.proofs.Trimming.{param_is_trimmed, trimmed_is}
 use Rattle.gc_values.specs.Pieces.{without_front_spaces, put_before, without_end_spaces}
-use Rattle.gc_rows.specs.Items.{trimmed, onto, pieces, is_blank, items_of, split_items}
+use Rattle.gc_rows.specs.Items.{trimmed, pieces, is_blank, items_of, split_items}
 use Rattle.gc_rows.specs.Laws.{ItemsAreTheGrammars}
 
 -- Spaces at the ends.
@@ -65,10 +65,10 @@ abbrev SaysOdd : (odd : Bool) → ℕ → Type 0
 SaysOdd true n = n % 2 ≡ 1
 SaysOdd false n = n % 2 ≡ 0
 
--- these pieces, with a text put in front of the first one; no pieces stay none
+-- these pieces, with a text put in front of the first one
 abbrev before_first : List ℕ → List (List ℕ) → List (List ℕ)
 before_first [] ps = ps
-before_first (b ∷ bs) ps = onto b (before_first bs ps)
+before_first (b ∷ bs) ps = onto_first b (before_first bs ps)
 
 -- a byte that is no comma outside double quotes ends no piece
 no_end : (b : ℕ) (quoted : Bool) → (b ≡ 44 → quoted ≡ true) → ((b == 44) && not quoted) ≡ false
@@ -84,8 +84,8 @@ pieces_with_front : (quoted : Bool) (piece rest : List ℕ) → HasNoOpenComma q
     → pieces quoted (piece ++ rest) ≡ before_first piece (pieces (is_open_after quoted piece) rest)
 pieces_with_front quoted [] rest keeps = refl
 pieces_with_front quoted (b ∷ bs) rest keeps =
-    ap (λ z. cond z ([] ∷ pieces false (bs ++ rest)) (onto b (pieces (quoted_after b quoted) (bs ++ rest)))) (no_end b quoted keeps.0)
-    ∙ ap (onto b) (pieces_with_front (quoted_after b quoted) bs rest keeps.1)
+    ap (λ z. cond z ([] ∷ pieces false (bs ++ rest)) (onto_first b (pieces (quoted_after b quoted) (bs ++ rest)))) (no_end b quoted keeps.0)
+    ∙ ap (onto_first b) (pieces_with_front (quoted_after b quoted) bs rest keeps.1)
 
 -- one more byte changes whether the number of double quotes is odd exactly as `quoted_after` says
 odd_more : (quoted : Bool) (front : List ℕ) (b : ℕ) → SaysOdd quoted (quotes front) → SaysOdd (quoted_after b quoted) (quotes (front ++ b ∷ []))
@@ -127,7 +127,7 @@ closed_where false n odd even = refl
 -- with a text put in front of an empty first piece, the first piece is that text
 first_is : (piece : List ℕ) (ps : List (List ℕ)) → before_first piece ([] ∷ ps) ≡ piece ∷ ps
 first_is [] ps = refl
-first_is (b ∷ bs) ps = ap (onto b) (first_is bs ps)
+first_is (b ∷ bs) ps = ap (onto_first b) (first_is bs ps)
 
 -- a piece and a text after it are cut as the text is, with the piece in front of the first of the text's pieces
 cut_behind : (piece rest : List ℕ) → IsPiece piece → pieces false (piece ++ rest) ≡ before_first piece (pieces false rest)
@@ -197,15 +197,15 @@ abbrev pub AreOfBytes : List (List ℕ) → Type 0
 AreOfBytes texts = AllByRecursion (λ text. AllByRecursion (λ b. b < 256) text) texts
 
 -- texts of bytes stay so with a byte put in front of the first
-onto_bytes : (b : ℕ) (texts : List (List ℕ)) → b < 256 → AreOfBytes texts → AreOfBytes (onto b texts)
-onto_bytes b [] is are = tt
+onto_bytes : (b : ℕ) (texts : List (List ℕ)) → b < 256 → AreOfBytes texts → AreOfBytes (onto_first b texts)
+onto_bytes b [] is are = ((is, tt), tt)
 onto_bytes b (t ∷ ts) is are = ((is, are.0), are.1)
 
 -- the pieces of bytes are of bytes
 pieces_bytes : (quoted : Bool) (text : List ℕ) → AllByRecursion (λ b. b < 256) text → AreOfBytes (pieces quoted text)
 pieces_bytes quoted [] are = (tt, tt)
 pieces_bytes quoted (b ∷ bs) are =
-    cond_both ((b == 44) && not quoted) ([] ∷ pieces false bs) (onto b (pieces (quoted_after b quoted) bs)) AreOfBytes (λ _. (tt, pieces_bytes false bs are.1))
+    cond_both ((b == 44) && not quoted) ([] ∷ pieces false bs) (onto_first b (pieces (quoted_after b quoted) bs)) AreOfBytes (λ _. (tt, pieces_bytes false bs are.1))
     (λ _. onto_bytes b (pieces (quoted_after b quoted) bs) are.0 (pieces_bytes (quoted_after b quoted) bs are.1))
 
 -- texts of bytes are of bytes without the spaces at their ends

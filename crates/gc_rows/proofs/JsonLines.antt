@@ -46,21 +46,6 @@ last_text old attempt quality =
     flat_map-append member_text quality (Number (codes "attempt") attempt ∷ []) ∙ ap (λ l. q ++ l) (append-nil a) in
     append_assoc old q a ∙ ap (λ l. old ++ l) (sym last)
 
--- after `front`, four lists of members, written one after the other, and the end of the line are the members of the lists
--- joined and that end
-pub all_members : (front : List ℕ) (ws hs es qs : List Member)
-    → ((((front ++ members_text ws) ++ members_text hs) ++ members_text es) ++ members_text qs) ++ codes "}\n" ≡ (front ++ members_text (ws ++ (hs ++ (es ++ qs)))) ++ codes "}\n"
-all_members front ws hs es qs =
-    let w = members_text ws in
-    let h = members_text hs in
-    let e = members_text es in
-    let q = members_text qs in
-    let joined : members_text (ws ++ (hs ++ (es ++ qs))) ≡ w ++ (h ++ (e ++ q)) =
-    flat_map-append member_text ws (hs ++ (es ++ qs)) ∙ ap (λ l. w ++ l) (flat_map-append member_text hs (es ++ qs) ∙ ap (λ l. h ++ l) (flat_map-append member_text es qs)) in
-    let grouped : (((front ++ w) ++ h) ++ e) ++ q ≡ front ++ (w ++ (h ++ (e ++ q))) =
-    append_assoc ((front ++ w) ++ h) e q ∙ append_assoc (front ++ w) h (e ++ q) ∙ append_assoc front w (h ++ (e ++ q)) in
-    ap (λ l. l ++ codes "}\n") (grouped ∙ ap (λ l. front ++ l) (sym joined))
-
 -- a, b and c, appended one after the other to `old`, are `old` and then one text, which is a, b and c with nothing after them
 pub three_appended : (old a b c : List ℕ) → ((old ++ a) ++ b) ++ c ≡ old ++ (a ++ (b ++ (c ++ [])))
 three_appended old a b c =

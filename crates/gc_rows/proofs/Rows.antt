@@ -1,7 +1,7 @@
 -- Rows: the fields of one, and what a reader of comma-separated values makes of it. The writer and the reader of
 -- comma-separated values are the library's.
 use Rattle.std.proofs.Common.{◌≡◌, ◌==◌, ◌<◌, ◌++◌, ◌∷◌, ◌∙◌, [], ℕ, zero, suc, ◌-◌, List, Bool, Some, true, false, inl, inr, refl, sym, ap, arith, append_assoc, length, map, replicate}
-use Rattle.std.specs.Prelude.{◌||◌, codes}
+use Rattle.std.specs.Prelude.{◌||◌}
 use Rattle.std.specs.List.{All, AllByRecursion, flat_map, list_any}
 use Rattle.std.proofs.lemmas.Grind.{flat_map-append}
 use Rattle.std.proofs.lemmas.Bool.{cases_Bool, cond_both, eqb-true}
@@ -21,23 +21,17 @@ use Rattle.gc_values.specs.declared.value.Value.{Value}
 use Rattle.gc_texts.proofs.LogStamps.{escaped_prints}
 use Rattle.gc_texts.proofs.Logs.{escaped_injective}
 
--- the field of the run and four lists of fields, each field after a comma, and then a line feed, are one row of all these
--- fields
-pub all_fields : (run : List ℕ) (ws hs es qs : List (List ℕ))
-    → (((((field_text run) ++ behind_commas ws) ++ behind_commas hs) ++ behind_commas es) ++ behind_commas qs) ++ codes "\n"
-    ≡ row_of (run ∷ (ws ++ (hs ++ (es ++ qs))))
-all_fields run ws hs es qs =
-    let a = field_text run in
-    let w = behind_commas ws in
-    let h = behind_commas hs in
-    let e = behind_commas es in
-    let q = behind_commas qs in
-    let n = codes "\n" in
-    let joined : behind_commas (ws ++ (hs ++ (es ++ qs))) ≡ w ++ (h ++ (e ++ q)) =
-    flat_map-append behind_comma ws (hs ++ (es ++ qs)) ∙ ap (λ l. w ++ l) (flat_map-append behind_comma hs (es ++ qs) ∙ ap (λ l. h ++ l) (flat_map-append behind_comma es qs)) in
-    let grouped : (((a ++ w) ++ h) ++ e) ++ q ≡ a ++ (w ++ (h ++ (e ++ q))) =
-    append_assoc ((a ++ w) ++ h) e q ∙ append_assoc (a ++ w) h (e ++ q) ∙ append_assoc a w (h ++ (e ++ q)) in
-    ap (λ l. l ++ n) (grouped ∙ ap (λ l. a ++ l) (sym joined))
+-- after `front`, the texts of the items of four lists, one list after the other, are those of the lists joined
+pub four_written : {X : Type 0} (text : X → List ℕ) (front : List ℕ) (ws hs es qs : List X)
+    → (((front ++ flat_map text ws) ++ flat_map text hs) ++ flat_map text es) ++ flat_map text qs ≡ front ++ flat_map text (ws ++ (hs ++ (es ++ qs)))
+four_written text front ws hs es qs =
+    let w = flat_map text ws in
+    let h = flat_map text hs in
+    let e = flat_map text es in
+    let q = flat_map text qs in
+    let joined : flat_map text (ws ++ (hs ++ (es ++ qs))) ≡ w ++ (h ++ (e ++ q)) =
+    flat_map-append text ws (hs ++ (es ++ qs)) ∙ ap (λ l. w ++ l) (flat_map-append text hs (es ++ qs) ∙ ap (λ l. h ++ l) (flat_map-append text es qs)) in
+    append_assoc ((front ++ w) ++ h) e q ∙ append_assoc (front ++ w) h (e ++ q) ∙ append_assoc front w (h ++ (e ++ q)) ∙ ap (λ l. front ++ l) (sym joined)
 
 -- empty fields, each after a comma, are as many commas
 blanks_text : (n : ℕ) → behind_commas (replicate n []) ≡ replicate n 44

@@ -2,7 +2,7 @@
 -- it. Commas and strings in double quotes are those of the GeoCOM manual's chapter on the ASCII protocol; the spaces and the
 -- limit of 16 are this project's own.
 use Rattle.std.specs.Prelude.{ℕ, ◌%◌, ◌==◌, ◌&&◌, Bool, false, not, nat_lt, List, [], ◌∷◌, length, map, Option, Some, None, if◌then◌else◌}
-use Rattle.std.specs.List.{list_all}
+use Rattle.std.specs.List.{list_all, onto_first}
 use Rattle.gc_values.specs.Params.{quotes, quoted_after}
 use Rattle.gc_values.specs.Pieces.{without_front_spaces, without_end_spaces}
 
@@ -10,16 +10,11 @@ use Rattle.gc_values.specs.Pieces.{without_front_spaces, without_end_spaces}
 abbrev pub trimmed : List ℕ → List ℕ
 trimmed text = without_end_spaces (without_front_spaces text)
 
--- these pieces, with a byte in front of the first; none stays none
-abbrev pub onto : ℕ → List (List ℕ) → List (List ℕ)
-onto b [] = []
-onto b (piece ∷ pieces) = (b ∷ piece) ∷ pieces
-
 -- the pieces of a text, which is cut at each comma outside double quotes; `quoted` says whether a double quote is open before
--- the text
+-- the text. (`onto_first` puts a byte before the bytes of the first piece.)
 abbrev pub pieces : (quoted : Bool) → List ℕ → List (List ℕ)
 pieces quoted [] = [] ∷ []
-pieces quoted (b ∷ bs) = if (b == 44) && not quoted then [] ∷ pieces false bs else onto b (pieces (quoted_after b quoted) bs)
+pieces quoted (b ∷ bs) = if (b == 44) && not quoted then [] ∷ pieces false bs else onto_first b (pieces (quoted_after b quoted) bs)
 
 -- whether a text has no byte but spaces
 abbrev pub is_blank : List ℕ → Bool

@@ -5,10 +5,11 @@ use Rattle.std.specs.Fmt.{decimal}
 use Rattle.gc_values.specs.ValueFault.{fault_number}
 use Rattle.gc_values.specs.declared.fault.ValueFault.{ValueFault}
 use Rattle.gc_texts.specs.declared.wish.Wish.{Wish}
+use Rattle.gc_rows.specs.declared.record.EndedCommand.{EndedCommand}
 use Rattle.gc_rows.specs.declared.record.Form.{Form}
 use Rattle.gc_rows.specs.declared.record.Form.TheVariants.{Lines, Csv, Columns, Json}
 use Rattle.gc_rows.specs.declared.when.When.{When}
-use Rattle.gc_texts.specs.Endings.{End, word_of, fault_of, line_of}
+use Rattle.gc_texts.specs.Endings.{End, ending_seen, word_of, fault_of, line_of}
 use Rattle.gc_rows.specs.JsonLines.{json_line, json_members}
 use Rattle.gc_texts.specs.Logs.{escaped}
 use Rattle.gc_rows.specs.Quantities.{quantity_names}
@@ -42,6 +43,10 @@ record_text Lines when name command end = record_line when command end
 record_text Csv when name command end = row_of (row_fields false when name command end)
 record_text Columns when name command end = row_of (row_fields true when name command end)
 record_text Json when name command end = json_line when.run (json_members when name command end)
+
+-- the record of a command that ended, in this form
+abbrev pub record_of : Form → EndedCommand → List ℕ
+record_of form ended = record_text form ended.when ended.name.now ended.command.now (ending_seen ended.ending)
 
 -- the names of the columns before the quantities
 abbrev pub first_names : List (List ℕ)

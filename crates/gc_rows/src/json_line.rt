@@ -14,6 +14,7 @@ ghost use Rattle.gc_rows.specs.JsonLines.{behind_backslash, in_quotes, named, st
 use crate::quantity::{
     MOST_VALUES, QUANTITY_ROOM, answer_values, column_of, quantity_name, quantity_text,
 };
+use crate::record::EndedCommand;
 use crate::row::texts_of;
 use crate::when::When;
 use arrayvec::ArrayVec;
@@ -409,37 +410,27 @@ fn append_last<const N: usize>(line: &mut ArrayVec<u8, N>, when: &When, ending: 
 
 // Appends the members after those of `append_ending`: the quantities or the items of a command's answer, and then the last members, which
 // are the quality and the attempt.
-fn append_after_ending<const N: usize>(
-    line: &mut ArrayVec<u8, N>,
-    when: &When,
-    asked: &Asked,
-    ending: Ending<'_>,
-)
+fn append_after_ending<const N: usize>(line: &mut ArrayVec<u8, N>, ended: EndedCommand<'_>)
     requires { array_vec_len line.old + AFTER_ENDING_ROOM ≤ N }
-    ensures text { line.new.items ≡ line.old.items ++ members_text (members_after_ending when.now asked.now (ending_seen ending.entry)) }
+    ensures text { line.new.items ≡ line.old.items ++ members_text (members_after_ending ended.entry.when ended.entry.command.now.call (ending_seen ended.entry.ending)) }
     ensures room { array_vec_len line.new ≤ array_vec_len line.old + AFTER_ENDING_ROOM }
 {
-    append_quantities(line, asked, ending);
-    append_last(line, when, ending);
+    append_quantities(line, &ended.command.call, ended.ending);
+    append_last(line, &ended.when, ended.ending);
 }
 
-/// The line of JSON of a record, with its line feed. `name` is the target's, empty if it has none.
-pub(crate) fn json_line(
-    when: &When,
-    name: &[u8],
-    command: &Wish,
-    ending: Ending<'_>,
-) -> ArrayVec<u8, JSON_ROOM>
-    requires { length name.now ≤ 64 }
-    ensures { result.items ≡ json_line when.now.run (json_members when.now name.now command.now (ending_seen ending.entry)) }
+/// The line of JSON of a command's record, with its line feed.
+pub(crate) fn json_line(ended: EndedCommand<'_>) -> ArrayVec<u8, JSON_ROOM>
+    requires { length ended.name.now ≤ 64 }
+    ensures { result.items ≡ json_line ended.entry.when.run (json_members ended.entry.when ended.entry.name.now ended.entry.command.now (ending_seen ended.entry.ending)) }
 {
     let mut line = ArrayVec::new();
     append(&mut line, b"{\"run\":");
-    append_string(&mut line, &stamp_text(when.run));
-    append_when(&mut line, when);
-    append_command(&mut line, command, name);
-    append_ending(&mut line, ending);
-    append_after_ending(&mut line, when, &command.call, ending);
+    append_string(&mut line, &stamp_text(ended.when.run));
+    append_when(&mut line, &ended.when);
+    append_command(&mut line, ended.command, ended.name);
+    append_ending(&mut line, ended.ending);
+    append_after_ending(&mut line, ended);
     append(&mut line, b"}\n");
     line
 }

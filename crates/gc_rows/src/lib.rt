@@ -8,5 +8,5 @@ mod record;
 mod row;
 mod when;
 
-pub use record::{Form, head, sign, write_head, write_record};
+pub use record::{EndedCommand, Form, head, sign, write_head, write_record};
 pub use when::When;

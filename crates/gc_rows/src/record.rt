@@ -5,7 +5,7 @@ ghost use Rattle.std.specs.Io.KnownBytes.{Appends};
 ghost use Rattle.gc_lines.specs.Ports.{FailsWith, TakesFront};
 ghost use Rattle.gc_texts.specs.Endings.{ending_seen};
 ghost use Rattle.gc_rows.specs.declared.record.TheConstants.{FAULT_ROOM, REPLY_ROOM};
-ghost use Rattle.gc_rows.specs.Records.{spaced_fault, spaced_line, ending_text, record_line, record_text, head_text, sign_text};
+ghost use Rattle.gc_rows.specs.Records.{spaced_fault, spaced_line, ending_text, record_line, record_of, head_text, sign_text};
 ghost use Rattle.arrayvec.specs.ArrayVec.{array_vec_len};
 
 use crate::json_line::json_line;
@@ -16,6 +16,19 @@ use gc_lines::{Line, Sink, append, write_whole};
 use gc_texts::{Ending, STAMP_ROOM, Wish, append_escaped, stamp_text};
 use gc_values::ValueFault;
 use itoa::Buffer;
+
+/// A command that ended, as its record has it.
+#[derive(Clone, Copy)]
+pub struct EndedCommand<'a> {
+    /// When it was sent and ended, which one of its run it was, and when that run began.
+    pub when: When,
+    /// The name of its target, at most 64 bytes; empty if the target has none.
+    pub name: &'a [u8],
+    /// What was asked of which target.
+    pub command: &'a Wish,
+    /// How it ended.
+    pub ending: Ending<'a>,
+}
 
 /// How records are written.
 #[derive(Clone, Copy)]
@@ -71,27 +84,20 @@ pub fn write_head<K: Sink>(sink: &mut K, form: Form) -> Result<(), usize>
     write_whole(sink, head(form))
 }
 
-/// Writes a record in this form, by its moments, the target's name (at most 64 bytes, empty if it has none), the command, and how
-/// the command ended. What of these a line of `Lines` has, `Form::Lines` says. The record goes in one write if the sink takes all
-/// of it. `Err(n)`: the sink took the first n bytes of the record, which aren't all, and failed.
-pub fn write_record<K: Sink>(
-    sink: &mut K,
-    form: Form,
-    when: &When,
-    name: &[u8],
-    command: &Wish,
-    ending: Ending<'_>,
-) -> Result<(), usize>
-    requires { length name.now ≤ 64 }
+/// Writes the record of a command that ended, in this form. What of the command a line of `Lines` has, `Form::Lines` says. The
+/// record goes in one write if the sink takes all of it. `Err(n)`: the sink took the first n bytes of the record, which aren't
+/// all, and failed.
+pub fn write_record<K: Sink>(sink: &mut K, form: Form, ended: EndedCommand<'_>) -> Result<(), usize>
+    requires { length ended.name.now ≤ 64 }
     ensures failed { FailsWith result (K.failed sink.old) (K.failed sink.new) }
-    ensures ok { OnOk result (Appends (K.taken sink.old) (K.taken sink.new) (record_text form when.now name.now command.now (ending_seen ending.entry))) }
-    ensures err { IfErr result (λ n. TakesFront (K.taken sink.old) (K.taken sink.new) n (record_text form when.now name.now command.now (ending_seen ending.entry))) }
+    ensures ok { OnOk result (Appends (K.taken sink.old) (K.taken sink.new) (record_of form ended.entry)) }
+    ensures err { IfErr result (λ n. TakesFront (K.taken sink.old) (K.taken sink.new) n (record_of form ended.entry)) }
 {
     match form {
-        Form::Lines => write_whole(sink, &record_line(when, command, ending)),
-        Form::Csv => write_whole(sink, &csv_row(false, when, name, command, ending)),
-        Form::Columns => write_whole(sink, &csv_row(true, when, name, command, ending)),
-        Form::Json => write_whole(sink, &json_line(when, name, command, ending)),
+        Form::Lines => write_whole(sink, &record_line(ended)),
+        Form::Csv => write_whole(sink, &csv_row(false, ended)),
+        Form::Columns => write_whole(sink, &csv_row(true, ended)),
+        Form::Json => write_whole(sink, &json_line(ended)),
     }
 }
 
@@ -107,18 +113,21 @@ const ENDING_ROOM: usize = 1 + 16 + FAULT_ROOM + REPLY_ROOM;
 // The most bytes of a record's line: a moment, a place and a target, and how the command ended.
 const LINE_ROOM: usize = STAMP_ROOM + 1 + 20 + 1 + 10 + ENDING_ROOM + 1;
 
-// The line of a record, with its line feed: when the command ended, its place, its target, and how it ended.
-fn record_line(when: &When, command: &Wish, ending: Ending<'_>) -> ArrayVec<u8, LINE_ROOM>
-    ensures { result.items ≡ record_line when.now command.now (ending_seen ending.entry) }
+// The line of a command's record, with its line feed: when the command ended, its place, its target, and how it ended.
+fn record_line(ended: EndedCommand<'_>) -> ArrayVec<u8, LINE_ROOM>
+    ensures { result.items ≡ record_line ended.entry.when ended.entry.command.now (ending_seen ended.entry.ending) }
 {
     let mut digits = Buffer::new();
     let mut line = ArrayVec::new();
-    append(&mut line, &stamp_text(when.stamp.utc));
+    append(&mut line, &stamp_text(ended.when.stamp.utc));
     append(&mut line, b" ");
-    append(&mut line, digits.format(when.stamp.turn.place).as_bytes());
+    append(
+        &mut line,
+        digits.format(ended.when.stamp.turn.place).as_bytes(),
+    );
     append(&mut line, b" ");
-    append(&mut line, digits.format(command.target).as_bytes());
-    append(&mut line, &ending_text(ending));
+    append(&mut line, digits.format(ended.command.target).as_bytes());
+    append(&mut line, &ending_text(ended.ending));
     append(&mut line, b"\n");
     line
 }

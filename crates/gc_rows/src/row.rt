@@ -14,6 +14,7 @@ ghost use Rattle.gc_catalogue.specs.Answers.{answer_fields};
 use crate::quantity::{
     MOST_VALUES, QUANTITIES, QUANTITY_ROOM, answer_values, column_of, quantity_text,
 };
+use crate::record::EndedCommand;
 use crate::when::When;
 use arrayvec::ArrayVec;
 use gc_catalogue::{Answer, Asked, Call};
@@ -304,38 +305,29 @@ fn append_last<const N: usize>(row: &mut ArrayVec<u8, N>, when: &When, ending: E
 fn append_after_ending<const N: usize>(
     row: &mut ArrayVec<u8, N>,
     columns: bool,
-    when: &When,
-    asked: &Asked,
-    ending: Ending<'_>,
+    ended: EndedCommand<'_>,
 )
     requires { array_vec_len row.old + AFTER_ENDING_ROOM ≤ N }
-    ensures text { row.new.items ≡ row.old.items ++ behind_commas (fields_after_ending columns when.now asked.now (ending_seen ending.entry)) }
+    ensures text { row.new.items ≡ row.old.items ++ behind_commas (fields_after_ending columns ended.entry.when ended.entry.command.now.call (ending_seen ended.entry.ending)) }
     ensures room { array_vec_len row.new ≤ array_vec_len row.old + AFTER_ENDING_ROOM }
 {
     if columns {
-        append_quantities(row, asked, ending);
+        append_quantities(row, &ended.command.call, ended.ending);
     }
-    append_last(row, when, ending);
+    append_last(row, &ended.when, ended.ending);
 }
 
-/// The row of a record, with its line feed; it has a column for each quantity if `columns` is true. `name` is the target's, empty if it
-/// has none.
-pub(crate) fn csv_row(
-    columns: bool,
-    when: &When,
-    name: &[u8],
-    command: &Wish,
-    ending: Ending<'_>,
-) -> ArrayVec<u8, ROW_ROOM>
-    requires { length name.now ≤ 64 }
-    ensures { result.items ≡ row_of (row_fields columns when.now name.now command.now (ending_seen ending.entry)) }
+/// The row of a command's record, with its line feed; it has a column for each quantity if `columns` is true.
+pub(crate) fn csv_row(columns: bool, ended: EndedCommand<'_>) -> ArrayVec<u8, ROW_ROOM>
+    requires { length ended.name.now ≤ 64 }
+    ensures { result.items ≡ row_of (row_fields columns ended.entry.when ended.entry.name.now ended.entry.command.now (ending_seen ended.entry.ending)) }
 {
     let mut row = ArrayVec::new();
-    append_field(&mut row, &stamp_text(when.run));
-    append_when(&mut row, when);
-    append_command(&mut row, command, name);
-    append_ending(&mut row, ending);
-    append_after_ending(&mut row, columns, when, &command.call, ending);
+    append_field(&mut row, &stamp_text(ended.when.run));
+    append_when(&mut row, &ended.when);
+    append_command(&mut row, ended.command, ended.name);
+    append_ending(&mut row, ended.ending);
+    append_after_ending(&mut row, columns, ended);
     append(&mut row, b"\n");
     row
 }

@@ -23,10 +23,9 @@ use Rattle.gc_world.specs.declared.direction.Direction.{Direction}
 use Rattle.gc_world.specs.declared.event.Event.TheVariants as event
 use Rattle.gc_world.specs.Clients.{by_ids}
 use Rattle.gc_world.specs.Directions.{bytes, lines, gone}
-use Rattle.gc_world.specs.Stages.{bytes_of}
 use Rattle.gc_world.specs.Staging.{after_event}
 use Rattle.gc_world.specs.Streams.{Streams, is_begun, at_line}
-use Rattle.gc_world.specs.World.{Request, Numbered, Wire, World, Step, Up_lose, Up_repeat, Down_lose, Down_repeat, Nothing, without, doubled, idle, up_delivered, with_up, with_down, on_wire, happens}
+use Rattle.gc_world.specs.World.{Request, Numbered, Wire, World, bytes_of, Step, Up_lose, Up_repeat, Down_lose, Down_repeat, Nothing, without, doubled, idle, up_delivered, with_up, with_down, on_wire, happens}
 use Rattle.gc_world.proofs.Directions.{bytes_pass, idle_bytes}
 use Rattle.gc_world.proofs.Handing.{kept_id}
 use Rattle.gc_world.proofs.Queues.{without_map, doubled_map, without_past, doubled_past}

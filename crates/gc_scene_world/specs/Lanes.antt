@@ -12,13 +12,17 @@ pub record Flight : Type 0 where
 abbrev pub is_whole : ℕ → Flight → Bool
 is_whole k f = if is_begun k f.gone then false else nat_lt k (length f.texts)
 
+-- the lines in flight once `change` was made to line k, if its first byte hasn't gone; else as they are
+abbrev pub changing : (change : ℕ → List (List ℕ) → List (List ℕ)) → ℕ → Flight → Flight
+changing change k f = if is_begun k f.gone then f else record f { texts = change k f.texts }
+
 -- the lines in flight without line k, if it can be lost; else as they are
 abbrev pub losing : ℕ → Flight → Flight
-losing k f = if is_begun k f.gone then f else record f { texts = without k f.texts }
+losing k f = changing without k f
 
 -- the lines in flight with line k twice, the second directly after the first, if it can be repeated; else as they are
 abbrev pub repeating : ℕ → Flight → Flight
-repeating k f = if is_begun k f.gone then f else record f { texts = doubled k f.texts }
+repeating k f = changing doubled k f
 
 -- the count of events that weren't possible, after a loss or a repeat of line k: as it was before (`idle`) if line k could be
 -- lost or repeated (`is_whole`), and else one more

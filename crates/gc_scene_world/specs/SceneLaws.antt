@@ -9,8 +9,8 @@ use Rattle.gc_scene_world.specs.SceneRuns.{scene_played}
 use Rattle.gc_world.specs.declared.event.Event.{Event}
 
 -- with a window of at most seven, if settlement m is an answer, its line is among those that the instrument made for request m
-abbrev pub BooksItsOwn : Type 0
-BooksItsOwn =
+abbrev pub BooksOwnLines : Type 0
+BooksOwnLines =
     (width : ℕ) → width ≤ WINDOW → (opening : SceneState) (events : List Event) (m : ℕ) (s : Settlement Call) (line : List ℕ) →
     slice_get (scene_played width opening events).wire.settled m ≡ Some s → s.outcome ≡ Answered line →
     (j : ℕ) × (slice_get (scene_played width opening events).wire.made j ≡ Some (record { number = m; line = line }))

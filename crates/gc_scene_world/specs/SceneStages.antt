@@ -61,6 +61,10 @@ pub record IsRemainder (d : Direction) (v : Streams (ById Call) SceneState) (n :
   pub left : n ≡ remaining (gone d v) (lines d v.world.wire)
   pub part : IsPart (gone d v) (lines d v.world.wire)
 
+-- on whatever streams the stage shows, `n` is how many bytes of the direction's front line are still to go (`IsRemainder`)
+abbrev pub ShowsRemainder : Stage → Direction → (n : ℕ) → Type 0
+ShowsRemainder s d n = (width : ℕ) (v : Streams (ById Call) SceneState) → staging.shows width s v → IsRemainder d v n
+
 -- this count can go up by one for each request in flight
 abbrev pub HasRoomFor : (count : ℕ) → Flight → Type 0
 HasRoomFor count up = count + length up.texts < 2 ^ 64

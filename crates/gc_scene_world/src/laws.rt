@@ -4,7 +4,7 @@
 //! A request's number is its place among the requests sent, counted from 0. In the run by ids the client knows requests by ids of one
 //! digit; in the run by numbers it is told each reply's number. The client's window is at most seven wide.
 
-ghost use Rattle.gc_scene_world.specs.SceneLaws.{BooksItsOwn};
+ghost use Rattle.gc_scene_world.specs.SceneLaws.{BooksOwnLines};
 ghost use Rattle.gc_scene_world.specs.SceneRuns.{scene_ends};
 ghost use Rattle.gc_world.specs.Laws.{KeepsOrder, RunsAgree, SettlesInOrder};
 
@@ -20,7 +20,7 @@ pub fn runs_agree()
 
 /// Where a settlement is an answer, its line is a reply that the instrument made for the very request that it settles.
 pub fn answers_are_booked()
-    ensures { BooksItsOwn }
+    ensures { BooksOwnLines }
 {}
 
 /// In each queue the numbers never fall from front to back, and no reply in flight has a higher number than a request in flight.

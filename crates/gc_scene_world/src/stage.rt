@@ -5,17 +5,13 @@
 //! `go_on` are written in both, since each stage has its own clauses on them: that one says which events take no memory, and this
 //! one requires room in its counts. Who changes one of them changes the other.
 
-ghost use Rattle.std.specs.Prelude.{◌≡◌, ◌↔◌, ◌+◌, ◌<◌, ◌≤◌, ◌^◌, ◌++◌, ℕ, [], OnOk, IsTrue};
-ghost use Rattle.gc_catalogue.specs.declared.call.Call.{Call};
-ghost use Rattle.gc_client.specs.Rule.{ById};
-ghost use Rattle.gc_scenes.specs.SceneState.{SceneState};
+ghost use Rattle.std.specs.Prelude.{◌≡◌, ◌↔◌, ◌+◌, ◌<◌, ◌≤◌, ◌^◌, ◌++◌, [], OnOk, IsTrue};
 ghost use Rattle.gc_world.specs.declared.event.Event.{Event};
 ghost use Rattle.gc_world.specs.Directions.{bytes, delivery};
 ghost use Rattle.gc_world.specs.Staging.{streams_at_start, IsShown, Follows, FollowsBytes, HasMoreThan};
-ghost use Rattle.gc_world.specs.Streams.{Streams};
 ghost use Rattle.gc_scene_world.specs.Lanes.{losing, repeating, idle_after};
 ghost use Rattle.gc_scene_world.specs.SceneRuns.{scene_ends};
-ghost use Rattle.gc_scene_world.specs.SceneStages.{seen, staging, IsRemainder, HasRoom, HasRoomFor, Notes};
+ghost use Rattle.gc_scene_world.specs.SceneStages.{seen, staging, ShowsRemainder, HasRoom, HasRoomFor, Notes};
 
 use crate::lane::Lane;
 use crate::report::{Counts, SceneReport};
@@ -200,7 +196,7 @@ impl Stage {
 
     // How many bytes of the front line of a direction have still to go, CR LF included; 0 if no line is in flight.
     fn remaining(&self, direction: Direction) -> usize
-        ensures { (width : ℕ) (v : Streams (ById Call) SceneState) → staging.shows width self.now v → IsRemainder direction v result }
+        ensures { ShowsRemainder self.now direction result }
     {
         match direction {
             Direction::Up => self.up.remaining(),

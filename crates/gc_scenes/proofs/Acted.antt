@@ -1,5 +1,5 @@
 -- What holds of each outcome with ways of real instruments, and that without ways it is that of the execution table.
-use Rattle.std.proofs.Common.{◌≡◌, ◌≢◌, ℕ, ℤ, ◌<◌, ◌&&◌, Bool, true, false, cond, [], Option, Some, None, refl, sym, ap, ◌∙◌, subst, lit<}
+use Rattle.std.proofs.Common.{◌≡◌, ◌≢◌, ℕ, ℤ, ◌<◌, ◌&&◌, Bool, true, false, cond, Option, Some, None, refl, sym, ap, ◌∙◌, subst, lit<}
 use Rattle.std.specs.Prelude.{pos}
 use Rattle.std.specs.Ordering.{int_eq}
 use Rattle.std.proofs.lemmas.Bool.{cond_both}
@@ -18,7 +18,9 @@ use Rattle.gc_instrument.proofs.Keeping.{executes_apart, distance_apart, adjuste
 use Rattle.gc_scenes.specs.Acting.{acted, acted_faceless, dated, faced}
 use Rattle.gc_scenes.specs.SceneExecution.{outcome, shown, seen_by}
 use Rattle.gc_scenes.specs.SceneState.{SceneState, seeing}
+use Rattle.gc_scenes.specs.Seen.{scene_of}
 use Rattle.gc_scenes.specs.Ways.{no_ways, nearest, other_hz, other_v}
+use Rattle.gc_scenes.specs.declared.instrument.SceneInstrument.TheInside.{Inside}
 use Rattle.gc_scenes.specs.declared.ways.Ways.{Ways}
 
 -- the outcome, with the face by the vertical angle if the instrument has both faces' angles (true)
@@ -124,20 +126,26 @@ module _ (kept : Option KeptReply) where
       let x = acted_faceless w now s asked in
       ap (faced_outcome w.faces) (faceless_apart w now s asked) ∙ ap (outcome_in x) (faced_apart w.faces x.state) ∙ ap (executed_with kept) does
 
--- where an instrument with the targets that the call sees (`seen`) acts on it, and goes to the state t, that is the outcome of the
--- call in a scene with these ways: `v` is the scene's state before, made of the instrument's state b and the stored reply, and
--- equals s
-pub acts_over_seen : (kept : Option KeptReply) (v s : SceneState) (b seen t : State) (now : Option DateTime) (asked : Call) (code : ℕ) (said : Answer)
-    → v ≡ s → v.base ≡ with_kept kept (seeing [] b) → seen ≡ seeing (seen_by s asked) b → now ≡ shown s
-    → Gives (acted v.ways now seen asked) t code said → Gives (outcome s asked) (with_kept kept t) code said
-acts_over_seen kept v s b seen t now asked code said e base over date does =
+-- where a call with ways led from the state s to t, but for the face, and then the face was set by the vertical angle, if the
+-- instrument has both faces' angles (`faced`), the call with ways leads to the state after that
+pub then_faced : (w : Ways) (now : Option DateTime) (s t u : State) (asked : Call) (code : ℕ) (said : Answer) → Gives (acted_faceless w now s asked) t code said
+    → u ≡ faced w.faces t → Gives (acted w now s asked) u code said
+then_faced w now s t u asked code said does is =
+    ap (faced_outcome w.faces) does ∙ ap (λ (x : State). record { state = x; rc = code; answer = said }) (sym is)
+
+-- where an instrument with the fields `i`, but with the targets that the call sees (`seen`), acts on it, and goes to the state t,
+-- that is the outcome of the call in the scene's state s that these fields make up (`scene_of`)
+pub acts_over_seen : (i : Inside) (s : SceneState) (seen t : State) (now : Option DateTime) (asked : Call) (code : ℕ) (said : Answer)
+    → scene_of i ≡ s → seen ≡ seeing (seen_by s asked) i.base → now ≡ shown s
+    → Gives (acted i.ways now seen asked) t code said → Gives (outcome s asked) (with_kept i.kept t) code said
+acts_over_seen i s seen t now asked code said e over date does =
     let Acts : Ways → Option DateTime → State → Type 0 = λ w n u. Gives (acted w n u asked) t code said in
-    let here : Acts s.ways (shown s) (seeing (seen_by s asked) b) =
-    subst (λ (w : Ways). Acts w (shown s) (seeing (seen_by s asked) b)) (ap (λ (u : SceneState). u.ways) e)
-    (subst (λ (n : Option DateTime). Acts v.ways n (seeing (seen_by s asked) b)) date (subst (λ (u : State). Acts v.ways now u) over does)) in
-    subst (λ (u : State). Gives (acted s.ways (shown s) (seeing (seen_by s asked) u) asked) (with_kept kept t) code said)
-    (sym base ∙ ap (λ (u : SceneState). u.base) e)
-    (acts_apart kept s.ways (shown s) (seeing (seen_by s asked) b) t asked code said here)
+    let here : Acts s.ways (shown s) (seeing (seen_by s asked) i.base) =
+    subst (λ (w : Ways). Acts w (shown s) (seeing (seen_by s asked) i.base)) (ap (λ (u : SceneState). u.ways) e)
+    (subst (λ (n : Option DateTime). Acts i.ways n (seeing (seen_by s asked) i.base)) date (subst (λ (u : State). Acts i.ways now u) over does)) in
+    subst (λ (u : State). Gives (acted s.ways (shown s) (seeing (seen_by s asked) u) asked) (with_kept i.kept t) code said)
+    (ap (λ (u : SceneState). u.base) e)
+    (acts_apart i.kept s.ways (shown s) (seeing (seen_by s asked) i.base) t asked code said here)
 
 -- The outcomes that the ways change.
 

@@ -15,7 +15,7 @@ use Rattle.gc_instrument.specs.Replying.{refusal_line, reply_id}
 use Rattle.gc_scenes.specs.Appending.{AppendsHanded, AppendsPlayed}
 use Rattle.gc_scenes.specs.Rules.{fault_of, scripted_reply, noisy, noise_after}
 use Rattle.gc_scenes.specs.SceneExecution.{Played, Reports, plays, outcome, after_call, replied_answer, played_call, played_raw, unless_faulted_raw, scripted, counting, faulted}
-use Rattle.gc_scenes.specs.SceneReplying.{executed_reply_line, names_call, unreadable, AnswersRequest, resent_line, again_or_played, handed_call, handed_raw, played_or_refused, holding, kept_if_repeating, played_line}
+use Rattle.gc_scenes.specs.SceneReplying.{names_call, unreadable, AnswersRequest, resent_line, again_or_played, handed_call, handed_raw, played_or_refused, holding, kept_if_repeating, played_line}
 use Rattle.gc_scenes.specs.SceneState.{SceneState}
 use Rattle.gc_scenes.specs.declared.rules.Noise.{Noise}
 use Rattle.gc_scenes.specs.declared.rules.Scripted.{Scripted}
@@ -94,26 +94,35 @@ pub unanswered_where_refused : (s t : SceneState) (call : Call) (code : ℕ) (sa
 unanswered_where_refused s t call code said told is noise some =
     noise ∙ noise_of_none t.noise said (sym (ap (λ (y : Executed). y.answer) is) ∙ (outcome_sound s call).refuses (λ none. some (sym (ap (λ (y : Executed). y.rc) is) ∙ none)))
 
--- executing a call, adding the noise and appending the reply is what `plays` says of the call: `s` is the state before, `t`
--- that after the call, but with the old noise, and `u` that with the noise after the answer
-pub executed : (s t u : SceneState) (call : Call) (number code : ℕ) (said told : Answer) (old new : List ℕ)
-    → (is : Reports (outcome s call) code said) → (state : t ≡ record (after_call s call (outcome s call)) { noise = s.noise })
-    → (noise : told ≡ noisy t.noise said) → (drawn : u ≡ record t { noise = noise_after t.noise said })
-    → (appended : new ≡ old ++ executed_reply_line u number code call told)
+-- how the call was executed in the state s, and its reply, with this id, appended to `old`: `t` is the state after the call, but with
+-- the old noise, and `u` that with the noise after the answer; `said` is the answer, and `told` the answer with the noise
+pub record IsExecuted (s : SceneState) (call : Call) (number : ℕ) (u : SceneState) (old new : List ℕ) : Type 0 where
+  pub t : SceneState
+  pub code : ℕ
+  pub said : Answer
+  pub told : Answer
+  pub gives : Reports (outcome s call) code said
+  pub state : t ≡ record (after_call s call (outcome s call)) { noise = s.noise }
+  pub noise : told ≡ noisy t.noise said
+  pub drawn : u ≡ record t { noise = noise_after t.noise said }
+  pub appended : new ≡ old ++ reply_line number code (replied_answer u.ways.values u.base.pointing call code told) u.base.precision
+
+-- executing a call, adding the noise and appending the reply (`IsExecuted`) is what `plays` says of the call
+pub executed : (s : SceneState) (call : Call) (number : ℕ) (u : SceneState) (old new : List ℕ) → IsExecuted s call number u old new
     → AppendsPlayed number (plays s call) u old new
 unfolding plays
-executed s t u call number code said told old new is state noise drawn appended =
+executed s call number u old new h =
     let x = outcome s call in
-    let rc : code ≡ x.rc = sym (ap (λ (y : Executed). y.rc) is) in
-    let ans : said ≡ x.answer = sym (ap (λ (y : Executed). y.answer) is) in
-    let quiet : t.noise ≡ s.noise = ap (λ (y : SceneState). y.noise) state in
+    let rc : h.code ≡ x.rc = sym (ap (λ (y : Executed). y.rc) h.gives) in
+    let ans : h.said ≡ x.answer = sym (ap (λ (y : Executed). y.answer) h.gives) in
+    let quiet : h.t.noise ≡ s.noise = ap (λ (y : SceneState). y.noise) h.state in
     let after : u ≡ after_call s call x =
-    drawn ∙ ap (λ (y : SceneState). record y { noise = noise_after y.noise said }) state ∙ ap (λ (a : Answer). record (after_call s call x) { noise = noise_after s.noise a }) ans in
-    let said_is : told ≡ noisy s.noise x.answer = noise ∙ ap (λ (n : Option Noise). noisy n said) quiet ∙ ap (noisy s.noise) ans in
+    h.drawn ∙ ap (λ (y : SceneState). record y { noise = noise_after y.noise h.said }) h.state ∙ ap (λ (a : Answer). record (after_call s call x) { noise = noise_after s.noise a }) ans in
+    let said_is : h.told ≡ noisy s.noise x.answer = h.noise ∙ ap (λ (n : Option Noise). noisy n h.said) quiet ∙ ap (noisy s.noise) ans in
     record {
       state = after;
-      appended = appended ∙ ap (λ (y : SceneState). old ++ executed_reply_line y number code call told) after
-          ∙ ap (λ (c : ℕ). old ++ reply_line number c (replied_answer s.ways.values x.state.pointing call c told) x.state.precision) rc
+      appended = h.appended ∙ ap (λ (y : SceneState). old ++ reply_line number h.code (replied_answer y.ways.values y.base.pointing call h.code h.told) y.base.precision) after
+          ∙ ap (λ (c : ℕ). old ++ reply_line number c (replied_answer s.ways.values x.state.pointing call c h.told) x.state.precision) rc
           ∙ ap (λ (a : Answer). old ++ reply_line number x.rc (replied_answer s.ways.values x.state.pointing call x.rc a) x.state.precision) said_is;
     }
 

@@ -1,5 +1,5 @@
 -- What the code appends for a request: this project's own. `number` is an id; `old` and `new` are the bytes before and after.
-use Rattle.std.specs.Prelude.{◌≡◌, ℕ, List, ◌++◌}
+use Rattle.std.specs.Prelude.{◌≡◌, ℕ, true, List, ◌++◌}
 use Rattle.gc_instrument.specs.Replying.{Handed}
 use Rattle.gc_scenes.specs.SceneExecution.{Played}
 use Rattle.gc_scenes.specs.SceneReplying.{played_line}
@@ -11,6 +11,5 @@ pub record AppendsHanded (x : Handed SceneState) (after : SceneState) (old new :
   pub appended : new ≡ old ++ x.reply
 
 -- the state after a request is that of `p`, and the reply line of `p` with this id was appended to `old`
-pub record AppendsPlayed (number : ℕ) (p : Played) (after : SceneState) (old new : List ℕ) : Type 0 where
-  pub state : after ≡ p.state
-  pub appended : new ≡ old ++ played_line number p
+abbrev pub AppendsPlayed : (number : ℕ) → Played → (after : SceneState) → (old new : List ℕ) → Type 0
+AppendsPlayed number p after old new = AppendsHanded (record { state = p.state; reply = played_line number p; executed = true }) after old new

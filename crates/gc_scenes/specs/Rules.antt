@@ -1,6 +1,6 @@
 -- What each rule of a scene does to targets, to requests and to answers: this project's own. A look is a measurement or a search.
 -- `rpc` is a procedure's number.
-use Rattle.std.specs.Prelude.{ℕ, ◌+◌, ◌-◌, ◌==◌, ◌&&◌, not, Bool, true, false, List, [], ◌∷◌, Option, Some, None, nat_le, if◌then◌else◌, min, find, option_map}
+use Rattle.std.specs.Prelude.{ℕ, ◌+◌, ◌-◌, ◌==◌, ◌&&◌, not, Bool, true, false, List, [], ◌∷◌, Option, Some, None, nat_le, if◌then◌else◌, min, find, map, option_map}
 use Rattle.gc_values.specs.Decimals.{units}
 use Rattle.gc_values.specs.declared.decimal.Decimal.{Decimal}
 use Rattle.gc_catalogue.specs.declared.answer.Answer.{Answer}
@@ -49,8 +49,7 @@ moved over look there p = if is_clear look p && is_at there (target_in_face over
 -- the targets after a measurement in this look, with the telescope pointing `there`, in face II if `over`: all that aren't hidden
 -- and lie exactly there have moved by their drift
 abbrev pub drifted : (over : Bool) (look : ℕ) → Pointing → List Prism → List Prism
-drifted over look there [] = []
-drifted over look there (p ∷ ps) = moved over look there p ∷ drifted over look there ps
+drifted over look there ps = map (moved over look there) ps
 
 -- Requests.
 
@@ -69,8 +68,7 @@ met_once rpc f = if f.rpc == rpc then record f { met = one_more f.met } else f
 
 -- the faults after one more request of this procedure
 abbrev pub counted : (rpc : ℕ) → List Fault → List Fault
-counted rpc [] = []
-counted rpc (f ∷ fs) = met_once rpc f ∷ counted rpc fs
+counted rpc faults = map (met_once rpc) faults
 
 -- the first reply that the scene has for this procedure, if it has one
 abbrev pub scripted_reply : (rpc : ℕ) → List Scripted → Option Scripted
@@ -114,5 +112,4 @@ noisy (Some n) a = disturbed n a
 
 -- the scene's noise, if it has one, after an answer
 abbrev pub noise_after : Option Noise → Answer → Option Noise
-noise_after None a = None
-noise_after (Some n) a = Some (advanced n a)
+noise_after noise a = option_map (λ n. advanced n a) noise

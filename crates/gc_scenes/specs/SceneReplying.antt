@@ -7,13 +7,11 @@ use Rattle.gc_lines.specs.Replies.{reply_text}
 use Rattle.gc_lines.specs.Requests.{RequestFields}
 use Rattle.gc_values.specs.declared.fault.ValueFault.{ValueFault}
 use Rattle.gc_catalogue.specs.Calls.{IsCall, IsRefusal}
-use Rattle.gc_catalogue.specs.Texts.{reply_line}
-use Rattle.gc_catalogue.specs.declared.answer.Answer.{Answer}
 use Rattle.gc_catalogue.specs.declared.call.Call.{Call}
 use Rattle.gc_catalogue.specs.declared.fault.CallFault.TheVariants.{Unknown, Parameters}
 use Rattle.gc_instrument.specs.Replying.{Handed, kept_line, kept_after, with_kept, refusal_line, reply_id}
 use Rattle.gc_instrument.specs.State.{KeptReply}
-use Rattle.gc_scenes.specs.SceneExecution.{Played, played_call, played_raw, counting, replied_answer}
+use Rattle.gc_scenes.specs.SceneExecution.{Played, played_call, played_raw, counting}
 use Rattle.gc_scenes.specs.SceneState.{SceneState}
 
 -- the reply line with this id, this return code and these parameters
@@ -80,10 +78,6 @@ pub data AnswersRequest (before : SceneState) (q : RequestFields) (after : Scene
 -- what the instrument does with a line, and its reply, if there is one
 abbrev pub IsPlayed : (before : SceneState) → (line : List ℕ) → (after : SceneState) → (reply : Option (List ℕ)) → Type 0
 IsPlayed before line after reply = RepliesTo AnswersRequest before line after reply
-
--- the reply line with this id to an executed call with this code and this answer, by the state after the call
-abbrev pub executed_reply_line : SceneState → (id rc : ℕ) → Call → Answer → List ℕ
-executed_reply_line s id rc call answer = reply_line id rc (replied_answer s.ways.values s.base.pointing call rc answer) s.base.precision
 
 -- what the instrument does with a request that is answered with this code and these parameters, and isn't executed: it sends the
 -- stored line again, if there is one for the id; else the faults count the request of this procedure, and the reply is stored

@@ -1,6 +1,6 @@
 -- An instrument whose replies take time: this project's own. Moments are milliseconds on one clock; only their differences count.
 -- `rpc` is a procedure's number.
-use Rattle.std.specs.Prelude.{◌≡◌, ℕ, ◌<◌, ◌≤◌, ◌==◌, Bool, true, List, [], ◌∷◌, Option, Some, None, if◌then◌else◌, nat_lt}
+use Rattle.std.specs.Prelude.{◌≡◌, ℕ, ◌<◌, ◌≤◌, ◌==◌, Bool, true, List, Option, Some, None, if◌then◌else◌, nat_lt, fold}
 use Rattle.gc_lines.specs.AnsweringLines.{AnswersLines}
 use Rattle.gc_lines.specs.Requests.{RequestFields, IsRequest}
 use Rattle.gc_lines.specs.declared.frame.Frame.{Frame}
@@ -9,15 +9,13 @@ use Rattle.gc_scenes.specs.SceneReplying.{IsPlayed}
 use Rattle.gc_scenes.specs.SceneState.{SceneState, scene_restarted, at_moment}
 use Rattle.gc_scenes.specs.declared.delay.Delay.{Delay}
 
--- how long the reply to a request of this procedure takes, in milliseconds: as the last delay for the procedure says, or `ms` if
--- none is for it
-abbrev pub delay_from : (rpc ms : ℕ) → List Delay → ℕ
-delay_from rpc ms [] = ms
-delay_from rpc ms (d ∷ ds) = delay_from rpc (if d.rpc == rpc then d.ms else ms) ds
+-- how long the reply to a request of this procedure takes with this delay, in milliseconds, if it takes `ms` without it
+abbrev pub delayed : (rpc ms : ℕ) → Delay → ℕ
+delayed rpc ms d = if d.rpc == rpc then d.ms else ms
 
--- how long the reply to a request of this procedure takes, in milliseconds: 0 if no delay is for the procedure
+-- how long the reply to a request of this procedure takes, in milliseconds, by the last delay for the procedure; 0 without one
 abbrev pub delay_of : (rpc : ℕ) → List Delay → ℕ
-delay_of rpc delays = delay_from rpc 0 delays
+delay_of rpc delays = fold (delayed rpc) 0 delays
 
 -- if the line is a request, its reply takes `ms` milliseconds by these delays
 abbrev pub IsDelay : (delays : List Delay) → (line : List ℕ) → (ms : ℕ) → Type 0

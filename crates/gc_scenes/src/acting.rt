@@ -4,7 +4,7 @@ ghost use Rattle.std.specs.Prelude.{◌≡◌, Option, true};
 ghost use Rattle.gc_catalogue.specs.declared.answer.Answer.TheVariants.{Nothing, Measured};
 ghost use Rattle.gc_catalogue.specs.declared.call.DateTime.{DateTime};
 ghost use Rattle.gc_instrument.specs.Execution.{Executes, Gives, done, distance_outcome, adjusted, pointed, unmeasured};
-ghost use Rattle.gc_scenes.specs.Acting.{acted, acted_faceless, faced, is_unchanged_by_ways};
+ghost use Rattle.gc_scenes.specs.Acting.{acted_faceless, faced, is_unchanged_by_ways};
 ghost use Rattle.gc_scenes.specs.Ways.{nearest, other_hz, other_v};
 ghost use Rattle.gc_scenes.specs.declared.ways.Ways.{Ways};
 
@@ -14,27 +14,9 @@ use gc_instrument::{Instrument, NO_DISTANCE, NO_TARGET, Pointing};
 use gc_values::Decimal;
 
 /// Carries out a call with these ways over the instrument's targets, and returns the return code. `now` is what a running clock shows,
-/// if one runs. An answer is written into `answer`, which stays `Answer::Nothing` if there is none. With `ways.faces` the face is then the
-/// one that the vertical angle belongs to.
-pub(crate) fn act(
-    instrument: &mut Instrument,
-    ways: &Ways,
-    now: Option<DateTime>,
-    call: &Call,
-    answer: &mut Answer,
-) -> u16
-    requires { answer.old ≡ Nothing }
-    ensures { Gives (acted ways.now now instrument.old call.now) instrument.new result answer.new }
-{
-    let rc = act_faceless(instrument, ways, now, call, answer);
-    if ways.faces {
-        set_face_by_angle(instrument);
-    }
-    rc
-}
-
-// As `act`, but the face isn't set by the vertical angle.
-fn act_faceless(
+/// if one runs. An answer is written into `answer`, which stays `Answer::Nothing` if there is none. The face is left to
+/// `set_face_by_angle`.
+pub(crate) fn act_faceless(
     instrument: &mut Instrument,
     ways: &Ways,
     now: Option<DateTime>,
@@ -146,10 +128,12 @@ fn take_distance(instrument: &mut Instrument, answer: &mut Answer) -> u16
     0
 }
 
-// Sets the telescope's face to the one that its vertical angle belongs to.
-fn set_face_by_angle(instrument: &mut Instrument)
-    ensures { instrument.new ≡ faced true instrument.old }
+/// Sets the telescope's face to the one that its vertical angle belongs to, if the instrument has both faces' angles (`faces`).
+pub(crate) fn set_face_by_angle(instrument: &mut Instrument, faces: bool)
+    ensures { instrument.new ≡ faced faces instrument.old }
 {
-    let there = instrument.pointing();
-    instrument.set_face(face_at(&there.v));
+    if faces {
+        let there = instrument.pointing();
+        instrument.set_face(face_at(&there.v));
+    }
 }

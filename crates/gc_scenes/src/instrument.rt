@@ -9,7 +9,7 @@ ghost use Rattle.gc_scenes.specs.SceneExecution.{Reports, is_measurement, is_sea
 ghost use Rattle.gc_scenes.specs.SceneState.{scene_restarted, at_moment, seeing};
 ghost use Rattle.gc_catalogue.specs.declared.answer.Answer.TheVariants.{Nothing};
 
-use crate::acting::act;
+use crate::acting::{act_faceless, set_face_by_angle};
 use crate::clock::Clock;
 use crate::rules::{Fault, Noise, Prism, SceneRules, Scripted};
 use crate::ways::{Ways, has_distance, target_in_face};
@@ -192,7 +192,9 @@ impl SceneInstrument {
         let now = self.shown();
         let targets = self.seen_by(call);
         self.base.set_scene(&targets);
-        act(&mut self.base, &self.ways, now, call, answer)
+        let rc = act_faceless(&mut self.base, &self.ways, now, call, answer);
+        set_face_by_angle(&mut self.base, self.ways.faces);
+        rc
     }
 
     // Notes that a call was carried out in this look and had this return code, where the telescope had pointed `there`, in face II if `over`:

@@ -7,7 +7,7 @@ ghost use Rattle.gc_lines.specs.Answering.{AppendsAnswer};
 ghost use Rattle.gc_instrument.specs.Replying.{Handed};
 ghost use Rattle.gc_catalogue.specs.Texts.{reply_line};
 ghost use Rattle.gc_scenes.specs.SceneExecution.{Played, answer_or_values, plays, unless_faulted, warned};
-ghost use Rattle.gc_scenes.specs.SceneReplying.{IsPlayed, IsHanded, resent_line, executed_reply_line, handed_call, handed_raw, handed_unexecuted, played_line, line_with, kept_if_repeating, holding};
+ghost use Rattle.gc_scenes.specs.SceneReplying.{IsPlayed, IsHanded, resent_line, handed_call, handed_raw, handed_unexecuted, played_line, line_with, kept_if_repeating, holding};
 ghost use Rattle.gc_scenes.specs.Appending.{AppendsHanded, AppendsPlayed};
 
 use crate::beside::push_reply_with_values;
@@ -133,7 +133,7 @@ impl SceneInstrument {
         self.reply_with_onto(id, rc, call, &Answer::Nothing, &distance, out);
     }
 
-    // Executes a call, and appends its reply.
+    // Executes a call, and appends its reply. Where that has the values of `reply_with_onto`, the distance is 0.
     fn execute_onto<const N: usize>(&mut self, id: u8, call: &Call, out: &mut ArrayVec<u8, N>)
         requires id { id < 8 }
         requires room { array_vec_len out.old + 512 ≤ N }
@@ -143,26 +143,7 @@ impl SceneInstrument {
         let mut answer = Answer::Nothing;
         let rc = self.execute(call, &mut answer);
         self.disturb(&mut answer);
-        self.reply_executed_onto(id, rc, call, &answer, out);
-    }
-
-    // Appends the reply to an executed call with this code. It has this answer, or the values of `reply_with_onto`, with a distance
-    // of 0.
-    fn reply_executed_onto<const N: usize>(
-        &self,
-        id: u8,
-        rc: u16,
-        call: &Call,
-        answer: &Answer,
-        out: &mut ArrayVec<u8, N>,
-    )
-        requires id { id < 8 }
-        requires refused { rc ≢ 0 → answer.now ≡ Nothing }
-        requires room { array_vec_len out.old + 512 ≤ N }
-        ensures line { out.new.items ≡ out.old.items ++ executed_reply_line self.now id rc call.now answer.now }
-        ensures bound { length out.new.items ≤ length out.old.items + 512 }
-    {
-        self.reply_with_onto(id, rc, call, answer, &Decimal::zero(), out);
+        self.reply_with_onto(id, rc, call, &answer, &Decimal::zero(), out);
     }
 
     // Appends the reply to a call with this code. It has this answer or, if the code is a warning and the instrument has values

@@ -30,7 +30,7 @@ use Rattle.gc_station.specs.Progressing.{turned, moment_noted, early_noted, cycl
 use Rattle.gc_station.specs.Marks.{commands_in}
 use Rattle.gc_station.specs.Reasons.{HoldsBefore}
 use Rattle.gc_station.specs.Records.{Record}
-use Rattle.gc_station.specs.Runs.{state_after}
+use Rattle.gc_station.specs.Runs.{state_after, OfEachRecord}
 use Rattle.gc_station.specs.ActKinds.{Puts, ReadsClock, IsOpening, IsReading}
 use Rattle.gc_station.specs.Model.{Model, opening, action_at, waiting_of, request_text, null_text, first_text, with_progress, is_heard, client_sent, asks_null, asks_first, asks_next, after_pass, with_more_passes, next_left_out, with_listed, listed_after_skip, with_more_records, unsent_record, first_unsent_record, after_clock, after_put, after_open, after_read, Performs, moved, Runs, cycle_length, place_to_send, text_or_null, asks_or_null, asks_setup}
 use Rattle.gc_station.specs.NextCommand.{mark_next, place_next, upcoming_after, mark_setup}
@@ -317,16 +317,13 @@ all_true plan commands scope acts P step runs =
     (honest_along plan commands scope [] acts (record { waiting = tt; written = tt }) runs).written
 
 -- each record of a reply in time is true
-pub answers_true : (plan : Plan) (commands : List Task) (scope : Scope) (acts : List Act) → Runs plan commands (opening plan scope) acts
-    → AllByRecursion (AnswerIsJustified plan commands scope acts) (state_after plan commands scope acts).records
+pub answers_true : OfEachRecord AnswerIsJustified
 answers_true plan commands scope acts runs = all_true plan commands scope acts (AnswerIsJustified plan commands scope acts) (λ r is. is.answered) runs
 
 -- each late record is true
-pub late_true : (plan : Plan) (commands : List Task) (scope : Scope) (acts : List Act) → Runs plan commands (opening plan scope) acts
-    → AllByRecursion (LateIsJustified plan commands scope acts) (state_after plan commands scope acts).records
+pub late_true : OfEachRecord LateIsJustified
 late_true plan commands scope acts runs = all_true plan commands scope acts (LateIsJustified plan commands scope acts) (λ r is. is.late) runs
 
 -- each lost record is true
-pub lost_true : (plan : Plan) (commands : List Task) (scope : Scope) (acts : List Act) → Runs plan commands (opening plan scope) acts
-    → AllByRecursion (LostIsJustified plan commands scope acts) (state_after plan commands scope acts).records
+pub lost_true : OfEachRecord LostIsJustified
 lost_true plan commands scope acts runs = all_true plan commands scope acts (LostIsJustified plan commands scope acts) (λ r is. is.lost) runs

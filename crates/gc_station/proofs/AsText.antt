@@ -3,7 +3,7 @@
 -- and its quality is as listed. Besides, `listed` of a model is what its records say. `KeepsToText` says all of this of a
 -- model. An act is one call on the link, with its result. A mark says which command an outstanding request is of, and what is
 -- expected of its answer.
-use Rattle.std.proofs.Common.{◌≡◌, ℕ, zero, suc, Bool, List, [], ◌∷◌, ◌++◌, drop, Option, Some, None, refl, sym, ap, ◌∙◌, subst, ◌+◌, ◌-◌, ◌<◌, ◌||◌, true, false, length, if◌then◌else◌, nat_eq, arith, append-nil}
+use Rattle.std.proofs.Common.{◌≡◌, ℕ, zero, suc, Bool, List, [], ◌∷◌, ◌++◌, drop, Option, Some, None, refl, sym, ap, ◌∙◌, subst, ◌<◌, ◌||◌, true, false, length, if◌then◌else◌, nat_eq, arith, append-nil}
 use Rattle.std.specs.Prelude.{slice_get}
 use Rattle.std.specs.List.{AllByRecursion}
 use Rattle.gc_values.proofs.Every.{every_drop}
@@ -22,7 +22,7 @@ use Rattle.gc_texts.proofs.Placing.{near_unless_elsewhere, elsewhere_is}
 use Rattle.gc_links.specs.Acts.{Act, Told, Gave, Cut}
 use Rattle.gc_links.specs.declared.link.Moment.{Moment}
 use Rattle.gc_station.specs.Marks.{record_of, records_of, end_of}
-use Rattle.gc_station.specs.Model.{Model, opening, action_at, asks, asks_next, with_progress, with_moment, line_came, is_heard, after_piece, first_unsent_record, losing, moved, after, asks_setup, waiting_of, listed_unsent}
+use Rattle.gc_station.specs.Model.{Model, opening, action_at, asks, asks_next, with_progress, with_moment, line_came, is_heard, after_piece, end_unsent, first_unsent_record, losing, moved, after, asks_setup, waiting_of, listed_unsent}
 use Rattle.gc_station.specs.NextCommand.{expected_first, mark_next, place_next, mark_setup, cycles_begun}
 use Rattle.gc_station.specs.Nearness.{IsAtItsTarget, HasAnswer, ElsewhereIsJustified}
 use Rattle.gc_station.specs.Qualities.{IsOfQuality, IsAsListed, accepted_at}
@@ -45,11 +45,11 @@ use Rattle.gc_texts.specs.Again.{repeats_after}
 use Rattle.gc_texts.specs.declared.again.Again.{Again}
 use Rattle.gc_station.specs.Attempts.{code_of, listed_by}
 use Rattle.gc_station.specs.Reasons.{HoldsBefore}
-use Rattle.gc_station.specs.Retries.{turn_at, rule_at, code_of_end, HasItsTurn}
+use Rattle.gc_station.specs.Retries.{expected_of, code_of_end, HasItsTurn}
 use Rattle.gc_station.proofs.EachRun.{invariant_after, invariant_opening}
 use Rattle.gc_station.proofs.Facts.{action_for, not_none}
 use Rattle.gc_station.proofs.Invariant.{Invariant}
-use Rattle.gc_station.proofs.Listed.{code_there, named_by, any_listed, any_append, expected_as, turn_expected, rule_expected, near_expected, accepted_expected}
+use Rattle.gc_station.proofs.Listed.{code_there, named_by, any_listed, any_append, expected_as, near_expected, accepted_expected}
 
 -- what is expected of the answer of the command at a place is what its task says
 expected_there : (commands : List Task) (k : ℕ) (task : Task) → slice_get commands k ≡ Some task → expected_first (drop k commands) ≡ expected_first (task ∷ [])
@@ -62,7 +62,7 @@ module _ (plan : Plan) (commands : List Task) (scope : Scope) where
   -- a mark expects of its command's answer what the text says; of a command of the setup, in the attempt of its turn
   abbrev pub ExpectsAsText : Option Mark → Type 0
   ExpectsAsText None = Unit {0}
-  ExpectsAsText (Some mark) = mark.expected ≡ expected_as (nat_eq mark.cycle 0) mark.expected.turn.attempt (expected_first (drop mark.place commands))
+  ExpectsAsText (Some mark) = mark.expected ≡ expected_of commands mark.cycle mark.expected.turn.attempt mark.place
 
   -- a record is as its text says: `HasItsTurn`, `IsAtItsTarget`, `ElsewhereIsJustified` and `IsAsListed` hold of it
   abbrev pub IsAsItsText : Record → Type 0
@@ -76,18 +76,10 @@ module _ (plan : Plan) (commands : List Task) (scope : Scope) where
   codes_as_text : (mark : Mark) → ExpectsAsText (Some mark) → mark.expected.accepted ≡ accepted_at commands mark.place
   codes_as_text mark placed = ap (λ (k : Expected). k.accepted) placed ∙ accepted_expected (nat_eq mark.cycle 0) mark.expected.turn.attempt (expected_first (drop mark.place commands))
 
-  -- a mark that is `ExpectsAsText` expects the turn of its command (`turn_at`)
-  turn_as_text : (mark : Mark) → ExpectsAsText (Some mark) → mark.expected.turn ≡ turn_at commands mark.cycle mark.expected.turn.attempt mark.place
-  turn_as_text mark placed = ap (λ (k : Expected). k.turn) placed ∙ turn_expected (nat_eq mark.cycle 0) mark.expected.turn.attempt (expected_first (drop mark.place commands))
-
-  -- a mark that is `ExpectsAsText` has the rule of its command (`rule_at`)
-  rule_as_text : (mark : Mark) → ExpectsAsText (Some mark) → mark.expected.again ≡ rule_at commands mark.cycle mark.place
-  rule_as_text mark placed = ap (λ (k : Expected). k.again) placed ∙ rule_expected (nat_eq mark.cycle 0) mark.expected.turn.attempt (expected_first (drop mark.place commands))
-
   -- the record of a settlement whose mark is `ExpectsAsText` is as its text says
   record_keeps : (utc : ℕ) (mark : Mark) (x : Rule.Settlement Asked) → ExpectsAsText (Some mark) → IsAsItsText (record_of scope.reads utc mark x)
   record_keeps utc mark x placed = (
-    turn_as_text mark placed,
+    ap (λ (k : Expected). k.turn) placed,
     (λ task near quality answer line d at has e toward.
         let stands : mark.expected.near ≡ Some near = near_as_text mark placed ∙ ap (λ (k : Expected). k.near) (expected_there commands mark.place task at) ∙ has in
         near_unless_elsewhere near answer d
@@ -96,15 +88,16 @@ module _ (plan : Plan) (commands : List Task) (scope : Scope) where
         let away = ended_away scope.reads mark.expected x.call line x.outcome e in
         let is = elsewhere_is mark.expected.near away.0 away.2 in
         let near_there = near_as_text mark placed ∙ ap (λ (k : Expected). k.near) (expected_there commands mark.place task at) in
-        let there = codes_as_text mark placed ∙ ap (λ (k : Expected). k.accepted) (expected_there commands mark.place task at) in (
-          away.0,
-          is.0,
-          is.1,
-          subst (λ codes. HasAnswer scope.reads codes x.call line away.0) there away.1,
-          sym near_there ∙ is.2,
-          is.3,
-          is.4,
-        )),
+        let there = codes_as_text mark placed ∙ ap (λ (k : Expected). k.accepted) (expected_there commands mark.place task at) in
+        record {
+          answer = away.0;
+          near = is.0;
+          direction = is.1;
+          says = subst (λ codes. HasAnswer scope.reads codes x.call line away.0) there away.1;
+          known = sym near_there ∙ is.2;
+          toward = is.3;
+          away = is.4;
+        }),
     (λ quality said line e.
         subst (λ codes. IsOfQuality scope.reads codes x.call quality said line) (codes_as_text mark placed)
         (ended_quality scope.reads mark.expected x.call line quality said x.outcome e)),
@@ -127,7 +120,7 @@ module _ (plan : Plan) (commands : List Task) (scope : Scope) where
       let code = code_of scope.reads x.call x.outcome in
       let kept = if nat_eq mark.expected.turn.link 0 then false else b in
       let same = named_by scope.reads mark.expected.again x.call code end (λ q said l e. code_there scope.reads mark.expected x.call x.outcome q said l e)
-      ∙ ap (λ (k : Again). repeats_after k (code_of_end scope.reads x.call end) end) (rule_as_text mark all.0) in
+      ∙ ap (λ (k : Expected). repeats_after k.again (code_of_end scope.reads x.call end) end) all.0 in
       listed_as_recorded utc marks xs (kept || repeats_after mark.expected.again code end) all.1
       ∙ ap (λ y. any_listed scope.reads commands (kept || y) (records_of scope.reads utc marks xs)) same
 
@@ -205,7 +198,7 @@ module _ (plan : Plan) (commands : List Task) (scope : Scope) where
   skips_keeps p m mark [] placed = tt
   skips_keeps p m mark (task ∷ others) placed = (
     (
-      turn_as_text mark placed,
+      ap (λ (k : Expected). k.turn) placed,
       (λ t near quality answer line d at has e toward. absurd (no_end_of_sent p.missed (Answered quality (Some answer) line) refl e)),
       (λ t line at e. absurd (no_end_of_sent p.missed (Elsewhere line) refl e)),
       (λ quality said line e. absurd (no_end_of_sent p.missed (Answered quality said line) refl e)),
@@ -220,9 +213,10 @@ module _ (plan : Plan) (commands : List Task) (scope : Scope) where
   skips_listed b p m [] many some = absurd (omega (arith, some))
   skips_listed b p m (task ∷ others) many some =
       let mark = mark_next plan commands p in
-      let end = if p.missed then Missed else Skipped in
+      let end = end_unsent p in
       ap (λ x. (if nat_eq mark.expected.turn.link 0 then false else b) || x)
-      (unsent_named mark.expected.again task.command.call p.missed ∙ ap (λ (k : Again). repeats_after k (code_of_end scope.reads task.command.call end) end) (rule_as_text mark (next_placed p many)))
+      (unsent_named mark.expected.again task.command.call p.missed
+      ∙ ap (λ (k : Expected). repeats_after k.again (code_of_end scope.reads task.command.call end) end) (next_placed p many))
 
   -- if this action sends the next command of a cycle, or records it without sending it, a cycle has begun, and there is such a
   -- command

@@ -189,102 +189,6 @@ pub all_settled : (P : Option Mark → Type 0) (Q : Record → Type 0) (reads : 
 all_settled P Q reads utc ms rs ss one marks records =
     all_append Q rs (records_of reads utc ms ss) records (all_records reads utc Q ms ss (λ n mark x at got. one mark x (all_at P ms n (Some mark) marks at)))
 
--- What is recorded.
-
--- a station with the marks `ms` and the records `rs` sends the requests `asks`, with the marks `more`, and the settlements `ss`
--- come: then it has the marks `ms'` and the records `rs'`, which are compared without their moments
-pub record Wrote (reads : Asked → List ℕ → Reading) (commands : List Task) (ms : List (Option Mark)) (rs : List Record) (more : List (Option Mark))
-    (ss : List (Settlement Asked)) (asks : List (Wanted Asked)) (ms' : List (Option Mark)) (rs' : List Record) : Type 0 where
-  pub marks : ms' ≡ drop (length ss) (ms ++ more)
-  pub count : length ss ≤ length (ms ++ more)
-  pub records : map timeless rs' ≡ map timeless rs ++ records_of reads 0 (ms ++ more) ss
-  pub sent : MarksAsk commands more asks
-
--- where `Wrote` holds of settlements, and of others after them, it holds of all
-wrote_both : (reads : Asked → List ℕ → Reading) (commands : List Task) (ms ms1 ms2 more1 more2 : List (Option Mark)) (rs rs1 rs2 : List Record) (ss1 ss2 : List (Settlement Asked))
-    (asks1 asks2 : List (Wanted Asked))
-    → Wrote reads commands ms rs more1 ss1 asks1 ms1 rs1 → Wrote reads commands ms1 rs1 more2 ss2 asks2 ms2 rs2
-    → Wrote reads commands ms rs (more1 ++ more2) (ss1 ++ ss2) (asks1 ++ asks2) ms2 rs2
-wrote_both reads commands ms ms1 ms2 more1 more2 rs rs1 rs2 ss1 ss2 asks1 asks2 h g =
-    let all = ms ++ (more1 ++ more2) in
-    let whole : (ms ++ more1) ++ more2 ≡ all = append_assoc ms more1 more2 in
-    let left : ms1 ++ more2 ≡ drop (length ss1) all = ap (λ xs. xs ++ more2) h.marks ∙ sym (drop-append-le (length ss1) (ms ++ more1) more2 h.count) ∙ ap (drop (length ss1)) whole in
-    let many : length (ss1 ++ ss2) ≡ length ss1 + length ss2 = length-append ss1 ss2 in
-    let first : length ms1 ≡ length (drop (length ss1) (ms ++ more1)) = ap length h.marks in
-    let dropped : length (ms ++ more1) ≡ length ss1 + length (drop (length ss1) (ms ++ more1)) = let d = length-drop (length ss1) (ms ++ more1) in omega (arith, d, h.count) in
-    let lens1 : length (ms1 ++ more2) ≡ length ms1 + length more2 = length-append ms1 more2 in
-    let lens2 : length all ≡ length (ms ++ more1) + length more2 = sym (ap length whole) ∙ length-append (ms ++ more1) more2 in
-    record {
-      marks = g.marks ∙ ap (drop (length ss2)) left ∙ drop_twice ss1 ss2 all;
-      count = omega (arith, many, first, dropped, lens1, lens2, g.count);
-      records =
-          g.records ∙ ap (λ l. l ++ records_of reads 0 (ms1 ++ more2) ss2) h.records
-          ∙ append_assoc (map timeless rs) (records_of reads 0 (ms ++ more1) ss1) (records_of reads 0 (ms1 ++ more2) ss2)
-          ∙ ap (λ l. map timeless rs ++ (records_of reads 0 (ms ++ more1) ss1 ++ records_of reads 0 l ss2)) left
-          ∙ ap (λ l. map timeless rs ++ (l ++ records_of reads 0 (drop (length ss1) all) ss2)) (sym (records_more reads (ms ++ more1) more2 ss1 h.count) ∙ ap (λ l. records_of reads 0 l ss1) whole)
-          ∙ ap (λ l. map timeless rs ++ l) (sym (records-append reads 0 all ss1 ss2));
-      sent = marks_ask_append commands more1 more2 asks1 asks2 h.sent g.sent;
-    }
-
--- the steps of part `p` take client `c`, with its marks and records, to client `c'` with the last marks and records
-pub record Books (reads : Asked → List ℕ → Reading) (commands : List Task) (c : ById Asked) (ms : List (Option Mark)) (rs : List Record) (p : Part) (c' : ById Asked)
-    (ms' : List (Option Mark)) (rs' : List Record) : Type 0 where
-  pub client : client_after c p.steps ≡ c'
-  pub wrote : Wrote reads commands ms rs p.marks (settled_by c p.steps) (sent_by c p.steps) ms' rs'
-
--- where part p takes a client to c1, and part q takes c1 to c2 (`Books`), p joined with q takes it to c2
-pub books_both : (reads : Asked → List ℕ → Reading) (commands : List Task) (c c1 c2 : ById Asked) (ms ms1 ms2 : List (Option Mark)) (rs rs1 rs2 : List Record) (p q : Part)
-    → Books reads commands c ms rs p c1 ms1 rs1 → Books reads commands c1 ms1 rs1 q c2 ms2 rs2 → Books reads commands c ms rs (joined p q) c2 ms2 rs2
-books_both reads commands c c1 c2 ms ms1 ms2 rs rs1 rs2 p q h g =
-    let at = client_after c p.steps in
-    let g' : Wrote reads commands ms1 rs1 q.marks (settled_by at q.steps) (sent_by at q.steps) ms2 rs2 =
-    subst (λ (d : ById Asked). Wrote reads commands ms1 rs1 q.marks (settled_by d q.steps) (sent_by d q.steps) ms2 rs2) (sym h.client) g.wrote in
-    record {
-      client = client_append c p.steps q.steps ∙ ap (λ d. client_after d q.steps) h.client ∙ g.client;
-      wrote =
-          subst (λ ss. Wrote reads commands ms rs (p.marks ++ q.marks) ss (sent_by c (p.steps ++ q.steps)) ms2 rs2) (sym (settled_append c p.steps q.steps))
-          (subst (λ (asks : List (Wanted Asked)). Wrote reads commands ms rs (p.marks ++ q.marks) (settled_by c p.steps ++ settled_by at q.steps) asks ms2 rs2) (sym (sent_append c p.steps q.steps))
-          (wrote_both reads commands ms ms1 ms2 p.marks q.marks rs rs1 rs2 (settled_by c p.steps) (settled_by at q.steps) (sent_by c p.steps) (sent_by at q.steps) h.wrote g'));
-    }
-
--- Single steps.
-
--- if nothing is settled and nothing sent, the marks and the records stay
-wrote_none : (reads : Asked → List ℕ → Reading) (commands : List Task) (ms : List (Option Mark)) (rs : List Record) → Wrote reads commands ms rs [] [] [] ms rs
-wrote_none reads commands ms rs = record {
-  marks = sym (append-nil ms);
-  count = omega arith;
-  records = sym (append-nil (map timeless rs)) ∙ ap (λ l. map timeless rs ++ l) (sym (records-none reads 0 (ms ++ [])));
-  sent = tt;
-}
-
--- a part in which nothing happens leaves the client, the marks and the records
-pub books_nothing : (reads : Asked → List ℕ → Reading) (commands : List Task) (c : ById Asked) (ms : List (Option Mark)) (rs : List Record) → Books reads commands c ms rs nothing c ms rs
-books_nothing reads commands c ms rs = record { client = refl; wrote = wrote_none reads commands ms rs }
-
--- steps of a synchronization leave the client, the marks and the records
-pub books_sync_steps : (reads : Asked → List ℕ → Reading) (commands : List Task) (c : ById Asked) (ms : List (Option Mark)) (rs : List Record) (sync_steps : List SyncStep)
-    → Books reads commands c ms rs (only_sync_steps sync_steps) c ms rs
-books_sync_steps reads commands c ms rs sync_steps = record { client = refl; wrote = wrote_none reads commands ms rs }
-
--- a moment, at which requests may time out, leaves the marks and the records
-pub books_moment : (reads : Asked → List ℕ → Reading) (commands : List Task) (c : ById Asked) (ms : List (Option Mark)) (rs : List Record) (now : ℕ)
-    → Books reads commands c ms rs (only_steps (Expire now ∷ [])) (expires c now) ms rs
-books_moment reads commands c ms rs now = record { client = refl; wrote = wrote_none reads commands ms rs }
-
--- `Wrote` holds of settlements of the oldest requests (`ss`, and `ts` is the same list), of which there are no more than marks:
--- as many of the first marks are taken out, and the records of the settlements are added
-wrote_settled : (reads : Asked → List ℕ → Reading) (commands : List Task) (ms : List (Option Mark)) (rs : List Record) (utc : ℕ) (ss ts : List (Settlement Asked))
-    → ts ≡ ss → length ss ≤ length ms → Wrote reads commands ms rs [] ts [] (drop (length ss) ms) (rs ++ records_of reads utc ms ss)
-wrote_settled reads commands ms rs utc ss ts same few =
-    let whole : ms ++ [] ≡ ms = append-nil ms in
-    subst (λ xs. Wrote reads commands ms rs [] xs [] (drop (length ss) ms) (rs ++ records_of reads utc ms ss)) (sym same) (record {
-      marks = ap (drop (length ss)) (sym whole);
-      count = subst (λ (xs : List (Option Mark)). length ss ≤ length xs) (sym whole) few;
-      records = map-append timeless rs (records_of reads utc ms ss) ∙ ap (λ l. map timeless rs ++ l) (records_timeless reads utc ms ss ∙ ap (λ xs. records_of reads 0 xs ss) (sym whole));
-      sent = tt;
-    })
-
 -- if the requests that were settled, and those still outstanding after them, are the ones that were outstanding, each of which
 -- has a mark, no more are settled than have marks
 few_settled : (ms : List (Option Mark)) (c d : ById Asked) (ss : List (Settlement Asked)) → length ms ≡ length c.waiting
@@ -295,29 +199,9 @@ few_settled ms c d ss paired parts =
     sym (length-append (map of_settled ss) (map of_pending d.waiting)) ∙ ap length parts ∙ length-map c.waiting of_pending in
     omega (arith, ended, count, paired)
 
--- a line that the client hears, where each outstanding request has a mark: its settlements take out their marks, and add their
--- records
-pub books_line : (reads : Asked → List ℕ → Reading) (commands : List Task) (c : ById Asked) (ms : List (Option Mark)) (rs : List Record) (utc : ℕ) (line : List ℕ) → length ms ≡ length c.waiting
-    → (let x = hears c line (heard line) in Books reads commands c ms rs (only_steps (Hear line ∷ [])) x.client (drop (length x.settlements) ms) (rs ++ records_of reads utc ms x.settlements))
-books_line reads commands c ms rs utc line paired =
-    let x = hears c line (heard line) in
-    record {
-      client = refl;
-      wrote = wrote_settled reads commands ms rs utc x.settlements (x.settlements ++ []) (append-nil x.settlements)
-          (few_settled ms c x.client x.settlements paired (heard_parts c line (heard line)));
-    }
-
 -- the part of a restart of the client
 abbrev pub restarting : Part
 restarting = only_steps (Restart ∷ [])
-
--- a restart, where each outstanding request has a mark: all outstanding requests are lost, which removes their marks and adds
--- their records
-pub books_restart : (reads : Asked → List ℕ → Reading) (commands : List Task) (c : ById Asked) (ms : List (Option Mark)) (rs : List Record) (utc : ℕ) → length ms ≡ length c.waiting
-    → Books reads commands c ms rs restarting fresh (drop (length (map lost c.waiting)) ms) (rs ++ records_of reads utc ms (map lost c.waiting))
-books_restart reads commands c ms rs utc paired =
-    let ss = map lost c.waiting in
-    record { client = refl; wrote = wrote_settled reads commands ms rs utc ss (ss ++ []) (append-nil ss) (few_settled ms c fresh ss paired (append-nil (map of_settled ss) ∙ lost_parts c.waiting)) }
 
 -- what a send of this call to this target gives, if the client doesn't refuse it: the id, and the client after the send
 abbrev pub sending_of : ById Asked → ℕ → Asked → ℕ → Sending (ById Asked)
@@ -327,33 +211,151 @@ sending_of c target call deadline = record { id = c.next; client = client_sent c
 pub sends_with_room : (c : ById Asked) (target : ℕ) (call : Asked) (deadline : ℕ) → length c.waiting < 7 → sends 7 c target call deadline ≡ Some (sending_of c target call deadline)
 sends_with_room c target call deadline room = ap (λ b. id_send c target call deadline b) (ne_eqb (length c.waiting) 7 (λ e. omega (arith, e, room)))
 
--- a send to `target` of `call` with the outcome `o` (the last argument; `None` if the client refuses it) takes the client c to
--- `client_sent c o`, and adds its mark to the marks `ms`; the records `rs` stay
-abbrev pub IsSendBooked : (Asked → List ℕ → Reading) → List Task → ById Asked → List (Option Mark) → List Record → ℕ → Asked → Option Mark → Option (Sending (ById Asked)) → Type 0
-IsSendBooked reads commands c ms rs target call mark o =
-    ((sent_on (course_at c) target call o).client ≡ client_sent c o)
-    × Wrote reads commands ms rs (mark ∷ []) ((sent_on (course_at c) target call o).settlements ++ []) ((sent_on (course_at c) target call o).sent ++ []) (ms ++ mark ∷ []) rs
+-- What is recorded.
 
--- `IsSendBooked` holds of a send that isn't refused, if it asks for what its mark says
-some_send_booked : (reads : Asked → List ℕ → Reading) (commands : List Task) (c : ById Asked) (ms : List (Option Mark)) (rs : List Record) (target : ℕ) (call : Asked)
-    (mark : Option Mark) (x : Sending (ById Asked)) → MarkAsks commands mark (record { target = target; call = call })
-    → IsSendBooked reads commands c ms rs target call mark (Some x)
-some_send_booked reads commands c ms rs target call mark x is = (
-  refl,
-  record {
-    marks = refl;
+-- each reply says of its call what `reads` gives
+module _ (reads : Asked → List ℕ → Reading) (commands : List Task) where
+  -- a station with the marks `ms` and the records `rs` sends the requests `asks`, with the marks `more`, and the settlements `ss`
+  -- come: then it has the marks `ms'` and the records `rs'`, which are compared without their moments
+  pub record Wrote (ms : List (Option Mark)) (rs : List Record) (more : List (Option Mark))
+      (ss : List (Settlement Asked)) (asks : List (Wanted Asked)) (ms' : List (Option Mark)) (rs' : List Record) : Type 0 where
+    pub marks : ms' ≡ drop (length ss) (ms ++ more)
+    pub count : length ss ≤ length (ms ++ more)
+    pub records : map timeless rs' ≡ map timeless rs ++ records_of reads 0 (ms ++ more) ss
+    pub sent : MarksAsk commands more asks
+
+  -- where `Wrote` holds of settlements, and of others after them, it holds of all
+  wrote_both : (ms ms1 ms2 more1 more2 : List (Option Mark)) (rs rs1 rs2 : List Record) (ss1 ss2 : List (Settlement Asked))
+      (asks1 asks2 : List (Wanted Asked))
+      → Wrote ms rs more1 ss1 asks1 ms1 rs1 → Wrote ms1 rs1 more2 ss2 asks2 ms2 rs2
+      → Wrote ms rs (more1 ++ more2) (ss1 ++ ss2) (asks1 ++ asks2) ms2 rs2
+  wrote_both ms ms1 ms2 more1 more2 rs rs1 rs2 ss1 ss2 asks1 asks2 h g =
+      let all = ms ++ (more1 ++ more2) in
+      let whole : (ms ++ more1) ++ more2 ≡ all = append_assoc ms more1 more2 in
+      let left : ms1 ++ more2 ≡ drop (length ss1) all = ap (λ xs. xs ++ more2) h.marks ∙ sym (drop-append-le (length ss1) (ms ++ more1) more2 h.count) ∙ ap (drop (length ss1)) whole in
+      let many : length (ss1 ++ ss2) ≡ length ss1 + length ss2 = length-append ss1 ss2 in
+      let first : length ms1 ≡ length (drop (length ss1) (ms ++ more1)) = ap length h.marks in
+      let dropped : length (ms ++ more1) ≡ length ss1 + length (drop (length ss1) (ms ++ more1)) = let d = length-drop (length ss1) (ms ++ more1) in omega (arith, d, h.count) in
+      let lens1 : length (ms1 ++ more2) ≡ length ms1 + length more2 = length-append ms1 more2 in
+      let lens2 : length all ≡ length (ms ++ more1) + length more2 = sym (ap length whole) ∙ length-append (ms ++ more1) more2 in
+      record {
+        marks = g.marks ∙ ap (drop (length ss2)) left ∙ drop_twice ss1 ss2 all;
+        count = omega (arith, many, first, dropped, lens1, lens2, g.count);
+        records =
+            g.records ∙ ap (λ l. l ++ records_of reads 0 (ms1 ++ more2) ss2) h.records
+            ∙ append_assoc (map timeless rs) (records_of reads 0 (ms ++ more1) ss1) (records_of reads 0 (ms1 ++ more2) ss2)
+            ∙ ap (λ l. map timeless rs ++ (records_of reads 0 (ms ++ more1) ss1 ++ records_of reads 0 l ss2)) left
+            ∙ ap (λ l. map timeless rs ++ (l ++ records_of reads 0 (drop (length ss1) all) ss2)) (sym (records_more reads (ms ++ more1) more2 ss1 h.count) ∙ ap (λ l. records_of reads 0 l ss1) whole)
+            ∙ ap (λ l. map timeless rs ++ l) (sym (records-append reads 0 all ss1 ss2));
+        sent = marks_ask_append commands more1 more2 asks1 asks2 h.sent g.sent;
+      }
+
+  -- the steps of part `p` take client `c`, with its marks and records, to client `c'` with the last marks and records
+  pub record Books (c : ById Asked) (ms : List (Option Mark)) (rs : List Record) (p : Part) (c' : ById Asked)
+      (ms' : List (Option Mark)) (rs' : List Record) : Type 0 where
+    pub client : client_after c p.steps ≡ c'
+    pub wrote : Wrote ms rs p.marks (settled_by c p.steps) (sent_by c p.steps) ms' rs'
+
+  -- where part p takes a client to c1, and part q takes c1 to c2 (`Books`), p joined with q takes it to c2
+  pub books_both : (c c1 c2 : ById Asked) (ms ms1 ms2 : List (Option Mark)) (rs rs1 rs2 : List Record) (p q : Part)
+      → Books c ms rs p c1 ms1 rs1 → Books c1 ms1 rs1 q c2 ms2 rs2 → Books c ms rs (joined p q) c2 ms2 rs2
+  books_both c c1 c2 ms ms1 ms2 rs rs1 rs2 p q h g =
+      let at = client_after c p.steps in
+      let g' : Wrote ms1 rs1 q.marks (settled_by at q.steps) (sent_by at q.steps) ms2 rs2 =
+      subst (λ (d : ById Asked). Wrote ms1 rs1 q.marks (settled_by d q.steps) (sent_by d q.steps) ms2 rs2) (sym h.client) g.wrote in
+      record {
+        client = client_append c p.steps q.steps ∙ ap (λ d. client_after d q.steps) h.client ∙ g.client;
+        wrote =
+            subst (λ ss. Wrote ms rs (p.marks ++ q.marks) ss (sent_by c (p.steps ++ q.steps)) ms2 rs2) (sym (settled_append c p.steps q.steps))
+            (subst (λ (asks : List (Wanted Asked)). Wrote ms rs (p.marks ++ q.marks) (settled_by c p.steps ++ settled_by at q.steps) asks ms2 rs2) (sym (sent_append c p.steps q.steps))
+            (wrote_both ms ms1 ms2 p.marks q.marks rs rs1 rs2 (settled_by c p.steps) (settled_by at q.steps) (sent_by c p.steps) (sent_by at q.steps) h.wrote g'));
+      }
+
+  -- Single steps.
+
+  -- if nothing is settled and nothing sent, the marks and the records stay
+  wrote_none : (ms : List (Option Mark)) (rs : List Record) → Wrote ms rs [] [] [] ms rs
+  wrote_none ms rs = record {
+    marks = sym (append-nil ms);
     count = omega arith;
-    records = sym (append-nil (map timeless rs)) ∙ ap (λ l. map timeless rs ++ l) (sym (records-none reads 0 (ms ++ mark ∷ [])));
-    sent = (is, tt);
-  },
-)
+    records = sym (append-nil (map timeless rs)) ∙ ap (λ l. map timeless rs ++ l) (sym (records-none reads 0 (ms ++ [])));
+    sent = tt;
+  }
 
--- a send of what its mark says, if there is room: the mark is added, and the records stay
-pub books_send : (reads : Asked → List ℕ → Reading) (commands : List Task) (c : ById Asked) (ms : List (Option Mark)) (rs : List Record) (target : ℕ) (call : Asked)
-    (deadline : ℕ) (mark : Option Mark) → length c.waiting < 7 → MarkAsks commands mark (record { target = target; call = call })
-    → Books reads commands c ms rs (request_part target call deadline mark) (client_sent c (sends 7 c target call deadline)) (ms ++ mark ∷ []) rs
-books_send reads commands c ms rs target call deadline mark room is =
-    let h : IsSendBooked reads commands c ms rs target call mark (sends 7 c target call deadline) =
-    subst (IsSendBooked reads commands c ms rs target call mark) (sym (sends_with_room c target call deadline room))
-    (some_send_booked reads commands c ms rs target call mark (sending_of c target call deadline) is) in
-    record { client = h.0; wrote = h.1 }
+  -- a part in which nothing happens leaves the client, the marks and the records
+  pub books_nothing : (c : ById Asked) (ms : List (Option Mark)) (rs : List Record) → Books c ms rs nothing c ms rs
+  books_nothing c ms rs = record { client = refl; wrote = wrote_none ms rs }
+
+  -- steps of a synchronization leave the client, the marks and the records
+  pub books_sync_steps : (c : ById Asked) (ms : List (Option Mark)) (rs : List Record) (sync_steps : List SyncStep)
+      → Books c ms rs (only_sync_steps sync_steps) c ms rs
+  books_sync_steps c ms rs sync_steps = record { client = refl; wrote = wrote_none ms rs }
+
+  -- a moment, at which requests may time out, leaves the marks and the records
+  pub books_moment : (c : ById Asked) (ms : List (Option Mark)) (rs : List Record) (now : ℕ)
+      → Books c ms rs (only_steps (Expire now ∷ [])) (expires c now) ms rs
+  books_moment c ms rs now = record { client = refl; wrote = wrote_none ms rs }
+
+  -- `Wrote` holds of settlements of the oldest requests (`ss`, and `ts` is the same list), of which there are no more than marks:
+  -- as many of the first marks are taken out, and the records of the settlements are added
+  wrote_settled : (ms : List (Option Mark)) (rs : List Record) (utc : ℕ) (ss ts : List (Settlement Asked))
+      → ts ≡ ss → length ss ≤ length ms → Wrote ms rs [] ts [] (drop (length ss) ms) (rs ++ records_of reads utc ms ss)
+  wrote_settled ms rs utc ss ts same few =
+      let whole : ms ++ [] ≡ ms = append-nil ms in
+      subst (λ xs. Wrote ms rs [] xs [] (drop (length ss) ms) (rs ++ records_of reads utc ms ss)) (sym same) (record {
+        marks = ap (drop (length ss)) (sym whole);
+        count = subst (λ (xs : List (Option Mark)). length ss ≤ length xs) (sym whole) few;
+        records = map-append timeless rs (records_of reads utc ms ss) ∙ ap (λ l. map timeless rs ++ l) (records_timeless reads utc ms ss ∙ ap (λ xs. records_of reads 0 xs ss) (sym whole));
+        sent = tt;
+      })
+
+  -- a line that the client hears, where each outstanding request has a mark: its settlements take out their marks, and add their
+  -- records
+  pub books_line : (c : ById Asked) (ms : List (Option Mark)) (rs : List Record) (utc : ℕ) (line : List ℕ) → length ms ≡ length c.waiting
+      → (let x = hears c line (heard line) in Books c ms rs (only_steps (Hear line ∷ [])) x.client (drop (length x.settlements) ms) (rs ++ records_of reads utc ms x.settlements))
+  books_line c ms rs utc line paired =
+      let x = hears c line (heard line) in
+      record {
+        client = refl;
+        wrote = wrote_settled ms rs utc x.settlements (x.settlements ++ []) (append-nil x.settlements)
+            (few_settled ms c x.client x.settlements paired (heard_parts c line (heard line)));
+      }
+
+  -- a restart, where each outstanding request has a mark: all outstanding requests are lost, which removes their marks and adds
+  -- their records
+  pub books_restart : (c : ById Asked) (ms : List (Option Mark)) (rs : List Record) (utc : ℕ) → length ms ≡ length c.waiting
+      → Books c ms rs restarting fresh (drop (length (map lost c.waiting)) ms) (rs ++ records_of reads utc ms (map lost c.waiting))
+  books_restart c ms rs utc paired =
+      let ss = map lost c.waiting in
+      record { client = refl; wrote = wrote_settled ms rs utc ss (ss ++ []) (append-nil ss) (few_settled ms c fresh ss paired (append-nil (map of_settled ss) ∙ lost_parts c.waiting)) }
+
+  -- a send to `target` of `call` with the outcome `o` (the last argument; `None` if the client refuses it) takes the client c to
+  -- `client_sent c o`, and adds its mark to the marks `ms`; the records `rs` stay
+  abbrev pub IsSendBooked : ById Asked → List (Option Mark) → List Record → ℕ → Asked → Option Mark → Option (Sending (ById Asked)) → Type 0
+  IsSendBooked c ms rs target call mark o =
+      ((sent_on (course_at c) target call o).client ≡ client_sent c o)
+      × Wrote ms rs (mark ∷ []) ((sent_on (course_at c) target call o).settlements ++ []) ((sent_on (course_at c) target call o).sent ++ []) (ms ++ mark ∷ []) rs
+
+  -- `IsSendBooked` holds of a send that isn't refused, if it asks for what its mark says
+  some_send_booked : (c : ById Asked) (ms : List (Option Mark)) (rs : List Record) (target : ℕ) (call : Asked)
+      (mark : Option Mark) (x : Sending (ById Asked)) → MarkAsks commands mark (record { target = target; call = call })
+      → IsSendBooked c ms rs target call mark (Some x)
+  some_send_booked c ms rs target call mark x is = (
+    refl,
+    record {
+      marks = refl;
+      count = omega arith;
+      records = sym (append-nil (map timeless rs)) ∙ ap (λ l. map timeless rs ++ l) (sym (records-none reads 0 (ms ++ mark ∷ [])));
+      sent = (is, tt);
+    },
+  )
+
+  -- a send of what its mark says, if there is room: the mark is added, and the records stay
+  pub books_send : (c : ById Asked) (ms : List (Option Mark)) (rs : List Record) (target : ℕ) (call : Asked)
+      (deadline : ℕ) (mark : Option Mark) → length c.waiting < 7 → MarkAsks commands mark (record { target = target; call = call })
+      → Books c ms rs (request_part target call deadline mark) (client_sent c (sends 7 c target call deadline)) (ms ++ mark ∷ []) rs
+  books_send c ms rs target call deadline mark room is =
+      let h : IsSendBooked c ms rs target call mark (sends 7 c target call deadline) =
+      subst (IsSendBooked c ms rs target call mark) (sym (sends_with_room c target call deadline room))
+      (some_send_booked c ms rs target call mark (sending_of c target call deadline) is) in
+      record { client = h.0; wrote = h.1 }

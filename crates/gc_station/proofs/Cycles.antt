@@ -475,4 +475,4 @@ begin_when_due plan commands scope acts later m some runs rises is = begins_due 
 -- the law: if a command is sent, its cycle began before the next one was due, where cycles have due moments and the clock doesn't
 -- go back
 pub sent_only_in_time : SentOnlyInTime
-sent_only_in_time plan commands scope acts some runs rises is = sent_in_time plan commands scope some acts runs rises is
+sent_only_in_time plan commands scope acts runs is some rises = sent_in_time plan commands scope some acts runs rises is

@@ -204,38 +204,40 @@ sent_next setup commands begun place task others at within some =
     ap (λ (ts : List Task). commands_reached setup commands begun place ++ requests begun place (map of_task ts)) (sym next)
     ∙ sent_past setup commands begun place 1 (place + 1) within (omega (arith, left)) some (inl refl)
 
--- if `EachIs` holds of the requests `kept`, and each outstanding request has a mark, it holds after the next command of a cycle
--- is sent with this mark, with the request of that command after `kept`
-pub each_sent : (commands : List Task) (mark : Mark) (ms : List (Option Mark)) (ws : List (Pending Asked)) (p : Pending Asked) (rs : List Record) (task : Task) (others : List Task)
-    → (paired : length ms ≡ length ws) → (there : drop mark.place commands ≡ task ∷ others) → (asks : of_pending p ≡ asked_at mark.sent task) → (above : 0 < mark.cycle)
-    → (kept : List Request) → EachIs commands ms ws rs kept → EachIs commands (ms ++ Some mark ∷ []) (ws ++ p ∷ []) rs (kept ++ requests mark.cycle mark.place (of_task task ∷ []))
-each_sent commands mark ms ws p rs task others paired at is some kept h =
-    let begun = mark.cycle in
-    let place = mark.place in
-    let utc = mark.sent in
-    let front = map of_record rs in
-    let one = requests begun place (asked_at utc task ∷ []) in
-    let waits = still_waiting ms ws in
-    ap (of_text commands) (ap (λ xs. front ++ xs) (more_waiting ms ws (Some mark) p paired ∙ ap (λ a. waits ++ requests begun place (a ∷ [])) is)
-    ∙ sym (append_assoc front waits one))
-    ∙ listed_append commands (front ++ waits) one
-    ∙ ap (λ xs. of_text commands (front ++ waits) ++ map (in_text commands) xs) (cycles_all begun place (asked_at utc task ∷ []) some)
-    ∙ ap (λ x. of_text commands (front ++ waits) ++ x ∷ []) (asked_text commands begun place utc task others at)
-    ∙ ap (λ xs. xs ++ requests begun place (of_task task ∷ [])) h
+-- `EachIs` holds of the requests `kept`; and the next command of a cycle is `task`
+module _ (commands : List Task) (ms : List (Option Mark)) (ws : List (Pending Asked)) (rs : List Record) (task : Task) (others : List Task) (kept : List Request)
+    (h : EachIs commands ms ws rs kept) where
+  -- if each outstanding request has a mark, `EachIs` holds after the command is sent with this mark, with its request after
+  -- `kept`
+  pub each_sent : (mark : Mark) (p : Pending Asked) → (paired : length ms ≡ length ws) → (there : drop mark.place commands ≡ task ∷ others) → (asks : of_pending p ≡ asked_at mark.sent task)
+      → (above : 0 < mark.cycle) → EachIs commands (ms ++ Some mark ∷ []) (ws ++ p ∷ []) rs (kept ++ requests mark.cycle mark.place (of_task task ∷ []))
+  each_sent mark p paired at is some =
+      let begun = mark.cycle in
+      let place = mark.place in
+      let utc = mark.sent in
+      let front = map of_record rs in
+      let one = requests begun place (asked_at utc task ∷ []) in
+      let waits = still_waiting ms ws in
+      ap (of_text commands) (ap (λ xs. front ++ xs) (more_waiting ms ws (Some mark) p paired ∙ ap (λ a. waits ++ requests begun place (a ∷ [])) is)
+      ∙ sym (append_assoc front waits one))
+      ∙ listed_append commands (front ++ waits) one
+      ∙ ap (λ xs. of_text commands (front ++ waits) ++ map (in_text commands) xs) (cycles_all begun place (asked_at utc task ∷ []) some)
+      ∙ ap (λ x. of_text commands (front ++ waits) ++ x ∷ []) (asked_text commands begun place utc task others at)
+      ∙ ap (λ xs. xs ++ requests begun place (of_task task ∷ [])) h
 
--- if `EachIs` holds of the requests `kept`, and no command is outstanding, it holds after the next command of a cycle is recorded
--- without being sent, with the request of that command after `kept`, and its record after `rs`
-pub each_skipped : (commands : List Task) (begun place : ℕ) (ms : List (Option Mark)) (ws : List (Pending Asked)) (rs : List Record) (r : Record) (task : Task) (others : List Task)
-    → (none : commands_in ms ≡ 0) → (there : drop place commands ≡ task ∷ others) → (own : of_record r ∷ [] ≡ requests begun place (of_command task.command ∷ [])) → (above : 0 < begun)
-    → (kept : List Request) → EachIs commands ms ws rs kept → EachIs commands ms ws (rs ++ r ∷ []) (kept ++ requests begun place (of_task task ∷ []))
-each_skipped commands begun place ms ws rs r task others none at is some kept h =
-    let one = requests begun place (of_command task.command ∷ []) in
-    let listed = requests begun place (of_task task ∷ []) in
-    let front = map of_record rs in
-    ap (of_text commands) (row_settled ms ws (rs ++ r ∷ []) none ∙ map-append of_record rs (r ∷ []) ∙ ap (λ xs. front ++ xs) is)
-    ∙ listed_append commands front one ∙ ap (λ xs. of_text commands front ++ map (in_text commands) xs) (cycles_all begun place (of_command task.command ∷ []) some)
-    ∙ ap (λ x. of_text commands front ++ x ∷ []) (unsent_text commands begun place task others at)
-    ∙ ap (λ xs. xs ++ listed) (ap (of_text commands) (sym (row_settled ms ws rs none)) ∙ h)
+  -- if no command is outstanding, `EachIs` holds after the command is recorded without being sent, with its request after `kept`,
+  -- and its record `r` after `rs`
+  pub each_skipped : (begun place : ℕ) (r : Record) → (none : commands_in ms ≡ 0) → (there : drop place commands ≡ task ∷ others)
+      → (own : of_record r ∷ [] ≡ requests begun place (of_command task.command ∷ [])) → (above : 0 < begun)
+      → EachIs commands ms ws (rs ++ r ∷ []) (kept ++ requests begun place (of_task task ∷ []))
+  each_skipped begun place r none at is some =
+      let one = requests begun place (of_command task.command ∷ []) in
+      let listed = requests begun place (of_task task ∷ []) in
+      let front = map of_record rs in
+      ap (of_text commands) (row_settled ms ws (rs ++ r ∷ []) none ∙ map-append of_record rs (r ∷ []) ∙ ap (λ xs. front ++ xs) is)
+      ∙ listed_append commands front one ∙ ap (λ xs. of_text commands front ++ map (in_text commands) xs) (cycles_all begun place (of_command task.command ∷ []) some)
+      ∙ ap (λ x. of_text commands front ++ x ∷ []) (unsent_text commands begun place task others at)
+      ∙ ap (λ xs. xs ++ listed) (ap (of_text commands) (sym (row_settled ms ws rs none)) ∙ h)
 
 -- at the end of a cycle, all commands of the cycles so far had their turn
 pub sent_whole : (setup : ℕ) (commands : List Task) (begun place : ℕ) → place ≡ length commands → commands_reached setup commands begun place ≡ all_cycles setup commands begun

@@ -30,8 +30,7 @@ use Rattle.gc_station.specs.Reasons.{HoldsBefore}
 use Rattle.gc_station.specs.Records.{Record}
 use Rattle.gc_station.specs.Runs.{state_after}
 use Rattle.gc_station.specs.Tasked.{EachRecordIsOfItsTask}
-use Rattle.gc_texts.specs.Endings.{Skipped, Missed}
-use Rattle.gc_station.specs.Model.{Model, opening, action_at, waiting_of, with_progress, asks_null, asks_first, asks_next, next_left_out, with_more_passes, with_listed, listed_after_skip, after_pass, with_more_records, unsent_record, first_unsent_record, after_clock, moved, after, after_all, cycle_length, asks_or_null, asks_setup}
+use Rattle.gc_station.specs.Model.{Model, opening, action_at, waiting_of, with_progress, asks_null, asks_first, asks_next, next_left_out, with_more_passes, with_listed, listed_after_skip, after_pass, with_more_records, end_unsent, unsent_record, first_unsent_record, after_clock, moved, after, after_all, cycle_length, asks_or_null, asks_setup}
 use Rattle.gc_station.specs.NextCommand.{place_next, expected_first, mark_next, upcoming_after, mark_setup, cycles_begun}
 use Rattle.gc_station.proofs.Acting.{mid_fail, mid_moment, mid_clock, mid_put, mid_open, mid_close, mid_read}
 use Rattle.gc_station.proofs.Each.{row_empty, sent_whole}
@@ -123,7 +122,7 @@ module _ (plan : Plan) (commands : List Task) (next : Upcoming) (s : Model) wher
       absurd (omega (arith, n, some, sound.unsents))
   mid_skips m (task ∷ others) at is some none mid =
       let p = s.progress in (
-        sound_skipped plan commands (ledger_at s p) (skipped_at m p) (if p.missed then Missed else Skipped)
+        sound_skipped plan commands (ledger_at s p) (skipped_at m p) (end_unsent p)
             (mark_next plan commands p).expected.turn task others none some at (unsent_end p.missed) mid.0,
         ready_placed p.phase p.left (p.unsent - 1) s.rest s.marks is,
       )

@@ -26,14 +26,6 @@ use Rattle.gc_station.proofs.Parting.{LeadsBy, Leads, leads, keeps_action}
 use Rattle.gc_station.proofs.Readings.{moved_reads, losing_reads}
 use Rattle.gc_station.proofs.Records.{records-none}
 
--- there is a part, and the steps of these parts, from this client, these marks and these records on, lead to the model `end`:
--- after each part but the last the client restarts, and what is outstanding is recorded as lost
-abbrev pub BooksInParts : (Asked → List ℕ → Reading) → List Task → ById Asked → List (Option Mark) → List Record → List Part → Model → Type 0
-BooksInParts reads commands c ms rs [] end = ⊥
-BooksInParts reads commands c ms rs (p ∷ []) end = Books reads commands c ms rs p end.client end.marks (sent_of end.records)
-BooksInParts reads commands c ms rs (p ∷ q ∷ ps) end =
-    (records : List Record) × Books reads commands c ms rs (joined p restarting) fresh [] records × BooksInParts reads commands fresh [] records (q ∷ ps) end
-
 -- three parts joined are the same, whether the first two are joined first or the last two
 pub joined_assoc : (p q r : Part) → joined (joined p q) r ≡ joined p (joined q r)
 joined_assoc p q r =
@@ -41,22 +33,32 @@ joined_assoc p q r =
     ∙ ap (λ (steps : List (Step Asked)). record { sync_steps = p.sync_steps ++ (q.sync_steps ++ r.sync_steps); steps = steps; marks = (p.marks ++ q.marks) ++ r.marks }) (append_assoc p.steps q.steps r.steps)
     ∙ ap (λ (marks : List (Option Mark)). record { sync_steps = p.sync_steps ++ (q.sync_steps ++ r.sync_steps); steps = p.steps ++ (q.steps ++ r.steps); marks = marks }) (append_assoc p.marks q.marks r.marks)
 
--- if the part p and a restart lead to a new client, no marks and the records `mid` (`Books`), and `BooksInParts` holds of the
--- parts `ps` from there on, it holds of p and the parts after it
-follows_cut : (reads : Asked → List ℕ → Reading) (commands : List Task) (c : ById Asked) (ms : List (Option Mark)) (rs mid : List Record) (p : Part) (ps : List Part) (end : Model)
-    → Books reads commands c ms rs (joined p restarting) fresh [] mid → BooksInParts reads commands fresh [] mid ps end → BooksInParts reads commands c ms rs (p ∷ ps) end
-follows_cut reads commands c ms rs mid p [] end h g = absurd g
-follows_cut reads commands c ms rs mid p (q ∷ ps) end h g = (mid, h, g)
+-- each reply says of its call what `reads` gives
+module _ (reads : Asked → List ℕ → Reading) (commands : List Task) where
+  -- there is a part, and the steps of these parts, from this client, these marks and these records on, lead to the model `end`:
+  -- after each part but the last the client restarts, and what is outstanding is recorded as lost
+  abbrev pub BooksInParts : ById Asked → List (Option Mark) → List Record → List Part → Model → Type 0
+  BooksInParts c ms rs [] end = ⊥
+  BooksInParts c ms rs (p ∷ []) end = Books reads commands c ms rs p end.client end.marks (sent_of end.records)
+  BooksInParts c ms rs (p ∷ q ∷ ps) end =
+      (records : List Record) × Books reads commands c ms rs (joined p restarting) fresh [] records × BooksInParts fresh [] records (q ∷ ps) end
 
--- if the part p leads to the client c1, with its marks and records (`Books`), and `BooksInParts` holds of the parts `ps` from
--- there on, it holds of these with p joined to the front of the first one
-follows_on : (reads : Asked → List ℕ → Reading) (commands : List Task) (c c1 : ById Asked) (ms ms1 : List (Option Mark)) (rs rs1 : List Record) (p : Part) (ps : List Part) (end : Model)
-    → Books reads commands c ms rs p c1 ms1 rs1 → BooksInParts reads commands c1 ms1 rs1 ps end → BooksInParts reads commands c ms rs (in_front p false ps) end
-follows_on reads commands c c1 ms ms1 rs rs1 p [] end h g = absurd g
-follows_on reads commands c c1 ms ms1 rs rs1 p (q ∷ []) end h g = books_both reads commands c c1 end.client ms ms1 end.marks rs rs1 (sent_of end.records) p q h g
-follows_on reads commands c c1 ms ms1 rs rs1 p (q ∷ next ∷ ps) end h g =
-    let both = books_both reads commands c c1 fresh ms ms1 [] rs rs1 g.0 p (joined q restarting) h g.1 in
-    (g.0, subst (λ (x : Part). Books reads commands c ms rs x fresh [] g.0) (sym (joined_assoc p q restarting)) both, g.2)
+  -- if the part p and a restart lead to a new client, no marks and the records `mid` (`Books`), and `BooksInParts` holds of the
+  -- parts `ps` from there on, it holds of p and the parts after it
+  follows_cut : (c : ById Asked) (ms : List (Option Mark)) (rs mid : List Record) (p : Part) (ps : List Part) (end : Model)
+      → Books reads commands c ms rs (joined p restarting) fresh [] mid → BooksInParts fresh [] mid ps end → BooksInParts c ms rs (p ∷ ps) end
+  follows_cut c ms rs mid p [] end h g = absurd g
+  follows_cut c ms rs mid p (q ∷ ps) end h g = (mid, h, g)
+
+  -- if the part p leads to the client c1, with its marks and records (`Books`), and `BooksInParts` holds of the parts `ps` from
+  -- there on, it holds of these with p joined to the front of the first one
+  follows_on : (c c1 : ById Asked) (ms ms1 : List (Option Mark)) (rs rs1 : List Record) (p : Part) (ps : List Part) (end : Model)
+      → Books reads commands c ms rs p c1 ms1 rs1 → BooksInParts c1 ms1 rs1 ps end → BooksInParts c ms rs (in_front p false ps) end
+  follows_on c c1 ms ms1 rs rs1 p [] end h g = absurd g
+  follows_on c c1 ms ms1 rs rs1 p (q ∷ []) end h g = books_both reads commands c c1 end.client ms ms1 end.marks rs rs1 (sent_of end.records) p q h g
+  follows_on c c1 ms ms1 rs rs1 p (q ∷ next ∷ ps) end h g =
+      let both = books_both reads commands c c1 fresh ms ms1 [] rs rs1 g.0 p (joined q restarting) h g.1 in
+      (g.0, subst (λ (x : Part). Books reads commands c ms rs x fresh [] g.0) (sym (joined_assoc p q restarting)) both, g.2)
 
 -- After an act.
 

@@ -1,7 +1,7 @@
 -- A run on the way: what was done so far (`Went`), and one act more. An act is one call on the link, with its result. At the
 -- start the link had recorded `told` and the book had taken `taken`, by now `told'` and `taken'`, and later those with more
 -- primes; each is `None` if it isn't known. `text` is how a record is written.
-use Rattle.std.proofs.Common.{◌≡◌, ℕ, ◌<◌, ◌≤◌, List, [], ◌∷◌, ◌++◌, Option, Some, None, Result, Ok, Err, refl, sym, ap, ◌∙◌, subst, append-nil, ◌-◌}
+use Rattle.std.proofs.Common.{◌≡◌, ℕ, ◌<◌, ◌≤◌, List, [], ◌∷◌, ◌++◌, Option, Some, None, Result, Ok, Err, refl, sym, ap, ◌∙◌, subst, append-nil}
 use Rattle.std.specs.Io.KnownBytes.{Appends, Keeps}
 use Rattle.std.proofs.KnownBytes.{Appends-kept, Appends-nil, Keeps-refl}
 use Rattle.gc_texts.specs.declared.tasks.Task.{Task}

@@ -32,6 +32,7 @@ use Rattle.gc_station.specs.declared.progress.Action.{Action}
 use Rattle.gc_station.specs.declared.progress.Progress.{Progress}
 use Rattle.gc_station.specs.declared.progress.Until.{Until}
 use Rattle.gc_station.specs.declared.progress.Waiting.{Waiting}
+use Rattle.gc_station.specs.declared.recorded.Recorded.{Recorded}
 use Rattle.gc_station.specs.declared.station.Station.{Station}
 use Rattle.gc_station.specs.Attempts.{listed_by}
 use Rattle.gc_station.specs.Marks.{commands_in, records_of, last_well, fresh_after}
@@ -41,6 +42,7 @@ use Rattle.gc_station.specs.Model.{Model, Performs, line_came, lines_came, lines
 use Rattle.gc_station.specs.Stations.{waiting_in, Refines, Took, TookPart, ComesTo, Makes, ReadsMoment, seen, station_expiring}
 use Rattle.gc_station.specs.Scopes.{AreReadings, ForEachReadings}
 use Rattle.gc_station.specs.Tallies.{nothing_yet, tallied}
+use Rattle.gc_station.specs.Writing.{recorded_after}
 use Rattle.gc_station.proofs.Growing.{lines_records}
 use Rattle.gc_station.proofs.Making.{refines_with}
 use Rattle.gc_station.proofs.Readings.{lines_reads, same_readings}
@@ -142,35 +144,37 @@ pub frame_first : (begun : Bool) (s : Model) (left later rest : List ℕ) (frame
 frame_first true s left later rest frame seen rests = came_first s left later rest frame seen rests
 frame_first false s left later rest frame seen rests = asked_first s left later rest frame seen rests
 
--- `Hearing` is preserved by one frame more, if the station is as the model after the frame, and the book has taken the records of
--- that model
-pub hearing_on : (begun : Bool) (text : Record → List ℕ) (start taken taken' : Option (List ℕ)) (station station' : Station) (s : Model) (piece left : List ℕ) (used : ℕ) (frame : Frame)
-    (kept : Kept) → (h : Hearing begun text start taken station s piece left) → (t : Takes h.now.rest left used frame kept)
-    → Refines station' (after_frame begun t.now frame h.now) × Took text start taken' (after_frame begun t.now frame h.now)
-    → Hearing begun text start taken' station' s piece (drop used left)
-hearing_on begun text start taken taken' station station' s piece left used frame kept h t more = record {
-  now = after_frame begun t.now frame h.now;
-  stands = more.0;
-  wrote = more.1;
-  grown = grew_then s.records h.now.records _ h.grown (taken_records begun (with_rest t.now h.now) (option_to_list (line_in frame)));
-  goes = sym (frame_first begun h.now left (drop used left) t.now frame t.seen t.rests) ∙ h.goes;
-}
+-- a piece was heard but for `left` (`Hearing`), of which the first `used` bytes are the next frame; after that the book has taken
+-- `taken'`
+module _ (begun : Bool) (text : Record → List ℕ) (start taken taken' : Option (List ℕ)) (station : Station) (s : Model) (piece left : List ℕ) (used : ℕ) (frame : Frame) (kept : Kept)
+    (h : Hearing begun text start taken station s piece left) (t : Takes h.now.rest left used frame kept) where
+  -- the model after the frame
+  abbrev mid : Model
+  mid = after_frame begun t.now frame h.now
 
--- if the book failed at a frame's line, it failed at a record of the whole piece
-pub hearing_part : (begun : Bool) (text : Record → List ℕ) (start taken taken' : Option (List ℕ)) (station : Station) (s : Model) (piece left : List ℕ) (used : ℕ) (frame : Frame)
-    (kept : Kept) → (h : Hearing begun text start taken station s piece left) → (t : Takes h.now.rest left used frame kept)
-    → TookPart text h.now.records start taken' (after_frame begun t.now frame h.now) → TookPart text s.records start taken' (piece_came begun piece s)
-hearing_part begun text start taken taken' station s piece left used frame kept h t part are =
-    let mid : Model = after_frame begun t.now frame h.now in
-    let later = drop used left in
-    let whole : piece_came begun later mid ≡ piece_came begun piece s = sym (frame_first begun h.now left later t.now frame t.seen t.rests) ∙ h.goes in
-    let more = taken_records begun (with_rest (rest_behind mid.rest later) mid) (lines_completed mid.rest later) in
-    let same : mid.reads ≡ (piece_came begun piece s).reads =
-    sym (taken_reads begun (with_rest (rest_behind mid.rest later) mid) (lines_completed mid.rest later)) ∙ ap (λ (x : Model). x.reads) whole in
-    let all = part_grows text h.now.records mid.records (piece_came begun later mid).records start taken' more
-    (part (same_readings mid.reads (piece_came begun piece s).reads same are)) in
-    part_grew text s.records h.now.records (piece_came begun piece s).records start taken' h.grown
-    (subst (λ (x : Model). WritesPart text h.now.records x.records start taken') whole all)
+  -- `Hearing` is preserved by the frame, if the station `new` is as the model after it, and the book has taken the records of
+  -- that model
+  pub hearing_on : (new : Station) → Refines new mid × Took text start taken' mid → Hearing begun text start taken' new s piece (drop used left)
+  hearing_on new more = record {
+    now = mid;
+    stands = more.0;
+    wrote = more.1;
+    grown = grew_then s.records h.now.records _ h.grown (taken_records begun (with_rest t.now h.now) (option_to_list (line_in frame)));
+    goes = sym (frame_first begun h.now left (drop used left) t.now frame t.seen t.rests) ∙ h.goes;
+  }
+
+  -- if the book failed at the frame's line, it failed at a record of the whole piece
+  pub hearing_part : TookPart text h.now.records start taken' mid → TookPart text s.records start taken' (piece_came begun piece s)
+  hearing_part part are =
+      let later = drop used left in
+      let whole : piece_came begun later mid ≡ piece_came begun piece s = sym (frame_first begun h.now left later t.now frame t.seen t.rests) ∙ h.goes in
+      let more = taken_records begun (with_rest (rest_behind mid.rest later) mid) (lines_completed mid.rest later) in
+      let same : mid.reads ≡ (piece_came begun piece s).reads =
+      sym (taken_reads begun (with_rest (rest_behind mid.rest later) mid) (lines_completed mid.rest later)) ∙ ap (λ (x : Model). x.reads) whole in
+      let all = part_grows text h.now.records mid.records (piece_came begun later mid).records start taken' more
+      (part (same_readings mid.reads (piece_came begun piece s).reads same are)) in
+      part_grew text s.records h.now.records (piece_came begun piece s).records start taken' h.grown
+      (subst (λ (x : Model). WritesPart text h.now.records x.records start taken') whole all)
 
 -- if nothing is left of the piece, the station is as the model after the whole piece, and the book has taken the records of that
 -- model
@@ -241,29 +245,11 @@ pub record Between (old mid : Station) (ids : ById Asked) : Type 0 where
   pub marks : mid.marks ≡ old.marks
   pub assembler : mid.assembler ≡ old.assembler
   pub progress : mid.progress ≡ old.progress
-  pub tally : mid.recorded.tally ≡ old.recorded.tally
-  pub well : mid.recorded.well ≡ old.recorded.well
-  pub listed : mid.recorded.listed ≡ old.recorded.listed
-  pub fresh : mid.recorded.fresh ≡ old.recorded.fresh
+  pub recorded : mid.recorded ≡ old.recorded
 
--- from `mid` to `new` the tally counts the records of these settlements
-abbrev pub UpdatesTally : (mid new : Station) → List (Settlement Asked) → Type 0
-UpdatesTally mid new xs = ForEachReadings (λ reads. new.recorded.tally ≡ tallied mid.recorded.tally (records_of reads mid.progress.moment.utc mid.marks.items xs))
-
--- from `mid` to `new` the field `well` becomes whether the last command of these settlements was answered well; it stays if none
--- of them is of a command
-abbrev pub UpdatesWell : (mid new : Station) → List (Settlement Asked) → Type 0
-UpdatesWell mid new xs = ForEachReadings (λ reads. new.recorded.well ≡ last_well mid.recorded.well (records_of reads mid.progress.moment.utc mid.marks.items xs))
-
--- from `mid` to `new` the field `listed` becomes whether a command of the attempt that was settled last ended as its rule names;
--- it stays if none of these settlements is of a command
-abbrev pub UpdatesListed : (mid new : Station) → List (Settlement Asked) → Type 0
-UpdatesListed mid new xs = ForEachReadings (λ reads. new.recorded.listed ≡ listed_by reads mid.recorded.listed mid.marks.items xs)
-
--- from `mid` to `new` the field `fresh` becomes the moment read last, if a command of these settlements was answered well; else
--- it stays
-abbrev pub UpdatesFresh : (mid new : Station) → List (Settlement Asked) → Type 0
-UpdatesFresh mid new xs = ForEachReadings (λ reads. new.recorded.fresh ≡ fresh_after mid.progress.moment.elapsed mid.recorded.fresh (records_of reads mid.progress.moment.utc mid.marks.items xs))
+-- from `mid` to `new` what is kept of the records becomes what these settlements make of it
+abbrev pub UpdatesRecorded : (mid new : Station) → List (Settlement Asked) → Type 0
+UpdatesRecorded mid new xs = ForEachReadings (λ reads. new.recorded ≡ recorded_after mid.progress.moment mid.marks.items xs reads mid.recorded)
 
 -- from `mid` to `new` the marks of `count` settlements were taken out; of the other fields, only those changed that records
 -- change
@@ -289,10 +275,12 @@ module _ (text : Record → List ℕ) (old mid : Station) (s : Model) (x : Settl
   -- after the settlements (`new`), and the book has taken the records of that model
   pub settles_ok : (new : Station) (n : ℕ) (start taken' : Option (List ℕ)) → (stands : Refines old s) → (between : Between old mid x.client) → (same : xs ≡ x.settlements)
       → (many : n ≡ length x.settlements) → (paired : StayPaired s.marks x)
-      → (wrote : AreReadings s.reads → Appends start taken' (texts_of text (s.records ++ to_write))) → (takes : TakesMarks mid new n) → (counts : UpdatesTally mid new xs)
-      → (minds : UpdatesWell mid new xs) → (lists : UpdatesListed mid new xs) → (freshens : UpdatesFresh mid new xs) → Refines new (settles x s) × Took text start taken' (settles x s)
-  settles_ok new n start taken' stands between e many paired wrote is counts minds lists freshens =
+      → (wrote : AreReadings s.reads → Appends start taken' (texts_of text (s.records ++ to_write))) → (takes : TakesMarks mid new n)
+      → (notes : UpdatesRecorded mid new xs) → Refines new (settles x s) × Took text start taken' (settles x s)
+  settles_ok new n start taken' stands between e many paired wrote is notes =
       let added : List Record = to_write in
+      let kept : AreReadings s.reads → new.recorded ≡ recorded_after mid.progress.moment mid.marks.items xs s.reads old.recorded =
+      λ are. notes s.reads are ∙ ap (recorded_after mid.progress.moment mid.marks.items xs s.reads) between.recorded in
       let records = records_same stands between e in (
         record {
           progress = ap (λ (n : Station). n.progress) is ∙ between.progress ∙ stands.progress;
@@ -301,13 +289,13 @@ module _ (text : Record → List ℕ) (old mid : Station) (s : Model) (x : Settl
           marks = ap (λ (n : Station). n.marks.items) is ∙ ap (λ k. drop k mid.marks.items) many ∙ ap (λ ms. drop (length x.settlements) ms) (ap (λ ms. ms.items) between.marks ∙ stands.marks);
           paired = paired;
           assembles = subst (λ (k : Kept). StandsFor k s.rest) (sym (ap (λ (n : Station). n.assembler) is ∙ between.assembler)) stands.assembles;
-          tally = λ are. counts s.reads are ∙ ap (λ t. tallied t added) (between.tally ∙ stands.tally are) ∙ sym (tallied-append nothing_yet s.records added)
+          tally = λ are. ap (λ (r : Recorded). r.tally) (kept are) ∙ ap (λ t. tallied t added) (stands.tally are) ∙ sym (tallied-append nothing_yet s.records added)
               ∙ ap (λ rs. tallied nothing_yet (s.records ++ rs)) records;
-          well = λ are. minds s.reads are ∙ ap (λ b. last_well b added) (between.well ∙ stands.well are)
+          well = λ are. ap (λ (r : Recorded). r.well) (kept are) ∙ ap (λ b. last_well b added) (stands.well are)
               ∙ sym (last-append false s.records added) ∙ ap (λ rs. last_well false (s.records ++ rs)) records;
-          listed = λ are. lists s.reads are ∙ ap (λ b. listed_by s.reads b mid.marks.items xs) (between.listed ∙ stands.listed are)
+          listed = λ are. ap (λ (r : Recorded). r.listed) (kept are) ∙ ap (λ b. listed_by s.reads b mid.marks.items xs) (stands.listed are)
               ∙ ap (λ (ms : List (Option Mark)). listed_by s.reads s.listed ms xs) (ap (λ ms. ms.items) between.marks ∙ stands.marks) ∙ ap (listed_by s.reads s.listed s.marks) e;
-          fresh = λ are. freshens s.reads are ∙ ap (λ f. fresh_after mid.progress.moment.elapsed f added) (between.fresh ∙ stands.fresh are)
+          fresh = λ are. ap (λ (r : Recorded). r.fresh) (kept are) ∙ ap (λ f. fresh_after mid.progress.moment.elapsed f added) (stands.fresh are)
               ∙ ap (λ (p : Progress). fresh_after p.moment.elapsed s.fresh added) (between.progress ∙ stands.progress)
               ∙ ap (fresh_after s.progress.moment.elapsed s.fresh) records;
         },
@@ -323,11 +311,9 @@ module _ (text : Record → List ℕ) (old mid : Station) (s : Model) (x : Settl
   pub settles_either : {X E : Type 0} (new : Station) (n : ℕ) (start taken' : Option (List ℕ)) (result : Result X E) → (stands : Refines old s) → (between : Between old mid x.client)
       → (same : xs ≡ x.settlements) → (many : n ≡ length x.settlements) → (paired : StayPaired s.marks x)
       → (wrote : AreReadings s.reads → WritesAll text s.records (s.records ++ to_write) start taken' result) → (takes : OnOk result (TakesMarks mid new n))
-      → (counts : OnOk result (UpdatesTally mid new xs)) → (minds : OnOk result (UpdatesWell mid new xs))
-      → (lists : OnOk result (UpdatesListed mid new xs)) → (freshens : OnOk result (UpdatesFresh mid new xs)) → ComesTo text s.records new start taken' (settles x s) result
-  settles_either new n start taken' (Ok r) stands between e many paired wrote is counts minds lists freshens =
-      settles_ok new n start taken' stands between e many paired wrote is counts minds lists freshens
-  settles_either new n start taken' (Err r) stands between e many paired wrote is counts minds lists freshens = settles_part start taken' stands between e wrote
+      → (notes : OnOk result (UpdatesRecorded mid new xs)) → ComesTo text s.records new start taken' (settles x s) result
+  settles_either new n start taken' (Ok r) stands between e many paired wrote is notes = settles_ok new n start taken' stands between e many paired wrote is notes
+  settles_either new n start taken' (Err r) stands between e many paired wrote is notes = settles_part start taken' stands between e wrote
 
 -- a link that recorded the acts `xs` and then the acts `ys` recorded `xs ++ ys`
 pub tells_more : (a b c : Option (List Act)) (xs ys : List Act) → Tells a b xs → Tells b c ys → Tells a c (xs ++ ys)
@@ -370,11 +356,11 @@ refines_timed_out old new m s stands is = refines_expired old new old.progress s
 
 -- a station that couldn't read the clock, and noted that, made an act that performs `action`, if that action may have such an act
 -- (`performs`), and the model notes no more of it than the cause (`same`)
-pub untold_does : (commands : List Task) (action : Action) (next : Model → Act → Model) (told told' : Option (List Act)) (old new : Station)
+pub untold_does : {commands : List Task} {action : Action} {next : Model → Act → Model} {told told' : Option (List Act)} {old new : Station}
     → (performs : (s : Model) → Performs commands s action Untold) → (same : (s : Model) → with_progress (failing cause.Clock) s ≡ next s Untold)
     → ReadsMoment told told' old new None
     → (text : Record → List ℕ) (known : Option (List ℕ)) → Makes commands action next (seen told text known old) (seen told' text known new)
-untold_does commands action next told told' old new performs same read text known = record {
+untold_does {old = old} {new = new} performs same read text known = record {
   act = Untold;
   tells = read.0;
   goes = λ s start stands so.

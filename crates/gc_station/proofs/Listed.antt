@@ -1,6 +1,6 @@
 -- Whether a command of an attempt ended as the rule of its chain names, by the ends that records have: `listed` of a model is
 -- what its records say.
-use Rattle.std.proofs.Common.{◌≡◌, ◌⊎◌, inl, inr, ℕ, ◌+◌, ◌||◌, Bool, true, false, List, [], ◌∷◌, ◌++◌, Option, if◌then◌else◌, nat_eq, refl, sym, ap, ◌∙◌}
+use Rattle.std.proofs.Common.{◌≡◌, ◌⊎◌, inl, inr, ℕ, ◌||◌, Bool, true, false, List, [], ◌∷◌, ◌++◌, Option, if◌then◌else◌, nat_eq, refl, sym, ap, ◌∙◌}
 use Rattle.std.proofs.lemmas.Bool.{or_right, eqb-true, eqb-false}
 use Rattle.std.proofs.lemmas.Option.{same_Some}
 use Rattle.gc_catalogue.specs.declared.answer.Answer.{Answer}
@@ -18,7 +18,7 @@ use Rattle.gc_station.specs.Attempts.{code_in, code_of}
 use Rattle.gc_station.specs.Marks.{end_of, answer_as}
 use Rattle.gc_station.specs.NextCommand.{in_attempt}
 use Rattle.gc_station.specs.Records.{Record}
-use Rattle.gc_station.specs.Retries.{turn_as, rule_as, code_of_end, is_listed, HasListed, BeginNoAttempt}
+use Rattle.gc_station.specs.Retries.{code_of_end, is_listed, HasListed, BeginNoAttempt}
 use Rattle.gc_station.proofs.Facts.{or_first}
 use Rattle.gc_station.proofs.Meets.{answer_line}
 
@@ -111,8 +111,7 @@ has_listed reads commands rs b h =
 
 -- what is expected of a command's answer, of which the text says this; if it is of the setup (`true`), in this attempt
 abbrev pub expected_as : Bool → ℕ → Expected → Expected
-expected_as true attempt expected = in_attempt attempt expected
-expected_as false attempt expected = expected
+expected_as is_setup attempt expected = if is_setup then in_attempt attempt expected else expected
 
 -- the target's place in `expected_as` is that of the command
 pub near_expected : (is_setup : Bool) (attempt : ℕ) (expected : Expected) → (expected_as is_setup attempt expected).near ≡ expected.near
@@ -123,13 +122,3 @@ near_expected false attempt expected = refl
 pub accepted_expected : (is_setup : Bool) (attempt : ℕ) (expected : Expected) → (expected_as is_setup attempt expected).accepted ≡ expected.accepted
 accepted_expected true attempt expected = refl
 accepted_expected false attempt expected = refl
-
--- the turn in `expected_as` is that of the command (`turn_as`)
-pub turn_expected : (is_setup : Bool) (attempt : ℕ) (expected : Expected) → (expected_as is_setup attempt expected).turn ≡ turn_as is_setup attempt expected.turn
-turn_expected true attempt expected = refl
-turn_expected false attempt expected = refl
-
--- the rule in `expected_as` is that of the command (`rule_as`)
-pub rule_expected : (is_setup : Bool) (attempt : ℕ) (expected : Expected) → (expected_as is_setup attempt expected).again ≡ rule_as is_setup expected.again
-rule_expected true attempt expected = refl
-rule_expected false attempt expected = refl

@@ -10,7 +10,6 @@ use Rattle.gc_catalogue.specs.declared.asked.Asked.{Asked}
 use Rattle.gc_client.specs.declared.window.TheConstants.{WINDOW}
 use Rattle.gc_client.specs.Rule.{ById, id_send}
 use Rattle.gc_texts.specs.Endings.{End, Skipped, Missed}
-use Rattle.gc_texts.specs.declared.wish.Wish.{Wish}
 use Rattle.gc_texts.specs.Tasks.{call_at}
 use Rattle.gc_texts.specs.declared.tasks.Task.{Task}
 use Rattle.gc_links.specs.declared.link.Moment.{Moment}
@@ -27,10 +26,13 @@ use Rattle.gc_station.specs.Marks.{is_well, last_well}
 use Rattle.gc_station.specs.Progressing.{failing, skipped_at}
 use Rattle.gc_station.specs.Records.{Record}
 use Rattle.gc_station.specs.ActKinds.{Puts, IsReading}
-use Rattle.gc_station.specs.Model.{Model, client_sent, sent_to, asks, asks_first, first_unsent_record, with_progress, with_listed, with_more_records, after_put, after_read, asks_or_null, text_or_null, request_text}
+use Rattle.gc_station.specs.Model.{Model, client_sent, sent_to, asks, asks_first, end_unsent, first_unsent_record, with_progress, with_listed, with_more_records, after_put, after_read, asks_or_null, text_or_null, request_text}
 use Rattle.gc_station.specs.Stations.{Refines, Took, cut_progress, seen, setup_asked, station_asking, Does, Moves, Becomes}
 use Rattle.gc_station.specs.Scopes.{AreReadings}
-use Rattle.gc_station.specs.Tallies.{nothing_yet, tallied}
+use Rattle.gc_station.specs.Attempts.{listed_after}
+use Rattle.gc_station.specs.Tallies.{nothing_yet, counted_in, tallied}
+use Rattle.gc_station.specs.Writing.{noted}
+use Rattle.gc_station.specs.declared.recorded.Recorded.{Recorded}
 use Rattle.gc_station.specs.declared.station.sending.Outgoing.{Outgoing}
 use Rattle.gc_station.proofs.Records.{tallied-append, last-append}
 use Rattle.gc_station.proofs.Walk.{first_along, setup_along}
@@ -83,25 +85,25 @@ sent_count : (c : ById Asked) (target : ℕ) (call : Asked) (deadline : ℕ) (fu
 sent_count c target call deadline true e = cc
 sent_count c target call deadline false e = length-append c.waiting _
 
--- if the station `old` is as the model `s`, and there is room for a request, then `old` after it sent `command`
+-- if the station `old` is as the model `s`, and there is room for a request, then `old` after it sent `asking`
 -- (`station_asking`) is as `s` after it sent the same (`other`)
-pub asks_refines : (old new : Station) (s : Model) (wait : ℕ) (command other : Wish) (mark : Option Mark) → Refines old s → length old.client.ids.waiting < WINDOW → command ≡ other
-    → new ≡ station_asking command wait mark old → Refines new (asks wait other.target other.call mark s)
-asks_refines old new s wait command other mark stands room e is =
+pub asks_refines : (old new : Station) (s : Model) (asking other : Outgoing) → Refines old s → length old.client.ids.waiting < WINDOW → asking ≡ other
+    → new ≡ station_asking asking old → Refines new (asks other.wait other.command.target other.command.call other.mark s)
+asks_refines old new s asking other stands room e is =
     let elapsed = old.progress.moment.elapsed in
     let fewer : length s.client.waiting < WINDOW = subst (λ (c : ById Asked). length c.waiting < WINDOW) stands.ids room in
-    let more = sent_count s.client other.target other.call (later s.progress.moment.elapsed wait) (nat_eq (length s.client.waiting) WINDOW)
+    let more = sent_count s.client other.command.target other.command.call (later s.progress.moment.elapsed other.wait) (nat_eq (length s.client.waiting) WINDOW)
     (ne_eqb (length s.client.waiting) WINDOW (λ same. omega (arith, same, fewer))) in
-    let marks : length (s.marks ++ mark ∷ []) ≡ length s.marks + 1 = length-append s.marks (mark ∷ []) in
+    let marks : length (s.marks ++ other.mark ∷ []) ≡ length s.marks + 1 = length-append s.marks (other.mark ∷ []) in
     record {
       progress = ap (λ (n : Station). n.progress) is ∙ stands.progress;
       ids = ap (λ (n : Station). n.client.ids) is
-          ∙ ap (λ width. sent_to width old.client.ids command elapsed wait) stands.width
-          ∙ ap (λ ids. sent_to WINDOW ids command elapsed wait) stands.ids
-          ∙ ap (λ x. sent_to WINDOW s.client x elapsed wait) e
-          ∙ ap (λ (p : Progress). sent_to WINDOW s.client other p.moment.elapsed wait) stands.progress;
+          ∙ ap (λ width. sent_to width old.client.ids asking.command elapsed asking.wait) stands.width
+          ∙ ap (λ ids. sent_to WINDOW ids asking.command elapsed asking.wait) stands.ids
+          ∙ ap (λ (x : Outgoing). sent_to WINDOW s.client x.command elapsed x.wait) e
+          ∙ ap (λ (p : Progress). sent_to WINDOW s.client other.command p.moment.elapsed other.wait) stands.progress;
       width = ap (λ (n : Station). n.client.width) is ∙ stands.width;
-      marks = ap (λ (n : Station). n.marks.items) is ∙ ap (λ ms. ms ++ mark ∷ []) stands.marks;
+      marks = ap (λ (n : Station). n.marks.items) is ∙ ap (λ ms. ms ++ asking.mark ∷ []) stands.marks ∙ ap (λ (x : Outgoing). s.marks ++ x.mark ∷ []) e;
       paired = marks ∙ ap (λ n. n + 1) stands.paired ∙ sym more;
       assembles = subst (λ (x : Station). StandsFor x.assembler s.rest) (sym is) stands.assembles;
       tally = λ are. ap (λ (n : Station). n.recorded.tally) is ∙ stands.tally are;
@@ -152,7 +154,7 @@ setup_took plan text start taken s mark list so = setup_along (Took text start t
 -- if `list` begins with `task`, and the two marks are equal, the record of `task` as missed or skipped (`end`), with the moment
 -- of `skipped_at`, is the one record that the model adds (`first_unsent_record`)
 pub skips_as : (p : Progress) (m : Moment) (mark mark' : Mark) (utc : ℕ) (end : End) (list : List Task) (task : Task) (others : List Task)
-    → list ≡ task ∷ others → mark ≡ mark' → utc ≡ skipped_at m p → end ≡ (if p.missed then Missed else Skipped)
+    → list ≡ task ∷ others → mark ≡ mark' → utc ≡ skipped_at m p → end ≡ end_unsent p
     → record { sent = None; utc = utc; cycle = mark.cycle; place = mark.place; turn = mark.expected.turn; command = task.command; end = end } ∷ [] ≡ first_unsent_record p m mark' list
 skips_as p m mark mark' utc end list task others is e at ends =
     ap (λ (u : ℕ). record { sent = None; utc = u; cycle = mark.cycle; place = mark.place; turn = mark.expected.turn; command = task.command; end = end } ∷ []) at
@@ -164,6 +166,27 @@ skips_as p m mark mark' utc end list task others is e at ends =
 pub unwell_end : (missed : Bool) → is_well (if missed then Missed else Skipped) ≡ false
 unwell_end true = refl
 unwell_end false = refl
+
+-- what is noted of the first command of `list`, which isn't sent, if the two marks are equal: its record is counted, and it
+-- wasn't answered well
+pub noted_unsent : (p : Progress) (m : Moment) (mark mark' : Mark) (end : End) (list : List Task) (task : Task) (others : List Task) (r : Recorded)
+    → list ≡ task ∷ others → mark ≡ mark' → end ≡ end_unsent p
+    → noted mark m.elapsed None end r
+    ≡ record r { tally = tallied r.tally (first_unsent_record p m mark' list); well = false; listed = listed_after r.listed mark'.expected None (end_unsent p) }
+noted_unsent p m mark mark' end list task others r is e ends =
+    ap (λ (x : Mark). noted x m.elapsed None end r) e
+    ∙ ap (λ (x : End). noted mark' m.elapsed None x r) ends
+    ∙ ap (λ (b : Bool). record {
+      tally = counted_in mark'.cycle mark'.expected.turn (end_unsent p) r.tally;
+      well = b;
+      listed = listed_after r.listed mark'.expected None (end_unsent p);
+      fresh = if b then m.elapsed else r.fresh;
+    }) (unwell_end p.missed)
+    ∙ sym (ap (λ (left : List Task). record r {
+      tally = tallied r.tally (first_unsent_record p m mark' left);
+      well = false;
+      listed = listed_after r.listed mark'.expected None (end_unsent p);
+    }) is)
 
 -- after the record of the first of the commands in `list`, of which there is one, as not sent, the last command wasn't answered
 -- well

@@ -218,7 +218,7 @@ sound_sent plan commands b utc deadline expected task others room some at sound 
     (commands_reached plan.setup commands begun (place + 1)) =
     subst (λ (xs : List Request). Interleave (of_text commands (row (b.marks ++ Some mark ∷ []) (b.client.waiting ++ p ∷ []) b.records)) b.passes xs)
     (sent_next plan.setup commands begun place task others at within many)
-    (interleave_by_equal _ _ _ _ (each_sent commands mark b.marks b.client.waiting p b.records task others sound.paired at refl many kept refl)
+    (interleave_by_equal _ _ _ _ (each_sent commands b.marks b.client.waiting b.records task others kept refl mark p sound.paired at refl many)
     (interleave_more kept b.passes (commands_reached plan.setup commands begun place) one sound.each)) in
     subst (λ (c : ById Asked). Sound plan commands (record b { unsent = b.unsent - 1; client = c; marks = b.marks ++ Some mark ∷ [] }))
     (sym (client_behind b.client task.command.target (call_at task utc) deadline room)) (record {
@@ -284,7 +284,7 @@ sound_skipped plan commands b utc end turn task others none some at out sound =
           let one = requests begun place (of_task task ∷ []) in
           subst (λ (xs : List Request). Interleave (of_text commands (row b.marks b.client.waiting (b.records ++ r ∷ []))) b.passes xs)
           (sent_next plan.setup commands begun place task others at (omega (arith, some, sound.unsents)) many ∙ ap (λ (n : ℕ). commands_reached plan.setup commands begun n) (sym place_is))
-          (interleave_by_equal _ _ _ _ (each_skipped commands begun place b.marks b.client.waiting b.records r task others none at refl many kept refl)
+          (interleave_by_equal _ _ _ _ (each_skipped commands b.marks b.client.waiting b.records task others kept refl begun place r none at refl many)
           (interleave_more kept b.passes (commands_reached plan.setup commands begun place) one sound.each));
       own = sound.own;
       tasked = all_append (IsOfItsTask commands) b.records _ sound.tasked (unsent_tasked commands utc begun place turn end task (head_of_drop commands place task others at) out, tt);

@@ -241,7 +241,7 @@ module _ (plan : Plan) (commands : List Task) (scope : Scope) where
         let quiet = subst (λ r. AllByRecursion IsNoReply (lines_completed r bytes)) (sym rest) none.0 in
         carried s.progress.asked (min s.progress.alive m.elapsed) none.2 none.1
         (muted_clock s.progress.asked s.progress.alive s.progress.moment.elapsed m acts (Gave bytes m) (nat_le s.progress.alive m.elapsed) refl
-        (record { tells = refl; reads_it = refl; stays = tt; listens = tt; none = quiet }) none.3)
+        (record { tells = refl; reads_it = refl; stays = tt; listens = refl; none = quiet }) none.3)
     by_alive (inr reply) = carried false m.elapsed reply.1 reply.0 (muted_now m.elapsed acts (Gave bytes m) refl)
 
   -- after a piece the moment read last is the same as before it
@@ -330,7 +330,7 @@ module _ (plan : Plan) (commands : List Task) (scope : Scope) where
       → Mute sought p.asked (min p.alive m.elapsed) m.elapsed p.phase (acts ++ Told m ∷ [])
   told_mute sought p m acts back q =
       mute_told (is_sought p.word p.again p.asked) sought p.asked p.alive p.moment.elapsed m p.phase acts (Told m) back
-      (record { tells = refl; reads_it = refl; stays = tt; listens = tt; none = tt }) q
+      (record { tells = refl; reads_it = refl; stays = tt; listens = refl; none = tt }) q
 
   -- after a request that is sent in the phase `Ready`, `Mute` holds, if the last act before it read the progress's moment, and
   -- `MuteAt` held before it
@@ -378,7 +378,7 @@ module _ (plan : Plan) (commands : List Task) (scope : Scope) where
       let sought = is_sought p.word p.again p.asked in (
         λ bytes m. gave_mute (with_progress turned s) bytes m p.phase acts refl rest q,
         λ m. (
-          mute_told sought sought p.asked p.alive p.moment.elapsed m p.phase acts (Silent m) (λ ready so. so) (record { tells = refl; reads_it = refl; stays = tt; listens = tt; none = tt }) q,
+          mute_told sought sought p.asked p.alive p.moment.elapsed m p.phase acts (Silent m) (λ ready so. so) (record { tells = refl; reads_it = refl; stays = tt; listens = refl; none = tt }) q,
           λ draining past so. muted_now m.elapsed acts (Silent m) refl,
         ),
       )

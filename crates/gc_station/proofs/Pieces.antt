@@ -16,8 +16,8 @@ use Rattle.gc_station.specs.declared.mark.Mark.{Mark}
 use Rattle.gc_station.specs.declared.plan.Plan.{Plan}
 use Rattle.gc_links.specs.declared.link.Moment.{Moment}
 use Rattle.gc_links.specs.Acts.{Act, Gave}
-use Rattle.gc_station.specs.Answers.{ReadsBefore, IsAnsweredIn, IsOwnRequest, IsWrittenAt}
-use Rattle.gc_station.specs.Ends.{ReadsAtOrPast, OneReadsPast, BringsLine, IsLateIn, IsOvertaken}
+use Rattle.gc_station.specs.Answers.{ReadsBefore, Completes, IsAnsweredIn, IsOwnRequest, IsRecordedBy, IsWrittenAt}
+use Rattle.gc_station.specs.Ends.{ReadsAtOrPast, OneReadsPast, IsLateIn, IsOvertaken}
 use Rattle.gc_station.specs.Marks.{records_of}
 use Rattle.gc_station.specs.Quiet.{IsAsking}
 use Rattle.gc_station.specs.Progressing.{moment_noted}
@@ -140,16 +140,19 @@ module _ (plan : Plan) (commands : List Task) (scope : Scope) (acts : List Act) 
           };
         }
 
-    -- a line of the piece has the id `next`, which is that of the request at the place `at`: so the piece brings that id
-    -- (`BringsLine`)
-    brings : (c : ById Asked) (line : List ℕ) (at next : ℕ) (before : List Act) (request : Act) (between : List Act) → IsLineOfPiece c line
-        → acts ≡ before ++ request ∷ between → HasPlace c (heard line) at → id_of c at ≡ next → BringsLine (state (before ++ request ∷ between)).rest piece next
-    brings c line at next before request between l order has is = record {
+    -- a record that is `WrittenDown` is recorded by the read that gave the piece
+    abbrev recorded_by : (before : List Act) (request : Act) (between : List Act) (r : Record) → WrittenDown before request between r
+        → IsRecordedBy plan commands scope up_to_piece r (Gave piece m)
+    recorded_by before request between r down =
+        record { before = before; request = request; between = between; behind = []; order = down.order; own = down.own; written = down.written }
+
+    -- the piece completes each of its lines (`Completes`), if the acts are `before`, `request` and `between`
+    completes : (c : ById Asked) (line : List ℕ) (before : List Act) (request : Act) (between : List Act) → IsLineOfPiece c line
+        → acts ≡ before ++ request ∷ between → Completes (state (before ++ request ∷ between)).rest piece line
+    completes c line before request between l order = record {
       front = l.front;
-      line = line;
       others = l.others;
-      came = sym (ap (λ (xs : List Act). lines_completed (state xs).rest piece) order) ∙ sym l.split;
-      has = id_heard c line at next l.limits has is;
+      is = sym (ap (λ (xs : List Act). lines_completed (state xs).rest piece) order) ∙ sym l.split;
     }
 
     -- a record that is `WrittenDown`, of the request with this mark, is as `IsAnsweredIn` says of the line y, if that is the
@@ -162,12 +165,10 @@ module _ (plan : Plan) (commands : List Task) (scope : Scope) (acts : List Act) 
         record {
           piece = piece;
           moment = m;
-          its = record { before = s.before; request = s.request; between = s.between; behind = []; order = down.order; own = down.own; written = down.written };
+          its = recorded_by s.before s.request s.between r down;
           waits = subst (λ (d : ℕ). AllByRecursion (ReadsBefore d) s.between) (s.deadline mark refl) both.0;
           in_time = subst (λ (d : ℕ). m.elapsed < d) (s.deadline mark refl) both.1;
-          front = l.front;
-          others = l.others;
-          came = sym (ap (λ (xs : List Act). lines_completed (state xs).rest piece) s.order) ∙ sym l.split ∙ ap (λ z. l.front ++ z ∷ l.others) (sym same);
+          came = subst (λ z. Completes (state (s.before ++ s.request ∷ s.between)).rest piece z) (sym same) (completes c line s.before s.request s.between l s.order);
           id = ap heard same ∙ id_heard c line at _ l.limits has s.id;
         }
 
@@ -179,10 +180,12 @@ module _ (plan : Plan) (commands : List Task) (scope : Scope) (acts : List Act) 
     late c line number at p mark r l s down given has = record {
       piece = piece;
       moment = m;
-      its = record { before = s.before; request = s.request; between = s.between; behind = []; order = down.order; own = down.own; written = down.written };
+      its = recorded_by s.before s.request s.between r down;
       too_late = subst (λ (d : ℕ). OneReadsPast d (s.between ++ Gave piece m ∷ [])) (s.deadline mark refl)
           (too_late m.elapsed p.deadline p.given_up s.between (Gave piece m) given (λ reached. reached) s.stays);
-      came = brings c line at _ s.before s.request s.between l s.order has s.id;
+      line = line;
+      came = completes c line s.before s.request s.between l s.order;
+      id = id_heard c line at _ l.limits has s.id;
     }
 
     -- if a line of the piece has the id of a request q that waits, and that was put after the request p, p is overtaken at the
@@ -210,7 +213,9 @@ module _ (plan : Plan) (commands : List Task) (scope : Scope) (acts : List Act) 
           piece = piece;
           moment = m;
           reads = refl;
-          came = brings c line there _ s.before s.request s.between l s.order has (t.id ∙ ap (λ (xs : List Act). (state xs).client.next) on);
+          line = line;
+          came = completes c line s.before s.request s.between l s.order;
+          id = id_heard c line there _ l.limits has (t.id ∙ ap (λ (xs : List Act). (state xs).client.next) on);
         }
 
     -- the record of a request that a line of the piece settles (`IsRecorded`) is true by the acts with the one that brought the
@@ -233,15 +238,7 @@ module _ (plan : Plan) (commands : List Task) (scope : Scope) (acts : List Act) 
               let above : x.number < f.number = f.least in
               record {
                 act = Gave piece m;
-                its = record {
-                  before = s.before;
-                  request = s.request;
-                  between = s.between;
-                  behind = [];
-                  order = down.order;
-                  own = down.own;
-                  written = down.written;
-                };
+                its = recorded_by s.before s.request s.between r down;
                 shown = inl (overtaken c line x.number f.number at a.place x.pending f.one (Some mark) f.beside l s f.holds above a.above a.heard);
               };
         }

@@ -5,7 +5,7 @@
 use Rattle.std.proofs.Common.{◌≡◌, ℕ, ◌-◌, ◌≤◌, ◌⊎◌, inl, inr, Bool, true, false, List, [], ◌∷◌, ◌++◌, drop, if◌then◌else◌, nat_le, min, refl, sym, ap, ◌∙◌, subst, arith}
 use Rattle.std.specs.List.{AllByRecursion}
 use Rattle.std.proofs.Math.Nat.{min-eq_left, min-eq_right}
-use Rattle.std.proofs.lemmas.Bool.{leb-true, leb-false, both_ways}
+use Rattle.std.proofs.lemmas.Bool.{leb-true, leb-false, both_ways, false≢true}
 use Rattle.gc_catalogue.specs.declared.asked.Asked.TheVariants.{Table}
 use Rattle.gc_catalogue.specs.declared.call.Call.TheVariants.{NullProc}
 use Rattle.gc_texts.specs.declared.tasks.Task.{Task}
@@ -69,14 +69,14 @@ IsDraining false since acts = IsDrained since acts
 
 -- an act that reads a moment sends nothing, and keeps the connection
 tells_listening : (since : ℕ) (act : Act) → TellsMoment since act → IsListening act
-tells_listening since (Told m) e = tt
-tells_listening since (Gave bytes m) e = tt
-tells_listening since (Silent m) e = tt
-tells_listening since act e = e
+tells_listening since (Told m) e = refl
+tells_listening since (Gave bytes m) e = refl
+tells_listening since (Silent m) e = refl
+tells_listening since act e = absurd e
 
 -- a read that gave nothing sends nothing, and keeps the connection
 silent_listening : (act : Act) → IsSilent act → IsListening act
-silent_listening (Silent m) e = tt
+silent_listening (Silent m) e = refl
 silent_listening act e = absurd e
 
 -- an act that only listens keeps the connection
@@ -84,7 +84,7 @@ listening_stays : (act : Act) → IsListening act → StaysConnected act
 listening_stays (Told m) e = tt
 listening_stays (Gave bytes m) e = tt
 listening_stays (Silent m) e = tt
-listening_stays act e = absurd e
+listening_stays act e = absurd (false≢true e)
 
 module _ (plan : Plan) (commands : List Task) (scope : Scope) where
   -- these acts end with a connection that was made when the station had synchronized (`true`), or while it synchronized

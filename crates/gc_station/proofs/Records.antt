@@ -3,7 +3,7 @@
 -- `WritesPart text before all old new`: a book that had taken `old` has taken the records `before` whole and broken off within
 -- the others of `all`; `new` is what it has taken then.
 use Rattle.std.proofs.Common.{◌≡◌, ℕ, ◌+◌, ◌<◌, Bool, true, false, List, [], ◌∷◌, ◌++◌, length, take, drop, map, get_or, Option, Some, None, is_some, if◌then◌else◌, refl, sym, ap, ◌∙◌, subst, arith, append_assoc, append-nil}
-use Rattle.std.specs.Prelude.{slice_get}
+use Rattle.std.specs.Prelude.{slice_get, unwrap_or}
 use Rattle.std.proofs.lemmas.List.{get_or_default, length-map, length-take, map-append, map_more, take_more, take-append-drop}
 use Rattle.std.specs.Io.KnownBytes.{Appends}
 use Rattle.std.proofs.KnownBytes.{Appends-trans}
@@ -27,6 +27,9 @@ use Rattle.gc_station.specs.Attempts.{code_of, listed_after, listed_by}
 use Rattle.gc_station.specs.Marks.{commands_in, value_as, warned_as, refused_as, answer_as, command_of, end_of, record_of, records_of, is_well, last_well, fresh_after}
 use Rattle.gc_station.specs.Records.{Record, Grew, texts_of, WritesPart}
 use Rattle.gc_station.specs.Tallies.{counted_in, tallied}
+use Rattle.gc_station.specs.Writing.{recorded_after}
+use Rattle.gc_links.specs.declared.link.Moment.{Moment}
+use Rattle.gc_station.specs.declared.recorded.Recorded.{Recorded}
 use Rattle.gc_station.specs.declared.tally.Counts.{Counts}
 
 -- Marks.
@@ -102,11 +105,15 @@ records_here : (reads : Asked → List ℕ → Reading) (utc : ℕ) (mark : Opti
 records_here reads utc None marks x = records-none reads utc marks
 records_here reads utc (Some mark) marks x = ap (λ rs. record_of reads utc mark x ∷ rs) (records-none reads utc marks)
 
--- the record of one settlement is made by `mark` alone, if that is the first of `marks`
-pub records_first : (reads : Asked → List ℕ → Reading) (utc : ℕ) (marks : List (Option Mark)) (mark : Option Mark) (x : Rule.Settlement Asked)
-    → Some mark ≡ slice_get marks 0 → records_of reads utc marks (x ∷ []) ≡ records_of reads utc (mark ∷ []) (x ∷ [])
-records_first reads utc [] mark x e = cc
-records_first reads utc (m ∷ marks) mark x e = let same : m ≡ mark = cc in records_here reads utc m marks x ∙ ap (λ k. records_of reads utc (k ∷ []) (x ∷ [])) same
+-- the first of these marks; `None` also if there is none
+abbrev pub first_of : List (Option Mark) → Option Mark
+first_of marks = unwrap_or (slice_get marks 0) None
+
+-- the record of one settlement is made by the first mark alone
+records_first : (reads : Asked → List ℕ → Reading) (utc : ℕ) (marks : List (Option Mark)) (x : Rule.Settlement Asked)
+    → records_of reads utc marks (x ∷ []) ≡ records_of reads utc (first_of marks ∷ []) (x ∷ [])
+records_first reads utc [] x = refl
+records_first reads utc (m ∷ marks) x = records_here reads utc m marks x
 
 -- the records of the settlements `xs` and then `ys` are those of `xs`, and after them those of `ys` by the marks that are left
 pub records-append : (reads : Asked → List ℕ → Reading) (utc : ℕ) (marks : List (Option Mark)) (xs ys : List (Rule.Settlement Asked))
@@ -120,19 +127,6 @@ records-append reads utc (Some mark ∷ marks) (x ∷ xs) ys = ap (λ rs. record
 -- the records of settlements as the code has them
 abbrev records_seen : (reads : Asked → List ℕ → Reading) (utc : ℕ) (marks : List (Option Mark)) → List (Settlement Asked) → List Record
 records_seen reads utc marks ss = records_of reads utc marks (map settlement_seen ss)
-
--- the records of the first i + 1 settlements are those of the first i, and that of s, the one at place i, by `mark`, if the
--- marks from place i on give the same record of s
-pub records_seen_more : (reads : Asked → List ℕ → Reading) (utc : ℕ) (marks : List (Option Mark)) (ss : List (Settlement Asked)) (i : ℕ) (s : Settlement Asked) (mark : Option Mark)
-    → i < length ss → s ≡ get_or ss i s → records_seen reads utc (drop i marks) (s ∷ []) ≡ records_seen reads utc (mark ∷ []) (s ∷ [])
-    → records_seen reads utc marks (take (i + 1) ss) ≡ records_seen reads utc marks (take i ss) ++ records_seen reads utc (mark ∷ []) (s ∷ [])
-records_seen_more reads utc marks ss i s mark below is here =
-    let front = map settlement_seen (take i ss) in
-    let len : length front ≡ i = length-map (take i ss) settlement_seen ∙ omega (arith, length-take i ss, below) in
-    ap (records_of reads utc marks) (map_more settlement_seen ss i s below ∙ ap (λ x. front ++ settlement_seen x ∷ []) (sym is))
-    ∙ records-append reads utc marks front (settlement_seen s ∷ [])
-    ∙ ap (λ n. records_of reads utc marks front ++ records_of reads utc (drop n marks) (settlement_seen s ∷ [])) len
-    ∙ ap (λ rs. records_of reads utc marks front ++ rs) here
 
 -- the records of all settlements are those of the first i, and after them those of the others by the marks that are left
 pub records_seen_left : (reads : Asked → List ℕ → Reading) (utc : ℕ) (marks : List (Option Mark)) (ss : List (Settlement Asked)) (i : ℕ)
@@ -153,11 +147,11 @@ listed_here : (reads : Asked → List ℕ → Reading) (b : Bool) (mark : Option
 listed_here reads b None marks x = listed-none reads b marks
 listed_here reads b (Some mark) marks x = listed-none reads _ marks
 
--- `listed_by` of one settlement depends, but for b, on `mark` alone, if that is the first of `marks`
-pub listed_first : (reads : Asked → List ℕ → Reading) (b : Bool) (marks : List (Option Mark)) (mark : Option Mark) (x : Rule.Settlement Asked)
-    → Some mark ≡ slice_get marks 0 → listed_by reads b marks (x ∷ []) ≡ listed_by reads b (mark ∷ []) (x ∷ [])
-listed_first reads b [] mark x e = cc
-listed_first reads b (m ∷ marks) mark x e = let same : m ≡ mark = cc in listed_here reads b m marks x ∙ ap (λ k. listed_by reads b (k ∷ []) (x ∷ [])) same
+-- `listed_by` of one settlement depends, but for b, on the first mark alone
+listed_first : (reads : Asked → List ℕ → Reading) (b : Bool) (marks : List (Option Mark)) (x : Rule.Settlement Asked)
+    → listed_by reads b marks (x ∷ []) ≡ listed_by reads b (first_of marks ∷ []) (x ∷ [])
+listed_first reads b [] x = refl
+listed_first reads b (m ∷ marks) x = listed_here reads b m marks x
 
 -- `listed_by` of the settlements `xs` and then `ys`, from b on, is that of `ys` with the marks that are left, from that of `xs`
 -- on
@@ -173,19 +167,6 @@ listed-append reads (Some mark ∷ marks) (x ∷ xs) ys b =
 -- `listed_by` of settlements as the code has them
 abbrev listed_seen : (reads : Asked → List ℕ → Reading) (listed : Bool) (marks : List (Option Mark)) → List (Settlement Asked) → Bool
 listed_seen reads listed marks ss = listed_by reads listed marks (map settlement_seen ss)
-
--- c is `listed_by` of the first i + 1 settlements, from a on, if b is that of the first i, and c is that of s, the one at place
--- i, with `mark`, from b on; `mark` has to give the same for s as the marks from place i on
-pub listed_more : (reads : Asked → List ℕ → Reading) (a b c : Bool) (marks : List (Option Mark)) (ss : List (Settlement Asked)) (i : ℕ) (s : Settlement Asked) (mark : Option Mark)
-    → i < length ss → s ≡ get_or ss i s → b ≡ listed_seen reads a marks (take i ss) → c ≡ listed_seen reads b (mark ∷ []) (s ∷ [])
-    → ((x : Bool) → listed_seen reads x (drop i marks) (s ∷ []) ≡ listed_seen reads x (mark ∷ []) (s ∷ [])) → c ≡ listed_seen reads a marks (take (i + 1) ss)
-listed_more reads a b c marks ss i s mark below is so more here =
-    let front = map settlement_seen (take i ss) in
-    let len : length front ≡ i = length-map (take i ss) settlement_seen ∙ omega (arith, length-take i ss, below) in
-    more ∙ ap (λ x. listed_by reads x (mark ∷ []) (settlement_seen s ∷ [])) so ∙ sym (here (listed_by reads a marks front))
-    ∙ ap (λ n. listed_by reads (listed_by reads a marks front) (drop n marks) (settlement_seen s ∷ [])) (sym len)
-    ∙ sym (listed-append reads marks front (settlement_seen s ∷ []) a)
-    ∙ sym (ap (listed_by reads a marks) (map_more settlement_seen ss i s below ∙ ap (λ x. front ++ settlement_seen x ∷ []) (sym is)))
 
 -- Records are added, and none goes.
 
@@ -266,33 +247,73 @@ pub tallied-append : (t : Counts) (xs ys : List Record) → tallied t (xs ++ ys)
 tallied-append t [] ys = refl
 tallied-append t (x ∷ xs) ys = tallied-append (counted_in x.cycle x.turn x.end t) xs ys
 
--- if u is the counts t with the records `front` added, and v is u with those of `one` added, v is t with those of `next` added,
--- which is `front` and then `one`
-pub tallied_more : (t u v : Counts) (front one next : List Record) → u ≡ tallied t front → v ≡ tallied u one → next ≡ front ++ one → v ≡ tallied t next
-tallied_more t u v front one next so more is = fold_more tallied tallied-append t u v front one next so more is
-
 -- whether the last record of two lists, one after the other, was answered well is known from the second list; if that is empty,
 -- from the first; and if both are, it is b
 pub last-append : (b : Bool) (xs ys : List Record) → last_well b (xs ++ ys) ≡ last_well (last_well b xs) ys
 last-append b [] ys = refl
 last-append b (x ∷ xs) ys = last-append (is_well x.end) xs ys
 
--- if b is `last_well` of `front` from a on, and c that of `one` from b on, c is that of `next`, which is `front` and then `one`,
--- from a on
-pub last_more : (a b c : Bool) (front one next : List Record) → b ≡ last_well a front → c ≡ last_well b one
-    → next ≡ front ++ one → c ≡ last_well a next
-last_more a b c front one next so more is = fold_more last_well last-append a b c front one next so more is
-
 -- `fresh_after` of the records `xs` and then `ys`, which were recorded at the moment `now`, is that of `ys` from that of `xs` on
 pub fresh-append : (now fresh : ℕ) (xs ys : List Record) → fresh_after now fresh (xs ++ ys) ≡ fresh_after now (fresh_after now fresh xs) ys
 fresh-append now fresh [] ys = refl
 fresh-append now fresh (x ∷ xs) ys = fresh-append now (if is_well x.end then now else fresh) xs ys
 
--- if b is `fresh_after` of `front` from a on, and c that of `one` from b on, c is that of `next`, which is `front` and then
--- `one`, from a on
-pub fresh_more : (now a b c : ℕ) (front one next : List Record) → b ≡ fresh_after now a front → c ≡ fresh_after now b one
-    → next ≡ front ++ one → c ≡ fresh_after now a next
-fresh_more now a b c front one next so more is = fold_more (fresh_after now) (fresh-append now) a b c front one next so more is
+-- what is kept of records is equal where each of its fields is
+recorded_same : (a b : Recorded) → a.tally ≡ b.tally → a.well ≡ b.well → a.listed ≡ b.listed → a.fresh ≡ b.fresh → a ≡ b
+recorded_same a b tally well listed fresh =
+    ap (λ (x : Counts). record a { tally = x }) tally
+    ∙ ap (λ (x : Bool). record a { tally = b.tally; well = x }) well
+    ∙ ap (λ (x : Bool). record a { tally = b.tally; well = b.well; listed = x }) listed
+    ∙ ap (λ (x : ℕ). record a { tally = b.tally; well = b.well; listed = b.listed; fresh = x }) fresh
+
+-- no settlements leave what is kept of records as it was
+pub recorded-none : (reads : Asked → List ℕ → Reading) (now : Moment) (marks : List (Option Mark)) (r : Recorded) → recorded_after now marks [] reads r ≡ r
+recorded-none reads now marks r =
+    let none = records-none reads now.utc marks in
+    recorded_same (recorded_after now marks [] reads r) r (ap (tallied r.tally) none) (ap (last_well r.well) none) (listed-none reads r.listed marks)
+    (ap (fresh_after now.elapsed r.fresh) none)
+
+-- `s` is the settlement at place i, and `mark` the first of the marks from place i on
+module _ (reads : Asked → List ℕ → Reading) (marks : List (Option Mark)) (ss : List (Settlement Asked)) (i : ℕ) (s : Settlement Asked) (mark : Option Mark)
+    (below : i < length ss) (is : s ≡ get_or ss i s) (first : mark ≡ first_of (drop i marks)) where
+  -- the first i settlements are i
+  front_length : length (map settlement_seen (take i ss)) ≡ i
+  front_length = length-map (take i ss) settlement_seen ∙ omega (arith, length-take i ss, below)
+
+  -- the records of the first i + 1 settlements are those of the first i, and that of s, by `mark`
+  pub records_seen_more : (utc : ℕ) → records_seen reads utc marks (take (i + 1) ss) ≡ records_seen reads utc marks (take i ss) ++ records_seen reads utc (mark ∷ []) (s ∷ [])
+  records_seen_more utc =
+      let front = map settlement_seen (take i ss) in
+      ap (records_of reads utc marks) (map_more settlement_seen ss i s below ∙ ap (λ x. front ++ settlement_seen x ∷ []) (sym is))
+      ∙ records-append reads utc marks front (settlement_seen s ∷ [])
+      ∙ ap (λ n. records_of reads utc marks front ++ records_of reads utc (drop n marks) (settlement_seen s ∷ [])) front_length
+      ∙ ap (λ rs. records_of reads utc marks front ++ rs)
+      (records_first reads utc (drop i marks) (settlement_seen s) ∙ ap (λ k. records_of reads utc (k ∷ []) (settlement_seen s ∷ [])) (sym first))
+
+  -- c is `listed_by` of the first i + 1 settlements, from a on, if b is that of the first i, and c is that of s, with `mark`,
+  -- from b on
+  listed_more : (a b c : Bool) → b ≡ listed_seen reads a marks (take i ss) → c ≡ listed_seen reads b (mark ∷ []) (s ∷ []) → c ≡ listed_seen reads a marks (take (i + 1) ss)
+  listed_more a b c so more =
+      let front = map settlement_seen (take i ss) in
+      more ∙ ap (λ x. listed_by reads x (mark ∷ []) (settlement_seen s ∷ [])) so
+      ∙ ap (λ k. listed_by reads (listed_by reads a marks front) (k ∷ []) (settlement_seen s ∷ [])) first
+      ∙ sym (listed_first reads (listed_by reads a marks front) (drop i marks) (settlement_seen s))
+      ∙ ap (λ n. listed_by reads (listed_by reads a marks front) (drop n marks) (settlement_seen s ∷ [])) (sym front_length)
+      ∙ sym (listed-append reads marks front (settlement_seen s ∷ []) a)
+      ∙ sym (ap (listed_by reads a marks) (map_more settlement_seen ss i s below ∙ ap (λ x. front ++ settlement_seen x ∷ []) (sym is)))
+
+  -- if b is what the first i settlements make of a, and c what s makes of b, c is what the first i + 1 make of a
+  pub recorded_more : (now : Moment) (a b c : Recorded) → b ≡ recorded_after now marks (map settlement_seen (take i ss)) reads a
+      → c ≡ recorded_after now (mark ∷ []) (settlement_seen s ∷ []) reads b → c ≡ recorded_after now marks (map settlement_seen (take (i + 1) ss)) reads a
+  recorded_more now a b c so more =
+      let front = records_seen reads now.utc marks (take i ss) in
+      let one = records_seen reads now.utc (mark ∷ []) (s ∷ []) in
+      let next = records_seen_more now.utc in
+      recorded_same c (recorded_after now marks (map settlement_seen (take (i + 1) ss)) reads a)
+      (fold_more tallied tallied-append a.tally b.tally c.tally front one _ (ap (λ (r : Recorded). r.tally) so) (ap (λ (r : Recorded). r.tally) more) next)
+      (fold_more last_well last-append a.well b.well c.well front one _ (ap (λ (r : Recorded). r.well) so) (ap (λ (r : Recorded). r.well) more) next)
+      (listed_more a.listed b.listed c.listed (ap (λ (r : Recorded). r.listed) so) (ap (λ (r : Recorded). r.listed) more))
+      (fold_more (fresh_after now.elapsed) (fresh-append now.elapsed) a.fresh b.fresh c.fresh front one _ (ap (λ (r : Recorded). r.fresh) so) (ap (λ (r : Recorded). r.fresh) more) next)
 
 -- the record of a settlement, with this ending in place of its own
 abbrev pub record_as : ℕ → Mark → Rule.Settlement Asked → End → Record

@@ -1,7 +1,7 @@
 -- How a run ends that is stale, and one whose end was asked for. `TracksFresh` says of an act which records it recorded, and what
 -- became of the moment from which on the run may become stale. An act is one call on the link, with its result.
 use Rattle.std.proofs.Common.{◌≡◌, inl, inr, ◌⊎◌, ℕ, ◌-◌, ◌<◌, ◌≤◌, ◌||◌, min, Bool, true, false, List, [], ◌∷◌, ◌++◌, drop, map, Option, Some, None, nat_lt, nat_le, nat_eq, refl, sym, ap, ◌∙◌, subst, append-nil, append_assoc, arith}
-use Rattle.std.proofs.lemmas.Bool.{ltb-true, leb-true, and_parts, cond-true, cond-false}
+use Rattle.std.proofs.lemmas.Bool.{ltb-true, leb-true, and_parts, cond-true, cond-false, false≢true}
 use Rattle.std.proofs.lemmas.Bool.Decides.{nat_tests}
 use Rattle.std.specs.List.{AllByRecursion}
 use Rattle.gc_catalogue.specs.declared.answer.Reading.{Reading}
@@ -9,7 +9,7 @@ use Rattle.gc_catalogue.specs.declared.asked.Asked.{Asked}
 use Rattle.gc_client.specs.declared.pending.Pending.{Pending}
 use Rattle.gc_client.specs.Rule.{heard, hears, lost}
 use Rattle.gc_texts.specs.declared.tasks.Task.{Task}
-use Rattle.gc_links.specs.Acts.{Act, Told, Gave, Silent, Closed}
+use Rattle.gc_links.specs.Acts.{Act, Told, Gave, Closed}
 use Rattle.gc_links.specs.declared.link.Moment.{Moment}
 use Rattle.gc_station.specs.declared.cause.Cause.{Cause}
 use Rattle.gc_station.specs.declared.cause.Cause.TheVariants as cause
@@ -205,18 +205,12 @@ after_fresh plan commands s act o =
 -- the least of a number and the moments of two lists of acts is that of the second list, from that of the first on
 least-append : (n : ℕ) (xs ys : List Act) → least_moment n (xs ++ ys) ≡ least_moment (least_moment n xs) ys
 least-append n [] ys = refl
-least-append n (Told m ∷ xs) ys = least-append (min n m.elapsed) xs ys
-least-append n (Gave bytes m ∷ xs) ys = least-append (min n m.elapsed) xs ys
-least-append n (Silent m ∷ xs) ys = least-append (min n m.elapsed) xs ys
-least-append n (x ∷ xs) ys = least-append n xs ys
+least-append n (x ∷ xs) ys = least-append (least_moment n (x ∷ [])) xs ys
 
 -- whether the end was asked for in two lists of acts is known from the second list, and from that of the first
 asked-append : (b : Bool) (xs ys : List Act) → asked_after b (xs ++ ys) ≡ asked_after (asked_after b xs) ys
 asked-append b [] ys = refl
-asked-append b (Told m ∷ xs) ys = asked-append (b || m.stops) xs ys
-asked-append b (Gave bytes m ∷ xs) ys = asked-append (b || m.stops) xs ys
-asked-append b (Silent m ∷ xs) ys = asked-append (b || m.stops) xs ys
-asked-append b (x ∷ xs) ys = asked-append b xs ys
+asked-append b (x ∷ xs) ys = asked-append (asked_after b (x ∷ [])) xs ys
 
 -- an act of which `TracksFresh` holds preserves `NoneWellSince`
 none_well_more : (plan : Plan) (commands : List Task) (scope : Scope) (done : List Act) (act : Act) → NoneWellSince plan commands scope done
@@ -245,10 +239,13 @@ none_well_more plan commands scope done act u (inr (rs, order, (front, r, later,
         moment = m;
         order = ap (λ a. done ++ a ∷ []) is;
         at = refl;
-        front = front;
         answer = r;
-        later = later;
-        written = order ∙ ap (λ xs. (state_after plan commands scope done).records ++ xs) split;
+        written = record {
+          earlier = front;
+          later = later;
+          written = sym (ap (λ a. (state_after plan commands scope (done ++ a ∷ [])).records) is)
+              ∙ order ∙ ap (λ xs. (state_after plan commands scope done).records ++ xs) split;
+        };
         well = well;
       });
       records = [];
@@ -318,13 +315,13 @@ stops_stopped = stops_at cause.Stopped tt
 
 -- an act that only listens (`IsListening`) shows no cause
 listening_shows_none : (act : Act) (why : Cause) → IsListening act → Shows why act → ⊥
-listening_shows_none act why o shows = no_cause_shown IsListening (λ x. x) (λ x. x) (λ x. x) (λ text n x. x) why act o shows
+listening_shows_none act why o shows = no_cause_shown IsListening false≢true false≢true false≢true (λ text n. false≢true) why act o shows
 
 -- an act that only listens (`IsListening`) decides no end
 listening_decides_none : (plan : Plan) (s : Model) (act : Act) (at : Phase) (why : Cause) → IsListening act → Decided plan s at why act → ⊥
 listening_decides_none plan s act at why o (inl failed) = listening_shows_none act why o failed.1
-listening_decides_none plan s act at why o (inr (down, inl (other, is, next, ends))) = subst IsListening is o
-listening_decides_none plan s act at why o (inr (down, inr (is, ends))) = subst IsListening is o
+listening_decides_none plan s act at why o (inr (down, inl (other, is, next, ends))) = false≢true (subst IsListening is o)
+listening_decides_none plan s act at why o (inr (down, inr (is, ends))) = false≢true (subst IsListening is o)
 
 -- if the end isn't decided, turns are left, and the run is stale, the next action closes for that
 stale_next : (plan : Plan) (p : Progress) (w : Waiting) (at : Phase) → p.phase ≡ at → cause_in at ≡ None → 0 < p.turns → is_stale plan p w ≡ true → action_of plan p w ≡ actions.Close cause.Stale

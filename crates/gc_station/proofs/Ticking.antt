@@ -1,8 +1,10 @@
 -- A clock that goes on from act to act: the moment read last, and the beginning of the cycle. An act is one call on the link,
 -- with its result.
 use Rattle.std.proofs.Common.{◌≡◌, ℕ, ◌≤◌, List, [], ◌∷◌, ◌++◌, min, refl, ap, ◌∙◌, arith}
+use Rattle.std.specs.Prelude.{MatchOption}
 use Rattle.gc_links.specs.Acts.{Act, Told, Gave, Silent}
 use Rattle.gc_links.specs.declared.link.Moment.{Moment}
+use Rattle.gc_station.specs.ActKinds.{moment_in}
 use Rattle.gc_station.specs.Cycles.{ClockRises}
 use Rattle.gc_station.specs.Silences.{latest}
 use Rattle.gc_station.specs.declared.progress.Progress.{Progress}
@@ -10,10 +12,8 @@ use Rattle.gc_station.specs.declared.progress.Progress.{Progress}
 -- what an act does to the moment read last, and to the one that counts as the beginning of the cycle: an act that reads a
 -- moment sets the former, and bounds the latter by it; any other leaves both
 abbrev pub Ticks : Progress → Act → Progress → Type 0
-Ticks p (Told m) q = (q.moment ≡ m) × (q.began ≡ min p.began m.elapsed)
-Ticks p (Gave bytes m) q = (q.moment ≡ m) × (q.began ≡ min p.began m.elapsed)
-Ticks p (Silent m) q = (q.moment ≡ m) × (q.began ≡ min p.began m.elapsed)
-Ticks p act q = (q.moment ≡ p.moment) × (q.began ≡ p.began)
+Ticks p act q =
+    MatchOption (moment_in act) ((q.moment ≡ p.moment) × (q.began ≡ p.began)) (λ m. (q.moment ≡ m) × (q.began ≡ min p.began m.elapsed))
 
 -- if the clock doesn't go back at a moment, the beginning of the cycle stays, and isn't later than that moment, if it wasn't
 -- later than the one read before
@@ -58,10 +58,7 @@ rises_last now (x ∷ xs) act h = rises_last now xs act h
 -- with one act more, the moment read last is the act's or, if it reads none, the one read last before it
 pub latest_more : (now : ℕ) (xs : List Act) (act : Act) → latest now (xs ++ act ∷ []) ≡ latest (latest now xs) (act ∷ [])
 latest_more now [] act = refl
-latest_more now (Told m ∷ xs) act = latest_more m.elapsed xs act
-latest_more now (Gave bytes m ∷ xs) act = latest_more m.elapsed xs act
-latest_more now (Silent m ∷ xs) act = latest_more m.elapsed xs act
-latest_more now (x ∷ xs) act = latest_more now xs act
+latest_more now (x ∷ xs) act = latest_more (latest now (x ∷ [])) xs act
 
 -- the moment after an act is the one read last
 pub last_ticks : (p q : Progress) (act : Act) → Ticks p act q → q.moment.elapsed ≡ latest p.moment.elapsed (act ∷ [])

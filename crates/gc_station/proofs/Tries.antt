@@ -5,7 +5,7 @@
 -- the bytes that one read gave. `Trying` says how many tries are left, by the connections that ended since the last read that
 -- settled a command. `TriesAfterPiece` says what a piece does to the tries: they are all given back if it settles a command and
 -- `preparing` is false after it, and stay otherwise; `Settling` says the same of a whole read, by the records.
-use Rattle.std.proofs.Common.{◌≡◌, ◌≢◌, ◌⊎◌, inl, inr, ℕ, suc, ◌+◌, ◌-◌, ◌<◌, ◌≤◌, Bool, true, false, not, List, [], ◌∷◌, ◌++◌, length, map, Option, Some, None, refl, sym, ap, ◌∙◌, subst, arith, append_assoc, append-nil}
+use Rattle.std.proofs.Common.{◌≡◌, ◌≢◌, ◌⊎◌, inl, inr, ℕ, suc, ◌+◌, ◌<◌, ◌≤◌, Bool, true, false, not, List, [], ◌∷◌, ◌++◌, length, map, Option, Some, None, refl, sym, ap, ◌∙◌, subst, arith, append_assoc, append-nil}
 use Rattle.std.proofs.lemmas.List.{length-map, length-append, nil_from_length}
 use Rattle.std.proofs.lemmas.Bool.{not-true, false_from_ne_true, both_ways}
 use Rattle.gc_catalogue.specs.declared.asked.Asked.{Asked}

@@ -56,11 +56,13 @@ module _ (plan : Plan) (commands : List Task) (scope : Scope) (some : 0 < plan.e
     missed_more e =
         let x = h.0 e in
         record {
-          n = x.n;
-          moment = x.moment;
-          late = x.late;
-          begins = late_more plan commands scope some acts more x.n x.moment x.late x.begins;
-          cycle = x.cycle;
+          its = record {
+            n = x.its.n;
+            moment = x.its.moment;
+            late = x.its.late;
+            begins = late_more plan commands scope some acts more x.its.n x.its.moment x.its.late x.its.begins;
+            number = x.its.number;
+          };
           too_late = x.too_late;
           sent = x.sent;
           due = x.due;
@@ -124,11 +126,13 @@ module _ (plan : Plan) (commands : List Task) (scope : Scope) (some : 0 < plan.e
       → (utc : r.utc ≡ skipped_at m p) → (missed : p.missed ≡ true) → IsMissedIn plan commands scope (acts ++ Told m ∷ []) r
   skip_missed acts m p r (inl none) here cycle sent utc missed = let nothing = none.1 in absurd (omega (arith, nothing, here))
   skip_missed acts m p r (inr c) here cycle sent utc missed = record {
-    n = c.earlier;
-    moment = c.moment;
-    late = c.late;
-    begins = late_more plan commands scope some acts (Told m ∷ []) c.earlier c.moment c.late c.begins;
-    cycle = cycle ∙ c.count;
+    its = record {
+      n = c.earlier;
+      moment = c.moment;
+      late = c.late;
+      begins = late_more plan commands scope some acts (Told m ∷ []) c.earlier c.moment c.late c.begins;
+      number = cycle ∙ c.count;
+    };
     too_late = leb-true plan.every c.late (sym c.missed ∙ missed);
     sent = sent;
     due = utc ∙ cond-true p.missed p.due m.utc missed ∙ c.due;
@@ -228,4 +232,4 @@ module _ (plan : Plan) (commands : List Task) (scope : Scope) (some : 0 < plan.e
 
 -- the law: each record of a missed or a skipped command is justified, where cycles have due moments and the clock doesn't go back
 pub unsent_for_a_cause : UnsentForACause
-unsent_for_a_cause plan commands scope acts some runs rises = written_holds plan commands scope some acts runs rises
+unsent_for_a_cause plan commands scope acts runs some rises = written_holds plan commands scope some acts runs rises

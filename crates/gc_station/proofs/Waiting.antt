@@ -202,8 +202,6 @@ module _ (plan : Plan) (commands : List Task) (scope : Scope) where
           its = recorded_more acts act r (Gave a.piece a.moment) a.its;
           waits = a.waits;
           in_time = a.in_time;
-          front = a.front;
-          others = a.others;
           came = a.came;
           id = a.id;
         }
@@ -217,7 +215,9 @@ module _ (plan : Plan) (commands : List Task) (scope : Scope) where
           moment = a.moment;
           its = recorded_more acts act r (Gave a.piece a.moment) a.its;
           too_late = a.too_late;
+          line = a.line;
           came = a.came;
+          id = a.id;
         }
 
     -- no act is made after one at which the run stopped

@@ -1,7 +1,15 @@
 -- Which kind of call on the link an act is, this project's own, in terms of the act alone. An act is one call on the link, with
 -- its result.
-use Rattle.std.specs.Prelude.{◌≡◌, ℕ, ◌<◌, List, length}
+use Rattle.std.specs.Prelude.{◌≡◌, ℕ, ◌<◌, List, length, Option, Some, None}
+use Rattle.gc_links.specs.declared.link.Moment.{Moment}
 use Rattle.gc_links.specs.Acts.{Act, Told, Untold, Put, Cut, Gave, Silent, Ended, Broke, Opened, Unopened}
+
+-- the moment that the act read, alone or together with bytes or silence; `None` if it read none
+abbrev pub moment_in : Act → Option Moment
+moment_in (Told m) = Some m
+moment_in (Gave bytes m) = Some m
+moment_in (Silent m) = Some m
+moment_in _ = None
 
 -- the act writes `bytes` on the link: all of them (`Put`), or fewer (`Cut`)
 abbrev pub Puts : List ℕ → Act → Type 0

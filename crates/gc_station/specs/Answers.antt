@@ -1,26 +1,23 @@
 -- Where an answer comes from, in an operator's words, this project's own: its own request was sent, and the line came after it,
 -- with its id, before a moment at or past its deadline was read. An act is one call on the link, with its result.
-use Rattle.std.specs.Prelude.{◌≡◌, ℕ, ◌<◌, List, [], ◌∷◌, ◌++◌, drop, Some}
+use Rattle.std.specs.Prelude.{◌≡◌, ℕ, ◌<◌, List, [], ◌∷◌, ◌++◌, drop, Some, IfSome}
 use Rattle.std.specs.List.{AllByRecursion}
 use Rattle.gc_client.specs.Rule.{heard}
 use Rattle.gc_texts.specs.Endings.{line_of}
 use Rattle.gc_texts.specs.declared.tasks.Task.{Task}
 use Rattle.gc_links.specs.declared.link.Moment.{Moment}
 use Rattle.gc_station.specs.declared.plan.Plan.{Plan}
-use Rattle.gc_links.specs.Acts.{Act, Told, Gave, Silent}
+use Rattle.gc_links.specs.Acts.{Act, Gave}
 use Rattle.gc_station.specs.Deciding.{later}
 use Rattle.gc_station.specs.Records.{Record}
 use Rattle.gc_station.specs.Runs.{state_after}
-use Rattle.gc_station.specs.ActKinds.{Puts}
+use Rattle.gc_station.specs.ActKinds.{Puts, moment_in}
 use Rattle.gc_station.specs.Model.{IsSending, cycle_to_send, place_to_send, request_text, lines_completed, Model}
 use Rattle.gc_station.specs.Scopes.{Scope}
 
 -- the act reads no moment, or one before `deadline`
 abbrev pub ReadsBefore : ℕ → Act → Type 0
-ReadsBefore deadline (Told m) = m.elapsed < deadline
-ReadsBefore deadline (Gave bytes m) = m.elapsed < deadline
-ReadsBefore deadline (Silent m) = m.elapsed < deadline
-ReadsBefore deadline _ = Unit {0}
+ReadsBefore deadline act = IfSome (moment_in act) (λ m. m.elapsed < deadline)
 
 -- for how many milliseconds the request of the first of these commands waits; 0 if there is no command
 abbrev pub first_deadline : List Task → ℕ
@@ -60,18 +57,23 @@ pub record IsRecordedBy (plan : Plan) (commands : List Task) (scope : Scope) (ac
   pub own : IsOwnRequest plan commands (state_after plan commands scope before) request r
   pub written : IsWrittenAt plan commands scope (before ++ request ∷ between) act r
 
+-- a read that gives `piece` completes `line`, after the lines `front`; `rest` are the bytes before the read since the last line
+-- feed
+pub record Completes (rest piece line : List ℕ) : Type 0 where
+  pub front : List (List ℕ)
+  pub others : List (List ℕ)
+  pub is : lines_completed rest piece ≡ front ++ line ∷ others
+
 -- among `acts` a read that gave `piece` adds the record `r`, after the act that writes its request (`its`). Neither the acts
 -- between them (`waits`) nor the read (`in_time`) read a moment at or past the request's deadline. The piece completes `line`,
--- after the lines `front`, and `line` has the request's id
+-- which has the request's id
 pub record IsAnsweredIn (plan : Plan) (commands : List Task) (scope : Scope) (acts : List Act) (r : Record) (line : List ℕ) : Type 0 where
   pub piece : List ℕ
   pub moment : Moment
   pub its : IsRecordedBy plan commands scope acts r (Gave piece moment)
   pub waits : AllByRecursion (ReadsBefore (deadline_after plan commands scope its.before)) its.between
   pub in_time : moment.elapsed < deadline_after plan commands scope its.before
-  pub front : List (List ℕ)
-  pub others : List (List ℕ)
-  pub came : lines_completed (state_after plan commands scope (its.before ++ its.request ∷ its.between)).rest piece ≡ front ++ line ∷ others
+  pub came : Completes (state_after plan commands scope (its.before ++ its.request ∷ its.between)).rest piece line
   pub id : heard line ≡ Some (state_after plan commands scope its.before).client.next
 
 -- if a reply in time ended the command of the record `r` (answered, unreadable or elsewhere), the line of the reply (`line_of`)

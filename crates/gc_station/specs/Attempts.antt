@@ -24,9 +24,9 @@ code_of reads call (Answered line) = code_in (reads call line)
 code_of reads call Late = None
 code_of reads call Lost = None
 
--- whether a command of the current attempt has ended as the chain's rule names, once one more command ended as `end`, with the
--- return code `code` other than 0, if any: this command itself, or one before it (`listed`), which doesn't count if the attempt
--- begins with this command. `expected` is what the text says of this command: the chain's rule, and its link in the attempt
+-- whether a command of the current attempt has ended as the chain's rule names, once one more command ended as `end`. `code` is
+-- the return code other than 0 of its reply, if any, and `expected` is what the text says of it: the chain's rule, and its link.
+-- `listed` says whether a command before it had; that doesn't count if the link is 0, as then the attempt begins with it
 abbrev pub listed_after : (listed : Bool) → Expected → (code : Option ℕ) → End → Bool
 listed_after listed expected code end = (if nat_eq expected.turn.link 0 then false else listed) || repeats_after expected.again code end
 

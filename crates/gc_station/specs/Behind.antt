@@ -11,17 +11,15 @@ use Rattle.gc_client.specs.OneForOne.{Course, Step, Send, begun, course}
 use Rattle.gc_client.specs.Rule.{Settlement, Lost}
 use Rattle.gc_client.specs.declared.window.TheConstants.{WINDOW}
 use Rattle.gc_texts.specs.declared.tasks.Task.{Task}
-use Rattle.gc_links.specs.Acts.{Act}
 use Rattle.gc_station.specs.declared.mark.Mark.{Mark}
 use Rattle.gc_station.specs.declared.plan.Plan.{Plan}
 use Rattle.gc_station.specs.declared.progress.Action.TheVariants as action
 use Rattle.gc_station.specs.Deciding.{has_begun, action_next, action_room}
 use Rattle.gc_station.specs.Links.{parts}
-use Rattle.gc_station.specs.Model.{Model, opening, waiting_of, Runs}
+use Rattle.gc_station.specs.Model.{Model, waiting_of}
 use Rattle.gc_station.specs.Parts.{Part}
 use Rattle.gc_station.specs.Progressing.{is_over}
-use Rattle.gc_station.specs.Runs.{state_after}
-use Rattle.gc_station.specs.Scopes.{Scope}
+use Rattle.gc_station.specs.Runs.{state_after, OfEachRun}
 
 -- the settlement `x` is of a call of the table, and a reply ended it: it was answered, or late
 abbrev pub IsReplied : Settlement Asked → Type 0
@@ -46,8 +44,7 @@ IsSentNearTheTable part =
 -- in each part of a run commands are sent as `IsSentNearTheTable` says
 abbrev pub CommandsAreSentNearTheTable : Type 0
 CommandsAreSentNearTheTable =
-    (plan : Plan) (commands : List Task) (scope : Scope) (acts : List Act) → Runs plan commands (opening plan scope) acts
-    → (i : ℕ) (part : Part) → slice_get (parts plan commands scope acts) i ≡ Some part → IsSentNearTheTable part
+    OfEachRun (λ plan commands scope acts. (i : ℕ) (part : Part) → slice_get (parts plan commands scope acts) i ≡ Some part → IsSentNearTheTable part)
 
 -- each of `tasks` asks for a call of the table
 abbrev pub AreOfTable : List Task → Type 0
@@ -63,6 +60,5 @@ IsNotHeldUp plan s =
 
 -- if all commands are calls of the table, none is held up (`IsNotHeldUp`) once a run has synchronized, as long as it isn't over
 abbrev pub TheTableIsNeverHeldUp : Type 0
-TheTableIsNeverHeldUp =
-    (plan : Plan) (commands : List Task) (scope : Scope) (acts : List Act) → Runs plan commands (opening plan scope) acts → AreOfTable commands
-    → let s = state_after plan commands scope acts in has_begun s.progress ≡ true → is_over s.progress ≡ false → IsNotHeldUp plan s
+TheTableIsNeverHeldUp = OfEachRun (λ plan commands scope acts.
+    AreOfTable commands → let s = state_after plan commands scope acts in has_begun s.progress ≡ true → is_over s.progress ≡ false → IsNotHeldUp plan s)

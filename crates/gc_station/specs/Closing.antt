@@ -13,8 +13,8 @@ use Rattle.gc_links.specs.Acts.{Act, Untold, Cut, Ended, Broke, Closed, Unopened
 use Rattle.gc_station.specs.Deciding.{is_up}
 use Rattle.gc_station.specs.Progressing.{is_finished, is_spared}
 use Rattle.gc_station.specs.Reasons.{HoldsBefore, IsAtItsEnd, IsFinished}
-use Rattle.gc_station.specs.Runs.{state_after}
-use Rattle.gc_station.specs.Model.{Model, waiting_of, action_at, opening, Performs, Runs}
+use Rattle.gc_station.specs.Runs.{state_after, OfEachRun}
+use Rattle.gc_station.specs.Model.{Model, waiting_of, action_at, Performs}
 use Rattle.gc_station.specs.Scopes.{Scope}
 
 -- if a null procedure of a synchronization is sent next, the client is as at its start (`fresh`), and no request is outstanding.
@@ -92,7 +92,5 @@ pub record StopsForACause (plan : Plan) (commands : List Task) (scope : Scope) (
 
 -- a connection is closed, or a run stops, because its turns are used up only after as many acts as it had turns
 abbrev pub EndsForTurnsOnlyAfterAsManyActs : Type 0
-EndsForTurnsOnlyAfterAsManyActs =
-    (plan : Plan) (commands : List Task) (scope : Scope) (acts : List Act) → Runs plan commands (opening plan scope) acts
-    → let next = action_at plan (state_after plan commands scope acts) in (next ≡ Close cause.Turns) ⊎ (next ≡ Stop cause.Turns)
-    → scope.turns ≤ length acts
+EndsForTurnsOnlyAfterAsManyActs = OfEachRun (λ plan commands scope acts.
+    let next = action_at plan (state_after plan commands scope acts) in (next ≡ Close cause.Turns) ⊎ (next ≡ Stop cause.Turns) → scope.turns ≤ length acts)

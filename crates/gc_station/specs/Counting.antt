@@ -3,6 +3,7 @@ use Rattle.std.specs.Prelude.{◌≡◌, ℕ, suc, Bool, true, false, List, [], 
 use Rattle.gc_texts.specs.Endings.{End, Answered, Unreadable, Elsewhere, Late, Lost, Skipped, Missed}
 use Rattle.gc_station.specs.Records.{Record}
 use Rattle.gc_station.specs.Tallies.{capped, tally_of}
+use Rattle.gc_station.specs.declared.tally.Tally.{Tally}
 
 -- how many of these records have an ending for which `holds` is true
 abbrev pub how_many : (End → Bool) → List Record → ℕ
@@ -62,14 +63,18 @@ further_attempts [] = 0
 further_attempts (r ∷ others) =
     if not (nat_eq r.cycle 0) && nat_eq r.turn.link 0 && nat_lt 1 r.turn.attempt then suc (further_attempts others) else further_attempts others
 
--- each count of the tally of any records is how many of those of last attempts have its ending, up to 2^64 - 1; `again` is how
--- many times a chain was sent again
+-- `count`, of the tally of any records, is how many of those of last attempts have an ending for which `holds` is true, up to
+-- 2^64 - 1
+abbrev pub CountsEndings : (count : Tally → ℕ) (holds : End → Bool) → Type 0
+CountsEndings count holds = (records : List Record) → count (tally_of records) ≡ capped (how_many holds (last_attempts records))
+
+-- each count of a tally counts the records of last attempts with its ending; `again` is how many times a chain was sent again
 pub record TalliesCountRecords : Type 0 where
-  pub answered : (records : List Record) → (tally_of records).answered ≡ capped (how_many is_answered (last_attempts records))
-  pub unreadable : (records : List Record) → (tally_of records).unreadable ≡ capped (how_many is_unreadable (last_attempts records))
-  pub late : (records : List Record) → (tally_of records).late ≡ capped (how_many is_late (last_attempts records))
-  pub lost : (records : List Record) → (tally_of records).lost ≡ capped (how_many is_lost (last_attempts records))
-  pub skipped : (records : List Record) → (tally_of records).skipped ≡ capped (how_many is_skipped (last_attempts records))
-  pub missed : (records : List Record) → (tally_of records).missed ≡ capped (how_many is_missed (last_attempts records))
-  pub elsewhere : (records : List Record) → (tally_of records).elsewhere ≡ capped (how_many is_elsewhere (last_attempts records))
+  pub answered : CountsEndings (λ t. t.answered) is_answered
+  pub unreadable : CountsEndings (λ t. t.unreadable) is_unreadable
+  pub late : CountsEndings (λ t. t.late) is_late
+  pub lost : CountsEndings (λ t. t.lost) is_lost
+  pub skipped : CountsEndings (λ t. t.skipped) is_skipped
+  pub missed : CountsEndings (λ t. t.missed) is_missed
+  pub elsewhere : CountsEndings (λ t. t.elsewhere) is_elsewhere
   pub again : (records : List Record) → (tally_of records).again ≡ capped (further_attempts records)

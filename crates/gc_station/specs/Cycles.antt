@@ -1,15 +1,16 @@
 -- When cycles begin, and which commands aren't sent, in the acts' own moments: this project's own. Cycles are due on a grid:
 -- the first when it begins, and each other one `every` milliseconds after the one before it. An act is one call on the link,
 -- with its result.
-use Rattle.std.specs.Prelude.{◌≡◌, ℕ, zero, suc, ◌+◌, ◌-◌, ◌<◌, ◌≤◌, false, List, [], ◌∷◌, ◌++◌, None}
+use Rattle.std.specs.Prelude.{◌≡◌, ℕ, zero, suc, ◌+◌, ◌-◌, ◌<◌, ◌≤◌, false, List, [], ◌∷◌, ◌++◌, None, MatchOption}
 use Rattle.std.specs.List.{AllByRecursion}
 use Rattle.gc_texts.specs.Endings.{Skipped, Missed}
 use Rattle.gc_texts.specs.declared.tasks.Task.{Task}
-use Rattle.gc_links.specs.Acts.{Act, Told, Gave, Silent}
+use Rattle.gc_links.specs.Acts.{Act, Told}
 use Rattle.gc_links.specs.declared.link.Moment.{Moment}
+use Rattle.gc_station.specs.ActKinds.{moment_in}
 use Rattle.gc_station.specs.Deciding.{may_go}
 use Rattle.gc_station.specs.Records.{Record}
-use Rattle.gc_station.specs.Runs.{state_after}
+use Rattle.gc_station.specs.Runs.{state_after, OfEachRun, WhereNext}
 use Rattle.gc_station.specs.Scopes.{Scope}
 use Rattle.gc_station.specs.Model.{opening, action_at, waiting_of, Runs}
 use Rattle.gc_station.specs.NextCommand.{cycles_begun, place_next}
@@ -21,10 +22,8 @@ use Rattle.gc_station.specs.Chains.{IsChained}
 -- before it, and all are at most 2^64 - 1
 abbrev pub ClockRises : (now : ℕ) → List Act → Type 0
 ClockRises now [] = Unit {0}
-ClockRises now (Told m ∷ acts) = (now ≤ m.elapsed) × (m.elapsed ≤ 18446744073709551615) × ClockRises m.elapsed acts
-ClockRises now (Gave bytes m ∷ acts) = (now ≤ m.elapsed) × (m.elapsed ≤ 18446744073709551615) × ClockRises m.elapsed acts
-ClockRises now (Silent m ∷ acts) = (now ≤ m.elapsed) × (m.elapsed ≤ 18446744073709551615) × ClockRises m.elapsed acts
-ClockRises now (act ∷ acts) = ClockRises now acts
+ClockRises now (act ∷ acts) =
+    MatchOption (moment_in act) (ClockRises now acts) (λ m. (now ≤ m.elapsed) × (m.elapsed ≤ 18446744073709551615) × ClockRises m.elapsed acts)
 
 -- the due moment of the cycle that has `n` cycles before it, if the first one began at the moment `first`, and cycles are due
 -- `every` milliseconds apart
@@ -48,14 +47,18 @@ pub record BeginsLate (plan : Plan) (commands : List Task) (scope : Scope) (acts
   pub begins : BeginsAt plan commands scope acts n m
   pub grid : due_after first.elapsed plan.every n + late ≡ m.elapsed
 
--- the cycle that began last among `acts`: how many began before it (`n`), the moment at which it began, and how many
--- milliseconds after its due moment that was (`late`)
-pub record LastBegan (plan : Plan) (commands : List Task) (scope : Scope) (acts : List Act) : Type 0 where
+-- one of `acts` begins the cycle `cycle`, counted from 1: how many cycles began before it (`n`), the moment at which it begins,
+-- and how many milliseconds after its due moment that is (`late`)
+pub record CycleBegan (plan : Plan) (commands : List Task) (scope : Scope) (acts : List Act) (cycle : ℕ) : Type 0 where
   pub n : ℕ
   pub moment : Moment
   pub late : ℕ
   pub begins : BeginsLate plan commands scope acts n moment late
-  pub number : cycles_begun plan (state_after plan commands scope acts).progress ≡ suc n
+  pub number : cycle ≡ suc n
+
+-- the cycle that began last among `acts` (`CycleBegan`)
+abbrev pub LastBegan : Plan → List Task → Scope → List Act → Type 0
+LastBegan plan commands scope acts = CycleBegan plan commands scope acts (cycles_begun plan (state_after plan commands scope acts).progress)
 
 -- a cycle begins at or after its due moment, where cycles have due moments and the clock doesn't go back
 abbrev pub CyclesBeginWhenDue : Type 0
@@ -68,21 +71,16 @@ CyclesBeginWhenDue =
 -- if a command of a cycle is sent, its cycle began before the next one was due, where cycles have due moments and the clock
 -- doesn't go back
 abbrev pub SentOnlyInTime : Type 0
-SentOnlyInTime =
-    (plan : Plan) (commands : List Task) (scope : Scope) (acts : List Act) → 0 < plan.every → Runs plan commands (opening plan scope) acts → ClockRises 0 acts
-    → action_at plan (state_after plan commands scope acts) ≡ Send → (last : LastBegan plan commands scope acts) × (last.late < plan.every)
+SentOnlyInTime = WhereNext Send (λ plan commands scope acts.
+    0 < plan.every → ClockRises 0 acts → (last : LastBegan plan commands scope acts) × (last.late < plan.every))
 
--- the command of the record `r` is missed: its cycle, before which `n` cycles began, began when the next one was due, or later;
--- the command wasn't sent; and the record has the moment at which its cycle was due, by the clock of time stamps
+-- the command of the record `r` is missed: its cycle (`its`) began when the next one was due, or later; the command wasn't sent;
+-- and the record has the moment at which its cycle was due, by the clock of time stamps
 pub record IsMissedIn (plan : Plan) (commands : List Task) (scope : Scope) (acts : List Act) (r : Record) : Type 0 where
-  pub n : ℕ
-  pub moment : Moment
-  pub late : ℕ
-  pub begins : BeginsLate plan commands scope acts n moment late
-  pub cycle : r.cycle ≡ suc n
-  pub too_late : plan.every ≤ late
+  pub its : CycleBegan plan commands scope acts r.cycle
+  pub too_late : plan.every ≤ its.late
   pub sent : r.sent ≡ None
-  pub due : r.utc ≡ moment.utc - late
+  pub due : r.utc ≡ its.moment.utc - its.late
 
 -- the command of the record `r` is skipped: it goes on with a chain (`IsChained`); its cycle began before the next one was due;
 -- it wasn't sent, because the one before it wasn't answered well, or a connection was closed or the station resynchronized since
@@ -110,6 +108,5 @@ UnsentIsJustified plan commands scope acts r =
 
 -- each record of a missed or a skipped command is justified, where cycles have due moments and the clock doesn't go back
 abbrev pub UnsentForACause : Type 0
-UnsentForACause =
-    (plan : Plan) (commands : List Task) (scope : Scope) (acts : List Act) → 0 < plan.every → Runs plan commands (opening plan scope) acts → ClockRises 0 acts
-    → AllByRecursion (UnsentIsJustified plan commands scope acts) (state_after plan commands scope acts).records
+UnsentForACause = OfEachRun (λ plan commands scope acts.
+    0 < plan.every → ClockRises 0 acts → AllByRecursion (UnsentIsJustified plan commands scope acts) (state_after plan commands scope acts).records)

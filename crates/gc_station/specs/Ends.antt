@@ -2,7 +2,7 @@
 -- moment at or past its deadline was read, and only then a line came with its id. Lost: its own request was sent, and at the
 -- act that recorded it as lost a line came with the id of a request that was put after it, or the station resynchronizes,
 -- because seven are outstanding that have all timed out, or the run stopped. An act is one call on the link, with its result.
-use Rattle.std.specs.Prelude.{◌≡◌, ◌⊎◌, ℕ, ◌≤◌, List, [], ◌∷◌, ◌++◌, length, Some}
+use Rattle.std.specs.Prelude.{◌≡◌, ◌⊎◌, ℕ, ◌≤◌, List, [], ◌∷◌, ◌++◌, length, Some, IsSomeAnd}
 use Rattle.gc_catalogue.specs.declared.asked.Asked.{Asked}
 use Rattle.gc_client.specs.Ids.{Waits}
 use Rattle.gc_client.specs.Rule.{deadlines, heard}
@@ -13,21 +13,18 @@ use Rattle.gc_station.specs.declared.cause.Cause.{Cause}
 use Rattle.gc_links.specs.declared.link.Moment.{Moment}
 use Rattle.gc_station.specs.declared.plan.Plan.{Plan}
 use Rattle.gc_station.specs.declared.progress.Action.TheVariants.{Renew, Stop}
-use Rattle.gc_links.specs.Acts.{Act, Told, Gave, Silent}
-use Rattle.gc_station.specs.Answers.{IsRecordedBy, deadline_after}
+use Rattle.gc_links.specs.Acts.{Act, Told, Gave}
+use Rattle.gc_station.specs.Answers.{IsRecordedBy, Completes, deadline_after}
 use Rattle.gc_station.specs.Quiet.{IsAsking}
 use Rattle.gc_station.specs.Records.{Record}
 use Rattle.gc_station.specs.Runs.{state_after}
-use Rattle.gc_station.specs.ActKinds.{Puts}
-use Rattle.gc_station.specs.Model.{action_at, request_text, lines_completed, Model}
+use Rattle.gc_station.specs.ActKinds.{Puts, moment_in}
+use Rattle.gc_station.specs.Model.{action_at, request_text, Model}
 use Rattle.gc_station.specs.Scopes.{Scope}
 
 -- the act reads a moment at or past `deadline`
 abbrev pub ReadsAtOrPast : ℕ → Act → Type 0
-ReadsAtOrPast deadline (Told m) = deadline ≤ m.elapsed
-ReadsAtOrPast deadline (Gave bytes m) = deadline ≤ m.elapsed
-ReadsAtOrPast deadline (Silent m) = deadline ≤ m.elapsed
-ReadsAtOrPast deadline _ = ⊥
+ReadsAtOrPast deadline act = IsSomeAnd (moment_in act) (λ m. deadline ≤ m.elapsed)
 
 -- one of `acts` reads a moment at or past `deadline`
 pub record OneReadsPast (deadline : ℕ) (acts : List Act) : Type 0 where
@@ -37,25 +34,20 @@ pub record OneReadsPast (deadline : ℕ) (acts : List Act) : Type 0 where
   pub at : acts ≡ earlier ++ telling ∷ later
   pub past : ReadsAtOrPast deadline telling
 
--- a read that gives `piece` completes a line with the id `id`, if `rest` are the bytes before it since the last line feed
-pub record BringsLine (rest piece : List ℕ) (id : ℕ) : Type 0 where
-  pub front : List (List ℕ)
-  pub line : List ℕ
-  pub others : List (List ℕ)
-  pub came : lines_completed rest piece ≡ front ++ line ∷ others
-  pub has : heard line ≡ Some id
-
 -- among `acts` a read that gave `piece` adds the record `r`, after the act that writes its request (`its`). Between the two, or
--- by the read itself, a moment at or past the request's deadline is read; and the piece completes a line with the request's id
+-- by the read itself, a moment at or past the request's deadline is read; and the piece completes a line (`line`) with the
+-- request's id
 pub record IsLateIn (plan : Plan) (commands : List Task) (scope : Scope) (acts : List Act) (r : Record) : Type 0 where
   pub piece : List ℕ
   pub moment : Moment
   pub its : IsRecordedBy plan commands scope acts r (Gave piece moment)
   pub too_late : OneReadsPast (deadline_after plan commands scope its.before) (its.between ++ Gave piece moment ∷ [])
-  pub came : BringsLine (state_after plan commands scope (its.before ++ its.request ∷ its.between)).rest piece (state_after plan commands scope its.before).client.next
+  pub line : List ℕ
+  pub came : Completes (state_after plan commands scope (its.before ++ its.request ∷ its.between)).rest piece line
+  pub id : heard line ≡ Some (state_after plan commands scope its.before).client.next
 
 -- between `request`, which comes after the acts `before`, and `act` another request was sent (`other`); that other one is still
--- outstanding, and `act` is a read that completes a line with its id
+-- outstanding, and `act` is a read that completes a line (`line`) with its id
 pub record IsOvertaken (plan : Plan) (commands : List Task) (scope : Scope) (before : List Act) (request : Act) (between : List Act) (act : Act) : Type 0 where
   pub first : List Act
   pub other : Act
@@ -68,7 +60,9 @@ pub record IsOvertaken (plan : Plan) (commands : List Task) (scope : Scope) (bef
   pub piece : List ℕ
   pub moment : Moment
   pub reads : act ≡ Gave piece moment
-  pub came : BringsLine (state_after plan commands scope (before ++ request ∷ between)).rest piece (state_after plan commands scope (before ++ request ∷ first)).client.next
+  pub line : List ℕ
+  pub came : Completes (state_after plan commands scope (before ++ request ∷ between)).rest piece line
+  pub id : heard line ≡ Some (state_after plan commands scope (before ++ request ∷ first)).client.next
 
 -- the act, before which a station has the model `s`, resynchronizes it: the act reads the clock, and seven requests are
 -- outstanding, which have all timed out

@@ -10,9 +10,9 @@ use Rattle.gc_texts.specs.declared.tasks.Task.{Task}
 use Rattle.gc_station.specs.Parts.{Part, mark_of, parts_of}
 use Rattle.gc_station.specs.Qualities.{IsGoodAnswer}
 use Rattle.gc_station.specs.Records.{Record, Grew}
-use Rattle.gc_station.specs.Runs.{state_after}
+use Rattle.gc_station.specs.Runs.{state_after, OfEachRun}
 use Rattle.gc_station.specs.Scopes.{Scope}
-use Rattle.gc_station.specs.Model.{Runs, opening}
+use Rattle.gc_station.specs.Model.{opening}
 use Rattle.gc_station.specs.NextCommand.{is_chained}
 use Rattle.gc_station.specs.declared.mark.Mark.{Mark}
 use Rattle.gc_station.specs.declared.plan.Plan.{Plan}
@@ -65,10 +65,9 @@ pub record IsSentAfter (plan : Plan) (commands : List Task) (scope : Scope) (act
 -- each command of a cycle is sent only after the answers of all earlier commands of its chain, as a request of the same part of
 -- a run
 abbrev pub ChainsStay : Type 0
-ChainsStay =
-    (plan : Plan) (commands : List Task) (scope : Scope) (acts : List Act) → Runs plan commands (opening plan scope) acts
-    → (i n : ℕ) (part : Part) (mark : Mark) → slice_get (parts plan commands scope acts) i ≡ Some part → slice_get part.marks n ≡ Some (Some mark)
-    → 0 < mark.cycle → IsSentAfter plan commands scope acts i n mark
+ChainsStay = OfEachRun (λ plan commands scope acts.
+    (i n : ℕ) (part : Part) (mark : Mark) → slice_get (parts plan commands scope acts) i ≡ Some part → slice_get part.marks n ≡ Some (Some mark)
+    → 0 < mark.cycle → IsSentAfter plan commands scope acts i n mark)
 
 -- of two commands of cycles that are requests `m` of part `i` and `n` of part `j`, counted from 0, the later one has a later
 -- place in the same cycle, or is of a later cycle
@@ -80,9 +79,7 @@ MarksGoOnIn ps =
 
 -- in the parts of each run the commands of cycles go on, as `MarksGoOnIn` says
 abbrev pub MarksGoOn : Type 0
-MarksGoOn =
-    (plan : Plan) (commands : List Task) (scope : Scope) (acts : List Act)
-    → Runs plan commands (opening plan scope) acts → MarksGoOnIn (parts plan commands scope acts)
+MarksGoOn = OfEachRun (λ plan commands scope acts. MarksGoOnIn (parts plan commands scope acts))
 
 -- the records after the acts `before` are still there, and come first, after the further acts `rest`
 abbrev pub RecordsStay : Type 0

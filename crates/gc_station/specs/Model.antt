@@ -1,7 +1,7 @@
 -- What a station is after the acts of its link, this project's own: the client's rule over what really happened, and how far
 -- the station is. Each act is the one that the station was to make next. An act is one call on the link, with its result. `until`
 -- says what a read waits for.
-use Rattle.std.specs.Prelude.{◌≡◌, ℕ, ◌+◌, ◌-◌, Bool, true, false, List, [], ◌∷◌, ◌++◌, length, drop, take, map, Option, Some, None, if◌then◌else◌, slice_get, min, ◌⊎◌}
+use Rattle.std.specs.Prelude.{◌≡◌, ℕ, ◌-◌, Bool, true, false, List, [], ◌∷◌, ◌++◌, length, drop, take, map, Option, Some, None, if◌then◌else◌, slice_get, min, ◌⊎◌}
 use Rattle.gc_lines.specs.Frames.{rest_behind}
 use Rattle.gc_lines.specs.Lines.{with_end}
 pub use Rattle.gc_lines.specs.Passing.{lines_completed}
@@ -39,7 +39,7 @@ use Rattle.gc_station.specs.Progressing.{at_start, turned, moment_noted, cycle_b
 use Rattle.gc_station.specs.Records.{Record}
 use Rattle.gc_station.specs.Requests.{Request, requests, of_task}
 use Rattle.gc_station.specs.Scopes.{Scope}
-use Rattle.gc_texts.specs.Endings.{Skipped, Missed}
+use Rattle.gc_texts.specs.Endings.{End, Skipped, Missed}
 
 -- the state of a station after the acts of a run so far
 pub record Model : Type 0 where
@@ -217,8 +217,12 @@ asks_setup plan commands s = asks_or_null plan (mark_setup commands s.progress) 
 abbrev pub with_client : ById Asked → Model → Model
 with_client client s = record s { client = client }
 
--- the record of the first of these commands, which isn't sent: as missed if the cycle is missed at the progress `p`, otherwise
--- as skipped. `m` is the moment read for that record, and the command has `mark`. No record if there is no command
+-- how the cycle's next command ends if it isn't sent: as missed if the cycle is missed at the progress `p`, otherwise as skipped
+abbrev pub end_unsent : Progress → End
+end_unsent p = if p.missed then Missed else Skipped
+
+-- the record of the first of these commands, which isn't sent (`end_unsent`). `m` is the moment read for that record, and the
+-- command has `mark`. No record if there is no command
 abbrev pub first_unsent_record : Progress → Moment → Mark → List Task → List Record
 first_unsent_record p m mark [] = []
 first_unsent_record p m mark (task ∷ others) =
@@ -229,7 +233,7 @@ first_unsent_record p m mark (task ∷ others) =
       place = mark.place;
       turn = mark.expected.turn;
       command = task.command;
-      end = if p.missed then Missed else Skipped;
+      end = end_unsent p;
     } ∷ []
 
 -- the record of the cycle's next command, which isn't sent, if the act read the clock; no record if the clock couldn't be read
@@ -240,7 +244,7 @@ unsent_record plan commands p _ = []
 -- whether a command of the current attempt has ended as its rule names, once the cycle's next command was recorded without being
 -- sent; `listed` says whether one had before
 abbrev pub listed_unsent : Plan → List Task → Progress → (listed : Bool) → Bool
-listed_unsent plan commands p listed = listed_after listed (mark_next plan commands p).expected None (if p.missed then Missed else Skipped)
+listed_unsent plan commands p listed = listed_after listed (mark_next plan commands p).expected None (end_unsent p)
 
 -- whether a command of the current attempt has ended as its rule names, after an act that records the cycle's next command
 -- without sending it: `listed_unsent`, or as before if the clock couldn't be read

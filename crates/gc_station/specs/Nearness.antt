@@ -2,7 +2,6 @@
 -- of a target with a known place was measured there, as far as its answer has a direction. An act is one call on the link, with
 -- its result.
 use Rattle.std.specs.Prelude.{◌≡◌, ◌⊎◌, ℕ, true, List, Some, slice_get}
-use Rattle.std.specs.List.{AllByRecursion}
 use Rattle.gc_catalogue.specs.declared.answer.Answer.{Answer}
 use Rattle.gc_catalogue.specs.declared.answer.Reading.{Reading}
 use Rattle.gc_catalogue.specs.declared.answer.Reading.TheVariants.{Value, Refused}
@@ -17,11 +16,8 @@ use Rattle.gc_texts.specs.declared.codes.Codes.{Codes}
 use Rattle.gc_texts.specs.declared.near.Near.{Near}
 use Rattle.gc_texts.specs.declared.quality.Quality.{Quality}
 use Rattle.gc_texts.specs.declared.tasks.Task.{Task}
-use Rattle.gc_links.specs.Acts.{Act}
 use Rattle.gc_station.specs.Records.{Record}
-use Rattle.gc_station.specs.Runs.{state_after}
-use Rattle.gc_station.specs.Scopes.{Scope}
-use Rattle.gc_station.specs.declared.plan.Plan.{Plan}
+use Rattle.gc_station.specs.Runs.{OfAnyRecord}
 
 -- if the record `r` is answered, its answer has a direction, and the text says where its command's target is, that direction is
 -- near that place, within its tolerance
@@ -37,13 +33,16 @@ HasAnswer reads accepted call line answer =
     (reads call line ≡ Value answer)
     ⊎ ((code : ℕ) × (reads call line ≡ Refused code) × (lists_code accepted code ≡ true) × (reads call (as_zero line) ≡ Value answer))
 
--- `line` says an answer of `call` (`HasAnswer`), the text says where the target of `task` is, and the answer's direction isn't
--- near that place
-abbrev pub WasMeasuredElsewhere : (Asked → List ℕ → Reading) → Task → Asked → (line : List ℕ) → Type 0
-WasMeasuredElsewhere reads task call line =
-    (answer : Answer) × (near : Near) × (d : Direction)
-    × HasAnswer reads task.accepted call line answer × (task.near ≡ Some near) × (direction_of answer ≡ Some d)
-    × (IsNear d near.place near.tolerance → ⊥)
+-- `line` says an answer of `call` (`HasAnswer`), the text says where the target of `task` is (`known`), and the answer has a
+-- direction (`toward`) that isn't near that place (`away`)
+pub record WasMeasuredElsewhere (reads : Asked → List ℕ → Reading) (task : Task) (call : Asked) (line : List ℕ) : Type 0 where
+  pub answer : Answer
+  pub near : Near
+  pub direction : Direction
+  pub says : HasAnswer reads task.accepted call line answer
+  pub known : task.near ≡ Some near
+  pub toward : direction_of answer ≡ Some direction
+  pub away : IsNear direction near.place near.tolerance → ⊥
 
 -- if the record `r` ended as elsewhere, its answer was measured elsewhere than the target of its command is
 abbrev pub ElsewhereIsJustified : (Asked → List ℕ → Reading) → List Task → Record → Type 0
@@ -53,6 +52,4 @@ ElsewhereIsJustified reads commands r =
 
 -- after any acts, `IsAtItsTarget` and `ElsewhereIsJustified` hold of each record
 abbrev pub AnswersAreAtTheirTargets : Type 0
-AnswersAreAtTheirTargets =
-    (plan : Plan) (commands : List Task) (scope : Scope) (acts : List Act)
-    → AllByRecursion (λ r. IsAtItsTarget commands r × ElsewhereIsJustified scope.reads commands r) (state_after plan commands scope acts).records
+AnswersAreAtTheirTargets = OfAnyRecord (λ commands scope r. IsAtItsTarget commands r × ElsewhereIsJustified scope.reads commands r)

@@ -242,8 +242,8 @@ abbrev pub lines_synchronizing : Progress → List (List ℕ) → Progress
 lines_synchronizing p [] = p
 lines_synchronizing p (line ∷ others) = lines_synchronizing (line_synchronizing p line) others
 
--- whether the cycle counts as done early after a read. A read until the next cycle is due shows that it was, because only a
--- done cycle has such a read; after any other read it counts as before (`early`)
+-- whether the cycle counts as done early after a read: it does after one that waited until the next cycle is due, because only a
+-- done cycle has such a read; after any other read as before (`early`)
 abbrev pub early_after : Until → (early : Bool) → Bool
 early_after Due early = true
 early_after Limit early = early

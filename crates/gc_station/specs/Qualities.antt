@@ -1,7 +1,6 @@
 -- What the quality of an answer says of its line, this project's own: fine with both codes 0, a warning with a return code that
 -- the text accepts of that command, and else refused.
 use Rattle.std.specs.Prelude.{◌≡◌, ℕ, true, false, List, drop, Option, Some, None}
-use Rattle.std.specs.List.{AllByRecursion}
 use Rattle.gc_catalogue.specs.declared.answer.Answer.{Answer}
 use Rattle.gc_catalogue.specs.declared.answer.Reading.{Reading}
 use Rattle.gc_catalogue.specs.declared.answer.Reading.TheVariants as reading
@@ -14,12 +13,9 @@ use Rattle.gc_texts.specs.declared.codes.Codes.{Codes}
 use Rattle.gc_texts.specs.declared.quality.Quality.{Quality}
 use Rattle.gc_texts.specs.declared.quality.Quality.TheVariants.{Fine, Warning, Refused}
 use Rattle.gc_texts.specs.declared.tasks.Task.{Task}
-use Rattle.gc_links.specs.Acts.{Act}
 use Rattle.gc_station.specs.NextCommand.{expected_first}
 use Rattle.gc_station.specs.Records.{Record}
-use Rattle.gc_station.specs.Runs.{state_after}
-use Rattle.gc_station.specs.Scopes.{Scope}
-use Rattle.gc_station.specs.declared.plan.Plan.{Plan}
+use Rattle.gc_station.specs.Runs.{OfAnyRecord}
 
 -- the answer that a reading has; `None` if it is a refusal, a fault of communication or unreadable
 abbrev pub answer_in : Reading → Option Answer
@@ -69,8 +65,7 @@ IsAsListed reads commands r =
 
 -- after any acts `IsAsListed` holds of each record
 abbrev pub QualitiesAreAsListed : Type 0
-QualitiesAreAsListed =
-    (plan : Plan) (commands : List Task) (scope : Scope) (acts : List Act) → AllByRecursion (λ r. IsAsListed scope.reads commands r) (state_after plan commands scope acts).records
+QualitiesAreAsListed = OfAnyRecord (λ commands scope r. IsAsListed scope.reads commands r)
 
 -- if no code is accepted, the line of an answer of a good quality has both codes 0, and values that read
 abbrev pub GoodIsAnAnswer : Type 0

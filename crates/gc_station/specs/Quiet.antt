@@ -1,11 +1,12 @@
 -- Which acts are requests, stay on a connection, or are quiet: this project's own, in terms of the acts alone. An act is one
 -- call on the link, with its result.
-use Rattle.std.specs.Prelude.{◌≡◌, ◌≢◌, ℕ, ◌-◌, ◌≤◌, List, [], ◌∷◌, ◌++◌}
+use Rattle.std.specs.Prelude.{◌≡◌, ◌≢◌, ℕ, ◌-◌, ◌≤◌, List, [], ◌∷◌, ◌++◌, IsSome, IsSomeAnd}
 use Rattle.std.specs.List.{AllByRecursion}
 use Rattle.gc_links.specs.declared.link.Moment.{Moment}
 use Rattle.gc_station.specs.declared.progress.Action.{Action}
 use Rattle.gc_station.specs.declared.progress.Action.TheVariants.{Prepare, Send, Flush}
-use Rattle.gc_links.specs.Acts.{Act, Told, Put, Cut, Gave, Silent, Closed, Opened, Unopened}
+use Rattle.gc_links.specs.Acts.{Act, Put, Cut, Silent, Closed, Opened, Unopened}
+use Rattle.gc_station.specs.ActKinds.{moment_in}
 
 -- the act sends a request, whole or in part: bytes that aren't the lone line feed
 abbrev pub IsRequest : Act → Type 0
@@ -22,18 +23,12 @@ IsAsking _ = ⊥
 
 -- the act reads the moment `elapsed`, alone or together with bytes or silence
 abbrev pub TellsMoment : ℕ → Act → Type 0
-TellsMoment elapsed (Told m) = m.elapsed ≡ elapsed
-TellsMoment elapsed (Gave bytes m) = m.elapsed ≡ elapsed
-TellsMoment elapsed (Silent m) = m.elapsed ≡ elapsed
-TellsMoment elapsed _ = ⊥
+TellsMoment elapsed act = IsSomeAnd (moment_in act) (λ m. m.elapsed ≡ elapsed)
 
 -- the act reads the clock, or is a read that gave bytes or nothing. So it reads a moment, sends nothing, and leaves the
 -- connection as it is
 abbrev pub IsListening : Act → Type 0
-IsListening (Told m) = Unit {0}
-IsListening (Gave bytes m) = Unit {0}
-IsListening (Silent m) = Unit {0}
-IsListening _ = ⊥
+IsListening act = IsSome (moment_in act)
 
 -- the act is a read that gave nothing
 abbrev pub IsSilent : Act → Type 0

@@ -1,4 +1,5 @@
--- Reasons, this project's own: what has to hold if an act is the next one.
+-- Reasons, this project's own: what has to hold if an act is the next one. It is said apart from the tests of `Deciding`, some of
+-- which decide the same, so that the laws check these.
 use Rattle.std.specs.Prelude.{◌≡◌, ℕ, ◌<◌, ◌≤◌, ◌⊎◌, true, false}
 use Rattle.gc_client.specs.declared.window.TheConstants.{WINDOW}
 use Rattle.gc_station.specs.declared.plan.Plan.{Plan}

@@ -1,46 +1,28 @@
 -- Chains that are sent again, this project's own: a further attempt of a chain is sent only if a command of the attempt before
 -- ended as its rule names, and it is left out only if none did, or its cycle is missed. An act is one call on the link, with its
 -- result.
-use Rattle.std.specs.Prelude.{◌≡◌, ◌⊎◌, ℕ, ◌<◌, Bool, true, false, nat_eq, List, ◌∷◌, ◌++◌, drop, Option, None}
+use Rattle.std.specs.Prelude.{◌≡◌, ◌⊎◌, ℕ, ◌<◌, Bool, true, if◌then◌else◌, nat_eq, List, ◌∷◌, ◌++◌, drop, Option, None}
 use Rattle.std.specs.List.{AllByRecursion}
 use Rattle.gc_catalogue.specs.declared.answer.Reading.{Reading}
 use Rattle.gc_catalogue.specs.declared.asked.Asked.{Asked}
-use Rattle.gc_texts.specs.Again.{repeats_after, no_again}
+use Rattle.gc_texts.specs.Again.{repeats_after}
 use Rattle.gc_texts.specs.Endings.{End, Answered}
-use Rattle.gc_texts.specs.declared.again.Again.{Again}
+use Rattle.gc_texts.specs.declared.near.Expected.{Expected}
 use Rattle.gc_texts.specs.declared.tasks.Task.{Task}
-use Rattle.gc_texts.specs.declared.turn.Turn.{Turn}
-use Rattle.gc_links.specs.Acts.{Act}
 use Rattle.gc_station.specs.Attempts.{code_in}
 use Rattle.gc_station.specs.Marks.{commands_in}
-use Rattle.gc_station.specs.Model.{Model, Runs, opening, action_at}
-use Rattle.gc_station.specs.NextCommand.{place_next, expected_first, turn_of_setup, is_chained, others_in}
+use Rattle.gc_station.specs.Model.{Model}
+use Rattle.gc_station.specs.NextCommand.{place_next, expected_first, in_attempt, is_chained, others_in}
 use Rattle.gc_station.specs.Records.{Record}
-use Rattle.gc_station.specs.Runs.{state_after}
-use Rattle.gc_station.specs.Scopes.{Scope}
+use Rattle.gc_station.specs.Runs.{state_after, WhereNext, OfAnyRecord}
 use Rattle.gc_station.specs.declared.plan.Plan.{Plan}
 use Rattle.gc_station.specs.declared.progress.Action.TheVariants.{Send, Pass}
 
--- the endings after which a chain is sent again, if the text says `again` of a command of it; none for a command of the setup
--- (`of_setup`), since it is of no chain
-abbrev pub rule_as : (of_setup : Bool) → Again → Again
-rule_as true again = no_again
-rule_as false again = again
-
--- the endings of the command at this cycle and place after which its chain is sent again. Cycle 0 is the setup
-abbrev pub rule_at : List Task → (cycle place : ℕ) → Again
-rule_at commands cycle place = rule_as (nat_eq cycle 0) (expected_first (drop place commands)).again
-
--- the turn of a command of which the text says `turn`. For a command of the setup (`of_setup`) it is `turn_of_setup`, with the
--- attempt `attempt` of the setup
-abbrev pub turn_as : (of_setup : Bool) (attempt : ℕ) → Turn → Turn
-turn_as true attempt turn = turn_of_setup attempt turn
-turn_as false attempt turn = turn
-
--- the turn of the command at this cycle and place. For a command of the setup, which has cycle 0, `attempt` is the attempt of
--- the setup
-abbrev pub turn_at : List Task → (cycle attempt place : ℕ) → Turn
-turn_at commands cycle attempt place = turn_as (nat_eq cycle 0) attempt (expected_first (drop place commands)).turn
+-- what is expected of the answer of the command at this cycle and place, and its turn: what the text says; for a command of the
+-- setup, which has cycle 0, as it is in the attempt `attempt` of the setup (`in_attempt`)
+abbrev pub expected_of : List Task → (cycle attempt place : ℕ) → Expected
+expected_of commands cycle attempt place =
+    if nat_eq cycle 0 then in_attempt attempt (expected_first (drop place commands)) else expected_first (drop place commands)
 
 -- the return code other than 0 of the reply to `call`, if the command ended as answered and the reply has one, with
 -- communication code 0. `reads` gives what a line says of a call
@@ -50,7 +32,8 @@ code_of_end reads call _ = None
 
 -- whether the record `r` is of a command that ended as the rule of its chain names
 abbrev pub is_listed : (Asked → List ℕ → Reading) → List Task → Record → Bool
-is_listed reads commands r = repeats_after (rule_at commands r.cycle r.place) (code_of_end reads r.command.call r.end) r.end
+is_listed reads commands r =
+    repeats_after (expected_of commands r.cycle r.turn.attempt r.place).again (code_of_end reads r.command.call r.end) r.end
 
 -- no attempt begins with one of these records
 abbrev pub BeginNoAttempt : List Record → Type 0
@@ -82,22 +65,19 @@ MayLeaveOut reads commands s =
 pub record FurtherAttemptsHaveACause : Type 0 where
   -- if a further attempt is begun, all commands that were sent are settled, and one of the attempt before ended as its rule
   -- names
-  pub goes : (plan : Plan) (commands : List Task) (scope : Scope) (acts : List Act) → Runs plan commands (opening plan scope) acts
-      → let s = state_after plan commands scope acts in action_at plan s ≡ Send → IsFurtherAttempt plan commands s
-      → (commands_in s.marks ≡ 0) × HasListed scope.reads commands s.records
+  pub goes : WhereNext Send (λ plan commands scope acts.
+      let s = state_after plan commands scope acts in
+      IsFurtherAttempt plan commands s → (commands_in s.marks ≡ 0) × HasListed scope.reads commands s.records)
   -- only further attempts are left out, once all commands that were sent are settled, and only for a reason (`MayLeaveOut`)
-  pub passes : (plan : Plan) (commands : List Task) (scope : Scope) (acts : List Act) → Runs plan commands (opening plan scope) acts
-      → action_at plan (state_after plan commands scope acts) ≡ Pass
-      → let s = state_after plan commands scope acts in
-      IsFurtherAttempt plan commands s × (commands_in s.marks ≡ 0) × MayLeaveOut scope.reads commands s
+  pub passes : WhereNext Pass (λ plan commands scope acts.
+      let s = state_after plan commands scope acts in
+      IsFurtherAttempt plan commands s × (commands_in s.marks ≡ 0) × MayLeaveOut scope.reads commands s)
 
--- the record `r` has the turn of the command at its cycle and place (`turn_at`); if it is of the setup nothing is said of the
+-- the record `r` has the turn of the command at its cycle and place (`expected_of`); if it is of the setup nothing is said of the
 -- attempt in it
 abbrev pub HasItsTurn : List Task → Record → Type 0
-HasItsTurn commands r = r.turn ≡ turn_at commands r.cycle r.turn.attempt r.place
+HasItsTurn commands r = r.turn ≡ (expected_of commands r.cycle r.turn.attempt r.place).turn
 
 -- after any acts, `HasItsTurn` holds of each record
 abbrev pub EachRecordHasItsTurn : Type 0
-EachRecordHasItsTurn =
-    (plan : Plan) (commands : List Task) (scope : Scope) (acts : List Act)
-    → AllByRecursion (HasItsTurn commands) (state_after plan commands scope acts).records
+EachRecordHasItsTurn = OfAnyRecord (λ commands scope r. HasItsTurn commands r)

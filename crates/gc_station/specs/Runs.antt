@@ -2,6 +2,7 @@
 -- record. An act is one call on the link, with its result. The book is what takes the texts of the records; `text` gives the text
 -- of a record.
 use Rattle.std.specs.Prelude.{◌≡◌, ◌⊎◌, ℕ, Bool, true, List, [], ◌∷◌, ◌++◌, Option, Some, None, Result, Ok, Err}
+use Rattle.std.specs.List.{AllByRecursion}
 use Rattle.std.specs.Io.KnownBytes.{Appends}
 use Rattle.gc_texts.specs.declared.tasks.Task.{Task}
 use Rattle.gc_texts.specs.declared.fault.RunFault.{RunFault}
@@ -9,6 +10,7 @@ use Rattle.gc_texts.specs.declared.fault.RunFault.TheVariants.{Output}
 use Rattle.gc_station.specs.Causes.{fault_of}
 use Rattle.gc_station.specs.declared.plan.Plan.{Plan}
 use Rattle.gc_station.specs.declared.cause.Cause.{Cause}
+use Rattle.gc_station.specs.declared.progress.Action.{Action}
 use Rattle.gc_station.specs.declared.progress.Action.TheVariants.{Stop}
 use Rattle.gc_station.specs.declared.tally.Tally.{Tally}
 use Rattle.gc_links.specs.Acts.{Act, Closed, Tells}
@@ -20,6 +22,29 @@ use Rattle.gc_station.specs.Scopes.{Scope, scoped, ForEachReadings, ForReadings}
 -- the model of a station after `acts`, which begin a run
 abbrev pub state_after : Plan → List Task → Scope → List Act → Model
 state_after plan commands scope acts = after_all plan commands (opening plan scope) acts
+
+-- `Holds` is true of the acts of each run, whatever its plan, commands and scope are
+abbrev pub OfEachRun : (Plan → List Task → Scope → List Act → Type 0) → Type 0
+OfEachRun Holds = (plan : Plan) (commands : List Task) (scope : Scope) (acts : List Act) → Runs plan commands (opening plan scope) acts → Holds plan commands scope acts
+
+-- `Holds` is true of the acts of each run after which `action` is next
+abbrev pub WhereNext : Action → (Plan → List Task → Scope → List Act → Type 0) → Type 0
+WhereNext action Holds = OfEachRun (λ plan commands scope acts. action_at plan (state_after plan commands scope acts) ≡ action → Holds plan commands scope acts)
+
+-- `Holds` is true of each act of each run, with the acts before it
+abbrev pub OfEachAct : (Plan → List Task → Scope → (earlier : List Act) → Act → Type 0) → Type 0
+OfEachAct Holds =
+    (plan : Plan) (commands : List Task) (scope : Scope) (earlier later : List Act) (act : Act)
+    → Runs plan commands (opening plan scope) (earlier ++ act ∷ later) → Holds plan commands scope earlier act
+
+-- after each run `Holds` is true of each record, with the acts of the run
+abbrev pub OfEachRecord : (Plan → List Task → Scope → List Act → Record → Type 0) → Type 0
+OfEachRecord Holds = OfEachRun (λ plan commands scope acts. AllByRecursion (Holds plan commands scope acts) (state_after plan commands scope acts).records)
+
+-- after any acts, of a run or not, `Holds` is true of each record
+abbrev pub OfAnyRecord : (List Task → Scope → Record → Type 0) → Type 0
+OfAnyRecord Holds =
+    (plan : Plan) (commands : List Task) (scope : Scope) (acts : List Act) → AllByRecursion (Holds commands scope) (state_after plan commands scope acts).records
 
 -- a run of `scope`. From `told` to `told'` its link recorded acts, and from `taken` to `taken'` its book took the texts of
 -- records

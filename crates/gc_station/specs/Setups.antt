@@ -11,11 +11,11 @@ use Rattle.gc_station.specs.declared.progress.Action.{Action}
 use Rattle.gc_station.specs.declared.progress.Action.TheVariants.{Prepare, Send, Stop}
 use Rattle.gc_station.specs.Deciding.{has_begun, later}
 use Rattle.gc_station.specs.Marks.{is_well}
-use Rattle.gc_station.specs.Model.{Model, opening, action_at, after, Runs}
+use Rattle.gc_station.specs.Model.{Model, opening, action_at, after}
 use Rattle.gc_station.specs.NextCommand.{mark_setup}
 use Rattle.gc_station.specs.Quiet.{KeepsOpen}
 use Rattle.gc_station.specs.Records.{Record}
-use Rattle.gc_station.specs.Runs.{state_after}
+use Rattle.gc_station.specs.Runs.{state_after, OfEachRun, WhereNext}
 use Rattle.gc_station.specs.Scopes.{Scope}
 
 -- Which commands of the setup were sent.
@@ -134,13 +134,11 @@ ArePrepared plan commands scope acts n = (place : ℕ) → place < n → IsPrepa
 -- a command of a cycle is sent only once each command of the setup was answered well, on its connection, and after its
 -- synchronization
 abbrev pub NoneBeforeTheSetUp : Type 0
-NoneBeforeTheSetUp =
-    (plan : Plan) (commands : List Task) (scope : Scope) (acts : List Act) → Runs plan commands (opening plan scope) acts
-    → action_at plan (state_after plan commands scope acts) ≡ Send → ArePrepared plan commands scope acts plan.setup
+NoneBeforeTheSetUp = WhereNext Send (λ plan commands scope acts. ArePrepared plan commands scope acts plan.setup)
 
 -- a command of the setup is sent only once each one before it was answered well, on its connection, and after its
 -- synchronization, if the list has at least `plan.setup` commands
 abbrev pub SetUpInOrder : Type 0
-SetUpInOrder =
-    (plan : Plan) (commands : List Task) (scope : Scope) (acts : List Act) → Runs plan commands (opening plan scope) acts → plan.setup ≤ length commands
-    → action_at plan (state_after plan commands scope acts) ≡ Prepare → ArePrepared plan commands scope acts (state_after plan commands scope acts).progress.prepared
+SetUpInOrder = OfEachRun (λ plan commands scope acts.
+    let s = state_after plan commands scope acts in
+    plan.setup ≤ length commands → action_at plan s ≡ Prepare → ArePrepared plan commands scope acts s.progress.prepared)

@@ -2,9 +2,11 @@
 -- its result.
 use Rattle.std.specs.Prelude.{◌≡◌, ◌⊎◌, ℕ, ◌-◌, ◌<◌, ◌≤◌, false, List, [], ◌∷◌, ◌++◌}
 use Rattle.std.specs.List.{AllByRecursion}
+use Rattle.std.specs.Option.{option_map_or}
 use Rattle.gc_texts.specs.declared.tasks.Task.{Task}
 use Rattle.gc_station.specs.declared.plan.Plan.{Plan}
-use Rattle.gc_links.specs.Acts.{Act, Told, Put, Gave, Silent}
+use Rattle.gc_links.specs.Acts.{Act, Put, Gave}
+use Rattle.gc_station.specs.ActKinds.{moment_in}
 use Rattle.gc_station.specs.Quiet.{TellsMoment, IsListening, StaysConnected}
 use Rattle.gc_station.specs.Runs.{state_after}
 use Rattle.gc_station.specs.Model.{Model, is_reply, lines_completed, after}
@@ -13,10 +15,7 @@ use Rattle.gc_station.specs.Scopes.{Scope}
 -- the moment that these acts read last; `now` if they read none
 abbrev pub latest : (now : ℕ) → List Act → ℕ
 latest now [] = now
-latest now (Told m ∷ acts) = latest m.elapsed acts
-latest now (Gave bytes m ∷ acts) = latest m.elapsed acts
-latest now (Silent m ∷ acts) = latest m.elapsed acts
-latest now (act ∷ acts) = latest now acts
+latest now (act ∷ acts) = latest (option_map_or (λ m. m.elapsed) (moment_in act) now) acts
 
 -- `line` doesn't read as a reply
 abbrev pub IsNoReply : List ℕ → Type 0

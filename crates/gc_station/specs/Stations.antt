@@ -10,7 +10,6 @@ use Rattle.gc_lines.specs.declared.frame.Lent.{Lent}
 use Rattle.gc_client.specs.declared.window.TheConstants.{WINDOW}
 use Rattle.gc_client.specs.Rule.{expires}
 use Rattle.gc_texts.specs.declared.tasks.Task.{Task}
-use Rattle.gc_texts.specs.declared.wish.Wish.{Wish}
 use Rattle.gc_station.specs.declared.plan.Plan.{Plan}
 use Rattle.gc_station.specs.declared.cause.Cause.TheVariants as cause
 use Rattle.gc_station.specs.declared.progress.Action.{Action}
@@ -42,6 +41,10 @@ waiting_in station = waiting_by station.client.ids station.marks.items station.r
 -- a station has one mark for each outstanding request
 abbrev pub IsPaired : Station → Type 0
 IsPaired station = length station.marks.items ≡ length station.client.ids.waiting
+
+-- a station can send a request: its window is the widest and has room, and each outstanding request has a mark
+abbrev pub CanSend : Station → Type 0
+CanSend station = (station.client.width ≡ WINDOW) × (length station.client.ids.waiting < WINDOW) × IsPaired station
 
 -- the model `s` describes `station`. The station's tally and what it notes of its last records are as `s` gives them, if
 -- `s.reads` gives each reply's reading for its call
@@ -171,11 +174,19 @@ Becomes next text taken taken' old new result =
 abbrev pub frame_came : (begun : Bool) → Lent → Model → Model
 frame_came begun frame s = lines_taken begun (option_to_list (line_in (lent_seen frame))) s
 
--- the station once it sent the request for `command` with `mark`, which waits for `wait` milliseconds
-abbrev pub station_asking : Wish → (wait : ℕ) → Option Mark → Station → Station
-station_asking command wait mark station = record station {
-  client = record station.client { ids = sent_to station.client.width station.client.ids command station.progress.moment.elapsed wait };
-  marks = record { items = station.marks.items ++ mark ∷ [] };
+-- the request for the command of `task`, with `mark`
+abbrev pub request_for : Mark → Task → Outgoing
+request_for mark task = record { command = command_at mark.sent task; wait = task.deadline; mark = Some mark }
+
+-- the request for a null procedure of the station's own: it is for no target, and waits for the plan's deadline
+abbrev pub null_request : Plan → Outgoing
+null_request plan = record { command = record { target = 0; call = Table NullProc }; wait = plan.deadline; mark = None }
+
+-- the station once it sent the request `asking`
+abbrev pub station_asking : Outgoing → Station → Station
+station_asking asking station = record station {
+  client = record station.client { ids = sent_to station.client.width station.client.ids asking.command station.progress.moment.elapsed asking.wait };
+  marks = record { items = station.marks.items ++ asking.mark ∷ [] };
 }
 
 -- the station at the moment `now`: requests whose deadline has come have timed out, and `fresh` is `now` at the latest
@@ -220,8 +231,8 @@ DropsSettledMarks old new = new ≡ record old {
 -- what `next_setup` of a station returns: the request for the first of these commands of the setup, with `mark`; if there is no
 -- command, the request for a null procedure
 abbrev pub setup_asked : Plan → Mark → List Task → Outgoing
-setup_asked plan mark [] = record { command = record { target = 0; call = Table NullProc }; wait = plan.deadline; mark = None }
-setup_asked plan mark (task ∷ others) = record { command = command_at mark.sent task; wait = task.deadline; mark = Some mark }
+setup_asked plan mark [] = null_request plan
+setup_asked plan mark (task ∷ others) = request_for mark task
 
 -- the claim, for an action that makes a call of the link; nothing for `Stop`, which makes none
 abbrev pub OnCall : Action → Type 0 → Type 0

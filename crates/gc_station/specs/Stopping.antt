@@ -2,38 +2,35 @@
 -- result.
 use Rattle.std.specs.Prelude.{◌≡◌, ◌⊎◌, ℕ, ◌-◌, ◌<◌, ◌≤◌, ◌||◌, min, Bool, true, false, List, [], ◌∷◌, ◌++◌}
 use Rattle.std.specs.List.{AllByRecursion}
+use Rattle.std.specs.Option.{option_map_or}
 use Rattle.gc_texts.specs.declared.tasks.Task.{Task}
-use Rattle.gc_links.specs.Acts.{Act, Told, Gave, Silent, Closed}
+use Rattle.gc_links.specs.Acts.{Act, Gave, Closed}
 use Rattle.gc_links.specs.declared.link.Moment.{Moment}
 use Rattle.gc_station.specs.declared.cause.Cause.{Cause}
 use Rattle.gc_station.specs.declared.cause.Cause.TheVariants.{Stale, Stopped}
 use Rattle.gc_station.specs.declared.plan.Plan.{Plan}
 use Rattle.gc_station.specs.declared.progress.Action.TheVariants.{Begin, Send, Close, Stop, Prepare}
+use Rattle.gc_station.specs.ActKinds.{moment_in}
+use Rattle.gc_station.specs.Answers.{IsWrittenAt}
 use Rattle.gc_station.specs.Deciding.{is_stale, may_go}
 use Rattle.gc_station.specs.Marks.{is_well}
 use Rattle.gc_station.specs.Model.{Model, opening, action_at, waiting_of, Runs}
 use Rattle.gc_station.specs.Quiet.{IsListening}
 use Rattle.gc_station.specs.Reasons.{IsResting}
 use Rattle.gc_station.specs.Records.{Record}
-use Rattle.gc_station.specs.Runs.{state_after}
+use Rattle.gc_station.specs.Runs.{state_after, OfEachRun, WhereNext}
 use Rattle.gc_station.specs.Scopes.{Scope}
 
 -- the least of `n` and the moments that these acts read, by the clock for deadlines. If that clock doesn't go back, and `n` was
 -- read before them, it is `n`
 abbrev pub least_moment : (n : ℕ) → List Act → ℕ
 least_moment n [] = n
-least_moment n (Told m ∷ acts) = least_moment (min n m.elapsed) acts
-least_moment n (Gave bytes m ∷ acts) = least_moment (min n m.elapsed) acts
-least_moment n (Silent m ∷ acts) = least_moment (min n m.elapsed) acts
-least_moment n (act ∷ acts) = least_moment n acts
+least_moment n (act ∷ acts) = least_moment (option_map_or (λ m. min n m.elapsed) (moment_in act) n) acts
 
 -- whether the end of the run was asked for by one of the moments that these acts read, or before (`asked`)
 abbrev pub asked_after : (asked : Bool) → List Act → Bool
 asked_after asked [] = asked
-asked_after asked (Told m ∷ acts) = asked_after (asked || m.stops) acts
-asked_after asked (Gave bytes m ∷ acts) = asked_after (asked || m.stops) acts
-asked_after asked (Silent m ∷ acts) = asked_after (asked || m.stops) acts
-asked_after asked (act ∷ acts) = asked_after asked acts
+asked_after asked (act ∷ acts) = asked_after (option_map_or (λ m. asked || m.stops) (moment_in act) asked) acts
 
 -- the record `r` is of a command that wasn't answered well
 abbrev pub IsNotWell : Record → Type 0
@@ -46,10 +43,8 @@ pub record EndsWell (plan : Plan) (commands : List Task) (scope : Scope) (acts :
   pub moment : Moment
   pub order : acts ≡ earlier ++ Gave piece moment ∷ []
   pub at : now ≡ moment.elapsed
-  pub front : List Record
   pub answer : Record
-  pub later : List Record
-  pub written : (state_after plan commands scope acts).records ≡ (state_after plan commands scope earlier).records ++ (front ++ answer ∷ later)
+  pub written : IsWrittenAt plan commands scope earlier (Gave piece moment) answer
   pub well : is_well answer.end ≡ true
 
 -- `behind` are the acts after the last one of `acts` that recorded a command that was answered well, or all acts if none did.
@@ -76,16 +71,12 @@ pub record IsStaleAt (plan : Plan) (commands : List Task) (scope : Scope) (acts 
 
 -- a close for the cause `Stale` is next, whether there is a connection or not, only where the run is stale (`IsStaleAt`)
 abbrev pub ClosesStale : Type 0
-ClosesStale =
-    (plan : Plan) (commands : List Task) (scope : Scope) (acts : List Act) → Runs plan commands (opening plan scope) acts
-    → action_at plan (state_after plan commands scope acts) ≡ Close Stale → IsStaleAt plan commands scope acts
+ClosesStale = WhereNext (Close Stale) IsStaleAt
 
 -- if a run stops for this cause, its last act is the close that was next for that cause
 abbrev pub StopsAtItsClose : Cause → Type 0
-StopsAtItsClose why =
-    (plan : Plan) (commands : List Task) (scope : Scope) (acts : List Act) → Runs plan commands (opening plan scope) acts
-    → action_at plan (state_after plan commands scope acts) ≡ Stop why
-    → (earlier : List Act) × (acts ≡ earlier ++ Closed ∷ []) × (action_at plan (state_after plan commands scope earlier) ≡ Close why)
+StopsAtItsClose why = WhereNext (Stop why) (λ plan commands scope acts.
+    (earlier : List Act) × (acts ≡ earlier ++ Closed ∷ []) × (action_at plan (state_after plan commands scope earlier) ≡ Close why))
 
 -- if a run is stale after an act that read a moment (`telling`), and has turns left, it ends: no act comes after that one, or
 -- only a close
@@ -99,10 +90,10 @@ EndsOnceStale =
 -- once a moment was read at which the end of the run was asked for, no cycle begins, no command of the setup is sent, and each
 -- command that is sent goes on with a chain that has begun
 abbrev pub GoesOnInItsChain : Type 0
-GoesOnInItsChain =
-    (plan : Plan) (commands : List Task) (scope : Scope) (acts : List Act) → Runs plan commands (opening plan scope) acts → asked_after false acts ≡ true
-    → let s = state_after plan commands scope acts in
-    (action_at plan s ≡ Send → s.progress.next_is_chained ≡ true) × (action_at plan s ≡ Begin → ⊥) × (action_at plan s ≡ Prepare → ⊥)
+GoesOnInItsChain = OfEachRun (λ plan commands scope acts.
+    let s = state_after plan commands scope acts in
+    asked_after false acts ≡ true
+    → (action_at plan s ≡ Send → s.progress.next_is_chained ≡ true) × (action_at plan s ≡ Begin → ⊥) × (action_at plan s ≡ Prepare → ⊥))
 
 -- after `acts`, which led to the model `s`, a run may stop because its end was asked for: that was asked for at a moment that was
 -- read; there is no connection, or the station synchronizes, or it is between two chains, or two attempts of one, and nothing is
@@ -114,6 +105,4 @@ MayStopAfter acts s =
 
 -- a close for the cause `Stopped` is next, whether there is a connection or not, only where the run may stop (`MayStopAfter`)
 abbrev pub ClosesBetweenChains : Type 0
-ClosesBetweenChains =
-    (plan : Plan) (commands : List Task) (scope : Scope) (acts : List Act) → Runs plan commands (opening plan scope) acts
-    → let s = state_after plan commands scope acts in action_at plan s ≡ Close Stopped → MayStopAfter acts s
+ClosesBetweenChains = WhereNext (Close Stopped) (λ plan commands scope acts. MayStopAfter acts (state_after plan commands scope acts))

@@ -1,15 +1,11 @@
 -- Which command of the text a record is of, and what its request asked: this project's own. A command that sets the clock asks
 -- for the moment at which its request is sent. An act is one call on the link, with its result.
 use Rattle.std.specs.Prelude.{◌≡◌, List, Some, is_some, slice_get}
-use Rattle.std.specs.List.{AllByRecursion}
 use Rattle.gc_texts.specs.declared.tasks.Task.{Task}
-use Rattle.gc_links.specs.Acts.{Act}
 use Rattle.gc_station.specs.Parts.{went_out}
 use Rattle.gc_station.specs.Records.{Record}
 use Rattle.gc_station.specs.Requests.{command_sent}
-use Rattle.gc_station.specs.Runs.{state_after}
-use Rattle.gc_station.specs.Scopes.{Scope}
-use Rattle.gc_station.specs.declared.plan.Plan.{Plan}
+use Rattle.gc_station.specs.Runs.{OfAnyRecord}
 
 -- the record `r` is of `task`, the one at its place in the list `commands`. It has a moment of sending exactly if its request
 -- was sent, and its command is what the task asks at that moment: if the task sets the clock, that moment cut to seconds, and
@@ -22,5 +18,4 @@ pub record IsOfItsTask (commands : List Task) (r : Record) : Type 0 where
 
 -- after any acts `IsOfItsTask` holds of each record
 abbrev pub EachRecordIsOfItsTask : Type 0
-EachRecordIsOfItsTask =
-    (plan : Plan) (commands : List Task) (scope : Scope) (acts : List Act) → AllByRecursion (IsOfItsTask commands) (state_after plan commands scope acts).records
+EachRecordIsOfItsTask = OfAnyRecord (λ commands scope r. IsOfItsTask commands r)

@@ -6,14 +6,10 @@ use Rattle.gc_catalogue.specs.declared.asked.Asked.{Asked}
 use Rattle.gc_catalogue.specs.Asked.{IsAskedReading}
 use Rattle.gc_client.specs.Settlements.{ReadsBy}
 use Rattle.gc_client.specs.declared.settlement.Outcome.{Outcome}
-use Rattle.gc_client.specs.declared.settlement.Outcome.TheVariants.{Answered, Late, Lost}
+use Rattle.gc_client.specs.declared.settlement.Outcome.TheVariants.{Answered}
 use Rattle.gc_texts.specs.Zeroed.{as_zero}
 
 -- `zeroed` is what the line of a refused reply to `call` would say with return code 0; of any other outcome nothing is said
 abbrev pub IsZeroOf : Asked → Outcome → Reading → Type 0
 IsZeroOf call (Answered (reading.Refused code) line) zeroed = (r : ReplyFields) → IsReply line.items r → ReadsBy IsAskedReading call (as_zero line.items) zeroed
-IsZeroOf call (Answered (reading.Value answer) line) zeroed = Unit {0}
-IsZeroOf call (Answered (reading.ComFault code) line) zeroed = Unit {0}
-IsZeroOf call (Answered (reading.Unreadable fault) line) zeroed = Unit {0}
-IsZeroOf call Late zeroed = Unit {0}
-IsZeroOf call Lost zeroed = Unit {0}
+IsZeroOf call _ zeroed = Unit {0}

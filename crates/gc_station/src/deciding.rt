@@ -277,7 +277,7 @@ impl Progress {
             Action::Read(Until::Due)
         } else if self.prepared == 0 {
             self.action_next_of_setup(plan, waiting)
-        } else if waiting.commands == 0 {
+        } else if commands == 0 {
             if waiting.well {
                 self.action_next_of_setup(plan, waiting)
             } else {

@@ -6,7 +6,6 @@
 //! out at its deadline. A chain is a row of commands for one target, each sent only once the one before it was answered well.
 
 ghost use Rattle.std.specs.Prelude.{◌≡◌, List, [], ◌∷◌, ◌++◌};
-ghost use Rattle.std.specs.List.{AllByRecursion};
 ghost use Rattle.gc_lines.specs.Frames.{rest_of};
 ghost use Rattle.gc_texts.specs.declared.tasks.Task.{Task};
 ghost use Rattle.gc_station.specs.declared.cause.Cause.{Cause};
@@ -33,7 +32,7 @@ ghost use Rattle.gc_station.specs.Given.{bytes_heard};
 ghost use Rattle.gc_station.specs.Nearness.{AnswersAreAtTheirTargets};
 ghost use Rattle.gc_station.specs.Qualities.{QualitiesAreAsListed, GoodIsAnAnswer};
 ghost use Rattle.gc_station.specs.Quiet.{IsRequest};
-ghost use Rattle.gc_station.specs.Runs.{state_after};
+ghost use Rattle.gc_station.specs.Runs.{state_after, OfEachRun, WhereNext, OfEachAct, OfEachRecord};
 ghost use Rattle.gc_station.specs.Scopes.{Scope, OneReadingForALine, SomeReadings};
 ghost use Rattle.gc_station.specs.Setups.{EachSetUpOnce, SetUpsGoOn, NoneBeforeTheSetUp, SetUpInOrder};
 ghost use Rattle.gc_station.specs.Silences.{IsMuteFor};
@@ -91,8 +90,7 @@ pub fn some_function_says_what_each_reply_says()
 /// the null procedure with the first id that wasn't answered. When the station resynchronized, seven requests were outstanding, all
 /// timed out.
 pub fn each_act_is_due()
-    ensures { (plan : Plan) (commands : List Task) (scope : Scope) (earlier later : List Act) (act : Act)
-        → Runs plan commands (opening plan scope) (earlier ++ act ∷ later) → IsReasoned plan commands (state_after plan commands scope earlier) act }
+    ensures { OfEachAct (λ plan commands scope earlier act. IsReasoned plan commands (state_after plan commands scope earlier) act) }
 {}
 
 /// A connection is closed only for a cause: nothing was left to be done; or no command could be sent, and the line was dead; or
@@ -107,8 +105,7 @@ pub fn closes_for_a_cause()
 /// since then without a line that reads as a reply. After that time no request was sent, or one was sent at once, so that its
 /// reply had all that time; or the clock went back to that time.
 pub fn closes_a_dead_line_only_after_silence()
-    ensures { (plan : Plan) (commands : List Task) (scope : Scope) (acts : List Act) → Runs plan commands (opening plan scope) acts
-        → action_at plan (state_after plan commands scope acts) ≡ Close cause.Dead → IsMuteFor (dead_after plan) plan commands scope acts }
+    ensures { WhereNext (Close cause.Dead) (λ plan commands scope acts. IsMuteFor (dead_after plan) plan commands scope acts) }
 {}
 
 /// After a command of a cycle was sent, whatever acts follow, the next one of a cycle has a later place in the same cycle, or
@@ -124,8 +121,7 @@ pub fn each_send_goes_on()
 /// time, with the id of the request of that cycle and place, and gave an answer of a good quality. By `each_send_goes_on` only one
 /// request has that cycle and place. `each_command_once` says that each command's end is recorded.
 pub fn each_chain_is_kept()
-    ensures { (plan : Plan) (commands : List Task) (scope : Scope) (acts : List Act) → Runs plan commands (opening plan scope) acts
-        → action_at plan (state_after plan commands scope acts) ≡ Send → IsChained plan commands (state_after plan commands scope acts) → IsLinked plan commands scope acts }
+    ensures { WhereNext Send (λ plan commands scope acts. IsChained plan commands (state_after plan commands scope acts) → IsLinked plan commands scope acts) }
 {}
 
 /// Each record of a reply in time (answered, unreadable or elsewhere) has a line that arrived with the id of the record's own
@@ -133,16 +129,14 @@ pub fn each_chain_is_kept()
 /// and before a time at or past the request's deadline was read. The record was written at the act that brought the line. By
 /// `each_record_is_of_its_task` the record's target is that of its command.
 pub fn answers_come_in_time()
-    ensures { (plan : Plan) (commands : List Task) (scope : Scope) (acts : List Act)
-        → Runs plan commands (opening plan scope) acts → AllByRecursion (AnswerIsJustified plan commands scope acts) (state_after plan commands scope acts).records }
+    ensures { OfEachRecord AnswerIsJustified }
 {}
 
 /// Each late record is justified: its own request, of the same cycle and place, was sent; then a time at or past its deadline
 /// was read, at the latest with the piece that brought the line; then a line with the request's id arrived, by the act at which
 /// the record was written.
 pub fn late_ones_came_late()
-    ensures { (plan : Plan) (commands : List Task) (scope : Scope) (acts : List Act)
-        → Runs plan commands (opening plan scope) acts → AllByRecursion (LateIsJustified plan commands scope acts) (state_after plan commands scope acts).records }
+    ensures { OfEachRecord LateIsJustified }
 {}
 
 /// Each lost record has a cause: its own request, of the same cycle and place, was sent, and the act at which the record was
@@ -150,8 +144,7 @@ pub fn late_ones_came_late()
 /// requests were outstanding, all timed out, and the station resynchronizes there; or it is the last act of the run, which
 /// stops there.
 pub fn lost_ones_are_lost_for_a_cause()
-    ensures { (plan : Plan) (commands : List Task) (scope : Scope) (acts : List Act)
-        → Runs plan commands (opening plan scope) acts → AllByRecursion (LostIsJustified plan commands scope acts) (state_after plan commands scope acts).records }
+    ensures { OfEachRecord LostIsJustified }
 {}
 
 /// A run stops without a connection, and only for one of these causes. All turns are used up. Or the last act is a call that
@@ -160,8 +153,7 @@ pub fn lost_ones_are_lost_for_a_cause()
 /// turns, because the run was stale, or because its end was asked for; or because a further attempt would take a try, and none was
 /// left. By `each_command_once` and `each_command_of_the_set_up_once` all is settled then.
 pub fn stops_for_a_cause()
-    ensures { (plan : Plan) (commands : List Task) (scope : Scope) (acts : List Act) (why : Cause) → Runs plan commands (opening plan scope) acts
-        → action_at plan (state_after plan commands scope acts) ≡ Stop why → StopsForACause plan commands scope acts why }
+    ensures { (why : Cause) → WhereNext (Stop why) (λ plan commands scope acts. StopsForACause plan commands scope acts why) }
 {}
 
 /// If a run stops at a connection that ended or couldn't be made, its tries are used up, unless the cause is `Done`, `Clock`,
@@ -182,15 +174,13 @@ pub fn ends_for_turns_only_after_as_many_acts()
 /// a synchronization goes on with it, it was quiet, too: before anything else was sent on it, nothing arrived for the quiet
 /// time, by the clock.
 pub fn each_connection_is_cleared_and_quiet()
-    ensures { (plan : Plan) (commands : List Task) (scope : Scope) (earlier later : List Act) (act : Act)
-        → Runs plan commands (opening plan scope) (earlier ++ act ∷ later) → IsRequest act → IsClearedAndQuiet plan commands scope earlier }
+    ensures { OfEachAct (λ plan commands scope earlier act. IsRequest act → IsClearedAndQuiet plan commands scope earlier) }
 {}
 
 /// The bytes that a station stores of a line that hasn't ended are those that arrived on this connection while bytes were
 /// heard, after the last line feed, in whatever pieces they arrived.
 pub fn rest_is_what_came()
-    ensures { (plan : Plan) (commands : List Task) (scope : Scope) (acts : List Act) → Runs plan commands (opening plan scope) acts
-        → (state_after plan commands scope acts).rest ≡ rest_of (bytes_heard plan commands scope acts) }
+    ensures { OfEachRun (λ plan commands scope acts. (state_after plan commands scope acts).rest ≡ rest_of (bytes_heard plan commands scope acts)) }
 {}
 
 /// No command, and no null procedure after the synchronization, is sent before the last answer of a synchronization. From any

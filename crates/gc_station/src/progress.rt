@@ -74,7 +74,8 @@ pub(crate) enum Until {
     Due,
 }
 
-/// How many requests are outstanding, and what a station keeps of the records that it wrote, but for their tally (`Recorded`).
+/// How many requests are outstanding, and what a station keeps of the records that it wrote, but for their tally: `well`,
+/// `listed` and `fresh` are those of its `Recorded`.
 #[derive(Clone, Copy)]
 pub(crate) struct Waiting {
     /// All outstanding requests.
@@ -83,14 +84,8 @@ pub(crate) struct Waiting {
     pub current: usize,
     /// Those of `all` that are commands, of a cycle or of the setup. The others are null procedures.
     pub commands: usize,
-    /// Whether the command that was recorded last, of a cycle or of the setup, was answered well, as `is_well` says; `false`
-    /// before the first.
     pub well: bool,
-    /// Whether the command of a cycle that was recorded last, or one before it in the same attempt, ended in a way after which
-    /// the text sends its chain again; `false` before the first. A command of the setup leaves it as it is.
     pub listed: bool,
-    /// When a command that was answered well was recorded last, by the clock for deadlines; 0 if none was; an earlier moment if
-    /// the clock went back past it since.
     pub fresh: u64,
 }
 

@@ -2,15 +2,21 @@
 
 ghost use Rattle.std.specs.Prelude.{◌≡◌, false};
 ghost use Rattle.gc_station.specs.Tallies.{nothing_yet};
+ghost use Rattle.gc_station.specs.Writing.{noted};
+ghost use Rattle.gc_texts.specs.Endings.{ending_seen};
 
+use crate::mark::Mark;
 use crate::tally::Counts;
+use crate::writing::{is_listed_after, is_well};
+use gc_texts::Ending;
 
 /// What a station keeps of the records that it wrote so far.
 #[derive(Drop)]
 pub(crate) struct Recorded {
     // How the commands of cycles that were recorded ended.
     pub(crate) tally: Counts,
-    // Whether the command that was recorded last, of a cycle or of the setup, was answered well; `false` before the first.
+    // Whether the command that was recorded last, of a cycle or of the setup, was answered well, as `is_well` says; `false`
+    // before the first.
     pub(crate) well: bool,
     // Whether the command of a cycle that was recorded last, or one before it in the same attempt, ended in a way after which
     // the text sends its chain again; `false` before the first. A command of the setup leaves it as it is.
@@ -31,5 +37,16 @@ impl Recorded {
             listed: false,
             fresh: 0,
         }
+    }
+
+    // Notes that the command with this mark was recorded at the moment `now`, by the clock for deadlines, with this ending.
+    // `code` is the return code other than 0 of the reply that ended it, if there is one, as `code_of` returns it.
+    pub(crate) fn note(&mut self, mark: &Mark, now: u64, code: Option<u16>, ending: Ending<'_>)
+        ensures { self.new ≡ noted mark.now now code (ending_seen ending.entry) self.old }
+    {
+        self.tally.count(mark.cycle, mark.expected.turn, ending);
+        self.well = is_well(ending);
+        self.listed = is_listed_after(self.listed, &mark.expected, code, ending);
+        self.fresh = if is_well(ending) { now } else { self.fresh };
     }
 }

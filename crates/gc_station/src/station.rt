@@ -13,7 +13,7 @@ ghost use Rattle.gc_station.specs.Records.{WritesNews};
 ghost use Rattle.gc_station.specs.Model.{Model, opening, action_at, ended};
 ghost use Rattle.gc_station.specs.NextCommand.{place_next, expected_first, mark_next, commands_before, is_chained, others_in, is_chained_after, others_after, upcoming_after, mark_setup};
 ghost use Rattle.gc_station.specs.Stations.{waiting_in, IsPaired, Refines, DoesAlone, Moves, Steps, seen, OnCall, Becomes, DropsSettledMarks, IsFitting, ReadsMoment, station_expiring};
-ghost use Rattle.gc_station.specs.Writing.{news_settled, CountsSettled, NotesSettledWell, NotesSettledListed, NotesSettledFresh};
+ghost use Rattle.gc_station.specs.Writing.{news_settled, NotesSettled};
 ghost use Rattle.gc_station.specs.declared.progress.Action.TheVariants.{ReadClock, Renew, Begin, Open, Close};
 ghost use Rattle.gc_texts.specs.declared.tasks.Task.{Task};
 
@@ -293,10 +293,7 @@ impl Station {
         requires { AreReadBy IsAskedReading self.old.settled.items }
         ensures wrote { WritesNews (B.text book.old) (B.taken book.old) (B.taken book.new) (news_settled self.old) result }
         ensures after { OnOk result (DropsSettledMarks self.old self.new) }
-        ensures tally { CountsSettled self.old self.new result }
-        ensures well { NotesSettledWell self.old self.new result }
-        ensures listed { NotesSettledListed self.old self.new result }
-        ensures fresh { NotesSettledFresh self.old self.new result }
+        ensures notes { NotesSettled self.old self.new result }
         ensures fails { FailsWith result (B.failed book.old) (B.failed book.new) }
         ensures form { B.text book.new ≡ B.text book.old }
     {

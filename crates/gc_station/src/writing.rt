@@ -1,6 +1,6 @@
 //! Writing settlements into a book, and counting them.
 
-ghost use Rattle.std.specs.Prelude.{◌≡◌, ℕ, List, [], ◌∷◌, length, drop, map, Option, OnOk};
+ghost use Rattle.std.specs.Prelude.{◌≡◌, ℕ, List, [], ◌∷◌, length, drop, map, Option, None, unwrap_or, slice_get, OnOk};
 ghost use Rattle.gc_lines.specs.Ports.{FailsWith};
 ghost use Rattle.gc_catalogue.specs.declared.answer.Reading.{Reading};
 ghost use Rattle.gc_catalogue.specs.declared.asked.Asked.{Asked};
@@ -15,7 +15,7 @@ ghost use Rattle.gc_texts.specs.Codes.{lists_code};
 ghost use Rattle.gc_texts.specs.Endings.{ending_seen};
 ghost use Rattle.gc_texts.specs.Nears.{is_elsewhere};
 ghost use Rattle.gc_station.specs.Records.{WritesNews};
-ghost use Rattle.gc_station.specs.Writing.{GiveSameRecord, ListAlike, news_of, CountsNews, NotesWell, NotesListed, NotesFresh};
+ghost use Rattle.gc_station.specs.Writing.{news_of, NotesNews};
 
 use crate::book::Book;
 use crate::mark::Mark;
@@ -31,8 +31,7 @@ use gc_texts::{Ending, Expected, Near, Quality, Stamp, Wish, is_elsewhere, readi
 // outstanding.
 fn take_mark(marks: &mut ArrayVec<Option<Mark>, WINDOW>) -> Option<Mark>
     ensures goes { marks.new.items ≡ drop 1 marks.old.items }
-    ensures listed { ListAlike marks.old.items (result ∷ []) }
-    ensures records { GiveSameRecord marks.old.items (result ∷ []) }
+    ensures first { result ≡ unwrap_or (slice_get marks.old.items 0) None }
 {
     match marks.pop_at(0) {
         Some(mark) => mark,
@@ -150,10 +149,8 @@ pub(crate) fn is_listed_after(
     (expected.turn.link != 0 && listed) || expected.again.repeats_after(code, ending)
 }
 
-// Writes how a request with this mark ended, and notes that in `recorded`: its ending in `tally`; in `well` whether it was
-// answered well, and if so in `fresh` the moment `now`; in `listed` whether it or one before it of its attempt ended as its rule
-// names. A command of the setup leaves `tally` and `listed` as they are. A null procedure has no mark: nothing is written or
-// noted of it. `Err`: the book failed, and nothing is noted.
+// Writes how a request with this mark ended, by the moment `now`, and notes that in `recorded`. A null procedure has no mark:
+// nothing is written or noted of it. `Err`: the book failed, and nothing is noted.
 fn write_settlement<B: Book>(
     book: &mut B,
     recorded: &mut Recorded,
@@ -163,10 +160,7 @@ fn write_settlement<B: Book>(
 ) -> Result<(), PortFailed>
     requires { IsReadBy IsAskedReading settlement.now.call settlement.now.outcome }
     ensures wrote { WritesNews (B.text book.old) (B.taken book.old) (B.taken book.new) (news_of now.utc (mark ∷ []) (settlement.now ∷ [])) result }
-    ensures tally { CountsNews recorded.old.tally recorded.new.tally now (mark ∷ []) (settlement.now ∷ []) result }
-    ensures well { NotesWell recorded.old.well recorded.new.well now (mark ∷ []) (settlement.now ∷ []) result }
-    ensures listed { NotesListed recorded.old.listed recorded.new.listed (mark ∷ []) (settlement.now ∷ []) result }
-    ensures fresh { NotesFresh recorded.old.fresh recorded.new.fresh now (mark ∷ []) (settlement.now ∷ []) result }
+    ensures notes { NotesNews recorded.old recorded.new now (mark ∷ []) (settlement.now ∷ []) result }
     ensures fails { FailsWith result (B.failed book.old) (B.failed book.new) }
     ensures form { B.text book.new ≡ B.text book.old }
 {
@@ -189,15 +183,8 @@ fn write_settlement<B: Book>(
     if let Err(failed) = book.write(stamp, &command, ending) {
         return Err(failed);
     }
-    recorded.tally.count(mark.cycle, mark.expected.turn, ending);
-    recorded.well = is_well(ending);
     let code = code_of(&settlement.outcome);
-    recorded.listed = is_listed_after(recorded.listed, &mark.expected, code, ending);
-    recorded.fresh = if is_well(ending) {
-        now.elapsed
-    } else {
-        recorded.fresh
-    };
+    recorded.note(&mark, now.elapsed, code, ending);
     Ok(())
 }
 
@@ -223,10 +210,7 @@ pub(crate) fn write_settlements<B: Book>(
 ) -> Result<(), PortFailed>
     requires { AreReadBy IsAskedReading settlements.now }
     ensures wrote { WritesNews (B.text book.old) (B.taken book.old) (B.taken book.new) (news_of now.utc marks.old.items settlements.now) result }
-    ensures tally { CountsNews recorded.old.tally recorded.new.tally now marks.old.items settlements.now result }
-    ensures well { NotesWell recorded.old.well recorded.new.well now marks.old.items settlements.now result }
-    ensures listed { NotesListed recorded.old.listed recorded.new.listed marks.old.items settlements.now result }
-    ensures fresh { NotesFresh recorded.old.fresh recorded.new.fresh now marks.old.items settlements.now result }
+    ensures notes { NotesNews recorded.old recorded.new now marks.old.items settlements.now result }
     ensures marks { OnOk result (marks.new.items ≡ drop (length settlements.now) marks.old.items) }
     ensures fails { FailsWith result (B.failed book.old) (B.failed book.new) }
     ensures form { B.text book.new ≡ B.text book.old }

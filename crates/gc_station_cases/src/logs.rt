@@ -1,9 +1,7 @@
 //! A case's run over a link with a log; and, for a case without tasks, the log of a link that is only read, without a station.
 
-use crate::ends::WordBook;
-use crate::running::{Outcome, Scene};
+use crate::running::{Outcome, Scene, run_scene};
 use crate::script::{START, Script};
-use crate::telling::run_telling;
 use gc_links::{Link, Telling};
 use gc_logs::Logged;
 use gc_probes::PieceSink;
@@ -37,16 +35,8 @@ fn compare_with_whole_log(alloc: Global, scene: Scene<'_>, outcome: &mut Outcome
 
 // Runs the station once, with a log whose sink fails after `writes` writes, and takes what came of it into `outcome`.
 fn play_over_sink(alloc: Global, scene: Scene<'_>, writes: u64, outcome: &mut Outcome) {
-    let setting = scene.setting;
     let mut link = Telling::new(logged_link(alloc, scene, writes));
-    let mut book = WordBook::new(setting);
-    let result = run_telling(
-        &mut link,
-        &mut book,
-        scene.tasks,
-        &setting.plan,
-        setting.turns,
-    );
+    let (book, result) = run_scene(&mut link, scene);
     outcome.take(&link.link.link, &book, result.err());
     outcome.take_log(link.link.sink().taken(), link.link.has_lost_its_log());
 }

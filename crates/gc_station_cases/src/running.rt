@@ -7,7 +7,7 @@ use crate::setting::Setting;
 use crate::telling::run_telling;
 use crate::words::push_words;
 use gc_cases::{Case, Told};
-use gc_links::Telling;
+use gc_links::{Link, Telling};
 use gc_station::Tally;
 use gc_texts::{RunFault, Task, read_tasks};
 use std::alloc::Global;
@@ -207,20 +207,23 @@ pub fn text_of(bytes: &[u8]) -> &str {
 // Runs the station over a link without a log, and takes what came of it into `outcome`; with its counts if the setting asks for
 // them, and the run ended without a fault.
 fn play_unlogged(scene: Scene<'_>, outcome: &mut Outcome) {
-    let setting = scene.setting;
-    let mut link = Telling::new(Script::new(scene.steps, setting));
-    let mut book = WordBook::new(setting);
-    let result = run_telling(
-        &mut link,
-        &mut book,
-        scene.tasks,
-        &setting.plan,
-        setting.turns,
-    );
-    if setting.counted {
+    let mut link = Telling::new(Script::new(scene.steps, scene.setting));
+    let (book, result) = run_scene(&mut link, scene);
+    if scene.setting.counted {
         outcome.take_counts(&result);
     }
     outcome.take(&link.link, &book, result.err());
+}
+
+/// Runs the station of a scene over a link that records its acts. Returns the book that it wrote, and what the run came to.
+pub fn run_scene<L: Link>(
+    link: &mut Telling<L>,
+    scene: Scene<'_>,
+) -> (WordBook, Result<Tally, RunFault>) {
+    let setting = scene.setting;
+    let mut book = WordBook::new(setting);
+    let result = run_telling(link, &mut book, scene.tasks, &setting.plan, setting.turns);
+    (book, result)
 }
 
 // Appends `words` to `told`, without the blank after the last one.

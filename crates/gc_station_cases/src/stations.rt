@@ -155,40 +155,47 @@ impl CaseRun<'_> {
         outcome.tell_row(came);
     }
 
-    // Plays the run. Where the case has a line `each KEY=COUNT`, it is played once for each number N below COUNT, with the setting
-    // word `KEY=N` more, up to the first that `wrong` reports; a COUNT that is 0 or no number is reported as wrong. Without such a
-    // line the run is played once, as it is set.
+    // Plays the run. Where the case has a line `each KEY=COUNT`, it is played once for each number below COUNT (`play_below`); a COUNT
+    // that is 0 or no number is reported as wrong. Without such a line the run is played once, as it is set.
     fn play_each(&self, wrong: &mut Told) {
         let Some((key, count)) = self.case.value("each").split_once('=') else {
-            return self.play_once("", wrong);
+            self.play_once("", wrong);
+            return;
         };
-        let count = number(count).unwrap_or(0);
-        if count == 0 {
-            return self.case.tell_wrong("each", b"no number", wrong);
+        match number(count) {
+            Some(0) => self.case.tell_wrong("each", b"0", wrong),
+            Some(count) => self.play_below(key, count, wrong),
+            None => self.case.tell_wrong("each", b"no number", wrong),
         }
-        let before = wrong.as_bytes().len();
+    }
+
+    // Plays the run once for each number N below `count`, with the setting word `KEY=N` more, up to the first that comes otherwise than
+    // the case has it.
+    fn play_below(&self, key: &str, count: u64, wrong: &mut Told) {
         for n in 0..count {
-            self.play_with_value(key, n, wrong);
-            if wrong.as_bytes().len() > before {
+            if !self.play_with_value(key, n, wrong) {
                 break;
             }
         }
     }
 
     // Plays the run with one setting word more, which sets `key` to the number `n`; with a part of that word if memory runs out for
-    // it.
-    fn play_with_value(&self, key: &str, n: u64, wrong: &mut Told) {
+    // it. Returns whether it came as the case has it.
+    fn play_with_value(&self, key: &str, n: u64, wrong: &mut Told) -> bool {
         let mut word = Told::new(self.alloc);
         word.text(key);
         word.titled("=", &n);
-        self.play_once(text_of(word.as_bytes()), wrong);
+        self.play_once(text_of(word.as_bytes()), wrong)
     }
 
     // Plays the run once, with the setting words of `word` more, which may be empty. Reports what came otherwise than the case has
-    // it.
-    fn play_once(&self, word: &str, wrong: &mut Told) {
+    // it, and returns whether nothing did.
+    fn play_once(&self, word: &str, wrong: &mut Told) -> bool {
         let mut outcome = Outcome::new(self.alloc);
+        let mut report = Told::new(self.alloc);
         self.run.play(self.alloc, word, &mut outcome);
-        outcome.tell(&self.case, wrong);
+        outcome.tell(&self.case, &mut report);
+        wrong.append(&report);
+        report.is("")
     }
 }

@@ -26,12 +26,12 @@ read_at_0 (Err fault) status told told' tells zero = absurd (omega (arith, tells
 -- if the status is 0, the source gave a schedule, and the sink took the output of its events
 pub plays_at_0 : (text_of : List Event → Bool → List ℕ) (totals : Bool) (old new : Ports) (status : ℕ) (told told' : Option (List ℕ))
     → TellsWithin text_of totals old new status told told' → status ≡ 0 → PlaysWhole text_of totals old new
-plays_at_0 text_of totals old new status told told' (inl refused) zero = absurd (omega (arith, refused.is, zero))
+plays_at_0 text_of totals old new status told told' (inl refused) zero = absurd (omega (arith, refused.0.0, zero))
 plays_at_0 text_of totals old new status told told' (inr s) zero =
-    let w = s.drills.writes in (w.0, w.1, played_at_0 text_of w.0 totals old.taken new.taken s.end status told told' w.3 s.tells zero)
+    let w = s.ends.writes in (w.0, w.1, played_at_0 text_of w.0 totals old.taken new.taken s.end status told told' w.3 s.tells zero)
 
 -- if the status is 0, the source was read to its end (`ReadsWholeSource`)
 pub reads_at_0 : (text_of : List Event → Bool → List ℕ) (totals : Bool) (old new : Ports) (status : ℕ) (told told' : Option (List ℕ))
     → TellsWithin text_of totals old new status told told' → status ≡ 0 → ReadsWholeSource old new
-reads_at_0 text_of totals old new status told told' (inl refused) zero = absurd (omega (arith, refused.is, zero))
-reads_at_0 text_of totals old new status told told' (inr s) zero = s.drills.whole (read_at_0 s.end status told told' s.tells zero)
+reads_at_0 text_of totals old new status told told' (inl refused) zero = absurd (omega (arith, refused.0.0, zero))
+reads_at_0 text_of totals old new status told told' (inr s) zero = s.ends.whole (read_at_0 s.end status told told' s.tells zero)

@@ -1,39 +1,30 @@
 -- How a schedule that a source gives is played, and how that is reported: this project's own. `told` is what had been written
 -- on the messages before, and `told'` what has been written now. `text_of` gives what is written of events that are played on an
 -- instrument, through a window of some width, with or without the line of totals.
-use Rattle.std.specs.Prelude.{◌≡◌, ℕ, ◌⊎◌, Bool, List, Option, Result}
+use Rattle.std.specs.Prelude.{ℕ, ◌⊎◌, Bool, List, Option}
 use Rattle.std.specs.Io.KnownBytes.{Consumes, Appends}
-use Rattle.gc_messages.specs.Refusals.{range_line}
+use Rattle.gc_messages.specs.Refusals.{Refuses, range_line}
+use Rattle.gc_subcommands.specs.Refusing.{TellsEnd}
 use Rattle.gc_subcommands.specs.Scenes.{AreUnused, HoldsOfInstrument, RefusesScene}
 use Rattle.gc_subcommands.specs.declared.drill.Drilling.{Drilling}
 use Rattle.gc_engines.specs.Drill.{IsDrill, drill_text_on}
 use Rattle.gc_engines.specs.SceneDrill.{scene_drill_text}
 use Rattle.gc_engines.specs.Schedule.{IsSchedule}
 use Rattle.gc_lines.specs.Answering.{Ports}
-use Rattle.gc_texts.specs.Faults.{run_fault_text, Tells}
+use Rattle.gc_texts.specs.Faults.{run_fault_text}
 use Rattle.gc_texts.specs.WholeTexts.{IsReadToEnd, source_of}
-use Rattle.gc_texts.specs.declared.fault.RunFault.{RunFault}
 use Rattle.gc_world.specs.declared.event.Event.{Event}
 
--- the bytes that a source gave were played as a schedule or refused (`IsDrill`), and the status and the messages report how that
--- ended
-pub record TellsSchedule (text_of : List Event → (totals : Bool) → List ℕ) (totals : Bool) (old new : Ports) (status : ℕ)
-    (told told' : Option (List ℕ)) : Type 0 where
-  pub end : Result (Unit {0}) RunFault
-  pub drills : IsDrill text_of totals old new end
-  pub tells : Tells run_fault_text end status told told'
+-- the width was out of its range, which is reported (`Refuses`), and source and sink weren't used (`AreUnused`)
+abbrev pub RefusesWidth : (old new : Ports) → (status : ℕ) → (told told' : Option (List ℕ)) → Type 0
+RefusesWidth old new status told told' = Refuses range_line status told told' × AreUnused old new
 
--- the width was out of its range, which is reported with status 2, and source and sink weren't used (`AreUnused`)
-pub record RefusesWidth (old new : Ports) (status : ℕ) (told told' : Option (List ℕ)) : Type 0 where
-  pub is : status ≡ 2
-  pub tells : Appends told told' range_line
-  pub unused : AreUnused old new
-
--- the width was refused, or a schedule was played, and how that ended is reported
+-- the width was refused, or the bytes that a source gave were played as a schedule or refused (`IsDrill`), and the status and the messages
+-- tell how that ended (`TellsEnd`)
 abbrev pub TellsWithin : (text_of : List Event → (totals : Bool) → List ℕ) → (totals : Bool) → (old new : Ports) → (status : ℕ)
     → (told told' : Option (List ℕ)) → Type 0
 TellsWithin text_of totals old new status told told' =
-    RefusesWidth old new status told told' ⊎ TellsSchedule text_of totals old new status told told'
+    RefusesWidth old new status told told' ⊎ TellsEnd run_fault_text (IsDrill text_of totals old new) status told told'
 
 -- the scene or the width was refused, or the schedule was played on the instrument of the scene (`HoldsOfInstrument`), and how that
 -- ended is reported

@@ -1,22 +1,19 @@
 -- The instrument that a subcommand begins with, and what is reported where its scene is refused: this project's own.
 use Rattle.std.specs.Prelude.{◌≡◌, ◌⊎◌, ℕ, List, Option, None}
-use Rattle.std.specs.Io.KnownBytes.{Appends}
 use Rattle.gc_instrument.specs.State.{State, simulator_opening}
 use Rattle.gc_scenes.specs.SceneState.{SceneState}
 use Rattle.gc_lines.specs.Answering.{Ports}
-use Rattle.gc_subcommands.specs.Refusing.{refusal_text}
+use Rattle.gc_subcommands.specs.Refusing.{TellsRefusal}
 use Rattle.gc_subcommands.specs.declared.refusal.Refusal.{Refusal}
 
 -- nothing was read from the source, and nothing written into the sink
 abbrev pub AreUnused : (old new : Ports) → Type 0
 AreUnused old new = (new.remaining ≡ old.remaining) × (new.taken ≡ old.taken)
 
--- the scene that was named was refused, which is reported with status 1, and source and sink weren't used (`AreUnused`); the
--- messages had `told` before, and have `told'` now
+-- the scene that was named was refused, which is reported (`TellsRefusal`), and source and sink weren't used (`AreUnused`)
 pub record RefusesScene {Name : Type 0} (scene : Option Name) (old new : Ports) (status : ℕ) (told told' : Option (List ℕ)) : Type 0 where
   pub refusal : Refusal
-  pub is : status ≡ 1
-  pub tells : Appends told told' (refusal_text refusal)
+  pub tells : TellsRefusal refusal status told told'
   pub unused : AreUnused old new
   pub named : scene ≡ None → ⊥
 

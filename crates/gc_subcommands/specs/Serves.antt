@@ -1,6 +1,7 @@
 -- How `exec` and `check` report how their loop over frames ended: this project's own. `told` is what had been written on the
 -- messages before, and `told'` what has been written now. 4294967295 is the most reads that a u32 counts.
 use Rattle.std.specs.Prelude.{◌≡◌, ℕ, ◌+◌, ◌<◌, ◌⊎◌, ◌↔◌, Bool, true, false, List, Option, Result}
+use Rattle.gc_subcommands.specs.Refusing.{TellsEnd}
 use Rattle.gc_subcommands.specs.Scenes.{RefusesScene, HoldsOfInstrument}
 use Rattle.gc_engines.specs.Checking.{IsChecking}
 use Rattle.gc_engines.specs.LogChecking.{IsCheckingLog}
@@ -9,17 +10,14 @@ use Rattle.gc_scenes.specs.SceneServing.{IsSceneServing}
 use Rattle.gc_lines.specs.Answering.{Ports, fault_text}
 use Rattle.gc_lines.specs.declared.served.Served.{Served}
 use Rattle.gc_lines.specs.declared.served.ServeFault.{ServeFault}
-use Rattle.gc_texts.specs.Faults.{Tells}
 
--- an instrument with this opening state served a source, and the status and the messages tell how that ended. `Serves` says
+-- an instrument with this opening state served a source, and the status and the messages tell how that ended (`TellsEnd`). `Serves` says
 -- what serving does to instruments with these states: `IsServing` to the table's, `IsSceneServing` to that of a scene with
 -- rules
-pub record TellsServing {S : Type 0} (Serves : (from to : S) → (ports ports' : Ports) → (most : ℕ) → Result Served ServeFault → Type 0)
-    (start : S) (old new : Ports) (status : ℕ) (told told' : Option (List ℕ)) : Type 0 where
-  pub end : Result Served ServeFault
-  pub after : S
-  pub serves : Serves start after old new 4294967295 end
-  pub tells : Tells fault_text end status told told'
+abbrev pub TellsServing : {S : Type 0} → (Serves : (from to : S) → (ports ports' : Ports) → (most : ℕ) → Result Served ServeFault → Type 0)
+    → (start : S) → (old new : Ports) → (status : ℕ) → (told told' : Option (List ℕ)) → Type 0
+TellsServing {S} Serves start old new status told told' =
+    TellsEnd fault_text (λ end. (after : S) × Serves start after old new 4294967295 end) status told told'
 
 -- the scene was refused, or its instrument (`HoldsOfInstrument`) served a source, and how that ended is reported
 abbrev pub TellsExec : {Name : Type 0} → (scene : Option Name) → (old new : Ports) → (status : ℕ) → (told told' : Option (List ℕ)) → Type 0
@@ -33,11 +31,9 @@ abbrev pub ChecksInput : (is_log : Bool) → (old new : Ports) → Result Served
 ChecksInput true old new end = IsCheckingLog old new 4294967295 end
 ChecksInput false old new end = IsChecking old new 4294967295 end
 
--- an input was checked, as a log (`log`) or as a stream, and the status and the messages tell how that ended
-pub record TellsChecking (log : Bool) (old new : Ports) (status : ℕ) (told told' : Option (List ℕ)) : Type 0 where
-  pub end : Result Served ServeFault
-  pub checks : ChecksInput log old new end
-  pub tells : Tells fault_text end status told told'
+-- an input was checked, as a log (`is_log`) or as a stream, and the status and the messages tell how that ended (`TellsEnd`)
+abbrev pub TellsChecking : (is_log : Bool) → (old new : Ports) → (status : ℕ) → (told told' : Option (List ℕ)) → Type 0
+TellsChecking is_log old new status told told' = TellsEnd fault_text (ChecksInput is_log old new) status told told'
 
 -- status 0 exactly where the last read was the end
 abbrev pub IsDoneAtEnd : (old new : Ports) → (status : ℕ) → Type 0

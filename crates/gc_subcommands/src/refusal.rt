@@ -1,9 +1,8 @@
 //! Why a scene was refused, and how that is reported.
 
 ghost use Rattle.std.specs.Prelude.{◌≡◌, IfOk};
-ghost use Rattle.std.specs.Io.KnownBytes.{Appends};
 ghost use Rattle.std.specs.Process.{exit_status};
-ghost use Rattle.gc_subcommands.specs.Refusing.{refusal_fault, refusal_text};
+ghost use Rattle.gc_subcommands.specs.Refusing.{TellsRefusal, refusal_fault};
 
 use gc_engines::{SceneTrouble, scene_trouble_of};
 use gc_messages::report_end;
@@ -38,7 +37,7 @@ impl Refusal {
     /// Reports the refusal with status 1 and the line of the fault. If a line of the text is faulty, a second line says what is at
     /// fault in it. `Err`: the messages couldn't be written.
     pub(crate) fn tell<E: Write>(self, messages: &mut E) -> io::Result<ExitCode>
-        ensures { IfOk result (λ status. (exit_status status ≡ 1) × Appends (E.contents messages.old) (E.contents messages.new) (refusal_text self)) }
+        ensures { IfOk result (λ status. TellsRefusal self (exit_status status) (E.contents messages.old) (E.contents messages.new)) }
     {
         match self {
             Refusal::Fault(fault) => report_end(Err(fault), messages),

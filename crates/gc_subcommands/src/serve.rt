@@ -1,7 +1,7 @@
 //! `geocom serve`: its words, and an instrument on a port or on a device. The places of standard streams that are closed (file
 //! descriptors 0 to 2) are filled first, so that no socket or device takes one.
 
-ghost use Rattle.std.specs.Prelude.{◌≤◌, IfOk};
+ghost use Rattle.std.specs.Prelude.{◌≡◌, ◌≤◌, true, IfOk};
 ghost use Rattle.std.specs.Process.{exit_status};
 
 use crate::scene::{Staged, Timed, instrument_of};
@@ -144,11 +144,11 @@ fn serve_with_scene<
     ensures { IfOk result (λ status. exit_status status ≤ 2) }
 {
     match instrument_of::<Timed, R>(rt, alloc, serving.scene) {
-        Ok(Timed::Still(Staged::Plain(mut instrument))) => {
-            serve_or_keep(rt, serving, &mut instrument, None, messages)
+        Ok(Timed::Still(Staged::Plain(instrument))) => {
+            serve_or_keep(rt, serving, instrument, messages)
         }
-        Ok(Timed::Still(Staged::Ruled(mut instrument))) => {
-            serve_or_keep(rt, serving, &mut instrument, None, messages)
+        Ok(Timed::Still(Staged::Ruled(instrument))) => {
+            serve_or_keep(rt, serving, instrument, messages)
         }
         Ok(Timed::Slow(slow)) => serve_slow(rt, serving, slow, messages),
         Err(refusal) => refusal.tell_with_file(serving.scene, messages),
@@ -163,26 +163,19 @@ fn serve_slow<
 >(rt: &R, serving: Serving<'_>, slow: SlowInstrument, messages: &mut E) -> io::Result<ExitCode>
     ensures { IfOk result (λ status. exit_status status ≤ 2) }
 {
-    let Ok(clock) = BusyClock::new(rt, slow.drops()) else {
+    let Ok(clock) = BusyClock::new(rt, &slow) else {
         return report_end(Err(RunFault::Clock), messages);
     };
-    let mut instrument = Slow::new(&clock, slow);
-    serve_or_keep(rt, serving, &mut instrument, Some(&clock), messages)
+    serve_or_keep(rt, serving, Slow::new(&clock, slow), messages)
 }
 
 // Serves a place with an instrument, for one connection where no number is given, or keeps it (`keep_place`) where `serving.idle` is set.
-// `clock`: that of an instrument whose replies may take time.
 fn serve_or_keep<
+    'c,
     R: Net<Listener = TcpListener, Stream = TcpStream> + Clock + Files<File = File>,
-    I: Simulates,
+    I: Simulates<'c> + Drop,
     E: Write,
->(
-    rt: &R,
-    serving: Serving<'_>,
-    instrument: &mut I,
-    clock: Option<&BusyClock>,
-    messages: &mut E,
-) -> io::Result<ExitCode>
+>(rt: &'c R, serving: Serving<'_>, mut instrument: I, messages: &mut E) -> io::Result<ExitCode>
     ensures { IfOk result (λ status. exit_status status ≤ 2) }
 {
     let Serving {
@@ -196,8 +189,7 @@ fn serve_or_keep<
             rt,
             place,
             connections.unwrap_or(1),
-            instrument,
-            clock,
+            &mut instrument,
             messages,
         ),
         Some(idle) => {
@@ -206,7 +198,7 @@ fn serve_or_keep<
                 idle,
                 max_reads: u32::MAX,
             };
-            keep_place(rt, place, keeping, instrument, clock, messages)
+            keep_place(rt, place, keeping, &mut instrument, messages)
         }
     }
 }
@@ -229,86 +221,62 @@ fn endpoint_of(place: Place<'_>) -> Option<Endpoint<'_>> {
 }
 
 // Serves a port, an address or a device, and reports how that ended. Numbers out of their range are refused with status 2: clap
-// refuses them first, though no clause of clap's says so. A device that is to be served for 0 connections isn't opened, and the
-// status is 0.
+// refuses them first, though no clause of clap's says so.
 fn serve_place<
+    'c,
     R: Net<Listener = TcpListener, Stream = TcpStream> + Clock + Files<File = File>,
-    I: Simulates,
+    I: Simulates<'c>,
     E: Write,
 >(
     rt: &R,
     place: Place<'_>,
     connections: u32,
     instrument: &mut I,
-    clock: Option<&BusyClock>,
     messages: &mut E,
 ) -> io::Result<ExitCode>
     ensures { IfOk result (λ status. exit_status status ≤ 2) }
 {
+    if !is_in_range(connections) {
+        return refuse_numbers(messages);
+    }
     match endpoint_of(place) {
         None => refuse_numbers(messages),
         Some(Endpoint::Address(address)) => {
-            serve_address(rt, address, connections, instrument, clock, messages)
+            let end = serve_tcp(rt, address, connections, instrument, u32::MAX);
+            report_end(end, messages)
         }
-        Some(Endpoint::Device(_)) if connections > MOST_CONNECTIONS => refuse_numbers(messages),
         Some(Endpoint::Device(path)) => {
-            let end = serve_device(rt, path, connections, instrument, clock, u32::MAX);
+            let end = serve_device(rt, path, connections, instrument, u32::MAX);
             report_end_at(place, end, messages)
         }
     }
-}
-
-// Serves an address, and reports how that ended. A number of connections that isn't 1 to 1000 is refused with status 2.
-fn serve_address<
-    R: Net<Listener = TcpListener, Stream = TcpStream> + Clock,
-    I: Simulates,
-    E: Write,
->(
-    rt: &R,
-    address: Address<'_>,
-    connections: u32,
-    instrument: &mut I,
-    clock: Option<&BusyClock>,
-    messages: &mut E,
-) -> io::Result<ExitCode>
-    ensures { IfOk result (λ status. exit_status status ≤ 2) }
-{
-    if connections == 0 || connections > MOST_CONNECTIONS {
-        return refuse_numbers(messages);
-    }
-    report_end(
-        serve_tcp(rt, address, connections, instrument, clock, u32::MAX),
-        messages,
-    )
 }
 
 // Keeps a port, an address or a device: goes on after a connection that fails (`--keep`), and reports how that ended. Numbers out
 // of their range are refused with status 2. So is a device with 0 connections, or with a `keeping.idle` out of its range, though
 // it doesn't use that. The status is 0 also where the line of a connection's fault couldn't be written.
 fn keep_place<
+    'c,
     R: Net<Listener = TcpListener, Stream = TcpStream> + Clock + Files<File = File>,
-    I: Simulates,
+    I: Simulates<'c>,
     E: Write,
 >(
-    rt: &R,
+    rt: &'c R,
     place: Place<'_>,
     keeping: Keeping,
     instrument: &mut I,
-    clock: Option<&BusyClock>,
     messages: &mut E,
 ) -> io::Result<ExitCode>
     ensures { IfOk result (λ status. exit_status status ≤ 2) }
 {
     let idle = keeping.idle;
-    if idle == 0 || idle > LONGEST_IDLE || !is_in_range(keeping.connections) {
+    if idle == 0 || idle > LONGEST_IDLE || !is_in_range(keeping.connections.unwrap_or(1)) {
         return refuse_numbers(messages);
     }
     let kept = match endpoint_of(place) {
         None => return refuse_numbers(messages),
-        Some(Endpoint::Address(address)) => {
-            keep_tcp(rt, address, keeping, instrument, clock, messages)
-        }
-        Some(Endpoint::Device(path)) => keep_device(rt, path, keeping, instrument, clock, messages),
+        Some(Endpoint::Address(address)) => keep_tcp(rt, address, keeping, instrument, messages),
+        Some(Endpoint::Device(path)) => keep_device(rt, path, keeping, instrument, messages),
     };
     match kept {
         Ok(_) => Ok(ExitCode::SUCCESS),
@@ -316,10 +284,9 @@ fn keep_place<
     }
 }
 
-// Whether this number of connections is in its range: none given, or 1 to 1000.
-fn is_in_range(connections: Option<u32>) -> bool {
-    match connections {
-        None => true,
-        Some(connections) => 1 <= connections && connections <= MOST_CONNECTIONS,
-    }
+// Whether this number of connections is in its range.
+fn is_in_range(connections: u32) -> bool
+    ensures { result ≡ true → (1 ≤ connections) × (connections ≤ 1000) }
+{
+    1 <= connections && connections <= MOST_CONNECTIONS
 }

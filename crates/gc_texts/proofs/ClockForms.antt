@@ -12,7 +12,6 @@ use Rattle.gc_values.proofs.ParamLists.{one_list, joined_params}
 use Rattle.gc_texts.specs.Commands.{IsCommand}
 use Rattle.gc_texts.specs.Cuts.{before, behind}
 use Rattle.gc_texts.specs.TaskLines.{SetsClock}
-use Rattle.gc_texts.specs.Troubles.{parameter_count}
 use Rattle.gc_texts.specs.Wishes.{IsWish}
 use Rattle.gc_texts.specs.Words.{first_word, second_word}
 use Rattle.gc_texts.specs.declared.commands.Command.{Command}
@@ -20,7 +19,6 @@ use Rattle.gc_texts.specs.declared.wish.Wish.{Wish}
 use Rattle.gc_texts.proofs.Cutting.{lacks_by_test, digits_lack_spaces, has_mark}
 use Rattle.gc_texts.proofs.Fronts.{behind_mark}
 use Rattle.gc_texts.proofs.Procedures.{one_number, procedure_parts}
-use Rattle.gc_texts.proofs.ParameterCounts.{parameter_counts_are}
 use Rattle.gc_texts.proofs.WishForms.{same_wish, no_wish}
 
 -- `now` is one parameter
@@ -33,12 +31,16 @@ now_is =
       commas = λ front rest e. absurd (has_mark 44 front rest (codes "now") (sym e) (lacks_by_test 44 (codes "now") refl));
     }
 
+-- procedure 5007 has six parameters
+six_values : (call : Call) → (call_fields call).number ≡ 5007 → length (call_fields call).values ≡ 6
+six_values call e = grind arith
+
 -- no call of procedure 5007 has `now` for its parameters: the procedure has six
 pub no_now : (call : Call) → IsCall 5007 (codes "now") call → ⊥
 no_now call is =
     let one : is.values.items ≡ codes "now" ∷ [] = one_list (codes "now") is.values.items (codes "now" ∷ []) is.values.split (joined_params (codes "now" ∷ []) (now_is, tt) (omega arith, tt)) in
     let many : length is.values.items ≡ length (call_fields call).values = same_count (call_fields call).values is.values.items is.values.read ∙ length-map (call_fields call).values kind_of in
-    let six : 6 ≡ length (call_fields call).values = ap parameter_count (sym is.number) ∙ parameter_counts_are call in
+    let six : length (call_fields call).values ≡ 6 = six_values call is.number in
     let single : length is.values.items ≡ 1 = ap length one in
     omega (arith, many, six, single)
 

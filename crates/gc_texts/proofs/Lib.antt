@@ -17,7 +17,6 @@ mod TaskLaws
 pub mod SettlementLines
 mod WritingSettlements
 pub mod ZeroReplies
-mod ParameterCounts
 mod ParameterTroubles
 pub mod Dates
 mod FaultLines

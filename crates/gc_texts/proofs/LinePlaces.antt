@@ -1,24 +1,21 @@
 -- A line of a text by its number: the lines are cut off one by one, `left` is what is left of the text (`now` where there is
--- something), and `wanted` is the wanted line's number among the lines that are left, from 1. LF is byte 10.
+-- something), and `wanted` is the wanted line's number among the lines that are left, from 1.
 use Rattle.std.proofs.Common.{◌≡◌, ◌-◌, ◌<◌, ◌≤◌, ℕ, suc, List, [], ◌∷◌, get_or, Option, Some, arith, ap, sym, ◌∙◌}
-use Rattle.gc_texts.specs.Cuts.{Cuts}
-use Rattle.gc_texts.specs.LineForms.{without_cr}
+use Rattle.gc_texts.specs.LineForms.{CutsLine}
 use Rattle.gc_texts.proofs.TextLines.{lines_left, lines-cut}
 
--- the lines of what is left, which is cut at its first LF, if it has one, are the line that is cut off, without a CR at its end,
--- and then those of the rest
+-- the lines of what is left are the line that is cut off, and then those of the rest
 front_line : (left : Option (List ℕ)) (now line : List ℕ) (rest : Option (List ℕ))
-    → left ≡ Some now → Cuts 10 now line rest → lines_left left ≡ without_cr line ∷ lines_left rest
+    → left ≡ Some now → CutsLine now line rest → lines_left left ≡ line ∷ lines_left rest
 front_line left now line rest some cut = ap lines_left some ∙ lines-cut now line rest cut
 
 -- `wanted_line` is number `wanted` of the lines left, the first for 0, and empty where they are fewer. `line` is the line that
 -- is cut off next, and `rest` what is left then
 module _
     (wanted_line : List ℕ) (left : Option (List ℕ)) (now line : List ℕ) (rest : Option (List ℕ)) (wanted : ℕ)
-    (so : wanted_line ≡ get_or (lines_left left) (wanted - 1) []) (some : left ≡ Some now) (cut : Cuts 10 now line rest) where
-  -- where the first of the lines left is the wanted one (`wanted` is 1, or 0), the wanted line is the line that is cut off next,
-  -- without its CR
-  pub line_here : wanted ≤ 1 → without_cr line ≡ wanted_line
+    (so : wanted_line ≡ get_or (lines_left left) (wanted - 1) []) (some : left ≡ Some now) (cut : CutsLine now line rest) where
+  -- where the first of the lines left is the wanted one (`wanted` is 1, or 0), the wanted line is the line that is cut off next
+  pub line_here : wanted ≤ 1 → line ≡ wanted_line
   line_here last =
       let none : wanted - 1 ≡ 0 = omega (arith, last) in
       sym (so ∙ ap (λ n. get_or (lines_left left) n []) none ∙ ap (λ ls. get_or ls 0 []) (front_line left now line rest some cut))

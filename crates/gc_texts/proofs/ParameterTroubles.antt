@@ -1,7 +1,7 @@
 -- What `parameters_trouble` reports of parameters with a fault names what is at fault in them (`IsCallTrouble`). `rpc` is the
 -- procedure's number.
 use Rattle.std.proofs.Common.{◌≡◌, ℕ, List, refl, subst, sym}
-use Rattle.gc_catalogue.specs.Calls.{IsRefusal}
+use Rattle.gc_catalogue.specs.Calls.{IsParameterCount, IsRefusal}
 use Rattle.gc_catalogue.specs.declared.fault.CallFault.{CallFault}
 use Rattle.gc_catalogue.specs.declared.fault.CallFault.TheVariants.{Parameters}
 use Rattle.gc_values.specs.declared.fault.ValueFault.{ValueFault}
@@ -9,19 +9,20 @@ use Rattle.gc_values.specs.declared.fault.ValueFault.TheVariants as fault
 use Rattle.gc_texts.specs.Troubles.{IsCallTrouble, parameters_trouble}
 use Rattle.gc_texts.specs.declared.trouble.Trouble.{Trouble}
 
--- where the procedure refuses the parameters with the fault `e`, what `parameters_trouble` reports of `e` is what is at fault in
--- the procedure's number and these parameters
-trouble_of_fault : (rpc : ℕ) (params : List ℕ) (e : ValueFault)
-    → IsRefusal rpc params (Parameters e) → IsCallTrouble rpc params (parameters_trouble rpc e)
-trouble_of_fault rpc params fault.Spelling refused = record { fault = fault.Spelling; refused = refused; is = refl }
-trouble_of_fault rpc params fault.Range refused = record { fault = fault.Range; refused = refused; is = refl }
-trouble_of_fault rpc params fault.OpenQuote refused = record { fault = fault.OpenQuote; refused = refused; is = refl }
-trouble_of_fault rpc params fault.TooMany refused = record { fault = fault.TooMany; refused = refused; is = refl }
-trouble_of_fault rpc params fault.Count refused = record { fault = fault.Count; refused = refused; is = refl }
+-- where the procedure has `count` parameters and refuses the given ones with the fault `e`, what `parameters_trouble` reports of
+-- `e` is what is at fault in the procedure's number and these parameters
+trouble_of_fault : (rpc count : ℕ) (params : List ℕ) (e : ValueFault) → IsParameterCount rpc count
+    → IsRefusal rpc params (Parameters e) → IsCallTrouble rpc params (parameters_trouble rpc count e)
+trouble_of_fault rpc count params fault.Spelling counted refused = record { fault = fault.Spelling; refused = refused; count = count; counted = counted; is = refl }
+trouble_of_fault rpc count params fault.Range counted refused = record { fault = fault.Range; refused = refused; count = count; counted = counted; is = refl }
+trouble_of_fault rpc count params fault.OpenQuote counted refused = record { fault = fault.OpenQuote; refused = refused; count = count; counted = counted; is = refl }
+trouble_of_fault rpc count params fault.TooMany counted refused = record { fault = fault.TooMany; refused = refused; count = count; counted = counted; is = refl }
+trouble_of_fault rpc count params fault.Count counted refused = record { fault = fault.Count; refused = refused; count = count; counted = counted; is = refl }
 
--- where the procedure refuses the parameters with `of`, which is the fault `e`, and `t` is what `parameters_trouble` reports of
--- `e`, then `t` is what is at fault in number and parameters
-pub trouble_of_refusal : (rpc : ℕ) (params : List ℕ) (of : CallFault) (e : ValueFault) (t : Trouble)
-    → IsRefusal rpc params of → of ≡ Parameters e → t ≡ parameters_trouble rpc e → IsCallTrouble rpc params t
-trouble_of_refusal rpc params of e t refused same is =
-    subst (λ (x : Trouble). IsCallTrouble rpc params x) (sym is) (trouble_of_fault rpc params e (subst (λ (f : CallFault). IsRefusal rpc params f) same refused))
+-- where the procedure has `count` parameters and refuses the given ones with `of`, which is the fault `e`, and `t` is what
+-- `parameters_trouble` reports of `e`, then `t` is what is at fault in number and parameters
+pub trouble_of_refusal : (rpc count : ℕ) (params : List ℕ) (of : CallFault) (e : ValueFault) (t : Trouble) → IsParameterCount rpc count
+    → IsRefusal rpc params of → of ≡ Parameters e → t ≡ parameters_trouble rpc count e → IsCallTrouble rpc params t
+trouble_of_refusal rpc count params of e t counted refused same is =
+    subst (λ (x : Trouble). IsCallTrouble rpc params x) (sym is)
+    (trouble_of_fault rpc count params e counted (subst (λ (f : CallFault). IsRefusal rpc params f) same refused))

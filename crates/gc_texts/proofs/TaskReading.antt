@@ -4,13 +4,12 @@ use Rattle.std.proofs.lemmas.Bool.{cond_both}
 use Rattle.std.proofs.lemmas.List.{length-append}
 use Rattle.std.proofs.lemmas.List.Concat.{flat_map-append}
 use Rattle.std.proofs.lemmas.Slice.Zip.{AllZip-long}
-use Rattle.std.proofs.Common.{◌⊎◌, inr, arith, if◌then◌else◌, ◌≡◌, ◌+◌, ◌≤◌, ℕ, List, [], ◌∷◌, ◌++◌, length, Option, Some, Bool, true, false, refl, ap, subst, sym, ◌∙◌, append_assoc, append-nil}
+use Rattle.std.proofs.Common.{◌⊎◌, inr, arith, if◌then◌else◌, ◌≡◌, ◌+◌, ◌≤◌, ℕ, List, [], ◌∷◌, ◌++◌, length, Option, Bool, true, false, refl, ap, subst, sym, ◌∙◌, append_assoc, append-nil}
 use Rattle.std.specs.List.{flat_map}
 use Rattle.std.specs.Prelude.{not, filter}
-use Rattle.gc_texts.specs.Cuts.{Cuts}
-use Rattle.gc_texts.specs.LineForms.{text_lines, is_skipped, is_kept, without_cr}
+use Rattle.gc_texts.specs.LineForms.{is_skipped, is_kept}
 use Rattle.gc_texts.specs.TaskLines.{IsTaskLine}
-use Rattle.gc_texts.specs.Tasks.{Gave, Grows, Counted, opening, mode_after, is_chained, place_in_chain, task_at, given_by, setup_at, setup_of, planned_at, planned_of, name_at, names_of, near_at, nears_of, may_follow, MayFollow, IsFirstFaultyTask, ReachesASoundTaskLine}
+use Rattle.gc_texts.specs.Tasks.{LinesGave, Grows, Counted, opening, mode_after, is_chained, place_in_chain, task_at, given_by, setup_at, setup_of, planned_at, planned_of, name_at, names_of, near_at, nears_of, may_follow, MayFollow, IsFirstFaultyTask, ReachesASoundTaskLine}
 use Rattle.gc_texts.specs.declared.name.Name.{Name}
 use Rattle.gc_texts.specs.declared.near.Near.{Near}
 use Rattle.gc_texts.specs.declared.task_line.TaskLine.{TaskLine}
@@ -18,7 +17,7 @@ use Rattle.gc_texts.specs.declared.mode.Mode.{Mode}
 use Rattle.gc_texts.specs.declared.task_line.TaskLine.TheVariants as says
 use Rattle.gc_texts.specs.declared.tasks.Given.{Given}
 use Rattle.gc_texts.proofs.TaskForms.{one_said}
-use Rattle.gc_texts.proofs.TextLines.{Reads, reads_few, lines_left, lines-cut, turn_skips, turn_reads}
+use Rattle.gc_texts.proofs.TextLines.{Reads, reads_few, ComesTo, lines_left, line_skips, line_reads}
 
 -- the mode after these lines, where `mode` holds before the first
 abbrev pub mode_after_lines : Mode → List TaskLine → Mode
@@ -109,7 +108,7 @@ follow_more names nears (line ∷ lines) next follow allowed = (
 -- where lines gave `old`, and this grew to `new` by what `next` gives by the mode after them, the lines and then `next` gave
 -- `new`
 gave_more : (first mode : Mode) (lines : List TaskLine) (next : TaskLine) (old new : Given)
-    → Gave first lines old → mode ≡ mode_after_lines first lines → Grows mode next old new → Gave first (lines ++ next ∷ []) new
+    → LinesGave first lines old → mode ≡ mode_after_lines first lines → Grows mode next old new → LinesGave first (lines ++ next ∷ []) new
 gave_more first mode lines next old new gave is grows =
     record {
       setup_are = grows.setup_more ∙ ap (λ ts. ts ++ setup_at mode next) gave.setup_are ∙ ap (λ m. setup_of first lines ++ setup_at m next) is ∙ sym (given_more setup_at first lines next);
@@ -126,7 +125,7 @@ pub record ReadsTasks (text : List ℕ) (first : Mode) (left : Option (List ℕ)
   pub said : List TaskLine
   pub reads : Reads IsTaskLine text left number said
   pub follow : MayFollow [] [] said
-  pub gave : Gave first said given
+  pub gave : LinesGave first said given
   pub mode_is : mode ≡ mode_after_lines first said
   pub reached : (said ≡ []) ⊎ ReachesASoundTaskLine text
 
@@ -156,94 +155,80 @@ module _
   pub cycle_few : length given.cycle.items ≤ 65537
   cycle_few = let few = said_few in let all = planned_few (opening deadline chained) r.said in let is = ap length r.gave.cycle_are in omega (arith, few, all, is)
 
--- one turn of the reading loop: `line` is cut off what is left, `plain` is that line without its CR, and `skipped` whether it
--- is skipped
+-- what becomes of a line to which the reading has come
 module _
-    (text : List ℕ) (first : Mode) (left : Option (List ℕ)) (now line plain : List ℕ) (rest : Option (List ℕ)) (number : ℕ)
-    (given : Given) (mode : Mode) (skipped : Bool) (r : ReadsTasks text first left number given mode) (some : left ≡ Some now) (cut : Cuts 10 now line rest)
-    (is_plain : plain ≡ without_cr line) (tested : skipped ≡ is_skipped plain) where
+    (text : List ℕ) (first : Mode) (left : Option (List ℕ)) (number : ℕ) (given : Given) (mode : Mode) (r : ReadsTasks text first left number given mode)
+    (line : List ℕ) (rest : Option (List ℕ)) (at : ComesTo IsTaskLine text line rest number r.said) where
   -- a line may follow the lines that were read exactly where it may follow the names and places so far
   said_so : (said : TaskLine) → may_follow (names_of r.said) (nears_of r.said) said ≡ may_follow given.names.items given.nears.items said
   said_so said = ap (λ ns. may_follow ns (nears_of r.said) said) (sym r.gave.names_are) ∙ ap (λ ps. may_follow given.names.items ps said) (sym r.gave.nears_are)
 
-  -- a skipped line is read, and changes nothing but the number of lines
-  pub task_skips : skipped ≡ true → ReadsTasks text first rest (number + 1) given mode
+  -- where it is skipped, it is read, and changes nothing but the number of lines
+  pub task_skips : is_skipped line ≡ true → ReadsTasks text first rest (number + 1) given mode
   task_skips is =
       record {
         said = r.said;
-        reads = turn_skips IsTaskLine text left now line plain rest number r.said skipped r.reads some cut is_plain tested is;
+        reads = line_skips IsTaskLine text line rest number r.said at is;
         follow = r.follow;
         gave = r.gave;
         mode_is = r.mode_is;
         reached = r.reached;
       }
 
-  -- how far the reading had come before this turn, as to the lines
-  reads_before : Reads IsTaskLine text (Some now) number r.said
-  reads_before = subst (λ o. Reads IsTaskLine text o number r.said) some r.reads
-
-  -- the text's lines are those that were read, this one, and those of the rest
-  split : text_lines text ≡ reads_before.read ++ without_cr line ∷ lines_left rest
-  split = reads_before.lines_are ∙ ap (λ ls. reads_before.read ++ ls) (lines-cut now line rest cut)
-
-  -- where the test says that the line isn't skipped (`skipped` is false), the line without its CR is kept (`is_kept`)
-  is_line : skipped ≡ false → is_kept (without_cr line) ≡ true
-  is_line isnt = ap not (ap is_skipped (sym is_plain) ∙ sym tested ∙ isnt)
-
-  -- a line that isn't skipped, and says nothing that may follow the lines before it, is the first faulty one
-  faulty : skipped ≡ false → ((said : TaskLine) → IsTaskLine plain said → may_follow given.names.items given.nears.items said ≡ false)
+  -- where it isn't skipped, and says nothing that may follow the lines before it, it is the first faulty one
+  faulty : is_skipped line ≡ false → ((said : TaskLine) → IsTaskLine line said → may_follow given.names.items given.nears.items said ≡ false)
       → IsFirstFaultyTask text (number + 1)
   faulty isnt none =
       record {
-        front = reads_before.read;
-        line = without_cr line;
+        front = at.read;
+        line = line;
         rest = lines_left rest;
-        lines_are = split;
-        place = ap (λ n. n + 1) reads_before.count;
-        kept = is_line isnt;
+        lines_are = at.lines_are;
+        place = ap (λ n. n + 1) at.count;
+        kept = ap not isnt;
         before = r.said;
-        lines = record { forms = reads_before.items_are; follow = r.follow };
-        faulty = λ said is. said_so said ∙ none said (subst (λ (l : List ℕ). IsTaskLine l said) (sym is_plain) is);
+        lines = record { forms = at.items_are; follow = r.follow };
+        faulty = λ said is. said_so said ∙ none said is;
       }
 
-  -- a line that isn't skipped and has no form is the first faulty one
-  pub task_fails : skipped ≡ false → ((said : TaskLine) → IsTaskLine plain said → ⊥) → IsFirstFaultyTask text (number + 1)
+  -- where it isn't skipped and has no form, it is the first faulty one
+  pub task_fails : is_skipped line ≡ false → ((said : TaskLine) → IsTaskLine line said → ⊥) → IsFirstFaultyTask text (number + 1)
   task_fails isnt none = faulty isnt (λ said is. absurd (none said is))
 
-  -- a line that isn't skipped, has a form, and may not follow the names and places so far (`may_follow`), is the first faulty one
-  pub task_refused : (said : TaskLine) (allowed : Bool) → skipped ≡ false → IsTaskLine plain said
+  -- where it isn't skipped, has a form, and may not follow the names and places so far (`may_follow`), it is the first faulty one
+  pub task_refused : (said : TaskLine) (allowed : Bool) → is_skipped line ≡ false → IsTaskLine line said
       → allowed ≡ may_follow given.names.items given.nears.items said → allowed ≡ false → IsFirstFaultyTask text (number + 1)
-  task_refused said allowed isnt is asked no_more = faulty isnt (λ other form. ap (may_follow given.names.items given.nears.items) (one_said plain other said form is) ∙ sym asked ∙ no_more)
+  task_refused said allowed isnt is asked no_more = faulty isnt (λ other form. ap (may_follow given.names.items given.nears.items) (one_said line other said form is) ∙ sym asked ∙ no_more)
 
-  -- where the line isn't skipped, has a form and may follow the names and places so far (`may_follow`), the text has a line that
-  -- isn't faulty, with no faulty line before it (`ReachesASoundTaskLine`): this is needed where memory is refused at the line
-  pub task_wants : (said : TaskLine) (allowed : Bool) → skipped ≡ false → IsTaskLine plain said
+  -- where it isn't skipped, has a form and may follow the names and places so far (`may_follow`), the text has a line that isn't
+  -- faulty, with no faulty line before it (`ReachesASoundTaskLine`): this is needed where memory is refused at the line
+  pub task_wants : (said : TaskLine) (allowed : Bool) → is_skipped line ≡ false → IsTaskLine line said
       → allowed ≡ may_follow given.names.items given.nears.items said → allowed ≡ true → ReachesASoundTaskLine text
   task_wants said allowed isnt is asked did =
       record {
-        front = reads_before.read;
-        line = without_cr line;
+        front = at.read;
+        line = line;
         rest = lines_left rest;
-        lines_are = split;
-        kept = is_line isnt;
+        lines_are = at.lines_are;
+        kept = ap not isnt;
         before = r.said;
-        lines = record { forms = reads_before.items_are; follow = r.follow };
+        lines = record { forms = at.items_are; follow = r.follow };
         said = said;
-        form = subst (λ (l : List ℕ). IsTaskLine l said) is_plain is;
+        form = is;
         allowed = said_so said ∙ sym asked ∙ did;
       }
 
-  -- a line that isn't skipped, has a form and may follow the names and places so far (`may_follow`) is read: what the lines
-  -- gave grows by what the line gives, and the mode is the one after it
+  -- where it isn't skipped, has a form and may follow the names and places so far (`may_follow`), it is read: what the lines gave
+  -- grows by what it gives, and the mode is the one after it
   pub task_reads :
       (said : TaskLine) (new : Given) (next : Mode) (allowed : Bool)
-      (isnt : skipped ≡ false) (is : IsTaskLine plain said) (asked : allowed ≡ may_follow given.names.items given.nears.items said) (did : allowed ≡ true)
+      (isnt : is_skipped line ≡ false) (is : IsTaskLine line said) (asked : allowed ≡ may_follow given.names.items given.nears.items said) (did : allowed ≡ true)
       (grows : Grows mode said given new) (more : next ≡ mode_after mode said)
       → ReadsTasks text first rest (number + 1) new next
   task_reads said new next allowed isnt is asked did grows more =
       record {
         said = r.said ++ said ∷ [];
-        reads = turn_reads IsTaskLine text left now line plain rest number r.said skipped r.reads some cut is_plain tested said (r.said ++ said ∷ []) isnt is refl;
+        reads = line_reads IsTaskLine text line rest number r.said at said (r.said ++ said ∷ []) isnt is refl;
         follow = follow_more [] [] r.said said r.follow (said_so said ∙ sym asked ∙ did);
         gave = gave_more first mode r.said said given new r.gave r.mode_is grows;
         mode_is = more ∙ ap (λ m. mode_after m said) r.mode_is ∙ sym (mode_after_both first r.said (said ∷ []));

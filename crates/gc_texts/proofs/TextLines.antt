@@ -1,13 +1,13 @@
 -- The lines of a text, one after another. A text is cut into pieces at each LF; `before` is the beginning of the first piece. A
 -- line is a piece without the CR at its end, if it has one. `Reads` says how far the reading of a text has come. A line that is
 -- empty or begins with `#` is skipped; any other has to have the form of an item. LF is byte 10, and CR byte 13.
-use Rattle.std.proofs.Common.{◌≡◌, ◌≢◌, ◌≤◌, ◌+◌, ℕ, List, [], ◌∷◌, ◌++◌, length, map, Option, Some, None, Bool, true, false, cond, arith, ap, subst, sym, ◌∙◌, ◌==◌, append_assoc, append-nil, length-append, ne_eqb}
+use Rattle.std.proofs.Common.{◌≡◌, ◌≢◌, ◌<◌, ◌≤◌, ◌+◌, ℕ, List, [], ◌∷◌, ◌++◌, length, map, Option, Some, None, true, false, cond, arith, ap, subst, sym, ◌∙◌, ◌==◌, append_assoc, append-nil, length-append, ne_eqb}
 use Rattle.std.specs.Prelude.{filter, not}
 use Rattle.std.proofs.lemmas.Bool.{cond_both}
 use Rattle.std.proofs.lemmas.List.{length-map}
 use Rattle.std.proofs.lemmas.List.Elements.{filter-append}
-use Rattle.gc_texts.specs.Cuts.{Cuts, Lacks}
-use Rattle.gc_texts.specs.LineForms.{Form, text_pieces, without_cr, text_lines, is_skipped, is_kept, AreItems, FirstFaulty, ReachesASoundLine}
+use Rattle.gc_texts.specs.Cuts.{Lacks}
+use Rattle.gc_texts.specs.LineForms.{Form, CutsLine, text_pieces, without_cr, text_lines, is_skipped, is_kept, AreItems, FirstFaulty, ReachesASoundLine}
 
 -- the lines of what is left of a text; none where nothing is (`None`). What is left after a last LF is the empty text, one empty
 -- line
@@ -45,10 +45,18 @@ pieces-few before (b ∷ bs) =
     let on = pieces-few (before ++ b ∷ []) bs in
     cond_both (b == 10) (before ∷ text_pieces [] bs) (text_pieces (before ++ b ∷ []) bs) (λ ps. length ps ≤ length (b ∷ bs) + 1) (λ _. omega (arith, anew)) (λ _. omega (arith, on))
 
--- where a text is cut at its first LF, if it has one, its lines are `front` without a CR at its end, and then those of `rest`
-pub lines-cut : (text front : List ℕ) (rest : Option (List ℕ)) → Cuts 10 text front rest → text_lines text ≡ without_cr front ∷ lines_left rest
-lines-cut text front None cut = ap (map without_cr) (ap (text_pieces []) cut.0 ∙ pieces-lacking [] front cut.1)
-lines-cut text front (Some rest) cut = ap (map without_cr) (ap (text_pieces []) cut.0 ∙ pieces-cut [] front rest cut.1)
+-- where a text's first line is cut off, its lines are this line, and then those of `rest`
+pub lines-cut : (text line : List ℕ) (rest : Option (List ℕ)) → CutsLine text line rest → text_lines text ≡ line ∷ lines_left rest
+lines-cut text line None c = ap (map without_cr) (ap (text_pieces []) c.cut.0 ∙ pieces-lacking [] c.piece c.cut.1) ∙ ap (λ l. l ∷ []) (sym c.line_is)
+lines-cut text line (Some rest) c =
+    ap (map without_cr) (ap (text_pieces []) c.cut.0 ∙ pieces-cut [] c.piece rest c.cut.1) ∙ ap (λ l. l ∷ text_lines rest) (sym c.line_is)
+
+-- where a text's first line is cut off, what is left is less than the text, as `much_left` counts
+pub left_falls : (text line : List ℕ) (rest : Option (List ℕ)) → CutsLine text line rest → much_left rest < much_left (Some text)
+left_falls text line None c = omega arith
+left_falls text line (Some rest) c =
+    let all : length text ≡ length c.piece + length (10 ∷ rest) = ap length c.cut.0 ∙ length-append c.piece (10 ∷ rest) in
+    omega (arith, all)
 
 -- where the lines `xs` have the forms of the items `es`, and the lines `ys` those of the items `fs`, `xs` followed by `ys` have
 -- the forms of `es` followed by `fs`
@@ -79,87 +87,84 @@ reads_few form text left number items within r =
 abbrev pub LineItems : {Item : Type 0} → Form Item → List ℕ → List Item → Type 0
 LineItems form line items = AreItems form (filter is_kept (line ∷ [])) items
 
--- where the reading has come to the text `now`, and the line that is cut off it gives, without its CR, the items `more`, one more
--- line is read with it, and the items are those before and then `more`
-pub reads_on : {Item : Type 0} (form : Form Item) (text now line : List ℕ) (rest : Option (List ℕ)) (number : ℕ) (items more : List Item)
-    → Reads form text (Some now) number items → Cuts 10 now line rest → LineItems form (without_cr line) more
-    → Reads form text rest (number + 1) (items ++ more)
-reads_on form text now line rest number items more r cut of_line =
-    let next : lines_left (Some now) ≡ without_cr line ∷ lines_left rest = lines-cut now line rest cut in
-    record {
-      read = r.read ++ without_cr line ∷ [];
-      lines_are = r.lines_are ∙ ap (λ ls. r.read ++ ls) next ∙ sym (append_assoc r.read (without_cr line ∷ []) (lines_left rest));
-      count = omega (arith, r.count, length-append r.read (without_cr line ∷ []));
-      items_are = subst (λ ls. AreItems form ls (items ++ more)) (sym (filter-append is_kept r.read (without_cr line ∷ [])))
-          (AreItems-append form (filter is_kept r.read) (filter is_kept (without_cr line ∷ [])) items more r.items_are of_line);
-    }
-
 -- a line that is skipped has no item
-pub skipped_line : {Item : Type 0} (form : Form Item) (line : List ℕ) → is_skipped line ≡ true → LineItems form line []
+skipped_line : {Item : Type 0} (form : Form Item) (line : List ℕ) → is_skipped line ≡ true → LineItems form line []
 skipped_line form line skipped = subst (λ ls. AreItems form ls []) (sym (ap (λ t. cond (not t) (line ∷ []) []) skipped)) tt
 
 -- a line that isn't skipped and has the form of an item gives that item
-pub kept_line : {Item : Type 0} (form : Form Item) (line : List ℕ) (item : Item)
+kept_line : {Item : Type 0} (form : Form Item) (line : List ℕ) (item : Item)
     → is_skipped line ≡ false → form line item → LineItems form line (item ∷ [])
 kept_line form line item kept is = subst (λ ls. AreItems form ls (item ∷ [])) (sym (ap (λ t. cond (not t) (line ∷ []) []) kept)) (is, tt)
 
--- one turn of the reading loop: `line` is cut off what is left, `plain` is that line without its CR, and `skipped` whether it
--- is skipped
+-- the reading of a text has come to this line: `number` lines were read before it, and gave these items, and `rest` is unread after
+-- the line
+pub record ComesTo {Item : Type 0} (form : Form Item) (text line : List ℕ) (rest : Option (List ℕ)) (number : ℕ) (items : List Item) : Type 0 where
+  pub read : List (List ℕ)
+  pub lines_are : text_lines text ≡ read ++ line ∷ lines_left rest
+  pub count : number ≡ length read
+  pub items_are : AreItems form (filter is_kept read) items
+
+-- where a line is cut off what is unread, the reading has come to that line
+pub comes_to : {Item : Type 0} (form : Form Item) (text : List ℕ) (left : Option (List ℕ)) (now line : List ℕ) (rest : Option (List ℕ))
+    (number : ℕ) (items : List Item) → Reads form text left number items → left ≡ Some now → CutsLine now line rest
+    → ComesTo form text line rest number items
+comes_to form text left now line rest number items r some cut = record {
+  read = r.read;
+  lines_are = r.lines_are ∙ ap (λ o. r.read ++ lines_left o) some ∙ ap (λ ls. r.read ++ ls) (lines-cut now line rest cut);
+  count = r.count;
+  items_are = r.items_are;
+}
+
+-- what becomes of a line to which the reading has come
 module _
-    {Item : Type 0} (form : Form Item) (text : List ℕ) (left : Option (List ℕ)) (now line plain : List ℕ) (rest : Option (List ℕ))
-    (number : ℕ) (items : List Item) (skipped : Bool) (r : Reads form text left number items) (some : left ≡ Some now)
-    (cut : Cuts 10 now line rest) (is_plain : plain ≡ without_cr line) (tested : skipped ≡ is_skipped plain) where
-  -- how far the reading had come before this turn, with the text `now` left
-  reads_before : Reads form text (Some now) number items
-  reads_before = subst (λ o. Reads form text o number items) some r
+    {Item : Type 0} (form : Form Item) (text line : List ℕ) (rest : Option (List ℕ)) (number : ℕ) (items : List Item)
+    (at : ComesTo form text line rest number items) where
+  -- where it gives the items `more`, it is read with them
+  reads_on : (more : List Item) → LineItems form line more → Reads form text rest (number + 1) (items ++ more)
+  reads_on more of_line = record {
+    read = at.read ++ line ∷ [];
+    lines_are = at.lines_are ∙ sym (append_assoc at.read (line ∷ []) (lines_left rest));
+    count = omega (arith, at.count, length-append at.read (line ∷ []));
+    items_are = subst (λ ls. AreItems form ls (items ++ more)) (sym (filter-append is_kept at.read (line ∷ [])))
+        (AreItems-append form (filter is_kept at.read) (filter is_kept (line ∷ [])) items more at.items_are of_line);
+  }
 
-  -- where the test says that the line isn't skipped (`skipped` is false), the line without its CR isn't
-  not_skipped : skipped ≡ false → is_skipped (without_cr line) ≡ false
-  not_skipped isnt = ap is_skipped (sym is_plain) ∙ sym tested ∙ isnt
+  -- where it is skipped, it is read, and gives no item
+  pub line_skips : is_skipped line ≡ true → Reads form text rest (number + 1) items
+  line_skips is = subst (λ es. Reads form text rest (number + 1) es) (append-nil items) (reads_on [] (skipped_line form line is))
 
-  -- a skipped line is read, and gives no item
-  pub turn_skips : skipped ≡ true → Reads form text rest (number + 1) items
-  turn_skips is =
-      let empty : LineItems form (without_cr line) [] = skipped_line form (without_cr line) (ap is_skipped (sym is_plain) ∙ sym tested ∙ is) in
-      subst (λ es. Reads form text rest (number + 1) es) (append-nil items) (reads_on form text now line rest number items [] reads_before cut empty)
+  -- where it isn't skipped and has the form of an item, it is read, and gives that item
+  pub line_reads : (item : Item) (new : List Item) → is_skipped line ≡ false → form line item → new ≡ items ++ item ∷ []
+      → Reads form text rest (number + 1) new
+  line_reads item new isnt is grown = subst (λ es. Reads form text rest (number + 1) es) (sym grown) (reads_on (item ∷ []) (kept_line form line item isnt is))
 
-  -- a line that isn't skipped and has the form of an item is read, and gives that item
-  pub turn_reads : (item : Item) (new : List Item) → skipped ≡ false → form plain item → new ≡ items ++ item ∷ [] → Reads form text rest (number + 1) new
-  turn_reads item new isnt is grown =
-      let own : LineItems form (without_cr line) (item ∷ []) = kept_line form (without_cr line) item (not_skipped isnt) (subst (λ l. form l item) is_plain is) in
-      subst (λ es. Reads form text rest (number + 1) es) (sym grown) (reads_on form text now line rest number items (item ∷ []) reads_before cut own)
-
-  -- the text's lines are those that were read, this one without its CR, and those of the rest
-  split : text_lines text ≡ reads_before.read ++ without_cr line ∷ lines_left rest
-  split = reads_before.lines_are ∙ ap (λ ls. reads_before.read ++ ls) (lines-cut now line rest cut)
-
-  -- a line that isn't skipped and has the form of no item is the first faulty one
-  pub turn_fails : skipped ≡ false → ((e : Item) → form plain e → ⊥) → FirstFaulty form text (number + 1)
-  turn_fails isnt none =
+  -- where it isn't skipped and has the form of no item, it is the first faulty one
+  pub line_fails : is_skipped line ≡ false → ((e : Item) → form line e → ⊥) → FirstFaulty form text (number + 1)
+  line_fails isnt none =
       record {
-        front = reads_before.read;
-        line = without_cr line;
+        front = at.read;
+        line = line;
         rest = lines_left rest;
-        lines_are = split;
-        place = ap (λ n. n + 1) reads_before.count;
-        kept = ap not (not_skipped isnt);
-        no_item = λ e is. none e (subst (λ l. form l e) (sym is_plain) is);
+        lines_are = at.lines_are;
+        place = ap (λ n. n + 1) at.count;
+        kept = ap not isnt;
+        no_item = none;
         items = items;
-        before = reads_before.items_are;
+        before = at.items_are;
       }
 
-  -- where the line isn't skipped and has the form of an item, the text has such a line with no faulty line before it
+  -- where it isn't skipped and has the form of an item, the text has such a line with no faulty line before it
   -- (`ReachesASoundLine`): this is needed where memory is refused for the item
-  pub turn_wants : (item : Item) → skipped ≡ false → form plain item → ReachesASoundLine form text
-  turn_wants item isnt is =
+  pub line_wants : (item : Item) → is_skipped line ≡ false → form line item → ReachesASoundLine form text
+  line_wants item isnt is =
       record {
-        front = reads_before.read;
-        line = without_cr line;
+        front = at.read;
+        line = line;
         rest = lines_left rest;
-        lines_are = split;
-        kept = ap not (not_skipped isnt);
+        lines_are = at.lines_are;
+        kept = ap not isnt;
         item = item;
-        is_item = subst (λ l. form l item) is_plain is;
+        is_item = is;
         items = items;
-        before = reads_before.items_are;
+        before = at.items_are;
       }

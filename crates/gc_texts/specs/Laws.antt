@@ -6,7 +6,6 @@ use Rattle.std.specs.List.{AllByRecursion}
 use Rattle.gc_texts.specs.Again.{no_again}
 use Rattle.gc_texts.specs.Tasks.{IsTasks}
 use Rattle.gc_texts.specs.ProcedureNames.{name_of}
-use Rattle.gc_texts.specs.Troubles.{parameter_count}
 use Rattle.gc_texts.specs.Wishes.{wish_of}
 use Rattle.gc_catalogue.specs.Calls.{call_fields}
 use Rattle.gc_catalogue.specs.Names.{call_name}
@@ -79,10 +78,6 @@ ChainsKeepTargets =
     (text : List ℕ) (deadline : ℕ) (chained : Bool) (setup : ℕ) (tasks : List Task) (names : List Name) (nears : List Near)
     → IsTasks text deadline chained setup tasks names nears
     → (front : List Task) × (cycle : List Task) × (tasks ≡ front ++ cycle) × (setup ≡ length front) × IsOneChain front × KeepTargets None cycle
-
--- `parameter_count`, the number of parameters that is printed of a procedure, is the catalogue's number of its parameters
-abbrev pub ParameterCountsAreTheCatalogues : Type 0
-ParameterCountsAreTheCatalogues = (call : Call) → parameter_count (call_fields call).number ≡ length (call_fields call).values
 
 -- the name that is printed of a procedure's number is the catalogue's
 abbrev pub NamesAreTheCatalogues : Type 0

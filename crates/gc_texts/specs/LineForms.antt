@@ -1,6 +1,7 @@
 -- A text of lines, each of which is written for one item: this project's own.
 use Rattle.std.specs.Prelude.{◌≡◌, ℕ, ◌+◌, ◌-◌, ◌<◌, ◌≤◌, ◌↔◌, ◌==◌, Bool, true, List, [], ◌∷◌, ◌++◌, length, get_or, map, filter, not, if◌then◌else◌, MatchOption, Option, Result, Err}
 use Rattle.std.specs.List.{AllZip}
+use Rattle.gc_texts.specs.Cuts.{Cuts}
 use Rattle.gc_texts.specs.declared.fault.RunFault.{RunFault}
 use Rattle.gc_texts.specs.declared.fault.RunFault.TheVariants.{Schedule, Memory, InputTooLong}
 use Rattle.gc_texts.specs.declared.text.TheConstants.{TEXT_LIMIT}
@@ -23,6 +24,13 @@ abbrev pub without_cr : List ℕ → List ℕ
 without_cr [] = []
 without_cr (b ∷ []) = if b == 13 then [] else b ∷ []
 without_cr (b ∷ c ∷ bs) = b ∷ without_cr (c ∷ bs)
+
+-- a text begins with this line, which is what is before the first LF, without one CR at its end; and `rest` is what follows that LF,
+-- and `None` where the text has none
+pub record CutsLine (text line : List ℕ) (rest : Option (List ℕ)) : Type 0 where
+  pub piece : List ℕ
+  pub cut : Cuts 10 text piece rest
+  pub line_is : line ≡ without_cr piece
 
 -- the lines of a text; an empty piece after the last LF is an empty line, which is skipped
 abbrev pub text_lines : List ℕ → List (List ℕ)

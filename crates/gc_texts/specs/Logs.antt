@@ -1,8 +1,6 @@
 -- Lines of a log: what was on a link, in printable characters alone. Their form is this project's own.
-use Rattle.std.specs.Prelude.{◌≡◌, ◌<◌, ℕ, ◌/◌, ◌%◌, ◌+◌, ◌≤◌, ◌==◌, ◌&&◌, Bool, not, nat_lt, List, [], ◌∷◌, ◌++◌, All, Option, if◌then◌else◌, codes}
-use Rattle.std.specs.Io.KnownBytes.{Appends}
+use Rattle.std.specs.Prelude.{◌≡◌, ◌<◌, ℕ, ◌/◌, ◌%◌, ◌+◌, ◌≤◌, ◌==◌, ◌&&◌, Bool, not, nat_lt, List, [], ◌∷◌, ◌++◌, All, if◌then◌else◌, codes}
 use Rattle.std.specs.List.{flat_map}
-use Rattle.gc_lines.specs.Ports.{TakesFront}
 use Rattle.gc_texts.specs.Cuts.{Lacks}
 use Rattle.gc_texts.specs.Stamps.{stamp_text}
 use Rattle.gc_texts.specs.declared.log_line.LogMark.{LogMark}
@@ -47,14 +45,6 @@ log_text moment mark bytes = moment ++ 32 ∷ (mark_text mark ++ 32 ∷ escaped 
 -- a log line with its line feed, of the moment `utc` milliseconds after the beginning of 1970
 abbrev pub log_line : ℕ → LogMark → List ℕ → List ℕ
 log_line utc mark bytes = log_text (stamp_text utc) mark bytes ++ codes "\n"
-
--- a sink took the log line of this moment, mark and bytes; `old` and `new` are what it has taken before and after
-abbrev pub TakesLogLine : (old new : Option (List ℕ)) → (utc : ℕ) → LogMark → (bytes : List ℕ) → Type 0
-TakesLogLine old new utc mark bytes = Appends old new (log_line utc mark bytes)
-
--- a sink took the first n bytes of the log line of this moment, mark and bytes, which aren't all of it
-abbrev pub TakesLogFront : (old new : Option (List ℕ)) → (n utc : ℕ) → LogMark → (bytes : List ℕ) → Type 0
-TakesLogFront old new n utc mark bytes = TakesFront old new n (log_line utc mark bytes)
 
 -- a text is the log line of this moment, mark and bytes, without a line feed. The moment, in printable characters, is what is before the
 -- text's first space, and the bytes are numbers below 256

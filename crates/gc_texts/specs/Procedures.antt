@@ -9,6 +9,14 @@ pub record IsNumber (text : List ℕ) (n max : ℕ) : Type 0 where
   pub names : NamesNumber text n
   pub within : n ≤ max
 
+-- the text is the number of a target
+abbrev pub IsTarget : (text : List ℕ) → (target : ℕ) → Type 0
+IsTarget text target = IsNumber text target 4294967295
+
+-- the text is the number of a procedure, in the table or not
+abbrev pub IsRpc : (text : List ℕ) → (rpc : ℕ) → Type 0
+IsRpc text rpc = IsNumber text rpc 65535
+
 -- what follows a procedure's number: nothing, or a space and the parameters
 abbrev pub params_text_of : Option (List ℕ) → List ℕ
 params_text_of None = []
@@ -25,6 +33,6 @@ pub record IsProcedure (text : List ℕ) (call : Call) : Type 0 where
   pub rpc : ℕ
   pub params : Option (List ℕ)
   pub text_is : text ≡ rpc_text ++ params_text_of params
-  pub number : IsNumber rpc_text rpc 65535
+  pub number : IsRpc rpc_text rpc
   pub some : HasBytes params
   pub calls : IsCall rpc (unwrap_or params []) call

@@ -6,7 +6,7 @@ use Rattle.gc_texts.specs.Codes.{IsCodeList, no_codes}
 use Rattle.gc_texts.specs.Wishes.{IsWish}
 use Rattle.gc_texts.specs.Names.{is_name}
 use Rattle.gc_texts.specs.Nears.{IsNearText}
-use Rattle.gc_texts.specs.Procedures.{IsNumber}
+use Rattle.gc_texts.specs.Procedures.{IsNumber, IsTarget}
 use Rattle.gc_texts.specs.Cuts.{behind}
 use Rattle.gc_texts.specs.Retries.{IsRetryRule, no_retry}
 use Rattle.gc_texts.specs.Words.{first_word}
@@ -30,7 +30,7 @@ pub record IsDeadline (line : List ℕ) (deadline : ℕ) : Type 0 where
 pub record IsNameLine (line : List ℕ) (name : Name) : Type 0 where
   pub target_text : List ℕ
   pub line_is : line ≡ codes "name " ++ (target_text ++ 32 ∷ name.text.items)
-  pub target_is : IsNumber target_text name.target 4294967295
+  pub target_is : IsTarget target_text name.target
   pub text_is : is_name name.text.items ≡ true
 
 -- `near T HZ V TOLERANCE`: where a target is
@@ -62,7 +62,7 @@ SetsRetry line retry = ((line ≡ codes "retry 0") × (retry ≡ no_retry)) ⊎ 
 -- `T 5007 now`: a command that sets the clock of target T to the moment at which it is sent. In place of that moment the call of
 -- the wish has the first moment of 1970
 pub record SetsClock (line : List ℕ) (wish : Wish) : Type 0 where
-  pub target_is : IsNumber (first_word line) wish.target 4294967295
+  pub target_is : IsTarget (first_word line) wish.target
   pub rest_is : behind 32 line ≡ codes "5007 now"
   pub call_is : wish.call ≡ Table (SetDate FIRST_MOMENT)
 

@@ -3,7 +3,7 @@
 -- continue, the codes that are accepted, how often its chain is repeated, whether it is setup, how many commands of each
 -- section are in front, and how many of those in front are in the last chain. A group is a run of commands for one target,
 -- with no line `chained`, `unchained`, `retry`, `at start` or `each cycle` between them.
-use Rattle.std.specs.Prelude.{◌≡◌, ℕ, ◌+◌, ◌≤◌, ◌⊎◌, ◌==◌, ◌&&◌, Bool, true, false, not, nat_lt, List, [], ◌∷◌, ◌++◌, length, map, filter, Option, None, Some, Vec, vec_capacity, vec_len, Result, if◌then◌else◌}
+use Rattle.std.specs.Prelude.{◌≡◌, ℕ, ◌+◌, ◌≤◌, ◌⊎◌, ◌==◌, ◌&&◌, Bool, true, false, not, nat_lt, List, [], ◌∷◌, ◌++◌, length, map, filter, Option, None, Some, Vec, vec_capacity, vec_len, if◌then◌else◌}
 use Rattle.std.specs.List.{flat_map}
 use Rattle.gc_catalogue.specs.declared.asked.Asked.{Asked}
 use Rattle.gc_catalogue.specs.declared.asked.Asked.TheVariants.{Table}
@@ -11,7 +11,7 @@ use Rattle.gc_catalogue.specs.declared.call.Call.TheVariants.{SetDate}
 use Rattle.gc_texts.specs.Again.{no_again}
 use Rattle.gc_texts.specs.Attempts.{laid_out}
 use Rattle.gc_texts.specs.Codes.{no_codes}
-use Rattle.gc_texts.specs.LineForms.{text_lines, is_kept, AreItems, TextFaultBy, NamesFaulty, MemoryOnlyIf}
+use Rattle.gc_texts.specs.LineForms.{text_lines, is_kept, AreItems, TextFaultBy}
 use Rattle.gc_texts.specs.Names.{is_named}
 use Rattle.gc_texts.specs.Nears.{has_near, near_of}
 use Rattle.gc_texts.specs.Retries.{no_retry}
@@ -161,7 +161,7 @@ nears_of lines = flat_map near_at lines
 
 -- these are the commands of the setup and of each cycle, the names and the places that these lines give, where `first` holds
 -- before them
-pub record Gave (first : Mode) (lines : List TaskLine) (given : Given) : Type 0 where
+pub record LinesGave (first : Mode) (lines : List TaskLine) (given : Given) : Type 0 where
   pub setup_are : given.setup.items ≡ setup_of first lines
   pub cycle_are : given.cycle.items ≡ planned_of first lines
   pub names_are : given.names.items ≡ names_of lines
@@ -244,16 +244,6 @@ pub record ReachesASoundTaskLine (text : List ℕ) : Type 0 where
   pub said : TaskLine
   pub form : IsTaskLine line said
   pub allowed : may_follow (names_of before) (nears_of before) said ≡ true
-
--- if the reading of this text had this result, and it is `Schedule`, the line that it names is the first faulty one
--- (`IsFirstFaultyTask`)
-abbrev pub NamesFaultyTask : {A : Type 0} → List ℕ → Result A RunFault → Type 0
-NamesFaultyTask text result = NamesFaulty (IsFirstFaultyTask text) result
-
--- if the reading of this text had this result, and it is `Memory`, the reader came to a line that has a form and isn't faulty, and to no
--- faulty line before it (`ReachesASoundTaskLine`)
-abbrev pub MemoryAtTask : {A : Type 0} → List ℕ → Result A RunFault → Type 0
-MemoryAtTask text result = MemoryOnlyIf (ReachesASoundTaskLine text) result
 
 -- why the reading of a station's text gave no tasks: the text is too long; or it isn't, and either line n is its first faulty one, or
 -- memory was refused at a line that has a form, isn't faulty and follows no faulty one

@@ -1,7 +1,7 @@
 -- Which field of a faulty line of a station's text is at fault: this project's own.
-use Rattle.std.specs.Prelude.{◌≡◌, ◌≢◌, ℕ, ◌==◌, ◌||◌, ◌⊎◌, List, ◌++◌, length, if◌then◌else◌, codes}
+use Rattle.std.specs.Prelude.{◌≡◌, ◌≢◌, ℕ, ◌⊎◌, List, ◌++◌, length, codes}
 use Rattle.std.specs.Fmt.{decimal}
-use Rattle.gc_catalogue.specs.Calls.{IsCall, IsRefusal}
+use Rattle.gc_catalogue.specs.Calls.{IsCall, IsParameterCount, IsRefusal}
 use Rattle.gc_catalogue.specs.Raws.{IsRawCall, IsRawRefusal}
 use Rattle.gc_catalogue.specs.declared.call.Call.{Call}
 use Rattle.gc_catalogue.specs.declared.fault.CallFault.TheVariants.{Unknown, Parameters}
@@ -9,36 +9,27 @@ use Rattle.gc_catalogue.specs.declared.raw.RawFault.{RawFault}
 use Rattle.gc_catalogue.specs.declared.raw.RawFault.TheVariants.{InTable, TooLong}
 use Rattle.gc_values.specs.declared.fault.ValueFault.{ValueFault}
 use Rattle.gc_values.specs.declared.fault.ValueFault.TheVariants.{Count, TooMany}
-use Rattle.gc_texts.specs.Procedures.{IsNumber}
+use Rattle.gc_texts.specs.Procedures.{IsNumber, IsRpc, IsTarget}
 use Rattle.gc_texts.specs.Cuts.{behind}
 use Rattle.gc_texts.specs.ProcedureNames.{name_of}
 use Rattle.gc_texts.specs.Words.{first_word, second_word, third_word, after_two_words, after_three_words}
 use Rattle.gc_texts.specs.declared.trouble.Trouble.{Trouble}
 use Rattle.gc_texts.specs.declared.trouble.Trouble.TheVariants as trouble
 
--- how many parameters the procedure with this number has; 0 where there is no such procedure
-abbrev pub parameter_count : ℕ → ℕ
-parameter_count rpc =
-    if (rpc == 107) || (rpc == 2012) || (rpc == 2107) || (rpc == 17008) || (rpc == 17017) then 1
-    else if (rpc == 2008) || (rpc == 2108) then 2
-    else if (rpc == 9028) || (rpc == 9037) then 3
-    else if rpc == 2010 then 4
-    else if rpc == 9027 then 5
-    else if rpc == 5007 then 6
-    else 0
-
--- what is reported of a procedure's parameters with this fault: how many the procedure has, where the line has another
+-- what is reported of this fault in the parameters of a procedure that has `count` of them: `count`, where the line has another
 -- number of them; else that their spelling is at fault
-abbrev pub parameters_trouble : ℕ → ValueFault → Trouble
-parameters_trouble rpc Count = trouble.Wants rpc (parameter_count rpc)
-parameters_trouble rpc TooMany = trouble.Wants rpc (parameter_count rpc)
-parameters_trouble rpc _ = trouble.Parameters
+abbrev pub parameters_trouble : (rpc count : ℕ) → ValueFault → Trouble
+parameters_trouble rpc count Count = trouble.Wants rpc count
+parameters_trouble rpc count TooMany = trouble.Wants rpc count
+parameters_trouble rpc count _ = trouble.Parameters
 
 -- the procedure refuses these parameters with some fault, and `t` is what is reported of that fault
 pub record IsParametersTrouble (rpc : ℕ) (params : List ℕ) (t : Trouble) : Type 0 where
   pub fault : ValueFault
   pub refused : IsRefusal rpc params (Parameters fault)
-  pub is : t ≡ parameters_trouble rpc fault
+  pub count : ℕ
+  pub counted : IsParameterCount rpc count
+  pub is : t ≡ parameters_trouble rpc count fault
 
 -- what is at fault in a procedure's number and its parameters: no procedure has the number, or the parameters have a fault.
 -- Where number and parameters make a call, nothing is at fault, which is reported as `NoForm`
@@ -66,15 +57,23 @@ IsRawTrouble rpc params t =
 abbrev pub NoNumber : List ℕ → ℕ → Type 0
 NoNumber text max = (n : ℕ) → IsNumber text n max → ⊥
 
+-- the text is no number of a target
+abbrev pub NoTarget : List ℕ → Type 0
+NoTarget text = (n : ℕ) → IsTarget text n → ⊥
+
+-- the text is no number of a procedure
+abbrev pub NoRpc : List ℕ → Type 0
+NoRpc text = (rpc : ℕ) → IsRpc text rpc → ⊥
+
 -- the word after `raw` is no procedure's number, and `t` is `Number`; or it is one, and `t` is what is at fault in it and the
 -- parameters after it
 abbrev pub IsRawWordsTrouble : (word params : List ℕ) → Trouble → Type 0
-IsRawWordsTrouble word params t = ((t ≡ trouble.Number) × NoNumber word 65535) ⊎ ((rpc : ℕ) × IsNumber word rpc 65535 × IsRawTrouble rpc params t)
+IsRawWordsTrouble word params t = ((t ≡ trouble.Number) × NoRpc word) ⊎ ((rpc : ℕ) × IsRpc word rpc × IsRawTrouble rpc params t)
 
 -- the second word of a line is a procedure's number, and that number and the parameters after it have this trouble
 pub record IsCommandTrouble (line : List ℕ) (t : Trouble) : Type 0 where
   pub rpc : ℕ
-  pub number : IsNumber (second_word line) rpc 65535
+  pub number : IsRpc (second_word line) rpc
   pub is : IsCallTrouble rpc (after_two_words line) t
 
 -- the second word of a line is `raw`
@@ -86,7 +85,7 @@ IsRawLine line = second_word line ≡ codes "raw"
 pub record IsRawCommandTrouble (line : List ℕ) (t : Trouble) : Type 0 where
   pub word : IsRawLine line
   pub rpc : ℕ
-  pub number : IsNumber (third_word line) rpc 65535
+  pub number : IsRpc (third_word line) rpc
   pub is : IsRawTrouble rpc (after_three_words line) t
 
 -- the first word of a line is none of `deadline`, `name`, `near`, `accept`, `retry`, `at` and `each`: the line is taken for a command
@@ -102,15 +101,15 @@ pub record BeginsAsCommand (line : List ℕ) : Type 0 where
 -- a line whose first word is `deadline`, `name`, `near`, `accept`, `retry`, `at` or `each` is at fault in its target, or in what it sets
 abbrev pub IsSettingTrouble : List ℕ → Trouble → Type 0
 IsSettingTrouble line trouble.Deadline = first_word line ≡ codes "deadline"
-IsSettingTrouble line trouble.Name = (first_word line ≡ codes "name") × ((n : ℕ) × IsNumber (second_word line) n 4294967295)
-IsSettingTrouble line trouble.Near = (first_word line ≡ codes "near") × ((n : ℕ) × IsNumber (second_word line) n 4294967295)
+IsSettingTrouble line trouble.Name = (first_word line ≡ codes "name") × ((n : ℕ) × IsTarget (second_word line) n)
+IsSettingTrouble line trouble.Near = (first_word line ≡ codes "near") × ((n : ℕ) × IsTarget (second_word line) n)
 IsSettingTrouble line trouble.Accept = first_word line ≡ codes "accept"
 IsSettingTrouble line trouble.Retry = first_word line ≡ codes "retry"
 IsSettingTrouble line trouble.AtStart = first_word line ≡ codes "at"
 IsSettingTrouble line trouble.EachCycle = first_word line ≡ codes "each"
 IsSettingTrouble line trouble.Target =
-    ((first_word line ≡ codes "name") × NoNumber (second_word line) 4294967295)
-    ⊎ ((first_word line ≡ codes "near") × NoNumber (second_word line) 4294967295)
+    ((first_word line ≡ codes "name") × NoTarget (second_word line))
+    ⊎ ((first_word line ≡ codes "near") × NoTarget (second_word line))
 IsSettingTrouble line t = ⊥
 
 -- a line that is taken for a command has this trouble; more than one may fit a line. `Now`: its second and third words are
@@ -118,8 +117,8 @@ IsSettingTrouble line t = ⊥
 -- may be asked for after the word `raw`, so that neither of these is at fault
 abbrev pub IsAskingTrouble : List ℕ → Trouble → Type 0
 IsAskingTrouble line trouble.Now = (second_word line ≡ codes "5007") × (third_word line ≡ codes "now")
-IsAskingTrouble line trouble.Target = NoNumber (first_word line) 4294967295
-IsAskingTrouble line trouble.Number = (IsRawLine line × NoNumber (third_word line) 65535) ⊎ ((IsRawLine line → ⊥) × NoNumber (second_word line) 65535)
+IsAskingTrouble line trouble.Target = NoTarget (first_word line)
+IsAskingTrouble line trouble.Number = (IsRawLine line × NoRpc (third_word line)) ⊎ ((IsRawLine line → ⊥) × NoRpc (second_word line))
 IsAskingTrouble line trouble.NoForm =
     (length (behind 32 line) ≡ 0) ⊎ (IsCommandTrouble line trouble.NoForm ⊎ IsRawCommandTrouble line trouble.NoForm)
 IsAskingTrouble line (trouble.RawInTable rpc) = IsRawCommandTrouble line (trouble.RawInTable rpc)

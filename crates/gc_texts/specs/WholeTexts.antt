@@ -9,7 +9,7 @@ use Rattle.gc_texts.specs.Texts.{IsReadFault, read_failed, end_reads}
 use Rattle.gc_texts.specs.declared.commands.Command.{Command}
 use Rattle.gc_texts.specs.declared.text.TheConstants.{TEXT_LIMIT}
 use Rattle.gc_texts.specs.declared.fault.RunFault.{RunFault}
-use Rattle.gc_texts.specs.declared.fault.RunFault.TheVariants.{Read, Memory, InputTooLong}
+use Rattle.gc_texts.specs.declared.fault.RunFault.TheVariants.{Memory}
 
 -- what is seen of a source: the bytes still to come, where they are known, how many reads were answered, whether the last was the end, and
 -- whether it has failed
@@ -39,12 +39,9 @@ abbrev pub ReadsText : (old new : Input) → (text : List ℕ) → Type 0
 ReadsText old new text =
     Consumes old.remaining new.remaining text × (length text ≤ TEXT_LIMIT) × (new.reads ≤ old.reads + length text + end_reads new.ended)
 
--- reading took a source from `old` to `new`, with at most one read for each byte and one for the end, and gave no text, for the reason
--- that this fault says
+-- reading took a source from `old` to `new`, as `Gave` says, and gave no text, for the reason that this fault says
 abbrev pub ReadsNoText : (old new : Input) → RunFault → Type 0
-ReadsNoText old new fault =
-    (given : List ℕ) × Consumes old.remaining new.remaining given × IsReadFault given fault
-    × (new.reads ≤ old.reads + length given + end_reads new.ended)
+ReadsNoText old new fault = Gave old new (λ given. IsReadFault given fault)
 
 -- reading took a source from `old` to `new`, by one read or more, of which the last was the end, and the source has no byte left
 abbrev pub IsReadToEnd : (old new : Input) → Type 0
@@ -60,11 +57,10 @@ pub record WasRead (given : List ℕ) (old new : Input) : Type 0 where
 
 -- a text wasn't read to its end, for the reason that this fault says: `IsReadFault` says how many bytes came, and `read_failed`
 -- whether the source has failed. With `Memory`, for which memory was refused, at least one byte came, and the source hasn't ended
-abbrev pub IsUnread : (given : List ℕ) → (old new : Input) → RunFault → Type 0
-IsUnread given old new Read = IsReadFault given Read × (new.failed ≡ read_failed Read old.failed)
-IsUnread given old new InputTooLong = IsReadFault given InputTooLong × (new.failed ≡ read_failed InputTooLong old.failed)
-IsUnread given old new Memory = (0 < length given) × IsReadFault given Memory × (new.ended ≡ false) × (new.failed ≡ read_failed Memory old.failed)
-IsUnread given old new _ = ⊥
+pub record IsUnread (given : List ℕ) (old new : Input) (fault : RunFault) : Type 0 where
+  pub fault_is : IsReadFault given fault
+  pub failed : new.failed ≡ read_failed fault old.failed
+  pub memory : fault ≡ Memory → (0 < length given) × (new.ended ≡ false)
 
 -- why the text that a source gave was refused: it wasn't read to its end (`IsUnread`), or it was, and `HasFault` says that it has
 -- this fault
@@ -85,14 +81,6 @@ RefusesCommands given old new fault = RefusesText (TextFault IsCommand) given ol
 abbrev pub ReadsCommands : (old new : Input) → List Command → Type 0
 ReadsCommands old new commands = Gave old new (λ given. GivesCommands given old new commands)
 
--- reading took this source from `old` to `new`, and gave the commands of the text that came
-abbrev pub GaveCommands : {S : Type 0} → Source S → (old new : S) → List Command → Type 0
-GaveCommands of_source old new commands = ReadsCommands (input_of of_source old) (input_of of_source new) commands
-
 -- reading took a source from `old` to `new`, and gave no commands, for the reason that this fault says
 abbrev pub ReadsNoCommands : (old new : Input) → RunFault → Type 0
 ReadsNoCommands old new fault = Gave old new (λ given. RefusesCommands given old new fault)
-
--- reading took this source from `old` to `new`, and gave no commands, for the reason that this fault says
-abbrev pub GaveNoCommands : {S : Type 0} → Source S → (old new : S) → RunFault → Type 0
-GaveNoCommands of_source old new fault = ReadsNoCommands (input_of of_source old) (input_of of_source new) fault

@@ -6,7 +6,7 @@ use Rattle.gc_catalogue.specs.declared.asked.Asked.TheVariants.{Table, Raw}
 use Rattle.gc_catalogue.specs.RawTexts.{raw_bytes}
 use Rattle.gc_catalogue.specs.declared.raw.RawCall.{RawCall}
 use Rattle.gc_texts.specs.Commands.{IsCommand}
-use Rattle.gc_texts.specs.Procedures.{IsNumber}
+use Rattle.gc_texts.specs.Procedures.{IsRpc, IsTarget}
 use Rattle.gc_texts.specs.Words.{first_word, second_word, third_word, after_two_words, after_three_words}
 use Rattle.gc_texts.specs.declared.commands.Command.{Command}
 use Rattle.gc_texts.specs.declared.wish.Wish.{Wish}
@@ -18,9 +18,9 @@ wish_of command = record { target = command.target; call = Table command.call }
 -- `T raw RPC` or `T raw RPC PARAMS`: the target T, the word `raw`, the number of a procedure that isn't in the table, and
 -- its parameters as they are. A space follows the number only where parameters do
 pub record IsRawWish (line : List ℕ) (target : ℕ) (raw : RawCall) : Type 0 where
-  pub target_is : IsNumber (first_word line) target 4294967295
+  pub target_is : IsTarget (first_word line) target
   pub word : second_word line ≡ codes "raw"
-  pub number : IsNumber (third_word line) raw.rpc 65535
+  pub number : IsRpc (third_word line) raw.rpc
   pub params_are : raw_bytes raw.params ≡ after_three_words line
   pub some : (length (third_word line) ≡ length (after_two_words line)) ⊎ (0 < length (after_three_words line))
 

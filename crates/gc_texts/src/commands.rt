@@ -1,13 +1,13 @@
 //! Commands: what is asked of which target, and their text. A command has no deadline.
 
 ghost use Rattle.std.specs.Prelude.{IfOk, IfErr};
-ghost use Rattle.gc_texts.specs.Commands.{IsCommand, IsCommands, NamesFaultyCommand, MemoryAtCommand};
-ghost use Rattle.gc_texts.specs.LineForms.{IsReadAs, RefusesLong, TextFault};
+ghost use Rattle.gc_texts.specs.Commands.{IsCommand, IsCommands};
+ghost use Rattle.gc_texts.specs.LineForms.{FirstFaulty, IsReadAs, MemoryOnlyIf, NamesFaulty, ReachesASoundLine, RefusesLong, TextFault};
 
 use crate::cuts::cut_at;
 use crate::fault::RunFault;
 use crate::line_forms::{LineForm, read_items};
-use crate::procedure::{TARGET_MAX, number_of, read_procedure};
+use crate::procedure::{read_procedure, target_of};
 use gc_catalogue::Call;
 use std::alloc::Global;
 
@@ -57,14 +57,11 @@ pub(crate) fn read_command(line: &[u8]) -> Option<Command>
     let Some(procedure) = procedure else {
         return None
     };
-    let Some(target) = number_of(target, TARGET_MAX) else {
+    let Some(target) = target_of(target) else {
         return None
     };
     match read_procedure(procedure) {
-        Some(call) => Some(Command {
-            target: target as u32,
-            call,
-        }),
+        Some(call) => Some(Command { target, call }),
         None => None,
     }
 }
@@ -77,8 +74,8 @@ pub(crate) fn read_command(line: &[u8]) -> Option<Command>
 pub fn read_commands(alloc: Global, text: &[u8]) -> Result<Vec<Command>, RunFault>
     ensures found { IfOk result (λ commands. IsCommands text.now commands.items) }
     ensures too_long { RefusesLong text.now result }
-    ensures faulty { NamesFaultyCommand text.now result }
-    ensures memory { MemoryAtCommand text.now result }
+    ensures faulty { NamesFaulty (FirstFaulty IsCommand text.now) result }
+    ensures memory { MemoryOnlyIf (ReachesASoundLine IsCommand text.now) result }
     ensures faults { IfErr result (λ e. TextFault IsCommand text.now e) }
 {
     read_items::<CommandForm>(alloc, text)

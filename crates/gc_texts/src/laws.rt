@@ -5,7 +5,7 @@ ghost use Rattle.gc_texts.specs.Chained.{TasksFollowTheirLines, PlacesHoldForAll
 ghost use Rattle.gc_texts.specs.Repeats.{ChainsGoOutAgain, RetriesHold};
 ghost use Rattle.gc_texts.specs.Moments.{StampsAreMoments};
 ghost use Rattle.gc_texts.specs.Nears.{DirectionsAreAskedFor};
-ghost use Rattle.gc_texts.specs.Laws.{OneCommandList, OneTaskList, CommandsAreTasks, CommandsArePlain, ChainsKeepTargets, ParameterCountsAreTheCatalogues, NamesAreTheCatalogues, LogLinesReadBack, LogLinesArePrintable};
+ghost use Rattle.gc_texts.specs.Laws.{OneCommandList, OneTaskList, CommandsAreTasks, CommandsArePlain, ChainsKeepTargets, NamesAreTheCatalogues, LogLinesReadBack, LogLinesArePrintable};
 
 /// A command text gives one list of commands at most.
 pub fn commands_have_one_reading()
@@ -43,11 +43,6 @@ pub fn chains_go_out_again()
 /// A command of the cycle has the retry that the last line `retry` before it says; without one it isn't repeated.
 pub fn retries_hold_behind_their_lines()
     ensures { RetriesHold }
-{}
-
-/// The number of parameters that is printed for a procedure, if a line has another number of them, is the catalogue's.
-pub fn parameter_counts_are_the_catalogues()
-    ensures { ParameterCountsAreTheCatalogues }
 {}
 
 /// The name that is printed for a procedure's number, if a line has that number after the word `raw`, is the catalogue's.

@@ -2,7 +2,7 @@
 
 ghost use Rattle.std.specs.Prelude.{◌≡◌, ◌≤◌, length, IfOk, IfErr};
 ghost use Rattle.std.specs.Option.{option_copied};
-ghost use Rattle.gc_texts.specs.LineForms.{IsText, RefusesLong, TextFault, without_cr, line_at, is_skipped};
+ghost use Rattle.gc_texts.specs.LineForms.{CutsLine, IsText, RefusesLong, TextFault, without_cr, line_at, is_skipped};
 ghost use Rattle.gc_texts.specs.declared.text.TheConstants.{TEXT_LIMIT};
 
 use crate::cuts::cut_at;
@@ -30,13 +30,22 @@ pub trait LineForm {
 }
 
 // The line without one CR at its end, if it has one.
-pub(crate) fn without_cr(line: &[u8]) -> &[u8]
+fn without_cr(line: &[u8]) -> &[u8]
     ensures { result.now ≡ without_cr line.now }
 {
     match line.strip_suffix(b"\r") {
         Some(front) => front,
         None => line,
     }
+}
+
+/// Cuts off the first line of a text: returns it, without one CR at its end, if it has one, and what follows its LF. Without an LF:
+/// all of the text as the line, and `None`.
+pub fn cut_line(text: &[u8]) -> (&[u8], Option<&[u8]>)
+    ensures { CutsLine text.now result.0.now (option_copied result.1) }
+{
+    let (piece, rest) = cut_at(b'\n', text);
+    (without_cr(piece), rest)
 }
 
 /// Line `number` of a text, without one CR at its end, if it has one. Lines are counted from 1, as in the faults of a text; 0
@@ -47,9 +56,9 @@ pub fn line_at(text: &[u8], number: u32) -> &[u8]
     let mut left = Some(text);
     let mut wanted = number;
     while let Some(text) = left {
-        let (line, rest) = cut_at(b'\n', text);
+        let (line, rest) = cut_line(text);
         if wanted <= 1 {
-            return without_cr(line);
+            return line;
         }
         wanted -= 1;
         left = rest;
@@ -105,8 +114,7 @@ fn read_lines<F: LineForm>(alloc: Global, text: &[u8]) -> Result<Vec<F::Item>, R
     let mut left = Some(text);
     let mut number = 0u32;
     while let Some(text) = left {
-        let (line, rest) = cut_at(b'\n', text);
-        let line = without_cr(line);
+        let (line, rest) = cut_line(text);
         left = rest;
         number += 1;
         if is_skipped(line) {

@@ -2,8 +2,9 @@
 
 ghost use Rattle.std.specs.Prelude.{◌≡◌, ◌+◌, ◌*◌, ◌<◌, ◌≤◌, ◌++◌, length, take, OnOk, IfErr};
 ghost use Rattle.arrayvec.specs.ArrayVec.{array_vec_len};
-ghost use Rattle.gc_lines.specs.Ports.{FailsWith};
-ghost use Rattle.gc_texts.specs.Logs.{mark_text, is_unescaped, hex_digit, escape, escaped, log_line, TakesLogLine, TakesLogFront};
+ghost use Rattle.std.specs.Io.KnownBytes.{Appends};
+ghost use Rattle.gc_lines.specs.Ports.{FailsWith, TakesFront};
+ghost use Rattle.gc_texts.specs.Logs.{mark_text, is_unescaped, hex_digit, escape, escaped, log_line};
 
 use crate::stamp::{STAMP_ROOM, stamp_text};
 use arrayvec::ArrayVec;
@@ -63,8 +64,8 @@ pub fn write_log_line<K: Sink>(
     bytes: &LogBytes,
 ) -> Result<(), usize>
     ensures failed { FailsWith result (K.failed sink.old) (K.failed sink.new) }
-    ensures ok { OnOk result (TakesLogLine (K.taken sink.old) (K.taken sink.new) utc mark bytes.now.items) }
-    ensures err { IfErr result (λ n. TakesLogFront (K.taken sink.old) (K.taken sink.new) n utc mark bytes.now.items) }
+    ensures ok { OnOk result (Appends (K.taken sink.old) (K.taken sink.new) (log_line utc mark bytes.now.items)) }
+    ensures err { IfErr result (λ n. TakesFront (K.taken sink.old) (K.taken sink.new) n (log_line utc mark bytes.now.items)) }
 {
     write_whole(sink, &log_line(utc, mark, bytes))
 }

@@ -63,7 +63,7 @@ pub(crate) fn is_named(target: u32, names: &[Name]) -> bool
 }
 
 /// The name of a target: that of the first of `names` that is of this target; empty if none is.
-pub(crate) fn name_text(target: u32, names: &[Name]) -> &[u8]
+pub fn name_text(target: u32, names: &[Name]) -> &[u8]
     ensures is { result.now ≡ name_text target names.now }
     ensures short { length result.now ≤ 64 }
 {

@@ -7,7 +7,7 @@ ghost use Rattle.gc_texts.specs.Nears.{IsDouble, AreNearWords, IsNearText, has_n
 use crate::again::Again;
 use crate::codes::Codes;
 use crate::cuts::{before, behind};
-use crate::procedure::{TARGET_MAX, number_of};
+use crate::procedure::target_of;
 use crate::turn::Turn;
 use gc_catalogue::{Answer, Asked, Call};
 use gc_values::{Decimal, Direction, is_tolerance};
@@ -53,7 +53,7 @@ pub fn read_double(text: &[u8]) -> Option<Decimal>
 fn read_words(target: &[u8], hz: &[u8], v: &[u8], tolerance: &[u8]) -> Option<Near>
     ensures { IsReadAs (AreNearWords target.now hz.now v.now tolerance.now) result }
 {
-    let Some(target) = number_of(target, TARGET_MAX) else {
+    let Some(target) = target_of(target) else {
         return None
     };
     let Some(hz) = read_double(hz) else {
@@ -71,7 +71,7 @@ fn read_words(target: &[u8], hz: &[u8], v: &[u8], tolerance: &[u8]) -> Option<Ne
         return None;
     }
     Some(Near {
-        target: target as u32,
+        target,
         place,
         tolerance,
     })

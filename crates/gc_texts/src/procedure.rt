@@ -2,7 +2,7 @@
 
 ghost use Rattle.std.specs.Prelude.{IsTrue, IsFalse};
 ghost use Rattle.gc_texts.specs.LineForms.{IsReadAs};
-ghost use Rattle.gc_texts.specs.Procedures.{IsNumber, IsProcedure};
+ghost use Rattle.gc_texts.specs.Procedures.{IsNumber, IsProcedure, IsRpc, IsTarget};
 ghost use Rattle.gc_catalogue.specs.Calls.{IsCall};
 ghost use Rattle.gc_catalogue.specs.declared.call.Call.{Call};
 
@@ -14,8 +14,8 @@ use gc_values::read_whole;
 /// The greatest number of a target.
 pub const TARGET_MAX: u64 = 4294967295;
 
-/// The greatest number of a procedure.
-pub const RPC_MAX: u64 = 65535;
+// The greatest number of a procedure.
+const RPC_MAX: u64 = 65535;
 
 /// The number that a text of digits writes, without a sign. `None`: the text is no such number, or the number is above `max`.
 pub fn number_of(digits: &[u8], max: u64) -> Option<u64>
@@ -24,6 +24,27 @@ pub fn number_of(digits: &[u8], max: u64) -> Option<u64>
     match read_whole(digits, max) {
         Ok(n) => Some(n),
         Err(_) => None,
+    }
+}
+
+/// The target whose number a text of digits writes. `None`: the text is no number, or the number is above 4294967295.
+pub fn target_of(digits: &[u8]) -> Option<u32>
+    ensures { IsReadAs (IsTarget digits.now) result }
+{
+    match number_of(digits, TARGET_MAX) {
+        Some(n) => Some(n as u32),
+        None => None,
+    }
+}
+
+/// The number of a procedure, in the table or not, that a text of digits writes. `None`: the text is no number, or the number is
+/// above 65535.
+pub(crate) fn rpc_of(digits: &[u8]) -> Option<u16>
+    ensures { IsReadAs (IsRpc digits.now) result }
+{
+    match number_of(digits, RPC_MAX) {
+        Some(n) => Some(n as u16),
+        None => None,
     }
 }
 
@@ -48,16 +69,16 @@ pub fn read_procedure_into(text: &[u8], call: &mut Call) -> bool
     ensures none { IsFalse result → (other : Call) → IsProcedure text.now other → ⊥ }
 {
     let (digits, params) = cut_at(b' ', text);
-    let Some(rpc) = number_of(digits, RPC_MAX) else {
+    let Some(rpc) = rpc_of(digits) else {
         return false
     };
     let Some(params) = params else {
-        return read_call(rpc as u16, &[], call);
+        return read_call(rpc, &[], call);
     };
     if params.is_empty() {
         return false;
     }
-    read_call(rpc as u16, params, call)
+    read_call(rpc, params, call)
 }
 
 // Reads the call of a procedure's number and parameters, into `call`, and returns whether there is one: a procedure has the number,

@@ -7,7 +7,7 @@ use crate::codes::{Codes, read_codes};
 use crate::cuts::{after_word, before, behind, cut_at, is_word};
 use crate::name::{Name, is_name, named_target};
 use crate::near::{Near, read_near};
-use crate::procedure::{TARGET_MAX, number_of};
+use crate::procedure::{number_of, target_of};
 use crate::retry::{Retry, read_rule};
 use crate::stamp::FIRST_MOMENT;
 use crate::wish::{Wish, read_wish};
@@ -67,13 +67,13 @@ fn read_naming(line: &[u8]) -> Option<Name>
     };
     let (target, text) = cut_at(b' ', rest);
     let Some(text) = text else { return None };
-    let Some(target) = number_of(target, TARGET_MAX) else {
+    let Some(target) = target_of(target) else {
         return None
     };
     if !is_name(text) {
         return None;
     }
-    Some(named_target(target as u32, text))
+    Some(named_target(target, text))
 }
 
 // Reads `near T HZ V TOLERANCE`: where a target is. `None`: the line has no such form, or a number lies outside its range.
@@ -122,9 +122,9 @@ fn read_clock_setting(line: &[u8]) -> Option<Wish>
     if !is_word(b"5007 now", behind(b' ', line)) {
         return None;
     }
-    match number_of(before(b' ', line), TARGET_MAX) {
+    match target_of(before(b' ', line)) {
         Some(target) => Some(Wish {
-            target: target as u32,
+            target,
             call: Asked::Table(Call::SetDate(FIRST_MOMENT)),
         }),
         None => None,

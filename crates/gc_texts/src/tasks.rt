@@ -3,19 +3,18 @@
 
 ghost use Rattle.std.specs.Prelude.{◌≡◌, ◌≤◌, ◌==◌, ◌&&◌, [], length, map, IfOk, IfErr, OnOk, OnErr};
 ghost use Rattle.std.specs.List.{list_any};
-ghost use Rattle.gc_texts.specs.LineForms.{RefusesLong};
+ghost use Rattle.gc_texts.specs.LineForms.{MemoryOnlyIf, NamesFaulty, RefusesLong};
 ghost use Rattle.gc_texts.specs.Names.{name_text};
 ghost use Rattle.gc_texts.specs.Nears.{asked_gives_direction};
-ghost use Rattle.gc_texts.specs.Tasks.{Gave, Grows, HasFull, call_at, placed, may_follow, GivesTasks, NamesFaultyTask, MemoryAtTask, TaskFault};
+ghost use Rattle.gc_texts.specs.Tasks.{LinesGave, Grows, HasFull, call_at, placed, may_follow, GivesTasks, IsFirstFaultyTask, ReachesASoundTaskLine, TaskFault};
 ghost use Rattle.gc_texts.specs.declared.mode.Mode.{Mode};
 ghost use Rattle.gc_texts.specs.declared.text.TheConstants.{TEXT_LIMIT};
 
 use crate::again::Again;
 use crate::attempts::{Planned, lay_out};
 use crate::codes::Codes;
-use crate::cuts::cut_at;
 use crate::fault::RunFault;
-use crate::line_forms::{is_skipped, without_cr};
+use crate::line_forms::{cut_line, is_skipped};
 use crate::mode::{Mode, first_mode, mode_after, task_at};
 use crate::name::{Name, is_named, name_text};
 use crate::near::{Near, asked_gives_direction, has_near, near_of};
@@ -118,7 +117,7 @@ struct Given {
 impl Given {
     // What no line gave.
     fn new(alloc: Global) -> Given
-        ensures { (first : Mode) → Gave first [] result }
+        ensures { (first : Mode) → LinesGave first [] result }
     {
         Given {
             setup: Vec::new(alloc),
@@ -204,8 +203,8 @@ pub fn read_tasks(
 ) -> Result<Tasks, RunFault>
     ensures found { IfOk result (λ all. GivesTasks text.now deadline chained all) }
     ensures too_long { RefusesLong text.now result }
-    ensures faulty { NamesFaultyTask text.now result }
-    ensures memory { MemoryAtTask text.now result }
+    ensures faulty { NamesFaulty (IsFirstFaultyTask text.now) result }
+    ensures memory { MemoryOnlyIf (ReachesASoundTaskLine text.now) result }
     ensures faults { IfErr result (λ e. TaskFault text.now e) }
 {
     if text.len() > TEXT_LIMIT {
@@ -230,8 +229,7 @@ fn read_task_lines(
     let mut left = Some(text);
     let mut number = 0u32;
     while let Some(text) = left {
-        let (line, rest) = cut_at(b'\n', text);
-        let line = without_cr(line);
+        let (line, rest) = cut_line(text);
         left = rest;
         number += 1;
         if is_skipped(line) {

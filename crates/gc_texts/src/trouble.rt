@@ -2,14 +2,14 @@
 
 ghost use Rattle.std.specs.Prelude.{◌≡◌, ◌++◌, ℕ, OnOk, IsTrue, IsFalse, MatchOption, codes};
 ghost use Rattle.std.specs.Io.KnownBytes.{Appends};
-ghost use Rattle.gc_texts.specs.Troubles.{parameter_count, parameters_trouble, raw_trouble, IsCallTrouble, IsRawTrouble, IsRawWordsTrouble, NoNumber, BeginsAsCommand, IsSettingTrouble, IsAskingTrouble, IsTrouble, in_table_text, trouble_text, trouble_line};
-ghost use Rattle.gc_texts.specs.Procedures.{IsNumber};
+ghost use Rattle.gc_texts.specs.Troubles.{parameters_trouble, raw_trouble, IsCallTrouble, IsRawTrouble, IsRawWordsTrouble, NoTarget, BeginsAsCommand, IsSettingTrouble, IsAskingTrouble, IsTrouble, in_table_text, trouble_text, trouble_line};
+ghost use Rattle.gc_texts.specs.Procedures.{IsTarget};
 ghost use Rattle.gc_texts.specs.Words.{second_word, third_word};
 ghost use Rattle.gc_texts.specs.ProcedureNames.{name_of};
 
 use crate::cuts::{before, behind, is_word};
-use crate::procedure::{RPC_MAX, TARGET_MAX, number_of};
-use gc_catalogue::{CallFault, RawFault, decode_call, procedure_name, raw_call};
+use crate::procedure::{rpc_of, target_of};
+use gc_catalogue::{CallFault, RawFault, decode_call, parameter_count, procedure_name, raw_call};
 use gc_lines::Request;
 use gc_values::ValueFault;
 use std::io::{self, Write};
@@ -112,21 +112,6 @@ fn name_of(rpc: u16) -> &'static str
     }
 }
 
-// How many parameters the procedure of this number has; 0 where there is none.
-fn parameter_count(rpc: u16) -> u8
-    ensures { result ≡ parameter_count rpc }
-{
-    match rpc {
-        107 | 2012 | 2107 | 17008 | 17017 => 1,
-        2008 | 2108 => 2,
-        9028 | 9037 => 3,
-        2010 => 4,
-        9027 => 5,
-        5007 => 6,
-        _ => 0,
-    }
-}
-
 // What is at fault in a procedure's number and its parameters. `NoForm`: nothing, because they make a call.
 fn call_trouble(rpc: u16, params: &[u8]) -> Trouble
     ensures { IsCallTrouble rpc params.now result }
@@ -139,17 +124,17 @@ fn call_trouble(rpc: u16, params: &[u8]) -> Trouble
     match decode_call(&request) {
         Ok(_) => Trouble::NoForm,
         Err(CallFault::Unknown) => Trouble::NoProcedure(rpc),
-        Err(CallFault::Parameters(fault)) => parameters_trouble(rpc, fault),
+        Err(CallFault::Parameters(fault)) => parameters_trouble(rpc, parameter_count(rpc), fault),
     }
 }
 
-// What is reported of a procedure's parameters with this fault: how many the procedure has if the line has another number of them, else
-// that their spelling is at fault.
-fn parameters_trouble(rpc: u16, fault: ValueFault) -> Trouble
-    ensures { result ≡ parameters_trouble rpc fault }
+// What is reported of this fault in the parameters of a procedure that has `count` of them: `count`, if the line has another
+// number of them, else that their spelling is at fault.
+fn parameters_trouble(rpc: u16, count: u8, fault: ValueFault) -> Trouble
+    ensures { result ≡ parameters_trouble rpc count fault }
 {
     match fault {
-        ValueFault::Count | ValueFault::TooMany => Trouble::Wants(rpc, parameter_count(rpc)),
+        ValueFault::Count | ValueFault::TooMany => Trouble::Wants(rpc, count),
         _ => Trouble::Parameters,
     }
 }
@@ -179,8 +164,8 @@ fn raw_call_trouble(rpc: u16, params: &[u8]) -> Trouble
 fn raw_words_trouble(number: &[u8], params: &[u8]) -> Trouble
     ensures { IsRawWordsTrouble number.now params.now result }
 {
-    match number_of(number, RPC_MAX) {
-        Some(rpc) => raw_call_trouble(rpc as u16, params),
+    match rpc_of(number) {
+        Some(rpc) => raw_call_trouble(rpc, params),
         None => Trouble::Number,
     }
 }
@@ -198,7 +183,7 @@ fn asking_trouble(line: &[u8]) -> Trouble
     if rest.is_empty() {
         return Trouble::NoForm;
     }
-    if number_of(before(b' ', line), TARGET_MAX).is_none() {
+    if target_of(before(b' ', line)).is_none() {
         return Trouble::Target;
     }
     let word = before(b' ', rest);
@@ -206,8 +191,8 @@ fn asking_trouble(line: &[u8]) -> Trouble
     if is_word(b"raw", word) {
         return raw_words_trouble(before(b' ', words), behind(b' ', words));
     }
-    match number_of(word, RPC_MAX) {
-        Some(rpc) => call_trouble(rpc as u16, words),
+    match rpc_of(word) {
+        Some(rpc) => call_trouble(rpc, words),
         None => Trouble::Number,
     }
 }
@@ -218,20 +203,17 @@ fn begins_as_5007_now(line: &[u8]) -> bool
     ensures { IsTrue result → (second_word line.now ≡ codes "5007") × (third_word line.now ≡ codes "now") }
 {
     let rest = behind(b' ', line);
-    number_of(before(b' ', line), TARGET_MAX).is_some()
+    target_of(before(b' ', line)).is_some()
         && is_word(b"5007", before(b' ', rest))
         && is_word(b"now", before(b' ', behind(b' ', rest)))
 }
 
 // Whether the second word of a line is a target's number.
 fn has_target(line: &[u8]) -> bool
-    ensures target { IsTrue result → (n : ℕ) × IsNumber (second_word line.now) n 4294967295 }
-    ensures none { IsFalse result → NoNumber (second_word line.now) 4294967295 }
+    ensures target { IsTrue result → (n : ℕ) × IsTarget (second_word line.now) n }
+    ensures none { IsFalse result → NoTarget (second_word line.now) }
 {
-    match number_of(before(b' ', behind(b' ', line)), TARGET_MAX) {
-        Some(_) => true,
-        None => false,
-    }
+    target_of(before(b' ', behind(b' ', line))).is_some()
 }
 
 // Which field is at fault of a line whose first word is `deadline`, `name`, `near`, `accept`, `retry`, `at` or `each`. `None`: the first

@@ -7,7 +7,7 @@ ghost use Rattle.gc_texts.specs.Wishes.{IsRawWish, IsWish, wish_of};
 
 use crate::commands::{Command, read_command};
 use crate::cuts::{before, behind, is_word};
-use crate::procedure::{RPC_MAX, TARGET_MAX, number_of};
+use crate::procedure::{rpc_of, target_of};
 use gc_catalogue::{Asked, RawCall, raw_call};
 
 /// What a station is to ask of a target: a call of the table, or a procedure that isn't in the table.
@@ -47,14 +47,14 @@ fn read_raw(line: &[u8]) -> Option<(u32, RawCall)>
     if params.is_empty() && number.len() < words.len() {
         return None;
     }
-    let Some(target) = number_of(before(b' ', line), TARGET_MAX) else {
+    let Some(target) = target_of(before(b' ', line)) else {
         return None
     };
-    let Some(rpc) = number_of(number, RPC_MAX) else {
+    let Some(rpc) = rpc_of(number) else {
         return None
     };
-    match raw_call(rpc as u16, params) {
-        Ok(raw) => Some((target as u32, raw)),
+    match raw_call(rpc, params) {
+        Ok(raw) => Some((target, raw)),
         Err(_) => None,
     }
 }

@@ -12,7 +12,7 @@ use Rattle.gc_values.specs.declared.decimal.Decimal.{Decimal}
 use Rattle.gc_values.proofs.EachWhole.{IsDecided, digits_or_not, digits_cut, sign_cut}
 use Rattle.gc_values.proofs.Powers.{ten_pow_pos}
 use Rattle.gc_values.proofs.Rounded.{zeros_off, rounded_from}
-use Rattle.gc_values.proofs.Unique.{Cut, same_parts, cut_is_numeral, sign_once, digits_no_sign}
+use Rattle.gc_values.proofs.Unique.{Cut, same_parts, numeral_of, cut_is_numeral, sign_once, digits_no_sign}
 
 -- each text that begins with no digit is cut into a fraction, or none, and a rest
 fraction_cut : (text : List ℕ) → StartsNoDigit text → (run : List ℕ) × (rest : List ℕ) × CutsFraction text run rest
@@ -108,7 +108,7 @@ cut_from_left text =
 -- numeral
 numeral_made : (text : List ℕ) (c : Cut text) → 0 < length c.whole + length c.fraction → ExponentOf c.rest → NumeralOf text
 numeral_made text c some x =
-    let r = cut_is_numeral text c (ups x.0) (downs x.0) some (record { exponent = x.0; form = x.1; text_is = x.2; up_is = refl; down_is = refl }) in
+    let r = cut_is_numeral text c (numeral_of c (ups x.0) (downs x.0)) (refl, refl, refl) some (record { exponent = x.0; form = x.1; text_is = x.2; up_is = refl; down_is = refl }) in
     (r.parts, r.form, r.text_is)
 
 -- a text is a numeral, or isn't

@@ -9,6 +9,7 @@ use Rattle.gc_values.specs.Plainly.{CountsDigits, CutsPlain, CutsDecimal, CutsNu
 use Rattle.gc_values.specs.RoundedFacts.{ten_pow_cut}
 use Rattle.gc_values.specs.Spelling.{Absent, Spells}
 use Rattle.gc_values.specs.declared.decimal.Decimal.{Decimal}
+use Rattle.gc_values.specs.declared.numeral.Numeral.{Numeral}
 use Rattle.gc_values.proofs.Every.{every_append, every_more}
 use Rattle.gc_values.proofs.Kept.{followed_more, number-append, number-lt}
 use Rattle.gc_values.proofs.Powers.{ten_pow_le}
@@ -70,16 +71,20 @@ front_spells : (w f : List ℕ) (units : ℕ) (m : ℤ) (s : ℕ) → (is_w : Ar
     → (short : length w ≤ 13) → (few : length w + length f ≤ 18) → (units_are : units ≡ number (w ++ f))
     → (made : MadeOf false units (length f) m s) → Spells (w ++ 46 ∷ f) m s
 front_spells w f units m s is_w is_f some short few e made =
-    let digits = every_append IsDigit w f is_w is_f in
-    let size = length-append w f in
-    let below : number (w ++ f) < 10 ^ length (w ++ f) = number-lt (w ++ f) digits in
-    let most : 10 ^ length (w ++ f) ≤ 10 ^ (13 + length f) = ten_pow_le (length (w ++ f)) (13 + length f) (omega (arith, size)) in
-    reads_value (w ++ 46 ∷ f) false units (length f) m s
-    (record {
-      whole = w;
-      fraction = f;
+    let n : Numeral = record {
+      negative = false;
+      whole = record { ref_ptr = (0, 0); now = w };
+      fraction = record { ref_ptr = (0, 0); now = f };
       up = 0;
       down = 0;
+      whole_are_digits = is_w;
+      fraction_are_digits = is_f;
+    } in
+    let size = length-append w f in
+    let below : number (w ++ f) < 10 ^ length (w ++ f) = number-lt (w ++ f) (every_append IsDigit w f is_w is_f) in
+    let most : 10 ^ length (w ++ f) ≤ 10 ^ (13 + length f) = ten_pow_le (length (w ++ f)) (13 + length f) (omega (arith, size)) in
+    reads_value (w ++ 46 ∷ f) n units (length f) m s
+    (record {
       numeral = record {
         parts = record { sign = Absent; whole = w; fraction = Some f; exponent = None };
         form = record { whole = is_w; fraction = is_f; some = omega arith; exponent = tt };
@@ -90,7 +95,7 @@ front_spells w f units m s is_w is_f some short few e made =
         up_is = refl;
         down_is = refl;
       };
-      rounded = capped_short (w ++ f) (length f) 0 0 (10 ^ 37 + 1) units digits (omega (arith, size)) (omega (arith, size)) refl refl (lit≤ tt) e;
+      rounded = capped_short n (10 ^ 37 + 1) units few refl refl (lit≤ tt) e;
     })
     (omega (arith, e, below, most, pow-add 10 13 (length f))) made
 

@@ -49,39 +49,37 @@ less_over false x true y p h = h
 less_over true x false y p h = let all : 0 * p < (x + y) * p = omega arith in lt_of_mul-lt-mul_right p all
 less_over true x true y p h = lt_of_mul-lt-mul_right p h
 
--- for two values m / a and n / d with signs, where a * a' and d * d' are both p, which is above 0, so that in units of 1 / p they
--- are m * a' and n * d': where these are in order, m * d and n * a are, too
-less_at_other_scale : (b : Bool) (m : ℕ) (c : Bool) (n a a' d d' p : ℕ) → 0 < p → a * a' ≡ p → d * d' ≡ p
-    → signed_less b (m * a') c (n * d') → signed_less b (m * d) c (n * a)
-less_at_other_scale b m c n a a' d d' p some e f h =
-    let left : m * a' * p ≡ m * d * (a' * d') = omega (arith, ap (λ x. m * a' * x) f) in
-    let right : n * d' * p ≡ n * a * (a' * d') = omega (arith, ap (λ x. n * d' * x) e) in
-    less_over b (m * d) c (n * a) (a' * d') (subst (λ x. signed_less b x c (n * a * (a' * d'))) left (subst (λ y. signed_less b (m * a' * p) c y) right (less_times b (m * a') c (n * d') p some h)))
+-- two values are something over a and something over d. In units of 1 / p, for p above 0, the first has a' for each 1 / a, and the
+-- second d' for each 1 / d. Where they are in order in these units, they are multiplied out, too
+module _ (a a' d d' p : ℕ) (some : 0 < p) (e : a * a' ≡ p) (f : d * d' ≡ p) where
+  -- of the values m / a and n / d, with signs
+  less_multiplied : (b : Bool) (m : ℕ) (c : Bool) (n : ℕ) → signed_less b (m * a') c (n * d') → signed_less b (m * d) c (n * a)
+  less_multiplied b m c n h =
+      let left : m * a' * p ≡ m * d * (a' * d') = omega (arith, ap (λ x. m * a' * x) f) in
+      let right : n * d' * p ≡ n * a * (a' * d') = omega (arith, ap (λ x. n * d' * x) e) in
+      less_over b (m * d) c (n * a) (a' * d') (subst (λ x. signed_less b x c (n * a * (a' * d'))) left (subst (λ y. signed_less b (m * a' * p) c y) right (less_times b (m * a') c (n * d') p some h)))
 
--- the same as `less_at_other_scale`, of integers that are made of a sign and a magnitude: where m * a' is below n * d', m * d is
--- below n * a
-less_at_other_scale_signed : (b : Bool) (m : ℕ) (c : Bool) (n a a' d d' p : ℕ) → 0 < p → a * a' ≡ p → d * d' ≡ p
-    → (signed b m *ℤ pos a') <ℤ (signed c n *ℤ pos d')
-    → (signed b m *ℤ pos d) <ℤ (signed c n *ℤ pos a)
-less_at_other_scale_signed b m c n a a' d d' p some e f h =
-    let there = less_from b (m * a') c (n * d') (subst (λ x. x <ℤ signed c (n * d')) (signed-mul b m a') (subst (λ y. (signed b m *ℤ pos a') <ℤ y) (signed-mul c n d') h)) in
-    subst (λ x. x <ℤ (signed c n *ℤ pos a)) (sym (signed-mul b m d)) (subst (λ y. signed b (m * d) <ℤ y) (sym (signed-mul c n a))
-    (less_to b (m * d) c (n * a) (less_at_other_scale b m c n a a' d d' p some e f there)))
+  -- of the same values, given as integers that are made of a sign and a magnitude
+  less_multiplied_signed : (b : Bool) (m : ℕ) (c : Bool) (n : ℕ) → (signed b m *ℤ pos a') <ℤ (signed c n *ℤ pos d')
+      → (signed b m *ℤ pos d) <ℤ (signed c n *ℤ pos a)
+  less_multiplied_signed b m c n h =
+      let there = less_from b (m * a') c (n * d') (subst (λ x. x <ℤ signed c (n * d')) (signed-mul b m a') (subst (λ y. (signed b m *ℤ pos a') <ℤ y) (signed-mul c n d') h)) in
+      subst (λ x. x <ℤ (signed c n *ℤ pos a)) (sym (signed-mul b m d)) (subst (λ y. signed b (m * d) <ℤ y) (sym (signed-mul c n a))
+      (less_to b (m * d) c (n * a) (less_multiplied b m c n there)))
 
--- the same as `less_at_other_scale`, of integers: where z * a' is below w * d', z * d is below w * a
-less_at_other_scale_whole : (z w : ℤ) (a a' d d' p : ℕ) → 0 < p → a * a' ≡ p → d * d' ≡ p → (z *ℤ pos a') <ℤ (w *ℤ pos d')
-    → (z *ℤ pos d) <ℤ (w *ℤ pos a)
-less_at_other_scale_whole z w a a' d d' p some e f =
-    let x = has_sign z in
-    let y = has_sign w in
-    subst (λ z. (z *ℤ pos a') <ℤ (w *ℤ pos d') → (z *ℤ pos d) <ℤ (w *ℤ pos a)) (sym x.2)
-    (subst (λ w. (signed x.0 x.1 *ℤ pos a') <ℤ (w *ℤ pos d') → (signed x.0 x.1 *ℤ pos d) <ℤ (w *ℤ pos a)) (sym y.2) (less_at_other_scale_signed x.0 x.1 y.0 y.1 a a' d d' p some e f))
+  -- of the values z / a and w / d
+  less_multiplied_whole : (z w : ℤ) → (z *ℤ pos a') <ℤ (w *ℤ pos d') → (z *ℤ pos d) <ℤ (w *ℤ pos a)
+  less_multiplied_whole z w =
+      let x = has_sign z in
+      let y = has_sign w in
+      subst (λ z. (z *ℤ pos a') <ℤ (w *ℤ pos d') → (z *ℤ pos d) <ℤ (w *ℤ pos a)) (sym x.2)
+      (subst (λ w. (signed x.0 x.1 *ℤ pos a') <ℤ (w *ℤ pos d') → (signed x.0 x.1 *ℤ pos d) <ℤ (w *ℤ pos a)) (sym y.2) (less_multiplied_signed x.0 x.1 y.0 y.1))
 
 -- a decimal of fewer units has a smaller value
 pub below_from_units : (a b : Decimal) → units a <ℤ units b → IsBelow (fraction a) (fraction b)
 below_from_units a b =
-    less_at_other_scale_whole a.digits b.digits (10 ^ a.scale) (10 ^ (24 - a.scale)) (10 ^ b.scale) (10 ^ (24 - b.scale)) (10 ^ 24) (omega arith)
-    (ten_pow_cut a.scale 24 a.has_few_places) (ten_pow_cut b.scale 24 b.has_few_places)
+    less_multiplied_whole (10 ^ a.scale) (10 ^ (24 - a.scale)) (10 ^ b.scale) (10 ^ (24 - b.scale)) (10 ^ 24) (omega arith)
+    (ten_pow_cut a.scale 24 a.has_few_places) (ten_pow_cut b.scale 24 b.has_few_places) a.digits b.digits
 
 -- where an ordering says P, Q or R by its three cases, and P', Q' and R' follow from them, it says P', Q' or R'
 ranked_as : (o : Ordering) (P Q R P' Q' R' : Type 0) → MatchOrdering o P Q R → (P → P') → (Q → Q') → (R → R') → MatchOrdering o P' Q' R'

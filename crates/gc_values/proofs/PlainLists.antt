@@ -1,12 +1,11 @@
 -- Parameters in the common spelling, whose bytes are bare: no space, double quote, comma, CR or LF.
 use Rattle.std.specs.Prelude.{◌≡◌, ◌+◌, ◌<◌, ◌≤◌, ℕ, List, [], ◌∷◌, ◌++◌, length, take, drop, Option, Some, None, Result, IfOk, refl}
-use Rattle.std.specs.Option.{option_copied}
 use Rattle.std.proofs.Common.{arith, sym, ap, ◌∙◌, subst, get_or, append-nil}
 use Rattle.std.proofs.lemmas.List.{take_all, take-append-drop, drop_more, length-take-le}
 use Rattle.gc_values.specs.Item.{IsItem}
 use Rattle.gc_values.specs.Lists.{AreParams}
-use Rattle.gc_values.specs.Plainly.{ArePlain, CutsPlain, LeftPlain, ReadsPlainly}
-use Rattle.gc_values.specs.Taken.{GivesRead, TakesItem, TakesPlainly}
+use Rattle.gc_values.specs.Plainly.{ArePlain, CutsPlain, LeftPlain}
+use Rattle.gc_values.specs.Taken.{GivesRead, QuickReads, TakesItem, TakesPlainly}
 use Rattle.gc_values.specs.declared.quick.Quick.{Quick}
 use Rattle.gc_values.specs.declared.value.Value.{Value}
 use Rattle.gc_values.proofs.ParamLists.{joined_params}
@@ -74,9 +73,8 @@ no_params [] vs none e = rw e (record { items = []; split = (0, refl); read = tt
 no_params (b ∷ bs) vs none e = absurd (omega (arith, none))
 
 -- a quick reader that is as it was is left with the values that it was left with
-pub left_as_it_was : (old new : Quick) (vs : List Value) → new ≡ old → ReadsPlainly new.good (option_copied new.rest) vs
-    → ReadsPlainly old.good (option_copied old.rest) vs
-left_as_it_was old new vs same left = subst (λ q. ReadsPlainly q.good (option_copied q.rest) vs) same left
+pub left_as_it_was : (old new : Quick) (vs : List Value) → new ≡ old → QuickReads new vs → QuickReads old vs
+left_as_it_was old new vs same left = subst (λ q. QuickReads q vs) same left
 
 -- a quick reader that took an item, and gives what was read of it, took the value that it gives
 pub taken : {T E : Type 0} (make : T → Value) (item : List ℕ) (read : Result T E) (x : T) (old mid new : Quick) → TakesItem item old mid

@@ -1,62 +1,60 @@
--- What a text spells that reads as the parts of a number: whether there is a minus, the digits before the point (`whole`)
--- and after it (`fraction`), and how often the exponent multiplies (`up`) and divides (`down`) by ten.
+-- What a text spells that reads as a numeral.
 use Rattle.std.proofs.Common.{◌≡◌, ℕ, ◌+◌, ◌-◌, ◌*◌, ◌^◌, ◌<◌, ◌≤◌, Bool, List, ◌++◌, length, ℤ, unsigned_abs, sym, ap, ◌∙◌, subst, arith}
 use Rattle.std.proofs.Math.Nat.{mul-lt-mul_of_pos_left, lt_of_mul-lt-mul_left}
 use Rattle.gc_values.specs.Cut.{ReadsNumeral}
 use Rattle.gc_values.specs.DecimalOrder.{zeros_at_last}
 use Rattle.gc_values.specs.Digits.{number}
 use Rattle.gc_values.specs.Fraction.{Fraction, signed, IsRounded, IsInRange}
-use Rattle.gc_values.specs.Nearest.{RoundsHalfUp, IsRoundedWithCap, MadeOf}
+use Rattle.gc_values.specs.KeptDigits.{IsRoundedWithCap, all_digits}
+use Rattle.gc_values.specs.Nearest.{RoundsHalfUp, MadeOf}
 use Rattle.gc_values.specs.Spelling.{value, Names, Spells, SpellsBeyond, is_minus, fraction_digits, ups}
 use Rattle.gc_values.specs.Zeros.{WithoutZeros}
+use Rattle.gc_values.specs.declared.numeral.Numeral.{Numeral}
 use Rattle.gc_values.proofs.Powers.{ten_pow_pos, bound_fits}
 use Rattle.gc_values.proofs.Rounded.{zeros_off, rounded_from, rounds_to_one}
 use Rattle.gc_values.proofs.Signs.{unsigned_abs-signed}
 use Rattle.gc_values.proofs.Unique.{names_once}
 
--- the fraction that a number's parts stand for, as `cut_numeral` has them: whether there is a minus, the digits before and
--- after the point, and how often the exponent multiplies and divides by ten
-abbrev pub fraction_of : (negative : Bool) (whole fraction : List ℕ) (up down : ℕ) → Fraction
-fraction_of negative whole fraction up down = record { n = signed negative (number (whole ++ fraction) * 10 ^ up); k = length fraction + down }
+-- the fraction of a sign, digits before and after the point, and an exponent
+abbrev fraction_with : (negative : Bool) (whole fraction : List ℕ) (up down : ℕ) → Fraction
+fraction_with negative whole fraction up down = record { n = signed negative (number (whole ++ fraction) * 10 ^ up); k = length fraction + down }
 
--- where a text reads as these parts, what `fraction_of` makes of them is the value of the numeral
-same_fraction : (text : List ℕ) (negative : Bool) (whole fraction : List ℕ) (up down : ℕ) (r : ReadsNumeral text negative whole fraction up down)
-    → fraction_of negative whole fraction up down ≡ value r.parts
-same_fraction text negative whole fraction up down r =
-    ap (λ b. fraction_of b whole fraction up down) r.negative_is
-    ∙ ap (λ w. fraction_of (is_minus r.parts.sign) w fraction up down) r.whole_is
-    ∙ ap (λ f. fraction_of (is_minus r.parts.sign) r.parts.whole f up down) r.fraction_is
-    ∙ ap (λ u. fraction_of (is_minus r.parts.sign) r.parts.whole (fraction_digits r.parts.fraction) u down) r.up_is
-    ∙ ap (λ d. fraction_of (is_minus r.parts.sign) r.parts.whole (fraction_digits r.parts.fraction) (ups r.parts.exponent) d) r.down_is
+-- the fraction that a numeral stands for
+abbrev fraction_of : Numeral → Fraction
+fraction_of n = fraction_with n.negative n.whole.now n.fraction.now n.up n.down
 
--- a text that reads as these parts names the fraction that `fraction_of` makes of them
-pub reads_names : (text : List ℕ) (negative : Bool) (whole fraction : List ℕ) (up down : ℕ) → ReadsNumeral text negative whole fraction up down
-    → Names text (fraction_of negative whole fraction up down)
-reads_names text negative whole fraction up down r = (r.parts, r.form, r.text_is, same_fraction text negative whole fraction up down r)
+-- where a text reads as a numeral, the fraction of this numeral is the value of the text's parts
+same_fraction : (text : List ℕ) (n : Numeral) (r : ReadsNumeral text n) → fraction_of n ≡ value r.parts
+same_fraction text n r =
+    ap (λ b. fraction_with b n.whole.now n.fraction.now n.up n.down) r.negative_is
+    ∙ ap (λ w. fraction_with (is_minus r.parts.sign) w n.fraction.now n.up n.down) r.whole_is
+    ∙ ap (λ f. fraction_with (is_minus r.parts.sign) r.parts.whole f n.up n.down) r.fraction_is
+    ∙ ap (λ u. fraction_with (is_minus r.parts.sign) r.parts.whole (fraction_digits r.parts.fraction) u n.down) r.up_is
+    ∙ ap (λ d. fraction_with (is_minus r.parts.sign) r.parts.whole (fraction_digits r.parts.fraction) (ups r.parts.exponent) d) r.down_is
 
--- the text is a number's, with a minus where `negative`, and `units` over 10^p is its magnitude, rounded to 24 places and cut off
--- at the cap 10^37 + 1
-pub record ReadsUnits (text : List ℕ) (negative : Bool) (units p : ℕ) : Type 0 where
-  pub whole : List ℕ
-  pub fraction : List ℕ
-  pub up : ℕ
-  pub down : ℕ
-  pub numeral : ReadsNumeral text negative whole fraction up down
-  pub rounded : IsRoundedWithCap (number (whole ++ fraction) * 10 ^ up) (length fraction + down) (10 ^ 37 + 1) units p
+-- a text that reads as a numeral names the fraction of this numeral
+reads_names : (text : List ℕ) (n : Numeral) → ReadsNumeral text n → Names text (fraction_of n)
+reads_names text n r = (r.parts, r.form, r.text_is, same_fraction text n r)
+
+-- the text is a number with the parts of this numeral, and `units` over 10^p is its magnitude, rounded to 24 places and cut off at
+-- the cap 10^37 + 1
+pub record ReadsUnits (text : List ℕ) (n : Numeral) (units p : ℕ) : Type 0 where
+  pub numeral : ReadsNumeral text n
+  pub rounded : IsRoundedWithCap n (10 ^ 37 + 1) units p
 
 -- where a text reads as `units` over 10^p (`ReadsUnits`), this is in range, and m / 10^s is made of it (`MadeOf`), the text
 -- spells m / 10^s
-pub reads_value : (text : List ℕ) (negative : Bool) (units p : ℕ) (m : ℤ) (s : ℕ) → ReadsUnits text negative units p → units ≤ 10 ^ 13 * 10 ^ p
-    → MadeOf negative units p m s → Spells text m s
-reads_value text negative units p m s r within made =
-    let a : ℕ = number (r.whole ++ r.fraction) * 10 ^ r.up in
-    let k : ℕ = length r.fraction + r.down in
+pub reads_value : (text : List ℕ) (n : Numeral) (units p : ℕ) (m : ℤ) (s : ℕ) → ReadsUnits text n units p → units ≤ 10 ^ 13 * 10 ^ p
+    → MadeOf n.negative units p m s → Spells text m s
+reads_value text n units p m s r within made =
+    let a : ℕ = number (all_digits n) * 10 ^ n.up in
+    let k : ℕ = length n.fraction.now + n.down in
     let c = r.rounded in
     let same : c.m ≡ units = let e = c.capped in omega (arith, bound_fits p c.places) in (
-      fraction_of negative r.whole r.fraction r.up r.down,
-      reads_names text negative r.whole r.fraction r.up r.down r.numeral,
-      subst (λ z. IsRounded (fraction_of negative r.whole r.fraction r.up r.down) 24 z s) (sym made.m_is)
-          (rounded_from negative a k 24 (units * 10 ^ (24 - p)) made.n s
+      fraction_of n,
+      reads_names text n r.numeral,
+      subst (λ z. IsRounded (fraction_of n) 24 z s) (sym made.m_is)
+          (rounded_from n.negative a k 24 (units * 10 ^ (24 - p)) made.n s
           (subst (λ u. RoundsHalfUp (a * 10 ^ 24) (10 ^ k) (u * 10 ^ (24 - p))) same c.rounds)
           (zeros_at_last units p made.n s c.places made.zeros)),
     )
@@ -69,20 +67,20 @@ beyond_bound m p n s large w =
 
 -- where a text reads as `units` over 10^p (`ReadsUnits`), and this is above the bound, 10^13, the text spells a number out of
 -- range
-pub reads_beyond : (text : List ℕ) (negative : Bool) (units p : ℕ) → ReadsUnits text negative units p → 10 ^ 13 * 10 ^ p < units → SpellsBeyond text
-reads_beyond text negative units p r above =
-    let a : ℕ = number (r.whole ++ r.fraction) * 10 ^ r.up in
+pub reads_beyond : (text : List ℕ) (n : Numeral) (units p : ℕ) → ReadsUnits text n units p → 10 ^ 13 * 10 ^ p < units → SpellsBeyond text
+reads_beyond text n units p r above =
+    let a : ℕ = number (all_digits n) * 10 ^ n.up in
     let c = r.rounded in
     let large : 10 ^ 13 * 10 ^ p < c.m = let e = c.capped in omega arith in
     let z = zeros_off c.m p in (
-      signed negative z.0,
+      signed n.negative z.0,
       z.1,
       (
-        fraction_of negative r.whole r.fraction r.up r.down,
-        reads_names text negative r.whole r.fraction r.up r.down r.numeral,
-        rounded_from negative a (length r.fraction + r.down) 24 (c.m * 10 ^ (24 - p)) z.0 z.1 c.rounds (zeros_at_last c.m p z.0 z.1 c.places z.2),
+        fraction_of n,
+        reads_names text n r.numeral,
+        rounded_from n.negative a (length n.fraction.now + n.down) 24 (c.m * 10 ^ (24 - p)) z.0 z.1 c.rounds (zeros_at_last c.m p z.0 z.1 c.places z.2),
       ),
-      subst (λ n. 10 ^ 13 * 10 ^ z.1 < n) (sym (unsigned_abs-signed negative z.0)) (beyond_bound c.m p z.0 z.1 large z.2),
+      subst (λ n. 10 ^ 13 * 10 ^ z.1 < n) (sym (unsigned_abs-signed n.negative z.0)) (beyond_bound c.m p z.0 z.1 large z.2),
     )
 
 -- a text spells at most one m / 10^s: two that it spells have the same digits and places

@@ -1,5 +1,5 @@
 -- What `Decimal::read` answers for a text, as `IsDecimalRead` has it.
-use Rattle.std.proofs.Common.{◌≡◌, ◌↔◌, inl, ℕ, ◌*◌, ◌^◌, ◌<◌, ◌≤◌, Bool, List, Result, Ok, Err, IfOk, IfErr, MatchResult, refl, ap}
+use Rattle.std.proofs.Common.{◌≡◌, ◌↔◌, inl, ℕ, ◌*◌, ◌^◌, ◌<◌, ◌≤◌, List, Result, Ok, Err, IfOk, IfErr, MatchResult, refl, ap}
 use Rattle.gc_values.specs.Decimals.{GivesSpelled}
 use Rattle.gc_values.specs.Nearest.{MadeOf}
 use Rattle.gc_values.specs.Spelling.{Spells, SpellsBeyond, SpellsNothing}
@@ -7,6 +7,7 @@ use Rattle.gc_values.specs.ValueFault.{IsEither}
 use Rattle.gc_values.specs.declared.decimal.Decimal.{Decimal}
 use Rattle.gc_values.specs.declared.fault.ValueFault.{ValueFault}
 use Rattle.gc_values.specs.declared.fault.ValueFault.TheVariants.{Spelling, Range}
+use Rattle.gc_values.specs.declared.numeral.Numeral.{Numeral}
 use Rattle.gc_values.proofs.DecimalLaws.{spells_unique, spelled_not_beyond}
 use Rattle.gc_values.proofs.ReadLemmas.{ReadsUnits, reads_value, reads_beyond}
 
@@ -49,8 +50,8 @@ reads_range text e is beyond = record {
 
 -- where a text reads as `units` over 10^p (`ReadsUnits`), and r is the decimal that is made of it (`MadeOf`), or `Range` where it
 -- is out of range, the text is read as r (`IsDecimalRead`)
-pub reads_units : (text : List ℕ) (negative : Bool) (units p : ℕ) (r : Result Decimal ValueFault) → ReadsUnits text negative units p
-    → IfOk r (λ d. MadeOf negative units p d.digits d.scale)
+pub reads_units : (text : List ℕ) (n : Numeral) (units p : ℕ) (r : Result Decimal ValueFault) → ReadsUnits text n units p
+    → IfOk r (λ d. MadeOf n.negative units p d.digits d.scale)
     → MatchResult r (λ _. units ≤ 10 ^ 13 * 10 ^ p) (λ e. (e ≡ Range) × (10 ^ 13 * 10 ^ p < units)) → IsDecimalRead text r
-reads_units text negative units p (Ok d) reads made within = reads_ok text d (reads_value text negative units p d.digits d.scale reads within made)
-reads_units text negative units p (Err e) reads made above = reads_range text e above.0 (reads_beyond text negative units p reads above.1)
+reads_units text n units p (Ok d) reads made within = reads_ok text d (reads_value text n units p d.digits d.scale reads within made)
+reads_units text n units p (Err e) reads made above = reads_range text e above.0 (reads_beyond text n units p reads above.1)

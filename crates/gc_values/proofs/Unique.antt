@@ -4,6 +4,7 @@ use Rattle.gc_values.specs.Fraction.{Fraction, signed}
 use Rattle.gc_values.specs.Digits.{IsDigit, AreDigits, number}
 use Rattle.gc_values.specs.Cut.{StartsNoDigit, StartsNoSign, StartsNoPoint, CutsDigits, CutsSign, CutsFraction, ReadsExponent, ReadsNumeral}
 use Rattle.gc_values.specs.Spelling.{Sign, Absent, Plus, Minus, sign_text, is_minus, Exponent, IsExponent, exponent_text, mark, ups, downs, fraction_text, fraction_digits, Parts, IsNumeral, spelling, value, Names}
+use Rattle.gc_values.specs.declared.numeral.Numeral.{Numeral}
 
 -- a text is cut in at most one way into digits and a rest that doesn't begin with a digit
 pub run_once : (xs ys us vs : List ℕ) → (digits_xs : AreDigits xs) → (digits_ys : AreDigits ys) → (ends_xs : StartsNoDigit us)
@@ -128,11 +129,25 @@ same_parts text c p n e =
     (subst (λ t. CutsFraction t c.fraction c.rest) runs.1 c.point) (numeral_fraction p n) in
     record { sign = s.negative_is ∙ signs.0; whole_is = runs.0; fraction_is = fractions.0; rest_is = fractions.1 }
 
--- where a text was cut, as `Cut` has it, into at least one digit in all, and a rest that is an exponent or empty, the text is a
--- number with the parts that were cut off, as `ReadsNumeral` has it
-pub cut_is_numeral : (text : List ℕ) (c : Cut text) (up down : ℕ) → 0 < length c.whole + length c.fraction → ReadsExponent c.rest up down
-    → ReadsNumeral text c.negative c.whole c.fraction up down
-cut_is_numeral text c up down some x = record {
+-- the numeral of the parts that were cut off a text, with an exponent that multiplies by ten `up` times and divides by ten `down`
+-- times. It doesn't matter where its digits are in memory
+abbrev pub numeral_of : {text : List ℕ} → (c : Cut text) (up down : ℕ) → Numeral
+numeral_of c up down = record {
+  negative = c.negative;
+  whole = record { ref_ptr = (0, 0); now = c.whole };
+  fraction = record { ref_ptr = (0, 0); now = c.fraction };
+  up = up;
+  down = down;
+  whole_are_digits = c.digits.digits;
+  fraction_are_digits = c.point.digits;
+}
+
+-- where a text was cut, as `Cut` has it, into at least one digit in all, and a rest that is an exponent or empty, and a numeral has
+-- the parts that were cut off, the text is a number with the parts of that numeral
+pub cut_is_numeral : (text : List ℕ) (c : Cut text) (n : Numeral)
+    → (n.negative ≡ c.negative) × (n.whole.now ≡ c.whole) × (n.fraction.now ≡ c.fraction)
+    → 0 < length c.whole + length c.fraction → ReadsExponent c.rest n.up n.down → ReadsNumeral text n
+cut_is_numeral text c n same some x = record {
   parts = record { sign = c.sign.sign; whole = c.whole; fraction = c.point.fraction; exponent = x.exponent };
   form = record {
     whole = c.digits.digits;
@@ -143,9 +158,9 @@ cut_is_numeral text c up down some x = record {
   text_is = c.sign.text_is
       ∙ ap (λ xs. sign_text c.sign.sign ++ xs) (c.digits.text_is
       ∙ ap (λ xs. c.whole ++ xs) (c.point.text_is ∙ ap (λ xs. fraction_text c.point.fraction ++ xs) x.text_is));
-  negative_is = c.sign.negative_is;
-  whole_is = refl;
-  fraction_is = c.point.run_is;
+  negative_is = same.0 ∙ c.sign.negative_is;
+  whole_is = same.1;
+  fraction_is = same.2 ∙ c.point.run_is;
   up_is = x.up_is;
   down_is = x.down_is;
 }

@@ -41,20 +41,6 @@ in_units z a a' w b b' p e f =
     let right : b' * (a * b) ≡ a * p = omega (arith, ap (λ x. x * a) f) in
     scaled_distance-mul z a' w b' (a * b) ∙ ap (λ x. scaled_distance z x w (b' * (a * b))) left ∙ ap (λ x. scaled_distance z (b * p) w x) right ∙ sym (scaled_distance-mul z b w a p)
 
--- a distance is y over ab, which is x units of 1 / p, and an area is n over c, which is n * c' units
-module _ (x y ab n c c' p : ℕ) (e : x * ab ≡ y * p) (f : c * c' ≡ p) where
-  -- where the distance is at most the area, both in units, it is at most the area multiplied out, too
-  within_to : 0 < p → x ≤ n * c' → y * c ≤ n * ab
-  within_to some h =
-      le_of_mul-le-mul_right {m = y * c} {n = n * ab} {k = p}
-      (omega (arith, ap (λ u. u * c) e, ap (λ u. u * (n * ab)) f, mul-le-mul_right {m = x} {n = n * c'} (ab * c) h)) some
-
-  -- where the distance is at most the area, both multiplied out, it is at most the area in units, too
-  within_from : 0 < ab * c → y * c ≤ n * ab → x ≤ n * c'
-  within_from some h =
-      le_of_mul-le-mul_right {m = x} {n = n * c'} {k = ab * c}
-      (omega (arith, ap (λ u. u * c) e, ap (λ u. u * (n * ab)) f, mul-le-mul_right {m = y * c} {n = n * ab} p h)) some
-
 -- no distance is at most a negative area
 below_zero : (x n k : ℕ) → 0 < k → pos x ≤ℤ (negsuc n *ℤ pos k) → ⊥
 below_zero x n k some h =
@@ -69,25 +55,38 @@ pos_le x y h = omega (arith, ints)
 le_pos : (x y : ℕ) → pos x ≤ℤ pos y → x ≤ y
 le_pos x y h = omega (arith, ints, h)
 
--- where a distance of x units is y over ab, and the area, which may be below zero, is z over c and so z * c' units, the distance
--- is at most the area in units exactly where it is multiplied out
-within_scaled : (x y ab : ℕ) (z : ℤ) (c c' p : ℕ) → (p_pos : 0 < p) → (c'_pos : 0 < c') → (abc_pos : 0 < ab * c) → (ab_pos : 0 < ab)
-    → (distance_is : x * ab ≡ y * p) → (units_are : c * c' ≡ p) → (pos x ≤ℤ (z *ℤ pos c')) ↔ (pos (y * c) ≤ℤ (z *ℤ pos ab))
-within_scaled x y ab (pos n) c c' p p_pos c'_pos abc_pos ab_pos e f = (
-  λ h. subst (λ w. pos (y * c) ≤ℤ w) (sym (pos-*ℤ-pos n ab)) (pos_le (y * c) (n * ab) (within_to x y ab n c c' p e f p_pos (le_pos x (n * c') (subst (λ w. pos x ≤ℤ w) (pos-*ℤ-pos n c') h)))),
-  λ h. subst (λ w. pos x ≤ℤ w) (sym (pos-*ℤ-pos n c')) (pos_le x (n * c') (within_from x y ab n c c' p e f abc_pos (le_pos (y * c) (n * ab) (subst (λ w. pos (y * c) ≤ℤ w) (pos-*ℤ-pos n ab) h)))),
-)
-within_scaled x y ab (negsuc n) c c' p p_pos c'_pos abc_pos ab_pos e f = (λ h. absurd (below_zero x n c' c'_pos h), λ h. absurd (below_zero (y * c) n ab ab_pos h))
+-- a distance is y over ab, which is x units of 1 / p, and an area is a number over c, which has c' units for each 1 / c
+module _ (x y ab c c' p : ℕ) (e : x * ab ≡ y * p) (f : c * c' ≡ p) where
+  -- where the distance is at most the area n / c, both in units, it is at most the area multiplied out, too
+  within_to : (n : ℕ) → 0 < p → x ≤ n * c' → y * c ≤ n * ab
+  within_to n some h =
+      le_of_mul-le-mul_right {m = y * c} {n = n * ab} {k = p}
+      (omega (arith, ap (λ u. u * c) e, ap (λ u. u * (n * ab)) f, mul-le-mul_right {m = x} {n = n * c'} (ab * c) h)) some
+
+  -- where the distance is at most the area n / c, both multiplied out, it is at most the area in units, too
+  within_from : (n : ℕ) → 0 < ab * c → y * c ≤ n * ab → x ≤ n * c'
+  within_from n some h =
+      le_of_mul-le-mul_right {m = x} {n = n * c'} {k = ab * c}
+      (omega (arith, ap (λ u. u * c) e, ap (λ u. u * (n * ab)) f, mul-le-mul_right {m = y * c} {n = n * ab} p h)) some
+
+  -- where the area is z / c, and may be below zero, the distance is at most the area in units exactly where it is multiplied out
+  within_scaled : (z : ℤ) → (p_pos : 0 < p) → (c'_pos : 0 < c') → (abc_pos : 0 < ab * c) → (ab_pos : 0 < ab)
+      → (pos x ≤ℤ (z *ℤ pos c')) ↔ (pos (y * c) ≤ℤ (z *ℤ pos ab))
+  within_scaled (pos n) p_pos c'_pos abc_pos ab_pos = (
+    λ h. subst (λ w. pos (y * c) ≤ℤ w) (sym (pos-*ℤ-pos n ab)) (pos_le (y * c) (n * ab) (within_to n p_pos (le_pos x (n * c') (subst (λ w. pos x ≤ℤ w) (pos-*ℤ-pos n c') h)))),
+    λ h. subst (λ w. pos x ≤ℤ w) (sym (pos-*ℤ-pos n c')) (pos_le x (n * c') (within_from n abc_pos (le_pos (y * c) (n * ab) (subst (λ w. pos (y * c) ≤ℤ w) (pos-*ℤ-pos n ab) h)))),
+  )
+  within_scaled (negsuc n) p_pos c'_pos abc_pos ab_pos = (λ h. absurd (below_zero x n c' c'_pos h), λ h. absurd (below_zero (y * c) n ab ab_pos h))
 
 -- two values are at most the area apart in units of 10^-24 exactly where their fractions are
 pub within_units : (a b area : Decimal) → (pos (unsigned_abs (units a -ℤ units b)) ≤ℤ units area) ↔ IsWithin (fraction a) (fraction b) (fraction area)
 within_units a b area =
     let both : 0 < 10 ^ a.scale * 10 ^ b.scale = mul-pos (ten_pow_pos a.scale) (ten_pow_pos b.scale) in
     within_scaled (scaled_distance a.digits (10 ^ (24 - a.scale)) b.digits (10 ^ (24 - b.scale))) (distance a.digits a.scale b.digits b.scale)
-    (10 ^ a.scale * 10 ^ b.scale) area.digits (10 ^ area.scale) (10 ^ (24 - area.scale)) (10 ^ 24)
-    (ten_pow_pos 24) (ten_pow_pos (24 - area.scale)) (mul-pos both (ten_pow_pos area.scale)) both
+    (10 ^ a.scale * 10 ^ b.scale) (10 ^ area.scale) (10 ^ (24 - area.scale)) (10 ^ 24)
     (in_units a.digits (10 ^ a.scale) (10 ^ (24 - a.scale)) b.digits (10 ^ b.scale) (10 ^ (24 - b.scale)) (10 ^ 24) (ten_pow_cut a.scale 24 a.has_few_places) (ten_pow_cut b.scale 24 b.has_few_places))
-    (ten_pow_cut area.scale 24 area.has_few_places)
+    (ten_pow_cut area.scale 24 area.has_few_places) area.digits
+    (ten_pow_pos 24) (ten_pow_pos (24 - area.scale)) (mul-pos both (ten_pow_pos area.scale)) both
 
 -- the test of an order of whole numbers holds exactly where they are in order
 pub int_le_is : (x y : ℤ) → IsTrue (int_le x y) ↔ (x ≤ℤ y)

@@ -1,14 +1,14 @@
 -- The table of kinds: which item is read as which value, which fault another item has, and the one text that a value
 -- has. The kinds are those of the GeoCOM manual's chapter on the ASCII protocol; the faults are this project's own.
-use Rattle.std.specs.Prelude.{◌≡◌, ℕ, ◌<◌, ◌⊎◌, List}
+use Rattle.std.specs.Prelude.{ℕ, ◌<◌, List}
 use Rattle.gc_values.specs.Boolean.{NamesBoolean, boolean_text}
 use Rattle.gc_values.specs.Byte.{IsByte, IsNoByte, byte_text}
 use Rattle.gc_values.specs.Spelling.{Spells, SpellsBeyond, SpellsNothing}
 use Rattle.gc_values.specs.Text.{IsText, IsTextItem, IsNoString, IsLongString, quoted}
+use Rattle.gc_values.specs.ValueFault.{IsSpellingOrRange}
 use Rattle.gc_values.specs.Whole.{NamesWhole, NamesNoWhole, NamesWholeBeyond, FitsLong, FitsShort, signed_text}
 use Rattle.gc_values.specs.Written.{written}
 use Rattle.gc_values.specs.declared.fault.ValueFault.{ValueFault}
-use Rattle.gc_values.specs.declared.fault.ValueFault.TheVariants as fault
 use Rattle.gc_values.specs.declared.value.Kind.{Kind}
 use Rattle.gc_values.specs.declared.value.Kind.TheVariants as kind
 use Rattle.gc_values.specs.declared.value.Value.{Value}
@@ -61,7 +61,7 @@ IsBeyond kind.Text item = IsLongString item
 
 -- why the item is no value of the kind: it hasn't the form (`Spelling`), or is out of the range (`Range`)
 abbrev pub IsItemFault : Kind → List ℕ → ValueFault → Type 0
-IsItemFault k item e = ((e ≡ fault.Spelling) × HasNoForm k item) ⊎ ((e ≡ fault.Range) × IsBeyond k item)
+IsItemFault k item e = IsSpellingOrRange (HasNoForm k item) (IsBeyond k item) e
 
 -- the one text that is written of a value
 abbrev pub text : Value → List ℕ

@@ -50,3 +50,13 @@ AreValues values = AllByRecursion IsValue values
 abbrev pub IsListReadOrFaulty : List Kind → List ℕ → Type 0
 IsListReadOrFaulty kinds params =
     ((vs : List Value) × (kinds_of vs ≡ kinds) × AreParams params vs) ⊎ ((e : ValueFault) × IsListFault kinds params e)
+
+-- a call asked for one parameter, and gave this value of it: if what is left after the call reads as `vs`, what was left before it
+-- read as the value and then `vs`
+abbrev pub ReadsOne : {S : Type 0} → (reads : S → List Value → Type 0) → (old new : S) → Value → Type 0
+ReadsOne reads old new v = (vs : List Value) → reads new vs → reads old (v ∷ vs)
+
+-- a call asked for one parameter of this kind: if `e` is the fault where the kinds `ks` are asked for after the call, it is the
+-- fault where this kind and then `ks` are asked for before it
+abbrev pub FailsOne : {S : Type 0} → (fails : S → List Kind → ValueFault → Type 0) → (old new : S) → Kind → Type 0
+FailsOne fails old new k = (ks : List Kind) (e : ValueFault) → fails new ks e → fails old (k ∷ ks) e

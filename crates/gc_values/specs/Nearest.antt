@@ -11,13 +11,6 @@ pub record RoundsHalfUp (a b m : ℕ) : Type 0 where
   pub near : 2 * gap a (m * b) ≤ b
   pub tie : 2 * gap a (m * b) ≡ b → a < m * b
 
--- a / 10^k, rounded to 24 places, is m / 10^p for some m, and `units` is m, or the cap where m is above it
-pub record IsRoundedWithCap (a k cap units p : ℕ) : Type 0 where
-  pub m : ℕ
-  pub rounds : RoundsHalfUp (a * 10 ^ 24) (10 ^ k) (m * 10 ^ (24 - p))
-  pub capped : units ≡ min cap m
-  pub places : p ≤ 24
-
 -- m / 10^s is magnitude / 10^p with a minus where `negative`, and without the zeros at its end
 pub record MadeOf (negative : Bool) (magnitude p : ℕ) (m : ℤ) (s : ℕ) : Type 0 where
   pub n : ℕ

@@ -1,16 +1,20 @@
 -- No part of a promise: what the quick reader of parameters, `Quick`, says of a call that takes the next one. `old` is the reader
 -- before the call and `new` the one after it.
-use Rattle.std.specs.Prelude.{◌≡◌, ◌∷◌, ℕ, List, true, Result, Ok}
+use Rattle.std.specs.Prelude.{◌≡◌, ℕ, List, true, Result, Ok}
 use Rattle.std.specs.Option.{option_copied}
 use Rattle.gc_values.specs.Item.{IsItem}
+use Rattle.gc_values.specs.Lists.{ReadsOne}
 use Rattle.gc_values.specs.Plainly.{ReadsPlainly}
 use Rattle.gc_values.specs.declared.quick.Quick.{Quick}
 use Rattle.gc_values.specs.declared.value.Value.{Value}
 
+-- all that was asked for so far was read, and what is left is read as these values
+abbrev pub QuickReads : Quick → List Value → Type 0
+QuickReads quick vs = ReadsPlainly quick.good (option_copied quick.rest) vs
+
 -- the quick reader took the value: where what is left reads as values, what was there reads as this value and then those
 abbrev pub TakesPlainly : Value → (old new : Quick) → Type 0
-TakesPlainly v old new =
-    (vs : List Value) → ReadsPlainly new.good (option_copied new.rest) vs → ReadsPlainly old.good (option_copied old.rest) (v ∷ vs)
+TakesPlainly v old new = ReadsOne QuickReads old new v
 
 -- the quick reader took the item: each value that the item is read as was taken with it
 abbrev pub TakesItem : (item : List ℕ) → (old new : Quick) → Type 0

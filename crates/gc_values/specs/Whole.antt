@@ -1,12 +1,12 @@
 -- Whole numbers: their texts, and the ranges of Long and Short, which are those of the GeoCOM manual's chapter on the ASCII
 -- protocol. That a plus and leading zeros are read is this project's own.
-use Rattle.std.specs.Prelude.{◌≡◌, ℕ, ◌<◌, ◌⊎◌, List, ◌++◌, length, ℤ, pos, neg_ℤ, ◌≤ℤ◌, unsigned_abs}
+use Rattle.std.specs.Prelude.{◌≡◌, ℕ, ◌<◌, List, ◌++◌, length, ℤ, pos, neg_ℤ, ◌≤ℤ◌, unsigned_abs}
 use Rattle.gc_values.specs.Digits.{AreDigits, number}
 use Rattle.gc_values.specs.Fraction.{signed}
 use Rattle.gc_values.specs.Spelling.{Sign, sign_text, is_minus}
+use Rattle.gc_values.specs.ValueFault.{IsSpellingOrRange}
 use Rattle.gc_values.specs.Written.{minus_text, whole_text}
 use Rattle.gc_values.specs.declared.fault.ValueFault.{ValueFault}
-use Rattle.gc_values.specs.declared.fault.ValueFault.TheVariants.{Spelling, Range}
 
 -- the text is one or more digits, which write n
 pub record NamesNumber (text : List ℕ) (n : ℕ) : Type 0 where
@@ -16,8 +16,7 @@ pub record NamesNumber (text : List ℕ) (n : ℕ) : Type 0 where
 
 -- why the text is no number up to `max`: it isn't one or more digits (`Spelling`), or its number is greater (`Range`)
 abbrev pub IsNumberFault : (max : ℕ) (text : List ℕ) → ValueFault → Type 0
-IsNumberFault max text e =
-    ((e ≡ Spelling) × ((n : ℕ) → NamesNumber text n → ⊥)) ⊎ ((e ≡ Range) × ((n : ℕ) × NamesNumber text n × (max < n)))
+IsNumberFault max text e = IsSpellingOrRange ((n : ℕ) → NamesNumber text n → ⊥) ((n : ℕ) × NamesNumber text n × (max < n)) e
 
 -- the text is a sign or none, and one or more digits, which write z
 pub record NamesWhole (text : List ℕ) (z : ℤ) : Type 0 where
@@ -50,7 +49,7 @@ NamesWholeBeyond below above text = (z : ℤ) × NamesWhole text z × (IsBetween
 
 -- why the text is no whole number from -below to above: it writes none (`Spelling`), or one outside (`Range`)
 abbrev pub IsWholeFault : (below above : ℕ) (text : List ℕ) → ValueFault → Type 0
-IsWholeFault below above text e = ((e ≡ Spelling) × NamesNoWhole text) ⊎ ((e ≡ Range) × NamesWholeBeyond below above text)
+IsWholeFault below above text e = IsSpellingOrRange (NamesNoWhole text) (NamesWholeBeyond below above text) e
 
 -- a whole number, written: a minus where it is below zero, and digits without leading zeros
 abbrev pub signed_text : ℤ → List ℕ

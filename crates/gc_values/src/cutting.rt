@@ -1,12 +1,36 @@
-//! What is cut off the front of a number's text: a sign, the longest run of digits, a point with digits after it.
+//! A number's text is cut into its parts from the left: a sign, digits, a point with digits after it, an exponent. The longest run
+//! of digits is cut off each time, so there is one way to cut.
 
-ghost use Rattle.std.specs.Prelude.{◌≡◌, ℕ, ◌+◌, ◌<◌, ◌≤◌, ◌++◌, ◌∷◌, Bool, List, length, Option, IfSome, IfNone};
-ghost use Rattle.gc_values.specs.Cut.{CutsDigits, CutsSign, StartsNoDigit, StartsNoPoint, ReadsExponent, StartsNoMark, CutsFraction};
-ghost use Rattle.gc_values.specs.Digits.{AreDigits, number};
-ghost use Rattle.gc_values.specs.Spelling.{Exponent, IsExponent, IsExponentDigits, exponent_text, mark};
+ghost use Rattle.std.specs.Prelude.{◌≡◌, ℕ, ◌+◌, ◌≤◌, ◌++◌, ◌∷◌, Bool, List, length, Option, IfSome, IfNone};
+ghost use Rattle.gc_values.specs.Cut.{CutsDigits, CutsSign, StartsNoDigit, StartsNoPoint, ReadsExponent, ReadsNumeral, StartsNoMark, CutsFraction};
+ghost use Rattle.gc_values.specs.Digits.{number};
+ghost use Rattle.gc_values.specs.Spelling.{Exponent, IsExponent, IsExponentDigits, Parts, IsNumeral, exponent_text, mark, spelling};
+
+use crate::numeral::Numeral;
+
+/// Cuts a number's text into its parts. `None`: the text hasn't the form that [`Decimal::read`](crate::Decimal::read) takes.
+pub fn cut_numeral(text: &[u8]) -> Option<Numeral<'_>>
+    ensures found { IfSome result (λ n. ReadsNumeral text.now n) }
+    ensures none { IfNone result ((p : Parts) → IsNumeral p → text.now ≡ spelling p → ⊥) }
+{
+    let (negative, rest) = cut_sign(text);
+    let (whole, rest) = cut_digits(rest);
+    let (fraction, rest) = cut_fraction(rest);
+    if whole.is_empty() && fraction.is_empty() {
+        return None;
+    }
+    let (up, down) = exponent(rest)?;
+    Some(Numeral {
+        negative,
+        whole,
+        fraction,
+        up,
+        down,
+    })
+}
 
 /// Cuts the longest run of digits off the front, and returns it, which may be empty, and the rest.
-pub fn cut_digits(text: &[u8]) -> (&[u8], &[u8])
+fn cut_digits(text: &[u8]) -> (&[u8], &[u8])
     ensures { CutsDigits text.now result.0.now result.1.now }
 {
     for (i, byte) in text.iter().enumerate() {
@@ -42,7 +66,7 @@ fn cut_mark(text: &[u8]) -> Option<&[u8]>
 
 /// The number that an exponent's digits write, of which there are one to three. `None`: the text is something else.
 fn exponent_number(text: &[u8]) -> Option<u16>
-    ensures found { IfSome result (λ n. IsExponentDigits text.now × (n ≡ number text.now) × (n < 1000)) }
+    ensures found { IfSome result (λ n. IsExponentDigits text.now × (n ≡ number text.now)) }
     ensures none { IfNone result (IsExponentDigits text.now → ⊥) }
 {
     if text.is_empty() || text.len() > 3 {
@@ -60,9 +84,8 @@ fn exponent_number(text: &[u8]) -> Option<u16>
 
 /// How many times the exponent that a text writes multiplies by ten, and how many times it divides by ten. An empty text, which is no
 /// exponent, is (0, 0). `None`: the text is something else.
-pub fn exponent(text: &[u8]) -> Option<(u16, u16)>
+fn exponent(text: &[u8]) -> Option<(u16, u16)>
     ensures found { IfSome result (λ r. ReadsExponent text.now r.0 r.1) }
-    ensures small { IfSome result (λ r. (r.0 < 1000) × (r.1 < 1000)) }
     ensures none { IfNone result
         ((e : Option Exponent) → IsExponent e → text.now ≡ exponent_text e → ⊥) }
 {
@@ -88,7 +111,7 @@ fn cut_point(text: &[u8]) -> Option<&[u8]>
 
 /// Cuts off a point and the digits after it, and returns these digits and the rest. Without a point at the front nothing is cut
 /// off. The text doesn't begin with a digit.
-pub fn cut_fraction(text: &[u8]) -> (&[u8], &[u8])
+fn cut_fraction(text: &[u8]) -> (&[u8], &[u8])
     requires { StartsNoDigit text.now }
     ensures { CutsFraction text.now result.0.now result.1.now }
 {

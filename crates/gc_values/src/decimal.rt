@@ -15,12 +15,11 @@ ghost use Rattle.gc_values.specs.Written.{written, behind_text};
 ghost use Rattle.gc_values.specs.Zeros.{WithoutZeros};
 ghost use Rattle.arrayvec.specs.ArrayVec.{array_vec_len};
 
+use crate::cutting::cut_numeral;
 use crate::fault::ValueFault;
 use crate::limits::{BOUND, PLACES};
-use crate::numeral::cut_numeral;
 use crate::power::power_of_ten;
 use crate::tail::Tail;
-use crate::units::rounded_units;
 use arrayvec::ArrayVec;
 use std::cmp::Ordering;
 use std::{fmt, str};
@@ -214,7 +213,7 @@ impl Decimal {
         let Some(parts) = cut_numeral(text) else {
             return Err(ValueFault::Spelling);
         };
-        let (magnitude, scale) = rounded_units(parts.whole, parts.fraction, parts.up, parts.down);
+        let (magnitude, scale) = parts.rounded_units();
         Decimal::try_from_parts(parts.negative, magnitude, scale)
     }
 

@@ -1,10 +1,7 @@
-//! A number's text, cut into its parts. The longest run of digits is cut off each time, so there is one way to cut.
+//! A number's text, cut into its parts.
 
-ghost use Rattle.std.specs.Prelude.{◌≡◌, ◌<◌, IfSome, IfNone};
-ghost use Rattle.gc_values.specs.Cut.{ReadsNumeral};
-ghost use Rattle.gc_values.specs.Spelling.{Parts, IsNumeral, spelling};
-
-use crate::cutting::{cut_digits, cut_fraction, cut_sign, exponent};
+ghost use Rattle.std.proofs.Props.{props};
+ghost use Rattle.gc_values.specs.Digits.{AreDigits};
 
 /// The parts of a number's text.
 #[derive(Clone, Copy)]
@@ -19,27 +16,6 @@ pub struct Numeral<'a> {
     pub up: u16,
     /// How many times the exponent divides by ten; 0 without one, or where it has no minus.
     pub down: u16,
-}
-
-/// Cuts a number's text into its parts. `None`: the text hasn't the form that [`Decimal::read`](crate::Decimal::read) takes.
-pub fn cut_numeral(text: &[u8]) -> Option<Numeral<'_>>
-    ensures found { IfSome result
-        (λ n. ReadsNumeral text.now n.negative n.whole.now n.fraction.now n.up n.down) }
-    ensures small { IfSome result (λ n. (n.up < 1000) × (n.down < 1000)) }
-    ensures none { IfNone result ((p : Parts) → IsNumeral p → text.now ≡ spelling p → ⊥) }
-{
-    let (negative, rest) = cut_sign(text);
-    let (whole, rest) = cut_digits(rest);
-    let (fraction, rest) = cut_fraction(rest);
-    if whole.is_empty() && fraction.is_empty() {
-        return None;
-    }
-    let (up, down) = exponent(rest)?;
-    Some(Numeral {
-        negative,
-        whole,
-        fraction,
-        up,
-        down,
-    })
+    pub ghost whole_are_digits: { AreDigits whole.now } by { Prim.hlevel props },
+    pub ghost fraction_are_digits: { AreDigits fraction.now } by { Prim.hlevel props },
 }

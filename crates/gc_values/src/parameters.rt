@@ -6,7 +6,7 @@ ghost use Rattle.std.specs.Prelude.{◌≡◌, ◌∷◌, [], ℕ, List, Some, I
 ghost use Rattle.gc_values.specs.Asked.{FailsFrom, ReadsFrom};
 ghost use Rattle.gc_values.specs.declared.decimal.Decimal.{Decimal};
 ghost use Rattle.gc_values.specs.Item.{kind_of};
-ghost use Rattle.gc_values.specs.Lists.{AreParams, IsListFault};
+ghost use Rattle.gc_values.specs.Lists.{AreParams, FailsOne, IsListFault, ReadsOne};
 ghost use Rattle.gc_values.specs.declared.fault.ValueFault.{ValueFault};
 ghost use Rattle.gc_values.specs.declared.value.Kind.{Kind};
 ghost use Rattle.gc_values.specs.declared.value.Value.{Value};
@@ -20,9 +20,7 @@ use crate::value::{Kind, Value};
 /// Parameters that are asked for one after the other, from the left. Where one is missing or can't be read, a zero of
 /// its kind is given (false, or an empty string), and the next one can be asked for all the same.
 ///
-/// The clauses of each call go from the state after it to the state before it. `reads`: if the parameters left after the call
-/// read as `vs`, those left before it read as the call's result and then `vs`. `fails`: if `e` is the fault where the kinds `ks`
-/// are asked for after the call, it is the fault where the call's kind and then `ks` are asked for before it.
+/// The clauses of each call go from the state after it to the state before it (`ReadsOne`, `FailsOne`).
 pub trait Parameters {
     /// The parameters that are left are read as these values, and each one asked for so far was read.
     ghost reads: { Self → List Value → Type 0 };
@@ -32,33 +30,33 @@ pub trait Parameters {
 
     /// The next parameter, as a decimal.
     fn double(&mut self) -> Decimal
-        ensures reads { (vs : List Value) → reads self.new vs → reads self.old (Value.Double result ∷ vs) }
-        ensures fails { (ks : List Kind) (e : ValueFault) → fails self.new ks e → fails self.old (Kind.Double ∷ ks) e };
+        ensures reads { ReadsOne reads self.old self.new (Value.Double result) }
+        ensures fails { FailsOne fails self.old self.new Kind.Double };
 
     /// The next parameter, as a whole number of 32 bits.
     fn long(&mut self) -> i32
-        ensures reads { (vs : List Value) → reads self.new vs → reads self.old (Value.Long result ∷ vs) }
-        ensures fails { (ks : List Kind) (e : ValueFault) → fails self.new ks e → fails self.old (Kind.Long ∷ ks) e };
+        ensures reads { ReadsOne reads self.old self.new (Value.Long result) }
+        ensures fails { FailsOne fails self.old self.new Kind.Long };
 
     /// The next parameter, as a whole number of 16 bits.
     fn short(&mut self) -> i16
-        ensures reads { (vs : List Value) → reads self.new vs → reads self.old (Value.Short result ∷ vs) }
-        ensures fails { (ks : List Kind) (e : ValueFault) → fails self.new ks e → fails self.old (Kind.Short ∷ ks) e };
+        ensures reads { ReadsOne reads self.old self.new (Value.Short result) }
+        ensures fails { FailsOne fails self.old self.new Kind.Short };
 
     /// The next parameter, as a byte.
     fn byte(&mut self) -> u8
-        ensures reads { (vs : List Value) → reads self.new vs → reads self.old (Value.Byte result ∷ vs) }
-        ensures fails { (ks : List Kind) (e : ValueFault) → fails self.new ks e → fails self.old (Kind.Byte ∷ ks) e };
+        ensures reads { ReadsOne reads self.old self.new (Value.Byte result) }
+        ensures fails { FailsOne fails self.old self.new Kind.Byte };
 
     /// The next parameter, as a Boolean.
     fn boolean(&mut self) -> bool
-        ensures reads { (vs : List Value) → reads self.new vs → reads self.old (Value.Bool result ∷ vs) }
-        ensures fails { (ks : List Kind) (e : ValueFault) → fails self.new ks e → fails self.old (Kind.Bool ∷ ks) e };
+        ensures reads { ReadsOne reads self.old self.new (Value.Bool result) }
+        ensures fails { FailsOne fails self.old self.new Kind.Bool };
 
     /// The next parameter, as a string.
     fn text(&mut self) -> Text
-        ensures reads { (vs : List Value) → reads self.new vs → reads self.old (Value.Text result ∷ vs) }
-        ensures fails { (ks : List Kind) (e : ValueFault) → fails self.new ks e → fails self.old (Kind.Text ∷ ks) e };
+        ensures reads { ReadsOne reads self.old self.new (Value.Text result) }
+        ensures fails { FailsOne fails self.old self.new Kind.Text };
 }
 
 /// The parameters of any list. Where they aren't what was asked for, [`Listed::finish`] names the list's fault.
@@ -114,8 +112,7 @@ impl<'a> Listed<'a> {
     fn take(&mut self, kind: Kind) -> Option<Value>
         ensures reads { (vs : List Value) → ⟦<Listed<'a> as Parameters>⟧.reads self.new vs
             → MatchOption result ⊥ (λ v. (kind_of v ≡ kind) × ⟦<Listed<'a> as Parameters>⟧.reads self.old (v ∷ vs)) }
-        ensures fails { (ks : List Kind) (e : ValueFault) → ⟦<Listed<'a> as Parameters>⟧.fails self.new ks e
-            → ⟦<Listed<'a> as Parameters>⟧.fails self.old (kind ∷ ks) e }
+        ensures fails { FailsOne ⟦<Listed<'a> as Parameters>⟧.fails self.old self.new kind }
     {
         let Ok(items) = &self.items else {
             return None;

@@ -6,8 +6,8 @@ ghost use Rattle.std.specs.Prelude.{◌≡◌, ◌∷◌, [], ℕ, pos, List, If
 ghost use Rattle.std.specs.Option.{option_copied};
 ghost use Rattle.gc_values.specs.Item.{IsItem};
 ghost use Rattle.gc_values.specs.Lists.{AreParams};
-ghost use Rattle.gc_values.specs.Plainly.{CutsPlain, ReadsPlainly};
-ghost use Rattle.gc_values.specs.Taken.{GivesRead, TakesItem, TakesPlainly};
+ghost use Rattle.gc_values.specs.Plainly.{CutsPlain};
+ghost use Rattle.gc_values.specs.Taken.{GivesRead, QuickReads, TakesItem, TakesPlainly};
 ghost use Rattle.gc_values.specs.Whole.{NamesWhole};
 ghost use Rattle.gc_values.specs.declared.value.Value.{Value};
 
@@ -100,13 +100,10 @@ impl<'a> Quick<'a> {
             → TakesPlainly v self.old self.new) }
         ensures none { IfNone result (self.new ≡ self.old) }
     {
-        if let Some(text) = self.rest {
-            if let Some((number, rest)) = front_number(text) {
-                self.rest = rest;
-                return Some(number);
-            }
-        }
-        None
+        let text = self.rest?;
+        let (number, rest) = front_number(text)?;
+        self.rest = rest;
+        Some(number)
     }
 
     // Takes the next item as a decimal, also one with a minus, an exponent or many digits. Where no item in the common spelling
@@ -151,7 +148,7 @@ impl<'a> Quick<'a> {
 // in the common spelling follows, or it isn't what was asked for, the call gives a zero (false, or an empty string), and the list
 // isn't good any more.
 impl<'a> Parameters for Quick<'a> {
-    ghost reads = { λ c vs. ReadsPlainly c.good (option_copied c.rest) vs };
+    ghost reads = { QuickReads };
 
     ghost fails = { λ c ks e. ⊥ };
 

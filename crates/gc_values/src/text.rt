@@ -50,12 +50,7 @@ fn is_string_byte(byte: u8) -> bool
 fn are_string_bytes(bytes: &[u8]) -> bool
     ensures { IsTrue result ↔ AreStringBytes bytes.now }
 {
-    for byte in bytes {
-        if !is_string_byte(*byte) {
-            return false;
-        }
-    }
-    true
+    bytes.iter().all(|byte| is_string_byte(*byte))
 }
 
 impl Text {

@@ -1,63 +1,15 @@
-//! The digits of a number's text as a whole number of units of the last place: rounded there, and capped where no decimal is
-//! as large. `whole` and `fraction` are the two runs of digits, before and after the point; "in a row" they are read as one
-//! run.
+//! The magnitude of a number's text as a whole number of units of the last place: rounded there, and capped where no decimal is
+//! as large.
 
-ghost use Rattle.std.specs.Prelude.{◌≡◌, ℕ, ◌+◌, ◌*◌, ◌^◌, ◌<◌, ◌≤◌, ◌++◌, length, min};
+ghost use Rattle.std.specs.Prelude.{◌≡◌, ℕ, ◌+◌, ◌*◌, ◌^◌, ◌<◌, ◌≤◌, length, min};
 ghost use Rattle.gc_values.specs.Digits.{AreDigits, number};
-ghost use Rattle.gc_values.specs.KeptDigits.{digit_or_zero, kept, kept_and_rounded};
-ghost use Rattle.gc_values.specs.Nearest.{IsRoundedWithCap};
+ghost use Rattle.gc_values.specs.KeptDigits.{IsRoundedWithCap, all_digits, digit_or_zero, kept, kept_and_rounded};
 
 use crate::limits::{DIGITS_IN_64_BITS, PLACES};
+use crate::numeral::Numeral;
 
 /// One more than a decimal's greatest number of units of the last place. Every greater number is taken for this one.
 const CAP: u128 = 10_000_000_000_000_000_000_000_000_000_000_000_001;
-
-/// The digit at a place, counted from 0, of both runs of digits in a row, and 0 after the last one.
-#[tactic(auto, using(crate::proofs::Kept::at_first, crate::proofs::Kept::at_second, crate::proofs::Kept::at_neither, crate::proofs::Kept::digit_at_least_48))]
-fn digit_at(whole: &[u8], fraction: &[u8], place: usize) -> u8
-    requires whole { AreDigits whole.now }
-    requires fraction { AreDigits fraction.now }
-    ensures { result ≡ digit_or_zero (whole.now ++ fraction.now) place }
-{
-    let length = whole.len();
-    if place < length {
-        whole[place] - b'0'
-    } else if place - length < fraction.len() {
-        fraction[place - length] - b'0'
-    } else {
-        0
-    }
-}
-
-/// The number that the first `count` digits of both runs in a row write, with a zero for each digit that is missing; the cap where
-/// that is more.
-fn kept_digits(whole: &[u8], fraction: &[u8], count: usize) -> u128
-    requires whole { AreDigits whole.now }
-    requires fraction { AreDigits fraction.now }
-    ensures { result ≡ min CAP (kept (whole.now ++ fraction.now) count) }
-{
-    let mut kept = 0;
-    for place in 0..count {
-        let digit = digit_at(whole, fraction, place);
-        kept = (kept * 10 + u128::from(digit)).min(CAP);
-    }
-    kept
-}
-
-/// The number of the first `count` digits of both runs in a row, as `kept_digits` returns it, and 1 more where the digit after them
-/// is 5 or above; the cap where that is more.
-fn kept_and_rounded(whole: &[u8], fraction: &[u8], count: usize) -> u128
-    requires whole { AreDigits whole.now }
-    requires fraction { AreDigits fraction.now }
-    ensures { result ≡ min CAP (kept_and_rounded (whole.now ++ fraction.now) count) }
-{
-    let kept = kept_digits(whole, fraction, count);
-    if digit_at(whole, fraction, count) >= 5 {
-        (kept + 1).min(CAP)
-    } else {
-        kept
-    }
-}
 
 /// The number `kept` times 10^`zeros`; the cap where that is more.
 fn with_zeros(kept: u128, zeros: usize) -> u128
@@ -81,50 +33,86 @@ fn followed_by(front: u64, digits: &[u8]) -> u64
     value
 }
 
-/// The number that both runs in a row write, which have at most 18 digits together.
-fn short_number(whole: &[u8], fraction: &[u8]) -> u64
-    requires whole { AreDigits whole.now }
-    requires fraction { AreDigits fraction.now }
-    requires few { length whole.now + length fraction.now ≤ 18 }
-    ensures { result ≡ number (whole.now ++ fraction.now) }
-{
-    followed_by(followed_by(0, whole), fraction)
-}
+// All digits of a numeral are those before its point and then those after it, in a row.
+impl Numeral<'_> {
+    /// The digit at a place, counted from 0, of all digits, and 0 after the last one.
+    #[tactic(auto, using(crate::proofs::Kept::at_first, crate::proofs::Kept::at_second, crate::proofs::Kept::at_neither, crate::proofs::Kept::digit_at_least_48))]
+    fn digit_at(&self, place: usize) -> u8
+        ensures { result ≡ digit_or_zero (all_digits self.now) place }
+    {
+        let length = self.whole.len();
+        if place < length {
+            self.whole[place] - b'0'
+        } else if place - length < self.fraction.len() {
+            self.fraction[place - length] - b'0'
+        } else {
+            0
+        }
+    }
 
-/// The value of a number's text, rounded to 24 places, half up: `(n, p)` stands for `n / 10^p`. In place of an `n` above the cap
-/// the cap is returned. The value is that of the digits with a point between both runs, times 10^`up`, divided by 10^`down`.
-///
-/// No zero is appended that the value doesn't need, so this takes at most as many steps as there are digits, whatever the exponent is.
-pub fn rounded_units(whole: &[u8], fraction: &[u8], up: u16, down: u16) -> (u128, u8)
-    requires whole { AreDigits whole.now }
-    requires fraction { AreDigits fraction.now }
-    ensures { IsRoundedWithCap (number (whole.now ++ fraction.now) * 10 ^ up)
-        (length fraction.now + down) CAP result.0 result.1 }
-{
-    let length = whole.len() + fraction.len();
-    // Few digits, and no exponent, or one of 0: their number is read as it is, in 64 bits.
-    if up == 0 && down == 0 && length <= DIGITS_IN_64_BITS {
-        return (
-            u128::from(short_number(whole, fraction)),
-            fraction.len() as u8,
-        );
+    /// The number that the first `count` digits write, with a zero for each digit that is missing; the cap where that is more.
+    fn kept_digits(&self, count: usize) -> u128
+        ensures { result ≡ min CAP (kept (all_digits self.now) count) }
+    {
+        let mut kept = 0;
+        for place in 0..count {
+            let digit = self.digit_at(place);
+            kept = (kept * 10 + u128::from(digit)).min(CAP);
+        }
+        kept
     }
-    // How many digits there would be up to the last of 24 places if `down` were 0, with zeros for those that are missing.
-    let last = whole.len() + usize::from(up) + usize::from(PLACES);
-    // The exponent moves every digit at least two places past the last of the 24, so the value rounds to 0.
-    let Some(count) = last.checked_sub(usize::from(down)) else {
-        return (0, PLACES);
-    };
-    // Digits are left over: the number is rounded there.
-    if count < length {
-        return (kept_and_rounded(whole, fraction, count), PLACES);
+
+    /// The number of the first `count` digits, as `kept_digits` returns it, and 1 more where the digit after them is 5 or above;
+    /// the cap where that is more.
+    fn kept_and_rounded(&self, count: usize) -> u128
+        ensures { result ≡ min CAP (kept_and_rounded (all_digits self.now) count) }
+    {
+        let kept = self.kept_digits(count);
+        if self.digit_at(count) >= 5 {
+            (kept + 1).min(CAP)
+        } else {
+            kept
+        }
     }
-    // All digits count. Only zeros that are before the point are appended.
-    let kept = kept_digits(whole, fraction, length);
-    let zeros = count - length;
-    if zeros <= usize::from(PLACES) {
-        (kept, PLACES - zeros as u8)
-    } else {
-        (with_zeros(kept, zeros - usize::from(PLACES)), 0)
+
+    /// The number that all digits write, of which there are at most 18.
+    fn short_number(&self) -> u64
+        requires { length self.now.whole.now + length self.now.fraction.now ≤ 18 }
+        ensures { result ≡ number (all_digits self.now) }
+    {
+        followed_by(followed_by(0, self.whole), self.fraction)
+    }
+
+    /// The magnitude of the number, rounded to 24 places, half up: `(n, p)` stands for `n / 10^p`. In place of an `n` above the cap
+    /// the cap is returned.
+    ///
+    /// No zero is appended that the value doesn't need, so this takes at most as many steps as there are digits, whatever the
+    /// exponent is.
+    pub fn rounded_units(&self) -> (u128, u8)
+        ensures { IsRoundedWithCap self.now CAP result.0 result.1 }
+    {
+        let length = self.whole.len() + self.fraction.len();
+        // Few digits, and no exponent, or one of 0: their number is read as it is, in 64 bits.
+        if self.up == 0 && self.down == 0 && length <= DIGITS_IN_64_BITS {
+            return (u128::from(self.short_number()), self.fraction.len() as u8);
+        }
+        // How many digits there would be up to the last of 24 places if `down` were 0, with zeros for those that are missing.
+        let digits_to_last_place = self.whole.len() + usize::from(self.up) + usize::from(PLACES);
+        // The exponent moves every digit at least two places past the last of the 24, so the value rounds to 0.
+        let Some(count) = digits_to_last_place.checked_sub(usize::from(self.down)) else {
+            return (0, PLACES);
+        };
+        // Digits are left over: the number is rounded there.
+        if count < length {
+            return (self.kept_and_rounded(count), PLACES);
+        }
+        // All digits count. Only zeros that are before the point are appended.
+        let kept = self.kept_digits(length);
+        let zeros = count - length;
+        if zeros <= usize::from(PLACES) {
+            (kept, PLACES - zeros as u8)
+        } else {
+            (with_zeros(kept, zeros - usize::from(PLACES)), 0)
+        }
     }
 }

@@ -204,9 +204,9 @@ pub fn station_of(matches: &ArgMatches) -> Option<Settings> {
             deadline: matches.get_one::<u64>("deadline")?,
             chained: !matches.get_flag("unchained"),
             every: matches.get_one::<u64>("every")?.saturating_mul(SECOND),
-            cycles: cycles_of(matches.get_one::<u64>("cycles")?),
+            cycles: times_of(matches.get_one::<u64>("cycles")?, u64::MAX),
             quiet: matches.get_one::<u64>("quiet")?,
-            retries: retries_of(matches.get_one::<u32>("retries")?),
+            retries: times_of(matches.get_one::<u32>("retries")?, u32::MAX),
             stale: matches.get_one::<u64>("stale")?.saturating_mul(SECOND),
             watched: matches.get_str("until").is_some(),
             watch: if matches.get_flag("silent") {
@@ -231,18 +231,11 @@ fn form_of(matches: &ArgMatches) -> Form {
     }
 }
 
-// How many times in a row the station reconnects: the chosen number, or the greatest `u32` for 0, which stands for no end.
-fn retries_of(chosen: u32) -> u32 {
-    match chosen {
-        0 => u32::MAX,
-        retries => retries,
-    }
-}
-
-// How many cycles are measured or missed: the chosen number, or the greatest `u64` for 0, which stands for no end.
-fn cycles_of(chosen: u64) -> u64 {
-    match chosen {
-        0 => u64::MAX,
-        cycles => cycles,
+// How many times something is done: the chosen number, or `endless` for 0, which stands for no end.
+fn times_of<N: Copy + PartialEq + Default>(chosen: N, endless: N) -> N {
+    if chosen == N::default() {
+        endless
+    } else {
+        chosen
     }
 }

@@ -96,7 +96,7 @@ fn table_of(alloc: Global) -> Result<Vec<Argument<'static>>, AllocError> {
 
 // Whether the row of `station` with this name is one of `rehearse`, too.
 fn is_shared(name: &str) -> bool {
-    SHARED.iter().any(|shared| *shared == name)
+    SHARED.contains(&name)
 }
 
 /// What is to be rehearsed: the paths of the files of the scene and of the line, where they are named, how many nights, with which seed,

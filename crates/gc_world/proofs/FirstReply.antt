@@ -18,7 +18,7 @@ use Rattle.gc_world.specs.declared.event.Event.{Event}
 use Rattle.gc_world.specs.declared.event.Event.TheVariants.{DownDeliver}
 use Rattle.gc_world.specs.declared.event.Event.TheVariants as event
 use Rattle.gc_world.specs.Clients.{ByNumber, number_send, number_reply, by_ids, by_numbers, ids_open, numbers_open, run_by_ids, streams_by_ids, streams_by_numbers}
-use Rattle.gc_world.specs.FirstReply.{IsDelivery, IsSentBefore, IsInTime, IsTooLate, IsSettledAs, ended, between, DeliverySettles}
+use Rattle.gc_world.specs.FirstReply.{IsDelivery, HasSend, IsInTime, IsTooLate, IsSettledAs, ended, between, DeliverySettles}
 use Rattle.gc_world.specs.Streams.{Streams, untouched, flows}
 use Rattle.gc_world.specs.Laws.{left_by_ids}
 use Rattle.gc_world.specs.Clients.{ends}
@@ -158,30 +158,30 @@ module _ (width : ℕ) (narrow : width ≤ WINDOW) (opening : State) where
   mark_of earlier target call deadline later = marked_all ends (by_numbers width) later (after_send earlier target call deadline) (pending_of target call deadline)
 
   -- where the events have the send of request n, and n isn't settled, the oracle client has it at place n as `mark_of` says
-  entry : (events : List Event) (n deadline : ℕ) (later : List Event) (s : IsSentBefore width opening events n deadline later)
+  entry : (events : List Event) (n : ℕ) (s : HasSend width opening events n)
       → length (left_by_ids width opening events).settled ≤ n → slice_get (numbers_after events).world.client.requests n ≡ Some
-      (mark_of s.earlier s.target s.call deadline later)
-  entry events n deadline later s le =
-      let e : Event = event.Send s.target s.call deadline in
+      (mark_of s.earlier s.target s.call s.deadline s.later)
+  entry events n s le =
+      let e : Event = event.Send s.target s.call s.deadline in
       let v = (numbers_after s.earlier).world in
-      let b = after_send s.earlier s.target s.call deadline in
+      let b = after_send s.earlier s.target s.call s.deadline in
       let w = b.world in
-      let steps = taken ends (by_numbers width) later b in
+      let steps = taken ends (by_numbers width) s.later b in
       let here : length v.wire.sent ≡ n = ap (λ (u : Wire State). length u.sent) (sym (wire_in s.earlier)) ∙ s.number in
       let more : length w.wire.sent ≡ length v.wire.sent + 1 =
       ap (λ (u : Streams (ByNumber Call) State). length u.world.wire.sent) (sym (numbers_more s.earlier e)) ∙ ap (λ (u : Wire State). length u.sent) (sym (wire_in (s.earlier ++ e ∷ [])))
       ∙ s.taken ∙ ap (λ m. m + 1) (sym here) in
       let full = eqb (length v.client.requests - v.client.count) width in
-      let at : slice_get w.client.requests n ≡ Some (pending_of s.target s.call deadline) =
-      ap (slice_get w.client.requests) (sym here) ∙ sent_entry width v s.target s.call deadline full (sound_in s.earlier).counted more in
+      let at : slice_get w.client.requests n ≡ Some (pending_of s.target s.call s.deadline) =
+      ap (slice_get w.client.requests) (sym here) ∙ sent_entry width v s.target s.call s.deadline full (sound_in s.earlier).counted more in
       let whole : (numbers_after events).world ≡ run ends (by_numbers width) steps w =
       ap (λ es. (numbers_after es).world) s.order
-      ∙ ap (λ (u : Streams (ByNumber Call) State). u.world) (flow_append ends (by_numbers width) s.earlier (e ∷ later) (untouched (numbers_open (restarted opening))))
-      ∙ flow_run ends (by_numbers width) later b in
+      ∙ ap (λ (u : Streams (ByNumber Call) State). u.world) (flow_append ends (by_numbers width) s.earlier (e ∷ s.later) (untouched (numbers_open (restarted opening))))
+      ∙ flow_run ends (by_numbers width) s.later b in
       let unsettled : (numbers_after events).world.client.count ≤ n = omega (arith, (sound_in events).booked, ap (λ (u : Wire State). length u.settled) (wire_in events), le) in
-      subst (λ (u : World (ByNumber Call) State). slice_get u.client.requests n ≡ Some (mark_of s.earlier s.target s.call deadline later)) (sym whole)
-      (entry_all width ends KeptFits kept_exchange steps w n (pending_of s.target s.call deadline)
-      (sound_step width ends KeptFits call_line kept_exchange v (Send s.target s.call deadline) (sound_in s.earlier)) at
+      subst (λ (u : World (ByNumber Call) State). slice_get u.client.requests n ≡ Some (mark_of s.earlier s.target s.call s.deadline s.later)) (sym whole)
+      (entry_all width ends KeptFits kept_exchange steps w n (pending_of s.target s.call s.deadline)
+      (sound_step width ends KeptFits call_line kept_exchange v (Send s.target s.call s.deadline) (sound_in s.earlier)) at
       (subst (λ (u : World (ByNumber Call) State). u.client.count ≤ n) whole unsettled))
 
   -- an event that delivers the front reply, if there is one, leaves in the run by ids the settlements that the step
@@ -234,20 +234,20 @@ module _ (width : ℕ) (narrow : width ≤ WINDOW) (opening : State) where
   pub books : (events : List Event) (n : ℕ) (line : List ℕ) → IsInTime width opening events n → DeliverySettles width opening events n line (Answered line)
   books events n line t delivery is next =
       let s = t.sent in
-      let p = mark_of s.earlier s.target s.call t.deadline t.later in
+      let p = mark_of s.earlier s.target s.call s.deadline s.later in
       subst (λ b. IsSettledAs (left_by_ids width opening events) (left_by_ids width opening (events ++ delivery ∷ [])) n (cond b Late (Answered line)))
-      (in_time ends (by_numbers width) t.later (after_send s.earlier s.target s.call t.deadline) (pending_of s.target s.call t.deadline) refl t.early)
-      (settled_at events n line p (entry events n t.deadline t.later s next.unsettled) delivery is next)
+      (in_time ends (by_numbers width) s.later (after_send s.earlier s.target s.call s.deadline) (pending_of s.target s.call s.deadline) refl t.early)
+      (settled_at events n line p (entry events n s next.unsettled) delivery is next)
 
   -- where request n is too late after these events, the delivery of a first reply to it settles it as late, and the unsettled
   -- requests before it as lost (`DeliverySettles`)
   pub is_late : (events : List Event) (n : ℕ) (line : List ℕ) → IsTooLate width opening events n → DeliverySettles width opening events n line Late
   is_late events n line t delivery is next =
       let s = t.sent in
-      let p = mark_of s.earlier s.target s.call t.deadline t.later in
+      let p = mark_of s.earlier s.target s.call s.deadline s.later in
       subst (λ b. IsSettledAs (left_by_ids width opening events) (left_by_ids width opening (events ++ delivery ∷ [])) n (cond b Late (Answered line)))
-      (too_late ends (by_numbers width) t.later (after_send s.earlier s.target s.call t.deadline) (pending_of s.target s.call t.deadline) t.now t.given t.reached)
-      (settled_at events n line p (entry events n t.deadline t.later s next.unsettled) delivery is next)
+      (too_late ends (by_numbers width) s.later (after_send s.earlier s.target s.call s.deadline) (pending_of s.target s.call s.deadline) t.now t.given t.reached)
+      (settled_at events n line p (entry events n s next.unsettled) delivery is next)
 
   -- the delivery of the front reply settles nothing where it belongs to a request n that is settled already
   pub no_second : (events : List Event) (n : ℕ) (line : List ℕ) (rest : List (Numbered (List ℕ))) (delivery : Event) → IsDelivery (ids_after events) delivery

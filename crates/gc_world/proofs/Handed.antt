@@ -128,7 +128,7 @@ module _ (width : ℕ) (v : Streams (ById Call) State) where
       let tail : xs ≡ w.wire.down = sym (ap (λ q. (down_delivered (by_ids width ends) v.world q).wire.down) e) in
       let zero_more : n - used ≡ 0 + (n - used) = omega arith in
       let count : (cut (map with_end h.behind) (n - used)).lines ≡ (cut (down_lines w.wire) (0 + (n - used))).lines = ap₂ (λ q j. (cut (map with_end q) j).lines) h.tail zero_more in (
-        subst (λ l. IsStray v.world.client l) (sym e) all.0,
+        subst (λ l. IsStray v.world.client l) (sym e) (all.0, tt),
         subst (λ c. AreStrays c (cut (down_lines w.wire) (0 + (n - used))).lines w.wire.down) (sym same)
             (subst (λ j. AreStrays v.world.client j w.wire.down) count (subst (λ q. AreStrays v.world.client k q) tail all.1)),
       )

@@ -13,7 +13,7 @@ use Rattle.gc_world.specs.declared.event.Event.TheVariants.{Send, UpDeliver, UpB
 use Rattle.gc_world.specs.Clients.{by_ids, ids_open, streams_by_ids}
 use Rattle.gc_world.specs.Streams.{Streams, untouched, cut, passed, is_begun, up_lines, down_lines, flows, flow}
 use Rattle.gc_world.specs.World
-use Rattle.gc_world.specs.FirstReply.{IsSentBefore, IsInTime, IsTooLate, IsInTimeOrTooLate, IsNeverInTimeAndTooLate}
+use Rattle.gc_world.specs.FirstReply.{HasSend, IsInTime, IsTooLate, IsInTimeOrTooLate, IsNeverInTimeAndTooLate}
 use Rattle.gc_world.specs.Laws.{left_by_ids}
 use Rattle.gc_world.specs.Clients.{ends}
 use Rattle.gc_world.specs.World.{Request, Numbered, Ends, Rule, Wire, World, Step, Up_deliver, Down_deliver, up_delivered, with_up, with_down, started, instrument_restarted, requested, down_delivered, client_restarted, happens, run}
@@ -120,35 +120,30 @@ module _ (width : ℕ) (opening : State) (n : ℕ) where
       ≡ (flows ends (by_ids width ends) (streams_by_ids width ends events (restarted opening)) e).world.wire
   left_more events e = ap (λ (v : Streams (ById Call) State). v.world.wire) (flow_append ends (by_ids width ends) events (e ∷ []) (untouched (ids_open (restarted opening))))
 
-  -- the events have the send of request n, at whatever place
-  abbrev pub HasSend : List Event → Type 0
-  HasSend events = (deadline : ℕ) × (later : List Event) × IsSentBefore width opening events n deadline later
-
   -- The list has the send of request n, where the event e sends a request, and at most n were sent before it: if n were (b true),
   -- that send is e; if fewer were (b false), the last premise gives it
   found_at : (earlier : List Event) (e : Event) (rest : List Event) (b : Bool) (test : eqb (sent_in earlier) n ≡ b) (few : sent_in earlier ≤ n) (send : IsSend e)
-      (more : sent_in (earlier ++ e ∷ []) ≡ sent_in earlier + 1) (again : (sent_in (earlier ++ e ∷ []) ≤ n → HasSend (earlier ++ e ∷ rest)))
-      → HasSend (earlier ++ e ∷ rest)
+      (more : sent_in (earlier ++ e ∷ []) ≡ sent_in earlier + 1) (again : (sent_in (earlier ++ e ∷ []) ≤ n → HasSend width opening (earlier ++ e ∷ rest) n))
+      → HasSend width opening (earlier ++ e ∷ rest) n
   found_at earlier e rest true t le (target, call, deadline, is) more again =
-      let here : sent_in earlier ≡ n = eqb-true _ _ t in (
-        deadline,
-        rest,
-        record {
-          earlier = earlier;
-          target = target;
-          call = call;
-          order = ap (λ x. earlier ++ x ∷ rest) is;
-          number = here;
-          taken = ap (λ x. sent_in (earlier ++ x ∷ [])) (sym is) ∙ more ∙ ap (λ m. m + 1) here;
-        },
-      )
+      let here : sent_in earlier ≡ n = eqb-true _ _ t in
+      record {
+        earlier = earlier;
+        target = target;
+        call = call;
+        deadline = deadline;
+        later = rest;
+        order = ap (λ x. earlier ++ x ∷ rest) is;
+        number = here;
+        taken = ap (λ x. sent_in (earlier ++ x ∷ [])) (sym is) ∙ more ∙ ap (λ m. m + 1) here;
+      }
   found_at earlier e rest false t le send more again = again (omega (arith, eqb-false _ _ t, le, more))
 
   -- where at most n requests were sent before the event e (`SendsAtMostOne`), the list has the send of request n: it is e, or the
   -- last premise gives it
   found_by : (earlier : List Event) (e : Event) (rest : List Event) → sent_in earlier ≤ n
       → SendsAtMostOne e (sent_in earlier) (sent_in (earlier ++ e ∷ []))
-      → (sent_in (earlier ++ e ∷ []) ≤ n → HasSend (earlier ++ e ∷ rest)) → HasSend (earlier ++ e ∷ rest)
+      → (sent_in (earlier ++ e ∷ []) ≤ n → HasSend width opening (earlier ++ e ∷ rest) n) → HasSend width opening (earlier ++ e ∷ rest) n
   found_by earlier e rest le (inl same) again = again (omega (arith, same, le))
   found_by earlier e rest le (inr (send, more)) again = found_at earlier e rest (eqb (sent_in earlier) n) refl le send more again
 
@@ -160,29 +155,29 @@ module _ (width : ℕ) (opening : State) (n : ℕ) where
 
   -- where the events `earlier` send at most n requests, and `earlier` and `later` together more than n, the send of request n
   -- is in the list
-  found : (earlier later : List Event) → sent_in earlier ≤ n → n < sent_in (earlier ++ later) → HasSend (earlier ++ later)
+  found : (earlier later : List Event) → sent_in earlier ≤ n → n < sent_in (earlier ++ later) → HasSend width opening (earlier ++ later) n
   found earlier [] le lt = absurd (omega (arith, le, lt, ap sent_in (append-nil earlier)))
   found earlier (e ∷ rest) le lt =
       let same : (earlier ++ e ∷ []) ++ rest ≡ earlier ++ e ∷ rest = append_assoc earlier (e ∷ []) rest in
       found_by earlier e rest le (sends_one_in earlier e)
-      (λ le1. subst HasSend same (found (earlier ++ e ∷ []) rest le1 (subst (λ es. n < sent_in es) (sym same) lt)))
+      (λ le1. subst (λ es. HasSend width opening es n) same (found (earlier ++ e ∷ []) rest le1 (subst (λ es. n < sent_in es) (sym same) lt)))
 
   -- a request that was sent has its send in the list
-  pub is_sent : (events : List Event) → n < sent_in events → HasSend events
+  pub is_sent : (events : List Event) → n < sent_in events → HasSend width opening events n
   is_sent events lt = found [] events (omega arith) lt
 
 -- a request whose send is in the list is in time where each moment after the send lies before its deadline, and too late where
 -- one reaches it
-in_time_or_too_late : (width : ℕ) (opening : State) (events : List Event) (n deadline : ℕ) (later : List Event) → IsSentBefore width opening events n deadline later
-    → AllEarly deadline later ⊎ OneReaches deadline later → IsInTime width opening events n ⊎ IsTooLate width opening events n
-in_time_or_too_late width opening events n deadline later s (inl early) = inl (record { deadline = deadline; later = later; sent = s; early = early })
-in_time_or_too_late width opening events n deadline later s (inr (now, has, reached)) = inr (record { deadline = deadline; later = later; sent = s; now = now; given = has; reached = reached })
+in_time_or_too_late : (width : ℕ) (opening : State) (events : List Event) (n : ℕ) (s : HasSend width opening events n)
+    → AllEarly s.deadline s.later ⊎ OneReaches s.deadline s.later → IsInTime width opening events n ⊎ IsTooLate width opening events n
+in_time_or_too_late width opening events n s (inl early) = inl (record { sent = s; early = early })
+in_time_or_too_late width opening events n s (inr (now, has, reached)) = inr (record { sent = s; now = now; given = has; reached = reached })
 
 -- a request that was sent is in time or too late
 pub one_or_other : IsInTimeOrTooLate
 one_or_other width opening events n lt =
     let s = is_sent width opening n events lt in
-    in_time_or_too_late width opening events n s.0 s.1 s.2 (early_or_reached s.0 s.1)
+    in_time_or_too_late width opening events n s (early_or_reached s.deadline s.later)
 
 -- The send of a request is in the list once.
 
@@ -235,8 +230,8 @@ pub never_both : IsNeverInTimeAndTooLate
 never_both width opening events n a b =
     let s = a.sent in
     let t = b.sent in
-    let x : Event = Send s.target s.call a.deadline in
-    let y : Event = Send t.target t.call b.deadline in
-    let one = one_split (by_ids width ends) n s.earlier t.earlier x y a.later b.later (untouched (ids_open (restarted opening))) (sym s.order ∙ t.order) s.number t.number s.taken t.taken in
-    let lt : b.now < a.deadline = a.early b.now (subst (λ es. Contains es (Expire b.now)) (sym (cons_tail x y a.later b.later one)) b.given) in
-    absurd (omega (arith, lt, b.reached, same_deadline s.target t.target s.call t.call a.deadline b.deadline a.later b.later one))
+    let x : Event = Send s.target s.call s.deadline in
+    let y : Event = Send t.target t.call t.deadline in
+    let one = one_split (by_ids width ends) n s.earlier t.earlier x y s.later t.later (untouched (ids_open (restarted opening))) (sym s.order ∙ t.order) s.number t.number s.taken t.taken in
+    let lt : b.now < s.deadline = a.early b.now (subst (λ es. Contains es (Expire b.now)) (sym (cons_tail x y s.later t.later one)) b.given) in
+    absurd (omega (arith, lt, b.reached, same_deadline s.target t.target s.call t.call s.deadline t.deadline s.later t.later one))

@@ -27,13 +27,13 @@ use Rattle.gc_world.specs.declared.report.Made.{Made}
 use Rattle.gc_world.specs.declared.report.Report.{Report}
 use Rattle.gc_world.specs.declared.report.Sent.{Sent}
 use Rattle.gc_world.specs.World
-use Rattle.gc_world.specs.World.{Request, Numbered, Wire, World, Send, Up_deliver, Up_lose, Up_repeat, Down_deliver, Down_lose, Down_repeat, Restart_client, Restart_instrument, without, doubled, idle, up_delivered, with_up, with_down, on_wire, requested, down_delivered, client_restarted, instrument_restarted}
+use Rattle.gc_world.specs.World.{Request, Numbered, Wire, World, bytes_of, Send, Up_deliver, Up_lose, Up_repeat, Down_deliver, Down_lose, Down_repeat, Restart_client, Restart_instrument, without, doubled, idle, up_delivered, with_up, with_down, on_wire, requested, down_delivered, client_restarted, instrument_restarted}
 use Rattle.gc_world.specs.Clients.{by_ids, ends}
 use Rattle.gc_world.specs.Faithful.{sent_seen}
 use Rattle.gc_world.specs.Memory.{IsBusy}
 use Rattle.gc_world.specs.Order.{numbers}
 use Rattle.gc_world.specs.Reports.{made_seen, IsReport}
-use Rattle.gc_world.specs.Stages.{after_step, bytes_of, IsSentIn, named, AreOfWorld}
+use Rattle.gc_world.specs.Stages.{after_step, IsSentIn, named, AreOfWorld}
 use Rattle.gc_world.proofs.Contracts.{ExchangesAny, Notes, Sends, HandsToInstrument, HandsToClient, RestartsBoth}
 use Rattle.gc_world.proofs.Handing.{kept_id, other_id}
 use Rattle.gc_world.proofs.Queues.{without_map, doubled_map, without_past, doubled_past}

@@ -25,10 +25,10 @@ use Rattle.gc_world.specs.Memory.{IsBusy}
 use Rattle.gc_world.specs.Order.{numbers}
 use Rattle.gc_world.specs.Reports.{made_seen}
 use Rattle.gc_world.specs.Sides.{written, IsPart, IsFlow, Carries, Changes}
-use Rattle.gc_world.specs.Stages.{Seen, after_step, bytes_of, IsSentIn, named, AreOfWorld, AreStreamsOf}
+use Rattle.gc_world.specs.Stages.{Seen, after_step, IsSentIn, named, AreOfWorld, AreStreamsOf}
 use Rattle.gc_world.specs.Staging.{after_event, after_bytes}
 use Rattle.gc_world.specs.Streams.{Streams, up_texts, down_texts, is_begun, remaining}
-use Rattle.gc_world.specs.World.{Request, Numbered, Wire, World, Step, Send, Up_deliver, Up_lose, Up_repeat, Down_deliver, Down_lose, Down_repeat, Restart_client, Restart_instrument, Nothing, without, doubled, idle, up_delivered, with_up, with_down, on_wire, requested, down_delivered, client_restarted, instrument_restarted}
+use Rattle.gc_world.specs.World.{Request, Numbered, Wire, World, bytes_of, Step, Send, Up_deliver, Up_lose, Up_repeat, Down_deliver, Down_lose, Down_repeat, Restart_client, Restart_instrument, Nothing, without, doubled, idle, up_delivered, with_up, with_down, on_wire, requested, down_delivered, client_restarted, instrument_restarted}
 use Rattle.gc_world.proofs.Directions.{bytes_pass, idle_bytes}
 use Rattle.std.proofs.lemmas.Option.{same_Some}
 use Rattle.gc_world.proofs.Places.{get_seen}

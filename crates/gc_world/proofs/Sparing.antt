@@ -52,4 +52,4 @@ module _ (width : ℕ) (r : Report) (up down : List ℕ) (c : Windowed Call) (w 
   stray p rest m bytes e found same t =
       let f = down_front width r up down c w h p rest e in
       ap₂ (λ (k : Windowed Call) (l : List ℕ). fits k.ids (heard l)) h.client_is
-      (same ∙ ap (λ (x : Numbered (List ℕ)). x.line) (down_line width r up down c w h p rest m e found)) ∙ subst (λ q. IsStray w.client q) f.2 t
+      (same ∙ ap (λ (x : Numbered (List ℕ)). x.line) (down_line width r up down c w h p rest m e found)) ∙ (subst (λ q. IsStray w.client q) f.2 t).0

@@ -18,11 +18,13 @@ use Rattle.gc_world.specs.Laws.{left_by_ids}
 use Rattle.gc_world.specs.Streams.{Streams, down_lines, remaining}
 use Rattle.gc_world.specs.World.{Sent, Numbered, Wire}
 
--- the list of events has the send of request n, with this deadline, and then these later ones
-pub record IsSentBefore (width : ℕ) (opening : State) (events : List Event) (n deadline : ℕ) (later : List Event) : Type 0 where
+-- the list of events has the send of request n, with its deadline, and then later ones
+pub record HasSend (width : ℕ) (opening : State) (events : List Event) (n : ℕ) : Type 0 where
   pub earlier : List Event
   pub target : ℕ
   pub call : Call
+  pub deadline : ℕ
+  pub later : List Event
   pub order : events ≡ earlier ++ Send target call deadline ∷ later
   -- n requests had been sent before it
   pub number : length (left_by_ids width opening earlier).sent ≡ n
@@ -31,20 +33,16 @@ pub record IsSentBefore (width : ℕ) (opening : State) (events : List Event) (n
 
 -- in time: each moment that the client got since request n was sent lay before the request's deadline
 pub record IsInTime (width : ℕ) (opening : State) (events : List Event) (n : ℕ) : Type 0 where
-  pub deadline : ℕ
-  pub later : List Event
-  pub sent : IsSentBefore width opening events n deadline later
-  pub early : (now : ℕ) → Contains later (Expire now) → now < deadline
+  pub sent : HasSend width opening events n
+  pub early : (now : ℕ) → Contains sent.later (Expire now) → now < sent.deadline
 
 -- too late: since request n was sent the client got a moment at or past the request's deadline
 pub record IsTooLate (width : ℕ) (opening : State) (events : List Event) (n : ℕ) : Type 0 where
-  pub deadline : ℕ
-  pub later : List Event
-  pub sent : IsSentBefore width opening events n deadline later
+  pub sent : HasSend width opening events n
   pub now : ℕ
   -- the client got this moment
-  pub given : Contains later (Expire now)
-  pub reached : deadline ≤ now
+  pub given : Contains sent.later (Expire now)
+  pub reached : sent.deadline ≤ now
 
 -- the reply at the front of the downward queue is this line, it belongs to request n, and request n isn't settled
 pub record IsNextFor (w : Wire State) (n : ℕ) (line : List ℕ) : Type 0 where
@@ -78,17 +76,20 @@ DeliverySettles width opening events n line outcome =
     (delivery : Event) → IsDelivery (streamed width opening events) delivery → IsNextFor (left_by_ids width opening events) n line →
     IsSettledAs (left_by_ids width opening events) (left_by_ids width opening (events ++ delivery ∷ [])) n outcome
 
--- with a window of at most seven, a first reply in time is booked: its request is answered with that very line
-abbrev pub BooksFirstReply : Type 0
-BooksFirstReply =
+-- with a window of at most seven, the first reply to a request of which `Comes` holds (`IsInTime` or `IsTooLate`) settles the
+-- request with the outcome that `outcome` gives for the reply's line
+abbrev pub FirstReplySettles : (Comes : (width : ℕ) → State → List Event → (n : ℕ) → Type 0) → (outcome : List ℕ → Outcome) → Type 0
+FirstReplySettles Comes outcome =
     (width : ℕ) → width ≤ WINDOW → (opening : State) (events : List Event) (n : ℕ) (line : List ℕ) →
-    IsInTime width opening events n → DeliverySettles width opening events n line (Answered line)
+    Comes width opening events n → DeliverySettles width opening events n line (outcome line)
 
--- with a window of at most seven, a first reply that comes too late settles its request as late
+-- a first reply in time is booked: its request is answered with that very line
+abbrev pub BooksFirstReply : Type 0
+BooksFirstReply = FirstReplySettles IsInTime Answered
+
+-- a first reply that comes too late settles its request as late
 abbrev pub FirstReplyIsLate : Type 0
-FirstReplyIsLate =
-    (width : ℕ) → width ≤ WINDOW → (opening : State) (events : List Event) (n : ℕ) (line : List ℕ) →
-    IsTooLate width opening events n → DeliverySettles width opening events n line Late
+FirstReplyIsLate = FirstReplySettles IsTooLate (λ line. Late)
 
 -- each request that was sent is in time or too late
 abbrev pub IsInTimeOrTooLate : Type 0

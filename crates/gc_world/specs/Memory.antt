@@ -13,16 +13,15 @@ use Rattle.gc_world.specs.World.{Numbered}
 abbrev pub IsBusy : {A B : Type 0} → List A → List B → Type 0
 IsBusy up down = ¬ ((up ≡ []) × (down ≡ []))
 
--- no reply is in the downward queue, or the one in front is a stray: no request of the client waits for it
-abbrev pub IsStray : ById Call → List (Numbered (List ℕ)) → Type 0
-IsStray client [] = ⊤
-IsStray client (x ∷ rest) = fits client (heard x.line) ≡ false
-
 -- the first k replies of the downward queue, or all if there are fewer, are strays: no request of the client waits for them
 abbrev pub AreStrays : ById Call → ℕ → List (Numbered (List ℕ)) → Type 0
 AreStrays client zero down = ⊤
 AreStrays client (suc k) [] = ⊤
 AreStrays client (suc k) (x ∷ rest) = (fits client (heard x.line) ≡ false) × AreStrays client k rest
+
+-- no reply is in the downward queue, or the one in front is a stray
+abbrev pub IsStray : ById Call → List (Numbered (List ℕ)) → Type 0
+IsStray client down = AreStrays client (suc zero) down
 
 -- a repeat of line k of a queue isn't possible, where `gone` bytes of the front line have gone: there is no line k, or its first byte
 -- has gone

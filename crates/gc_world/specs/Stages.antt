@@ -3,7 +3,6 @@
 use Rattle.std.specs.Prelude.{◌≡◌, ℕ, ◌<◌, List, Option, Some, Result, IsOk, map, slice_get}
 use Rattle.std.specs.List.{AllByRecursion}
 use Rattle.gc_catalogue.specs.Calls.{IsFitting}
-use Rattle.gc_catalogue.specs.Texts.{request_line}
 use Rattle.gc_catalogue.specs.declared.call.Call.{Call}
 use Rattle.gc_client.specs.declared.window.TheConstants.{IDS}
 use Rattle.gc_client.specs.Rule.{ById, Windowed}
@@ -21,15 +20,11 @@ use Rattle.gc_world.specs.Reports.{made_seen, IsReport}
 use Rattle.gc_world.specs.Sides.{IsFlow}
 use Rattle.gc_world.specs.Staging.{Staging}
 use Rattle.gc_world.specs.Streams.{Streams, up_texts, down_texts}
-use Rattle.gc_world.specs.World.{Request, Numbered, Step, World, happens}
+use Rattle.gc_world.specs.World.{Request, Numbered, Step, World, bytes_of, happens}
 
 -- the world after one step of the run by ids, with a window of this width
 abbrev pub after_step : ℕ → World (ById Call) State → Step → World (ById Call) State
 after_step width w step = happens ends (by_ids width ends) w step
-
--- the bytes of the line of a request in flight, without CR LF
-abbrev pub bytes_of : Request → List ℕ
-bytes_of r = request_line (Some r.id) r.call
 
 -- the request in flight with this number is the one that was sent with it: its id is a digit below 8, and its call's numbers
 -- lie in their types

@@ -1,19 +1,18 @@
 -- The line as two streams of bytes, this project's own. Each line in flight is its bytes with CR LF; of the front line of
 -- each direction some first bytes may have gone. It is in flight until its last byte goes, and with that one it is handed
 -- over.
-use Rattle.std.specs.Prelude.{ℕ, zero, suc, ◌+◌, ◌-◌, ◌&&◌, Bool, List, [], ◌∷◌, length, map, take, replicate, Some, if◌then◌else◌, nat_lt, nat_eq}
+use Rattle.std.specs.Prelude.{ℕ, zero, suc, ◌+◌, ◌-◌, ◌&&◌, Bool, List, [], ◌∷◌, length, map, take, replicate, if◌then◌else◌, nat_lt, nat_eq}
 use Rattle.gc_lines.specs.Lines.{with_end}
-use Rattle.gc_catalogue.specs.Texts.{request_line}
 use Rattle.gc_world.specs.declared.event.Event.{Event}
 use Rattle.gc_world.specs.declared.event.Event.TheVariants as event
-use Rattle.gc_world.specs.World.{Ends, Rule, Wire, World, Step, Send, Up_deliver, Up_lose, Up_repeat, Down_deliver, Down_lose, Down_repeat, Expire, Restart_client, Restart_instrument, Nothing, run}
+use Rattle.gc_world.specs.World.{Ends, Rule, Wire, World, Step, bytes_of, Send, Up_deliver, Up_lose, Up_repeat, Down_deliver, Down_lose, Down_repeat, Expire, Restart_client, Restart_instrument, Nothing, run}
 
 -- What is in flight.
 
 module _ {State : Type 0} where
   -- the text of each line in flight to the instrument, without CR LF, the front line first
   abbrev pub up_texts : Wire State → List (List ℕ)
-  up_texts w = map (λ x. request_line (Some x.line.id) x.line.call) w.up
+  up_texts w = map (λ x. bytes_of x.line) w.up
 
   -- the text of each line in flight to the client, without CR LF, the front line first
   abbrev pub down_texts : Wire State → List (List ℕ)

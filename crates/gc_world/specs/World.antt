@@ -39,6 +39,10 @@ Rule Client = Worlds.Rule Call Client
 abbrev pub call_line : ℕ → Call → List ℕ
 call_line id call = request_line (Some id) call
 
+-- the line of a request in flight, without CR LF
+abbrev pub bytes_of : Request → List ℕ
+bytes_of r = call_line r.id r.call
+
 -- What may happen.
 
 -- a step of the world

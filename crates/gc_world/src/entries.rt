@@ -1,6 +1,6 @@
 //! Entries: a list on the heap that contracts see as a list.
 
-ghost use Rattle.std.specs.Prelude.{◌≡◌, ◌<◌, ◌↔◌, [], ◌∷◌, ◌++◌, length, slice_get, Some, OnOk, IsTrue};
+ghost use Rattle.std.specs.Prelude.{◌≡◌, ◌<◌, ◌↔◌, [], ◌∷◌, ◌++◌, length, slice_get, Some, OnOk, IsTrue, if◌then◌else◌};
 ghost use Rattle.gc_catalogue.specs.declared.answer.Reading.{Reading};
 ghost use Rattle.gc_client.specs.declared.settlement.Outcome.TheVariants.{Answered, Late, Lost};
 
@@ -150,8 +150,8 @@ impl Entries<Settlement<Call>> {
             Outcome::Answered(reading, line) => {
                 self.push_answered(settlement.target, &settlement.call, reading, line)
             }
-            Outcome::Late => self.push_late(settlement.target, &settlement.call),
-            Outcome::Lost => self.push_lost(settlement.target, &settlement.call),
+            Outcome::Late => self.push_unanswered(settlement.target, &settlement.call, true),
+            Outcome::Lost => self.push_unanswered(settlement.target, &settlement.call, false),
         }
     }
 
@@ -176,30 +176,21 @@ impl Entries<Settlement<Call>> {
         Ok(())
     }
 
-    // Appends the settlement of a request as late. `Err`: memory for it was refused, and the list is as before. The function has a
-    // frame of its own, because a settlement is large.
+    // Appends the settlement of a request that wasn't answered: as late (`is_late`), or else as lost. `Err`: memory for it was refused,
+    // and the list is as before. The function has a frame of its own, because a settlement is large.
     #[inline(never)]
-    fn push_late(&mut self, target: u32, call: &Call) -> Result<(), AllocError>
-        ensures { OnOk result (self.new ≡ self.old ++ record { target = target; call = call.now; outcome = Late } ∷ []) }
+    fn push_unanswered(&mut self, target: u32, call: &Call, is_late: bool) -> Result<(), AllocError>
+        ensures { OnOk result (self.new ≡ self.old ++ record { target = target; call = call.now; outcome = if is_late then Late else Lost } ∷ []) }
     {
+        let outcome = if is_late {
+            Outcome::Late
+        } else {
+            Outcome::Lost
+        };
         self.push(Settlement {
             target,
             call: *call,
-            outcome: Outcome::Late,
-        })
-    }
-
-    // Appends the settlement of a request as lost. `Err`: memory for it was refused, and the list is as before. The function has
-    // a frame of its own, because a settlement is large; nor is it one with `push_late`, because an outcome that is passed is as
-    // large.
-    #[inline(never)]
-    fn push_lost(&mut self, target: u32, call: &Call) -> Result<(), AllocError>
-        ensures { OnOk result (self.new ≡ self.old ++ record { target = target; call = call.now; outcome = Lost } ∷ []) }
-    {
-        self.push(Settlement {
-            target,
-            call: *call,
-            outcome: Outcome::Lost,
+            outcome,
         })
     }
 }

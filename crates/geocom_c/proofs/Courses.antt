@@ -19,8 +19,9 @@ use Rattle.gc_station.proofs.Words.{left_none}
 use Rattle.gc_field.proofs.BeginWords.{cons_not_nil}
 use Rattle.geocom_c.specs.Beginning.{left_by_restart, given, left_by_bytes, unanswered_after}
 use Rattle.geocom_c.specs.Following.{CallsReach, Stage, hearing, opened}
+use Rattle.geocom_c.specs.Laws.{CallsAreEvents}
 use Rattle.geocom_c.specs.Rest.{lines_completed}
-use Rattle.geocom_c.specs.Steps.{Event, Came, Stepped, AreEvents, AreInTurn, IsOverEvents, ask_events, begin_events, step_events, left_among, steps_among}
+use Rattle.geocom_c.specs.Steps.{Event, Came, Stepped, AreEvents, AreInTurn, ask_events, begin_events, step_events, left_among, steps_among}
 use Rattle.geocom_c.specs.declared.following.Step.{Step}
 use Rattle.geocom_c.specs.declared.following.Step.TheVariants.{Send, SendRaw, Begin, Feed, Expire, Restart}
 
@@ -246,7 +247,7 @@ only_events left rest (Expire now ∷ calls) es fs f g = f.1 ∙ ap (λ later. s
 only_events left rest (Restart ∷ calls) es fs f g = f.1 ∙ ap (λ later. step_events left (one.Restart ∷ []) ++ later) (only_events (left_by_restart left) [] calls f.0 g.0 f.2 g.2) ∙ sym g.1
 
 -- the law: any calls on a state are one list of events, and bring the client to where its rule brings it over these
-pub over_events : (width : ℕ) (calls : List Step) (t : Stage) → CallsReach width opened calls t → IsOverEvents width calls t
+pub over_events : CallsAreEvents
 over_events width calls t f =
     let it = as_events width opened calls t (λ no. refl) f in
     record { events = it.events; are = it.are; only = λ others are. only_events the_word [] calls others it.events are it.are; turns = it.turns; reached = it.reached; left = it.left }

@@ -37,27 +37,28 @@ with_rest s r c old new is rest =
       incomplete = rest;
     }
 
--- `IsFed` still holds with an equal frame g in place of f, and with another number of used bytes
-pub fed_used : (c : Windowed Asked) (f g : Frame) (r q : GeocomHeard) (records : List GeocomSettlement) (text : List ℕ) (used : ℕ) → f ≡ g
-    → q ≡ record r { used = used } → IsFed c f r records text → IsFed c g q records text
-fed_used c f g r q records text used e same is =
-    subst (λ (h : Frame). IsFed c h q records text) e (record {
-      fault = ap (λ (x : GeocomHeard). x.fault) same ∙ is.fault;
-      kind = ap (λ (x : GeocomHeard). x.kind) same ∙ is.kind;
-      line_fault = ap (λ (x : GeocomHeard). x.line_fault) same ∙ is.line_fault;
-      count = ap (λ (x : GeocomHeard). x.count) same ∙ is.count;
-      recorded = is.recorded;
-      front = subst (λ (n : ℕ). IsInFront f n text) (sym (ap (λ (x : GeocomHeard). x.count) same)) is.front;
-    })
+-- Here the frame f was fed, and q says the same of it as r (`IsFed`), but that `used` bytes were used.
+module _ (c : Windowed Asked) (f : Frame) (r q : GeocomHeard) (records : List GeocomSettlement) (text : List ℕ) (used : ℕ) (same : q ≡ record r { used = used })
+    (is : IsFed c f r records text) where
+  -- `IsFed` holds of q, too, also with an equal frame g in place of f
+  pub fed_used : (g : Frame) → f ≡ g → IsFed c g q records text
+  fed_used g e =
+      subst (λ (h : Frame). IsFed c h q records text) e (record {
+        fault = ap (λ (x : GeocomHeard). x.fault) same ∙ is.fault;
+        kind = ap (λ (x : GeocomHeard). x.kind) same ∙ is.kind;
+        line_fault = ap (λ (x : GeocomHeard). x.line_fault) same ∙ is.line_fault;
+        count = ap (λ (x : GeocomHeard). x.count) same ∙ is.count;
+        recorded = is.recorded;
+        front = subst (λ (n : ℕ). IsInFront f n text) (sym (ap (λ (x : GeocomHeard). x.count) same)) is.front;
+      })
 
--- where the frame f that was fed is `More`, and n bytes were used, that is told of bytes without a line feed
-pub fed_unended : (c : Windowed Asked) (f : Frame) (r q : GeocomHeard) (records : List GeocomSettlement) (text : List ℕ) (used n : ℕ) → f ≡ More → used ≡ n
-    → q ≡ record r { used = used } → IsFed c f r records text → q ≡ unended n
-fed_unended c f r q records text used n is e same fed =
-    let more : IsFed c More r records text = subst (λ (g : Frame). IsFed c g r records text) is fed in
-    same
-    ∙ ap (λ k. let x : GeocomHeard = record r { used = k } in x) e
-    ∙ ap (λ k. let x : GeocomHeard = record { used = n; fault = k; count = r.count; kind = r.kind; line_fault = r.line_fault } in x) more.fault
-    ∙ ap (λ k. let x : GeocomHeard = record { used = n; fault = 0; count = k; kind = r.kind; line_fault = r.line_fault } in x) more.count
-    ∙ ap (λ k. let x : GeocomHeard = record { used = n; fault = 0; count = 0; kind = k; line_fault = r.line_fault } in x) more.kind
-    ∙ ap (λ k. let x : GeocomHeard = record { used = n; fault = 0; count = 0; kind = MORE; line_fault = k } in x) more.line_fault
+  -- where f is `More`, q is what is told of bytes without a line feed
+  pub fed_unended : (n : ℕ) → f ≡ More → used ≡ n → q ≡ unended n
+  fed_unended n more e =
+      let fed : IsFed c More r records text = subst (λ (g : Frame). IsFed c g r records text) more is in
+      same
+      ∙ ap (λ k. let x : GeocomHeard = record r { used = k } in x) e
+      ∙ ap (λ k. let x : GeocomHeard = record { used = n; fault = k; count = r.count; kind = r.kind; line_fault = r.line_fault } in x) fed.fault
+      ∙ ap (λ k. let x : GeocomHeard = record { used = n; fault = 0; count = k; kind = r.kind; line_fault = r.line_fault } in x) fed.count
+      ∙ ap (λ k. let x : GeocomHeard = record { used = n; fault = 0; count = 0; kind = k; line_fault = r.line_fault } in x) fed.kind
+      ∙ ap (λ k. let x : GeocomHeard = record { used = n; fault = 0; count = 0; kind = MORE; line_fault = k } in x) fed.line_fault

@@ -1,6 +1,7 @@
--- Bytes that are fed: the client hears the frame that the first line feed ends, and then those of the bytes that are left. A
--- frame is what a line feed makes of the bytes before it; a course is what a client has sent and settled so far, and the client
--- after that; `rest` is the bytes since the last line feed. `FedTo` says that all bytes but some were fed to a state.
+-- Bytes that are heard: the frame that the first line feed ends, and then those of the bytes that are left. `hears` says where
+-- lines lead that are heard in order; a frame is what a line feed makes of the bytes before it; `rest` is the bytes since the last
+-- line feed. `HeardBut` says that all bytes but some were heard. A course is what a client has sent and settled so far, and the
+-- client after that.
 use Rattle.std.proofs.Common.{◌≡◌, ◌≢◌, ℕ, ◌+◌, arith, length, inl, inr, Option, List, [], ◌∷◌, ◌++◌, map, take, drop, Some, None, refl, sym, ap, subst, ◌∙◌}
 use Rattle.std.specs.List.{position, filter_map}
 use Rattle.std.proofs.lemmas.Bool.{cases_eq}
@@ -10,14 +11,73 @@ use Rattle.gc_lines.specs.Frames.{is_line_feed, frame_of, line_in, pieces_behind
 use Rattle.gc_lines.specs.declared.frame.Frame.{Frame}
 use Rattle.gc_lines.specs.declared.frame.Frame.TheVariants.{Line, Cleared, Overlong, More}
 use Rattle.gc_lines.proofs.Cutting.{cut_none, cut_some}
-use Rattle.gc_client.specs.Rule.{Windowed, ById, Sending}
-use Rattle.gc_client.specs.OneForOne.{Course, course_after, course, sent_on}
+use Rattle.gc_client.specs.Rule.{ById, Sending}
+use Rattle.gc_client.specs.OneForOne.{Course, course_after, sent_on}
 use Rattle.gc_client.specs.OneForOne as one
 use Rattle.geocom_c.specs.Feeding.{client_past}
-use Rattle.geocom_c.specs.State.{StandsFor}
 use Rattle.geocom_c.specs.Sending.{SendEffect, SendMeets}
-use Rattle.geocom_c.specs.Following.{hearing, FedTo}
+use Rattle.geocom_c.specs.Following.{hearing_lines, StandsForCourse}
+use Rattle.geocom_c.specs.Rest.{lines_completed, HeardBut}
 use Rattle.geocom_c.specs.declared.state.GeocomClient.{GeocomClient}
+
+-- hearing no line changes nothing, and hearing the lines of the frames f and `fs` is hearing f, as `past` says, and then the lines
+-- of `fs`
+pub record HearsInTurn {X : Type 0} (hears : X → List (List ℕ) → X) (past : X → Frame → X) : Type 0 where
+  pub none : (x : X) → hears x [] ≡ x
+  pub first : (x : X) (f : Frame) (fs : List Frame) → hears x (filter_map line_in (f ∷ fs)) ≡ hears (past x f) (filter_map line_in fs)
+
+-- `Stands` says what holds of where hearing lines led, and of the bytes since the last line feed.
+module _ {X : Type 0} (hears : X → List (List ℕ) → X) (past : X → Frame → X) (turns : HearsInTurn hears past) (Stands : X → List ℕ → Type 0) where
+  -- if no line feed came, and the bytes were kept, all of them were heard
+  pub heard_none : (x : X) (rest bytes left : List ℕ) → position is_line_feed bytes ≡ None → left ≡ [] → Stands x (rest ++ bytes)
+      → HeardBut hears Stands x rest bytes left
+  heard_none x rest bytes left e none stands =
+      let cut = cut_none rest bytes e in
+      record {
+        reached = x;
+        now = rest ++ bytes;
+        stands = stands;
+        same = ap (λ bs. hears x (lines_completed (rest ++ bytes) bs)) none ∙ sym (ap (λ ps. hears x (filter_map line_in (map frame_of ps))) cut.0);
+        behind = ap (rest_behind (rest ++ bytes)) none ∙ sym cut.1;
+      }
+
+  -- if the first line feed ended a frame, which was heard, the bytes through that line feed were heard
+  pub heard_some : (x : X) (rest bytes left : List ℕ) (at : ℕ) → position is_line_feed bytes ≡ Some at → left ≡ drop (at + 1) bytes
+      → Stands (past x (frame_of (rest ++ take at bytes))) [] → HeardBut hears Stands x rest bytes left
+  heard_some x rest bytes left at e n stands =
+      let cut = cut_some rest bytes at e in
+      let frame = frame_of (rest ++ take at bytes) in
+      record {
+        reached = past x frame;
+        now = [];
+        stands = stands;
+        same = ap (λ bs. hears (past x frame) (lines_completed [] bs)) n
+            ∙ sym (ap (λ ps. hears x (filter_map line_in (map frame_of ps))) cut.0 ∙ turns.first x frame (map frame_of (pieces_behind [] (drop (at + 1) bytes))));
+        behind = ap (rest_behind []) n ∙ sym cut.1;
+      }
+
+  -- if all bytes were heard, `Stands` holds of where all of them lead
+  pub heard_all : (x : X) (rest bytes left : List ℕ) → HeardBut hears Stands x rest bytes left → left ≡ []
+      → Stands (hears x (lines_completed rest bytes)) (rest_behind rest bytes)
+  heard_all x rest bytes left f none =
+      let same : f.reached ≡ hears x (lines_completed rest bytes) =
+      sym (turns.none f.reached) ∙ sym (ap (λ bs. hears f.reached (lines_completed f.now bs)) none) ∙ f.same in
+      let behind : f.now ≡ rest_behind rest bytes = sym (ap (rest_behind f.now) none) ∙ f.behind in
+      subst (λ y. Stands y (rest_behind rest bytes)) same (subst (λ r. Stands f.reached r) behind f.stands)
+
+-- if all bytes but `left` were heard, and then all of `left` but `end`, all bytes but `end` were heard
+pub heard_on : {X : Type 0} (hears : X → List (List ℕ) → X) (Old New : X → List ℕ → Type 0) (x : X) (rest bytes left end : List ℕ)
+    (f : HeardBut hears Old x rest bytes left) → HeardBut hears New f.reached f.now left end → HeardBut hears New x rest bytes end
+heard_on hears Old New x rest bytes left end f g = record { reached = g.reached; now = g.now; stands = g.stands; same = g.same ∙ f.same; behind = g.behind ∙ f.behind }
+
+-- `P` holds if it follows from there being no place, and from each place that there may be (`o` is the place, if there is one)
+pub either : {P : Type 0} (o : Option ℕ) → (o ≡ None → P) → ((at : ℕ) → o ≡ Some at → P) → P
+either None f g = f refl
+either (Some at) f g = g at refl
+
+-- if all bytes were used, none is left
+pub nothing_left : (bytes : List ℕ) (used : ℕ) → used ≡ length bytes → drop used bytes ≡ []
+nothing_left bytes used e = drop_all used bytes (omega (arith, e))
 
 -- the course after a frame
 abbrev pub course_past : ℕ → Course Asked → Frame → Course Asked
@@ -34,78 +94,23 @@ client_of_course width x Cleared = refl
 client_of_course width x Overlong = refl
 client_of_course width x More = refl
 
--- hearing the lines of the frames f and `fs` is hearing f, and then the lines of `fs`
-frame_first : (width : ℕ) (x : Course Asked) (f : Frame) (fs : List Frame)
-    → course width x (map one.Hear (filter_map line_in (f ∷ fs))) ≡ course width (course_past width x f) (map one.Hear (filter_map line_in fs))
-frame_first width x (Line line) fs = refl
-frame_first width x Cleared fs = refl
-frame_first width x Overlong fs = refl
-frame_first width x More fs = refl
+-- courses hear lines in turn, frame by frame (`course_past`)
+pub courses_in_turn : (width : ℕ) → HearsInTurn (hearing_lines width) (course_past width)
+courses_in_turn width = record { none = λ x. refl; first = first } where
+  -- hearing the lines of the frames f and `fs` is hearing f, and then the lines of `fs`
+  first : (x : Course Asked) (f : Frame) (fs : List Frame)
+      → hearing_lines width x (filter_map line_in (f ∷ fs)) ≡ hearing_lines width (course_past width x f) (filter_map line_in fs)
+  first x (Line line) fs = refl
+  first x Cleared fs = refl
+  first x Overlong fs = refl
+  first x More fs = refl
 
--- of bytes without a line feed nothing is heard
-pub none_heard : (width : ℕ) (x : Course Asked) (rest bytes : List ℕ) → position is_line_feed bytes ≡ None → hearing width x rest bytes ≡ x
-none_heard width x rest bytes e = ap (λ ps. course width x (map one.Hear (filter_map line_in (map frame_of ps)))) (cut_none rest bytes e).0
-
--- of bytes with a line feed the first frame is heard, and then the others
-pub some_heard : (width : ℕ) (x : Course Asked) (rest bytes : List ℕ) (at : ℕ) → position is_line_feed bytes ≡ Some at
-    → hearing width (course_past width x (frame_of (rest ++ take at bytes))) [] (drop (at + 1) bytes) ≡ hearing width x rest bytes
-some_heard width x rest bytes at e =
-    sym (ap (λ ps. course width x (map one.Hear (filter_map line_in (map frame_of ps)))) (cut_some rest bytes at e).0
-    ∙ frame_first width x (frame_of (rest ++ take at bytes)) (map frame_of (pieces_behind [] (drop (at + 1) bytes))))
-
--- if no line feed came, and the bytes were kept, all of them were fed
-pub fed_none : (width : ℕ) (x : Course Asked) (rest bytes : List ℕ) (state : GeocomClient) (left : List ℕ) → position is_line_feed bytes ≡ None → left ≡ []
-    → StandsFor state (record { width = width; ids = x.client }) (rest ++ bytes) → FedTo width x rest bytes state left
-fed_none width x rest bytes state left e none s =
-    record {
-      reached = x;
-      now = rest ++ bytes;
-      stands = s;
-      same = ap (hearing width x (rest ++ bytes)) none ∙ sym (none_heard width x rest bytes e);
-      behind = ap (rest_behind (rest ++ bytes)) none ∙ sym (cut_none rest bytes e).1;
-    }
-
--- if the first line feed ended a frame, which the client heard, the bytes through that line feed were fed
-pub fed_some : (width : ℕ) (x : Course Asked) (rest bytes : List ℕ) (state : GeocomClient) (used at : ℕ) → position is_line_feed bytes ≡ Some at → used ≡ at + 1
-    → StandsFor state (client_past (record { width = width; ids = x.client }) (frame_of (rest ++ take at bytes))) [] → FedTo width x rest bytes state (drop used bytes)
-fed_some width x rest bytes state used at e n s =
-    record {
-      reached = course_past width x (frame_of (rest ++ take at bytes));
-      now = [];
-      stands = subst (λ (d : Windowed Asked). StandsFor state d []) (client_of_course width x (frame_of (rest ++ take at bytes))) s;
-      same = ap (λ m. hearing width (course_past width x (frame_of (rest ++ take at bytes))) [] (drop m bytes)) n ∙ some_heard width x rest bytes at e;
-      behind = ap (λ m. rest_behind [] (drop m bytes)) n ∙ sym (cut_some rest bytes at e).1;
-    }
-
--- if all bytes but `left` were fed, and then all of `left` but `end`, all bytes but `end` were fed
-pub fed_on : (width : ℕ) (x : Course Asked) (rest bytes left end : List ℕ) (state new : GeocomClient) (f : FedTo width x rest bytes state left)
-    → FedTo width f.reached f.now left new end → FedTo width x rest bytes new end
-fed_on width x rest bytes left end state new f g = record { reached = g.reached; now = g.now; stands = g.stands; same = g.same ∙ f.same; behind = g.behind ∙ f.behind }
-
--- `P` holds if it follows from there being no place, and from each place that there may be (`o` is the place, if there is one)
-pub either : {P : Type 0} (o : Option ℕ) → (o ≡ None → P) → ((at : ℕ) → o ≡ Some at → P) → P
-either None f g = f refl
-either (Some at) f g = g at refl
-
--- if all bytes were used, none is left
-pub nothing_left : (bytes : List ℕ) (used : ℕ) → used ≡ length bytes → drop used bytes ≡ []
-nothing_left bytes used e = drop_all used bytes (omega (arith, e))
-
--- if all bytes were fed, the state stands for what all of them make of the client
-pub fed_all : (width : ℕ) (x : Course Asked) (rest bytes left : List ℕ) (state : GeocomClient) → FedTo width x rest bytes state left → left ≡ []
-    → StandsFor state (record { width = width; ids = (hearing width x rest bytes).client }) (rest_behind rest bytes)
-fed_all width x rest bytes left state f none =
-    let same : f.reached ≡ hearing width x rest bytes = sym (ap (hearing width f.reached f.now) none) ∙ f.same in
-    let behind : f.now ≡ rest_behind rest bytes = sym (ap (rest_behind f.now) none) ∙ f.behind in
-    subst (λ (y : Course Asked). StandsFor state (record { width = width; ids = y.client }) (rest_behind rest bytes)) same
-    (subst (λ (r : List ℕ). StandsFor state (record { width = width; ids = f.reached.client }) r) behind f.stands)
-
--- after a send, taken or refused by the rule, the state stands for the client of the course after that send (`sent_on`), if
--- before it the state stood for the client of the course x
+-- after a send, taken or refused by the rule, the state stands for the course after that send (`sent_on`), if before it the state
+-- stood for the course x
 pub sent_course : (width : ℕ) (x : Course Asked) (rest : List ℕ) (call : Asked) (target : ℕ) (o : Option (Sending (ById Asked))) (sent : SendEffect)
-    → StandsFor sent.old (record { width = width; ids = x.client }) rest → SendMeets (record { width = width; ids = x.client }) rest call o sent
-    → StandsFor sent.new (record { width = width; ids = (sent_on x target call o).client }) rest
-sent_course width x rest call target None sent s is = subst (λ (t : GeocomClient). StandsFor t (record { width = width; ids = x.client }) rest) (sym is.1) s
+    → StandsForCourse width sent.old x rest → SendMeets (record { width = width; ids = x.client }) rest call o sent
+    → StandsForCourse width sent.new (sent_on x target call o) rest
+sent_course width x rest call target None sent s is = subst (λ (t : GeocomClient). StandsForCourse width t x rest) (sym is.1) s
 sent_course width x rest call target (Some q) sent s is = is.1
 
 -- `P` holds if it follows from two numbers being equal, and from their being different

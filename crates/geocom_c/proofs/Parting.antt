@@ -8,7 +8,7 @@ use Rattle.std.proofs.Common.{◌≡◌, ℕ, ◌≤◌, List, [], ◌∷◌, �
 use Rattle.std.proofs.lemmas.List.{append-nil}
 use Rattle.std.specs.List.{AllByRecursion}
 use Rattle.gc_catalogue.specs.declared.asked.Asked.{Asked}
-use Rattle.gc_client.specs.Beginning.{the_word}
+use Rattle.gc_client.specs.Beginning.{the_word, asks as line_asked}
 use Rattle.gc_client.specs.OneForOne.{Step, Restart, Course, begun, settled_on, course}
 use Rattle.gc_client.specs.Rule.{ById, Settlement, restarts, lost}
 use Rattle.gc_instrument.specs.State.{KeptReply}
@@ -22,17 +22,14 @@ use Rattle.gc_field.specs.Begun.{behind, ids_begun}
 use Rattle.gc_field.specs.Field.{Move, Sends, Tells, OnLine, Joins, ArePossible, seen}
 use Rattle.gc_field.specs.Field as field
 use Rattle.gc_field.specs.Instrument.{IsAnInstrument}
-use Rattle.gc_field.proofs.BeginJoin.{begins_cleanly, left_lines}
+use Rattle.gc_field.proofs.BeginJoin.{begins_cleanly}
 use Rattle.gc_field.proofs.BeginWords.{cons_not_nil}
 use Rattle.gc_field.proofs.BegunFaithful.{faithful, prefixed_all}
-use Rattle.gc_field.proofs.BegunRuns.{clean_lines}
 use Rattle.gc_field.proofs.Shown.{left_reaches}
 use Rattle.gc_field.proofs.BegunRising.{rising_lack_the_word, runs_leave_rising_ids, runs_leave_good}
-use Rattle.geocom_c.specs.Following.{CallsReach, Stage, opened}
-use Rattle.geocom_c.specs.Laws.{AreOwn, IsOwnAnswer, IsOwnPart, IsSafeRun}
-use Rattle.geocom_c.specs.Runs.{Part, ArePossibleRuns, null_of, begun_at, client_if, client_over, event_of, events_of, events_over, came_of, left_over, lost_if, parts, settled_if, settled_over, world}
-use Rattle.geocom_c.specs.Steps.{Event, Stepped, AreEvents, AreInTurn, left_among, steps_among}
-use Rattle.geocom_c.specs.declared.following.Step as call
+use Rattle.geocom_c.specs.Laws.{EachAnswerIsOwn, IsOwnAnswer, IsOwnPart, IsSafeRun}
+use Rattle.geocom_c.specs.Runs.{Part, ArePossibleRuns, begun_at, client_if, client_over, event_of, events_of, events_over, came_of, left_over, lost_if, parts, settled_if, settled_over, world}
+use Rattle.geocom_c.specs.Steps.{Event, Stepped, AreInTurn, ask_events, left_among, steps_among}
 use Rattle.geocom_c.proofs.Courses.{over_events}
 use Rattle.geocom_c.proofs.Owning.{later_own, none_answered, own_here}
 
@@ -97,7 +94,7 @@ module _ {State : Type 0} (width : ℕ) (ends : Ends State) where
 
   -- the event of a null procedure that is sent, while the ids `left` aren't answered, goes with the turn that sends it; where
   -- `left` is empty, none is sent, and there is no event
-  turned_asked : (s : Model State) (left : List ℕ) → Turned s (asks s left) (null_of left)
+  turned_asked : (s : Model State) (left : List ℕ) → Turned s (asks s left) (ask_events (line_asked left))
   turned_asked s [] = turned_same s s refl
   turned_asked s (asked ∷ later) = record { turns = λ es h. h; left = λ es. refl; steps = λ es. refl }
 
@@ -151,14 +148,12 @@ module _ {State : Type 0} (width : ℕ) (ends : Ends State) where
     begins_own : (p : Part State) → MayRun p → (begun_at ends p).left ≡ [] → Begins p.before p.run
     begins_own p run e =
         let s = begun_at ends p in
-        let clean = begins_cleanly ends Good kept is p.before p.run.turns run.lines run.turns run.may e in
-        let good = (left_lines ends Good kept is p.before p.run.turns run.lines run.turns).good in
-        let is_clean = clean_lines ends Good kept is width narrow s good clean in
-        let after = runs_leave_good ends Good kept is width narrow (leaves s) is_clean p.run.moves run.moves in
+        let ended = begins_cleanly ends Good kept is p.before p.run.turns run.lines run.turns run.may e in
+        let after = runs_leave_good ends Good kept is width narrow (leaves s) ended.clean p.run.moves run.moves in
         record {
-          own = (clean, faithful ends Good kept is width narrow (leaves s) is_clean p.run.moves run.moves);
+          own = (ended, faithful ends Good kept is width narrow (leaves s) ended.clean p.run.moves run.moves);
           lines = record { ids = after.1; good = after.0 };
-          may = rising_lack_the_word (on_line (behind width ends (leaves s) p.run.moves).wire) (runs_leave_rising_ids ends Good kept is width narrow (leaves s) is_clean p.run.moves run.moves);
+          may = rising_lack_the_word (on_line (behind width ends (leaves s) p.run.moves).wire) (runs_leave_rising_ids ends Good kept is width narrow (leaves s) ended.clean p.run.moves run.moves);
         }
 
     -- each of these answers is its own request's
@@ -300,22 +295,21 @@ module _ {State : Type 0} (width : ℕ) (ends : Ends State) where
         passed_holds p (record { before = after; run = next }) (parts width ends (left_by_run width ends after next) others) (events_over width ends after (next ∷ others)) safe.0 pass
         (all_hold (next ∷ others) after now again possible.1 safe.1 pass.turns)
 
-    -- the law: if the calls on a state are the events of these runs, over lines among which a run may begin, and all that is
-    -- sent is safe, they are as `AreOwn` says: each answer is its own request's
-    pub owned : (calls : List call.Step) (t : Stage) (follows : CallsReach width opened calls t) (u : UnderWay State) (lines : IsWellFormed Good u) (may : LacksTheWord u)
-        (rs : List (Run State)) (are : AreEvents the_word [] calls (events_over width ends u rs)) (possible : ArePossibleRuns width ends Good kept u rs)
-        (safe : AllByRecursion (IsSafeRun width ends Good kept) (parts width ends u rs)) → AreOwn width ends Good kept (parts width ends u rs) t
-    owned calls t follows u lines may rs are possible safe =
-        let over = over_events width calls t follows in
-        let events = events_over width ends u rs in
-        let same = over.only events are in
-        let all = all_hold rs u lines may possible safe (subst (λ l. AreInTurn the_word l) (sym same) over.turns) in
-        let reached : t.reached ≡ course width begun (steps_among events) = over.reached ∙ ap (λ l. course width begun (steps_among l)) (sym same) in
-        let settled = ap (λ (c : Course Asked). c.settlements) reached ∙ all.settled in
-        record {
-          settled = settled;
-          client = ap (λ (c : Course Asked). c.client) reached ∙ all.client;
-          left = over.left ∙ ap (left_among the_word) (sym same) ∙ all.left;
-          own = subst (λ l. OwnAll (parts width ends u rs) l) (sym settled) all.own;
-          each = all.each;
-        }
+-- the law: each answer is its own request's, over every instrument
+pub owned : {State : Type 0} (ends : Ends State) (Good : State → Type 0) (kept : State → Option KeptReply) → IsAnInstrument ends Good kept
+    → EachAnswerIsOwn ends Good kept
+owned ends Good kept is width wide calls t follows u lines may rs are possible safe =
+    let ps = parts width ends u rs in
+    let over = over_events width calls t follows in
+    let events = events_over width ends u rs in
+    let same = over.only events are in
+    let all = all_hold width ends Good kept is wide.1 rs u lines may possible safe (subst (λ l. AreInTurn the_word l) (sym same) over.turns) in
+    let reached : t.reached ≡ course width begun (steps_among events) = over.reached ∙ ap (λ l. course width begun (steps_among l)) (sym same) in
+    let settled = ap (λ (c : Course Asked). c.settlements) reached ∙ all.settled in
+    record {
+      settled = settled;
+      client = ap (λ (c : Course Asked). c.client) reached ∙ all.client;
+      left = over.left ∙ ap (left_among the_word) (sym same) ∙ all.left;
+      own = subst (λ l. AllByRecursion (IsOwnAnswer width ends Good kept ps) l) (sym settled) all.own;
+      each = all.each;
+    }

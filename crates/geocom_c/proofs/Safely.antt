@@ -18,7 +18,7 @@ use Rattle.gc_field.specs.Field as field
 use Rattle.gc_field.specs.Instrument.{TreatsRawsAlike}
 use Rattle.gc_field.specs.World.{Ends}
 use Rattle.geocom_c.specs.Beginning.{left_by_restart, given, left_by_bytes}
-use Rattle.geocom_c.specs.Laws.{AreOfTheTable, IsSafeRun}
+use Rattle.geocom_c.specs.Laws.{AreOfTheTable, IsSafeRun, TableCallsAreSafe}
 use Rattle.geocom_c.specs.Rest.{lines_completed}
 use Rattle.geocom_c.specs.Runs.{Part, events_of, events_over, parts}
 use Rattle.geocom_c.specs.Steps.{Event, Null, Came, Stepped, AreEvents, ask_events, begin_events, step_events}
@@ -124,7 +124,6 @@ module _ {State : Type 0} (width : ℕ) (ends : Ends State) (Good : State → Ty
       let own = all_front IsInTable (map Stepped (seen r.moves)) later rest in
       ((λ m command went. inl (table_moves r.moves own)), table_safe (next ∷ others) after (all_behind IsInTable (map Stepped (seen r.moves)) later rest).1)
 
-  -- if no call on a state sends a raw request, each run whose events the calls are is safe
-  pub calls_safe : (calls : List Step) (u : UnderWay State) (rs : List (Run State)) → AreOfTheTable calls
-      → AreEvents the_word [] calls (events_over width ends u rs) → AllByRecursion (IsSafeRun width ends Good kept) (parts width ends u rs)
-  calls_safe calls u rs t are = table_safe rs u (calls_in_table the_word [] calls (events_over width ends u rs) t are)
+-- the law: if no call on a state sends a raw request, each run whose events the calls are is safe
+pub calls_safe : {State : Type 0} (ends : Ends State) (Good : State → Type 0) (kept : State → Option KeptReply) → TableCallsAreSafe ends Good kept
+calls_safe ends Good kept width calls table u rs are = table_safe width ends Good kept rs u (calls_in_table the_word [] calls (events_over width ends u rs) table are)

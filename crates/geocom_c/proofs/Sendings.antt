@@ -8,8 +8,9 @@ use Rattle.gc_catalogue.specs.declared.fault.CallFault.TheVariants.{Unknown, Par
 use Rattle.gc_catalogue.specs.declared.asked.Asked.{Asked}
 use Rattle.gc_catalogue.specs.declared.raw.RawFault.{RawFault}
 use Rattle.gc_catalogue.specs.declared.raw.RawFault.TheVariants as raw
-use Rattle.geocom_c.specs.Sending.{IsOfRequest, IsReadAs, IsSend, SendEffect, SendsRead, raw_number}
+use Rattle.geocom_c.specs.Sending.{IsOfRequest, IsReadAs, IsSend, SendEffect, SendsRead, WasAsked, raw_number}
 use Rattle.geocom_c.specs.declared.header.TheConstants.{WINDOW_FULL}
+use Rattle.geocom_c.specs.declared.state.GeocomClient.{GeocomClient}
 use Rattle.geocom_c.proofs.Clients.{never_ok}
 
 -- Results.
@@ -68,43 +69,50 @@ never_above_full n k either above e = let full : n ≡ WINDOW_FULL = either (λ 
 -- What was read.
 
 module _ {X E : Type 0} (to : X → Asked) (Is : X → Type 0) (IsNot : E → Type 0) (number : E → ℕ) where
-  -- what was found (x), if `found` has it alone, is what is asked for
-  pub reads_found : (found : Result X E) (x : X) → found ≡ Ok x → Is x → ((y : X) → Is y → found ≡ Ok y) → ((e : E) → IsNot e → found ≡ Err e)
-      → IsReadAs to Is IsNot number (Ok (to x))
-  reads_found found x is holds only exactly = record {
-    asks = λ asked same. (x, holds, same_value _ asked (to x) same refl);
-    only = λ y it. ap (λ (z : X). let r : Result Asked ℕ = Ok (to z) in r) (same_value found x y is (only y it));
-    refuses = λ fault same. absurd (never_both _ (to x) fault refl same);
-    refused = λ e not. absurd (never_both found x e is (exactly e not));
-    number_of_request = λ fault same. absurd (never_both _ (to x) fault refl same);
-  }
+  -- Here `found` has the x of which `Is` holds, or the e of which `IsNot` does, if there is one.
+  module _ (found : Result X E) (only : (x : X) → Is x → found ≡ Ok x) (exactly : (e : E) → IsNot e → found ≡ Err e) where
+    -- what was found (x) is what is asked for
+    pub reads_found : (x : X) → found ≡ Ok x → Is x → IsReadAs to Is IsNot number (Ok (to x))
+    reads_found x is holds = record {
+      asks = λ asked same. (x, holds, same_value _ asked (to x) same refl);
+      only = λ y it. ap (λ (z : X). let r : Result Asked ℕ = Ok (to z) in r) (same_value found x y is (only y it));
+      refuses = λ fault same. absurd (never_both _ (to x) fault refl same);
+      refused = λ e not. absurd (never_both found x e is (exactly e not));
+      number_of_request = λ fault same. absurd (never_both _ (to x) fault refl same);
+    }
 
-  -- the fault that was found (e), if `found` has it alone, is why it is refused, with its number n
-  pub reads_fault : (found : Result X E) (e : E) (n : ℕ) → found ≡ Err e → IsNot e → n ≡ number e → IsOfRequest (number e)
-      → ((y : X) → Is y → found ≡ Ok y) → ((f : E) → IsNot f → found ≡ Err f) → IsReadAs to Is IsNot number (Err n)
-  reads_fault found e n is holds named of_request only exactly = record {
-    asks = λ asked same. absurd (never_both _ asked n same refl);
-    only = λ y it. absurd (never_both found y e (only y it) is);
-    refuses = λ fault same. (e, holds, same_error _ fault n same refl ∙ named);
-    refused = λ f not. ap (λ (k : ℕ). let r : Result Asked ℕ = Err k in r) (named ∙ ap number (same_error found e f is (exactly f not)));
-    number_of_request = λ fault same. subst (λ (k : ℕ). IsOfRequest k) (sym (same_error _ fault n same refl ∙ named)) of_request;
-  }
+    -- the fault that was found (e) is why it is refused, with its number n
+    pub reads_fault : (e : E) (n : ℕ) → found ≡ Err e → IsNot e → n ≡ number e → IsOfRequest (number e) → IsReadAs to Is IsNot number (Err n)
+    reads_fault e n is holds named of_request = record {
+      asks = λ asked same. absurd (never_both _ asked n same refl);
+      only = λ y it. absurd (never_both found y e (only y it) is);
+      refuses = λ fault same. (e, holds, same_error _ fault n same refl ∙ named);
+      refused = λ f not. ap (λ (k : ℕ). let r : Result Asked ℕ = Err k in r) (named ∙ ap number (same_error found e f is (exactly f not)));
+      number_of_request = λ fault same. subst (λ (k : ℕ). IsOfRequest k) (sym (same_error _ fault n same refl ∙ named)) of_request;
+    }
 
-  -- a send of what was read is a send of what is asked for
-  pub sends_as : (target deadline : ℕ) (read : Result Asked ℕ) (s : SendEffect) → IsReadAs to Is IsNot number read → SendsRead read target deadline s
-      → IsSend to Is IsNot number target deadline s
-  sends_as target deadline read s r did = record {
-    sent = λ room c rest x stands begun is. did.sent room c rest (to x) stands begun (r.only x is);
-    refuses = λ room c rest e stands begun is. did.refuses room c rest (number e) stands begun (r.refused e is);
-    begins = did.begins;
-    begun = did.begun;
-    room = did.room;
-    astray = did.astray;
-    full = λ e. let (c, rest, asked, stands, begun, is, fills) = did.full e in let found = r.asks asked is in (c, rest, found.0, stands, begun, found.1, fills);
-    done = λ e. let (c, rest, asked, stands, begun, is, fills) = did.done e in let found = r.asks asked is in (c, rest, found.0, stands, begun, found.1, fills);
-    refusal = λ of_request. let (fault, is, same) = did.refusal of_request in let found = r.refuses fault is in (found.0, found.1, same ∙ found.2);
-    refused = did.refused;
-    answered = did.answered;
-    untouched = did.untouched;
-    same_length = did.same_length;
-  }
+  -- Here `read` is what was read.
+  module _ (read : Result Asked ℕ) (r : IsReadAs to Is IsNot number read) where
+    -- a client that was asked for what was read was asked for an x of which `Is` holds
+    asked_as : (Fills : (count width : ℕ) → Type 0) (state : GeocomClient) → WasAsked (λ (asked : Asked). read ≡ Ok asked) Fills state → WasAsked Is Fills state
+    asked_as Fills state was =
+        let found = r.asks was.asked was.is in
+        record { client = was.client; rest = was.rest; asked = found.0; stands = was.stands; begun = was.begun; is = found.1; fills = was.fills }
+
+    -- a send of what was read is a send of what is asked for
+    pub sends_as : (target deadline : ℕ) (s : SendEffect) → SendsRead read target deadline s → IsSend to Is IsNot number target deadline s
+    sends_as target deadline s did = record {
+      sent = λ room c rest x stands begun is. did.sent room c rest (to x) stands begun (r.only x is);
+      refuses = λ room c rest e stands begun is. did.refuses room c rest (number e) stands begun (r.refused e is);
+      begins = did.begins;
+      begun = did.begun;
+      room = did.room;
+      astray = did.astray;
+      full = λ e. asked_as (λ count width. count ≡ width) s.old (did.full e);
+      done = λ e. asked_as (λ count width. count < width) s.old (did.done e);
+      refusal = λ of_request. let (fault, is, same) = did.refusal of_request in let found = r.refuses fault is in (found.0, found.1, same ∙ found.2);
+      refused = did.refused;
+      answered = did.answered;
+      untouched = did.untouched;
+      same_length = did.same_length;
+    }

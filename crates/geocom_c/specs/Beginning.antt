@@ -1,19 +1,17 @@
 -- A synchronization over calls on a state, this project's own: what it makes of the bytes that come, and which line is sent.
 -- Its word is the ids of its null procedures, in the order in which they are asked.
-use Rattle.std.specs.Prelude.{◌≡◌, ◌≢◌, ◌↔◌, ◌+◌, ◌++◌, ℕ, Bool, true, false, List, [], ◌∷◌, length, take, nat_eq, Option, Some, None}
-use Rattle.std.specs.List.{position}
+use Rattle.std.specs.Prelude.{◌≡◌, ◌≢◌, ◌↔◌, ℕ, Bool, true, false, List, [], ◌∷◌, length, take, nat_eq, Option, Some, None}
 use Rattle.gc_lines.specs.Lines.{with_end}
-use Rattle.gc_lines.specs.Frames.{is_line_feed, frame_of, rest_behind}
+use Rattle.gc_lines.specs.Frames.{rest_behind}
 use Rattle.gc_lines.specs.declared.frame.Frame.{Frame}
 use Rattle.gc_lines.specs.declared.frame.Frame.TheVariants.{Line, Cleared, Overlong, More}
 use Rattle.gc_client.specs.Beginning.{the_word, asks, left_by}
 pub use Rattle.gc_client.specs.Beginning.{unanswered_after}
 use Rattle.gc_catalogue.specs.declared.asked.Asked.{Asked}
 use Rattle.gc_client.specs.Rule.{Windowed, heard}
-use Rattle.geocom_c.specs.Rest.{IsRest, lines_completed}
+use Rattle.geocom_c.specs.Rest.{lines_completed}
 use Rattle.geocom_c.specs.State.{StandsFor, left_of}
 use Rattle.geocom_c.specs.declared.answers.GeocomBeginning.{GeocomBeginning}
-use Rattle.geocom_c.specs.declared.rest.GeocomRest.{GeocomRest}
 use Rattle.geocom_c.specs.declared.state.GeocomClient.{GeocomClient}
 
 -- the ids that aren't answered after these bytes, where `left` weren't before: each line that the bytes end, after the bytes
@@ -41,10 +39,10 @@ abbrev pub given : (bytes before after : List ℕ) → Option (List ℕ)
 given [] before after = asks after
 given (byte ∷ bytes) before after = given_unless (nat_eq (length before) (length after)) after
 
--- the line is, with its CR LF, at the front of `room`, and `told` has the count of these bytes; if there is none the count is 0
-abbrev pub IsGiven : Option (List ℕ) → (told : GeocomBeginning) → (room : List ℕ) → Type 0
-IsGiven None told room = told.count ≡ 0
-IsGiven (Some line) told room = (told.count ≡ length (with_end line)) × (take told.count room ≡ with_end line)
+-- the line is, with its CR LF, at the front of `room`, and these are `count` bytes; if there is none the count is 0
+abbrev pub IsGiven : Option (List ℕ) → (count : ℕ) → (room : List ℕ) → Type 0
+IsGiven None count room = count ≡ 0
+IsGiven (Some line) count room = (count ≡ length (with_end line)) × (take count room ≡ with_end line)
 
 -- what isn't answered of the word after a restart: all of it for a client that had synchronized; for one that hadn't, what
 -- wasn't answered before
@@ -62,7 +60,7 @@ HearsBytes bytes old new fault =
 -- if the call that returned `told` had no fault, `room` has the line that is sent after these bytes, where `old` and `new` are
 -- the states before and after the call
 abbrev pub GivesLine : (bytes : List ℕ) → (old new : GeocomClient) → GeocomBeginning → (room : List ℕ) → Type 0
-GivesLine bytes old new told room = told.fault ≡ 0 → IsGiven (given bytes (left_of old) (left_of new)) told room
+GivesLine bytes old new told room = told.fault ≡ 0 → IsGiven (given bytes (left_of old) (left_of new)) told.count room
 
 -- if there is no fault, `told` says that the client has synchronized if and only if no id is unanswered in this state
 abbrev pub ReportsBegun : GeocomBeginning → GeocomClient → Type 0
@@ -76,16 +74,3 @@ unbegun_with fault = record { fault = fault; count = 0; answered = 0; has_begun 
 -- `new` after) nor the room for the line (`before` and `after`)
 abbrev pub BeginFaultLeavesAll : GeocomBeginning → (old new : GeocomClient) → (before after : List ℕ) → Type 0
 BeginFaultLeavesAll told old new before after = told.fault ≢ 0 → (told ≡ unbegun_with told.fault) × (new ≡ old) × (after ≡ before)
-
--- no part of a promise: if `bytes` have no line feed, all are used, `new` keeps them after what `old` keeps of a line, and the
--- ids that aren't answered are the same before and after (`before`, `after`)
-abbrev pub KeepsUnended : (bytes : List ℕ) → (used : ℕ) → (old new : GeocomRest) → (before after : List ℕ) → Type 0
-KeepsUnended bytes used old new before after =
-    (r : List ℕ) → IsRest old r → position is_line_feed bytes ≡ None → (used ≡ length bytes) × IsRest new (r ++ bytes) × (after ≡ before)
-
--- no part of a promise: if `bytes` have a line feed, those through the first are used, `new` keeps no byte of a line, and the
--- frame that they end after what `old` keeps of a line changes the ids that aren't answered from `before` to `after`
-abbrev pub HearsFirst : (bytes : List ℕ) → (used : ℕ) → (old new : GeocomRest) → (before after : List ℕ) → Type 0
-HearsFirst bytes used old new before after =
-    (r : List ℕ) (at : ℕ) → IsRest old r → position is_line_feed bytes ≡ Some at
-    → (used ≡ at + 1) × IsRest new [] × (after ≡ left_past before (frame_of (r ++ take at bytes)))

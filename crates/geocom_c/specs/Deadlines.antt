@@ -13,10 +13,12 @@ earliest_in d = if nat_eq d.is_set 1 then Some d.deadline else None
 
 -- the client `c`, with the bytes `rest` since the last line feed, was handed the moment `now`: the fault is 0, the state is the
 -- rule's, and the targets of the requests that time out are at the front of `targets`, as many as `told` counts
-abbrev pub HasExpired : Windowed Asked → (rest : List ℕ) → (now : ℕ) → (state : GeocomClient) → (told : GeocomCount) → (targets : List ℕ) → Type 0
-HasExpired c rest now state told targets =
-    (told.fault ≡ 0) × StandsFor state (record c { ids = expires c.ids now }) rest
-    × (told.count ≡ length (expiring now c.ids.waiting)) × (take told.count targets ≡ expiring now c.ids.waiting)
+pub record HasExpired (c : Windowed Asked) (rest : List ℕ) (now : ℕ) (state : GeocomClient) (told : GeocomCount) (targets : List ℕ)
+    : Type 0 where
+  pub fault : told.fault ≡ 0
+  pub stands : StandsFor state (record c { ids = expires c.ids now }) rest
+  pub count : told.count ≡ length (expiring now c.ids.waiting)
+  pub front : take told.count targets ≡ expiring now c.ids.waiting
 
 -- the moment `now` was handed to a client in the state `old`: what was returned, the state `new` and the targets are as
 -- `HasExpired` says

@@ -88,16 +88,20 @@ unended used = record { used = used; fault = 0; count = 0; kind = MORE; line_fau
 
 -- a frame was fed to the client `c`, by `used` bytes: what was returned, the records and the text are as `IsFed` has it, and the
 -- state is that of the client after the frame, with no byte of a line
-abbrev pub FeedsFrame : Windowed Asked → Frame → (used : ℕ) → (state : GeocomClient) → GeocomHeard
-    → (records : List GeocomSettlement) → (text : List ℕ) → Type 0
-FeedsFrame c frame used state r records text = (r.used ≡ used) × IsFed c frame r records text × StandsFor state (client_past c frame) []
+pub record FeedsFrame (c : Windowed Asked) (frame : Frame) (used : ℕ) (state : GeocomClient) (r : GeocomHeard) (records : List GeocomSettlement)
+    (text : List ℕ) : Type 0 where
+  pub used_is : r.used ≡ used
+  pub fed : IsFed c frame r records text
+  pub stands : StandsFor state (client_past c frame) []
 
 -- the client `c` was restarted: the fault is 0, the state is the rule's, with no byte of a line, each request that was
 -- outstanding has a record, and the count is that of these requests
-abbrev pub HasRestarted : Windowed Asked → (state : GeocomClient) → (told : GeocomCount) → (records : List GeocomSettlement) → Type 0
-HasRestarted c state told records =
-    (told.fault ≡ 0) × StandsFor state (record c { ids = (restarts c.ids).client }) []
-    × (told.count ≡ length (restarts c.ids).settlements) × FirstAre (IsRecord []) records (restarts c.ids).settlements
+pub record HasRestarted (c : Windowed Asked) (state : GeocomClient) (told : GeocomCount) (records : List GeocomSettlement)
+    : Type 0 where
+  pub fault : told.fault ≡ 0
+  pub stands : StandsFor state (record c { ids = (restarts c.ids).client }) []
+  pub count : told.count ≡ length (restarts c.ids).settlements
+  pub recorded : FirstAre (IsRecord []) records (restarts c.ids).settlements
 
 -- if these bytes have no line feed, feeding them to the client `c` uses all, as `told` says, and changes the state from `old` to
 -- `new`, which keeps them
@@ -113,11 +117,14 @@ FeedsFirst c bytes old new told records text =
     (rest : List ℕ) (at : ℕ) → StandsFor old c rest → position is_line_feed bytes ≡ Some at
     → FeedsFrame c (frame_of (rest ++ take at bytes)) (at + 1) new told records text
 
+-- what is returned with this fault if a feed used nothing
+abbrev pub unheard_with : (fault : ℕ) → GeocomHeard
+unheard_with fault = record { used = 0; fault = fault; count = 0; kind = MORE; line_fault = 0 }
+
 -- a feed that returned `told`: after a fault all other numbers are 0, and the state (`old` before the feed, `new` after it) has
 -- not changed
 abbrev pub FeedFaultLeavesState : (told : GeocomHeard) → (old new : GeocomClient) → Type 0
-FeedFaultLeavesState told old new =
-    told.fault ≢ 0 → (told.used ≡ 0) × (told.count ≡ 0) × (told.kind ≡ 0) × (told.line_fault ≡ 0) × (new ≡ old)
+FeedFaultLeavesState told old new = told.fault ≢ 0 → (told ≡ unheard_with told.fault) × (new ≡ old)
 
 -- a feed that settled `count` requests wrote that many records, at most seven, and nothing after them. The records and the text
 -- kept their lengths. If no request was settled, nothing was written

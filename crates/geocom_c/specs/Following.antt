@@ -11,26 +11,24 @@ use Rattle.gc_client.specs.Beginning.{the_word}
 use Rattle.gc_client.specs.OneForOne.{Course, begun, course_after, course}
 use Rattle.gc_client.specs.OneForOne as one
 use Rattle.geocom_c.specs.Beginning.{left_by_restart, left_by_bytes}
-use Rattle.geocom_c.specs.Rest.{lines_completed}
+use Rattle.geocom_c.specs.Rest.{lines_completed, HeardBut}
 use Rattle.geocom_c.specs.State.{StandsFor, left_of}
 use Rattle.geocom_c.specs.declared.state.GeocomClient.{GeocomClient}
 use Rattle.geocom_c.specs.declared.following.Step.{Step}
 use Rattle.geocom_c.specs.declared.following.Step.TheVariants.{Send, SendRaw, Begin, Feed, Expire, Restart}
 
+-- the course of a client that was of the course `x`, and then hears these lines, in order
+abbrev pub hearing_lines : (width : ℕ) → Course Asked → (lines : List (List ℕ)) → Course Asked
+hearing_lines width x lines = course width x (map one.Hear lines)
+
 -- the course of a client that was of the course `x`, and then hears, in order, each line that these bytes end, where `rest` came
 -- before them since the last line feed
 abbrev pub hearing : (width : ℕ) → Course Asked → (rest bytes : List ℕ) → Course Asked
-hearing width x rest bytes = course width x (map one.Hear (lines_completed rest bytes))
+hearing width x rest bytes = hearing_lines width x (lines_completed rest bytes)
 
--- no part of a promise: a client of the course `x`, with the bytes `rest` since the last line feed, was fed all of `bytes` but
--- the last ones, `unfed`. The state stands for the client as it is then: of the course `reached`, with the bytes `now` since the
--- last line feed. If that client hears `unfed`, too, it comes to the same as a client of the course `x` that hears all of `bytes`
-pub record FedTo (width : ℕ) (x : Course Asked) (rest bytes : List ℕ) (state : GeocomClient) (unfed : List ℕ) : Type 0 where
-  pub reached : Course Asked
-  pub now : List ℕ
-  pub stands : StandsFor state (record { width = width; ids = reached.client }) now
-  pub same : hearing width reached now unfed ≡ hearing width x rest bytes
-  pub behind : rest_behind now unfed ≡ rest_behind rest bytes
+-- the state stands for the client of the course `x`, with the bytes `rest` since the last line feed
+abbrev pub StandsForCourse : (width : ℕ) → GeocomClient → (x : Course Asked) → (rest : List ℕ) → Type 0
+StandsForCourse width state x rest = StandsFor state (record { width = width; ids = x.client }) rest
 
 -- how far calls have brought a client: its course, the bytes since the last line feed, and the ids of the synchronization that
 -- aren't answered
@@ -45,7 +43,7 @@ opened = record { reached = begun; rest = []; left = the_word }
 
 -- the state stands for a client at this stage
 pub record IsAt (width : ℕ) (s : Stage) (state : GeocomClient) : Type 0 where
-  pub stands : StandsFor state (record { width = width; ids = s.reached.client }) s.rest
+  pub stands : StandsForCourse width state s.reached s.rest
   pub left : left_of state ≡ s.left
 
 -- over these calls, in order, the client comes from the stage s to the stage t. A send is a step of the client if it has
@@ -78,15 +76,16 @@ pub record Reached (width : ℕ) (s : Stage) (steps : List Step) (state : Geocom
   pub at : IsAt width stage state
   pub on : (t : Stage) → CallsReach width stage later t → CallsReach width s steps t
 
--- no part of a promise: all these bytes but the last ones, `unfed`, were fed to a client, whatever its course, which changed its
--- state from `old` to `new` as `FedTo` says
+-- no part of a promise: all these bytes but the last ones, `unfed`, were fed to a client, whatever its course, which has heard the
+-- lines that they end (`HeardBut`), and changed its state from `old` to `new`
 abbrev pub FeedsBut : (bytes unfed : List ℕ) → (old new : GeocomClient) → Type 0
 FeedsBut bytes unfed old new =
-    (width : ℕ) (x : Course Asked) (rest : List ℕ) → StandsFor old (record { width = width; ids = x.client }) rest → FedTo width x rest bytes new unfed
+    (width : ℕ) (x : Course Asked) (rest : List ℕ) → StandsForCourse width old x rest
+    → HeardBut (hearing_lines width) (StandsForCourse width new) x rest bytes unfed
 
 -- no part of a promise: all these bytes were fed to a client, whatever its course, which has heard each line that they end, and
 -- changed its state from `old` to `new`
 abbrev pub FeedsBytes : (bytes : List ℕ) → (old new : GeocomClient) → Type 0
 FeedsBytes bytes old new =
-    (width : ℕ) (x : Course Asked) (rest : List ℕ) → StandsFor old (record { width = width; ids = x.client }) rest
-    → StandsFor new (record { width = width; ids = (hearing width x rest bytes).client }) (rest_behind rest bytes)
+    (width : ℕ) (x : Course Asked) (rest : List ℕ) → StandsForCourse width old x rest
+    → StandsForCourse width new (hearing width x rest bytes) (rest_behind rest bytes)

@@ -16,7 +16,7 @@ use Rattle.gc_field.specs.World.{Ends, Sent}
 use Rattle.gc_field.specs.Begin.{IsWellFormed, LacksTheWord, UnderWay, leaves}
 use Rattle.gc_field.specs.Beginnings.{AreFewKilled, AreRuns, IsOwnIf, HasRisingIds, Run, left_by_runs}
 use Rattle.gc_field.specs.Begun.{IsSafe, WasMadeOn}
-use Rattle.gc_field.specs.Instrument.{IsAnInstrument, AnyState, TreatsRawsAlike}
+use Rattle.gc_field.specs.Instrument.{AnyState, OfAnyInstrument, TreatsRawsAlike}
 use Rattle.gc_field.specs.Laws.{WasExecuted, asked, kept_of}
 use Rattle.geocom_c.specs.Following.{CallsReach, Stage, opened}
 use Rattle.geocom_c.specs.Runs.{Part, ArePossibleRuns, begun_at, client_over, events_over, left_over, parts, settled_over, world}
@@ -90,22 +90,26 @@ EachAnswerIsOwn {State = State} ends Good kept =
     AllByRecursion (IsSafeRun width ends Good kept) (parts width ends u rs) →
     AreOwn width ends Good kept (parts width ends u rs) t
 
--- each answer is its own request's (`EachAnswerIsOwn`), for any instrument, in any state
+-- `EachAnswerIsOwn`, for any instrument, in any state
 abbrev pub AnswersAreTheirOwn : Type 0 → Type 0
-AnswersAreTheirOwn State = (ends : Ends State) (kept : State → Option KeptReply) → IsAnInstrument ends AnyState kept → EachAnswerIsOwn ends AnyState kept
+AnswersAreTheirOwn State = OfAnyInstrument {State = State} (λ ends Good kept. EachAnswerIsOwn ends Good kept)
 
--- each answer is its own request's (`EachAnswerIsOwn`), for the simulated instrument, in any state that fits
+-- `EachAnswerIsOwn`, for the simulated instrument, in any state that fits
 abbrev pub SimulatorsAnswersAreTheirOwn : Type 0
 SimulatorsAnswersAreTheirOwn = EachAnswerIsOwn ends IsFittingState kept_of
 
--- for any instrument and every width (`IsWidth`): after any possible runs (`AreRuns`) of which fewer than six in a row ended
--- while they synchronized, the next one may begin. What is in flight before the first is as a run that had synchronized leaves
--- it, or nothing (`HasRisingIds`, `IsWellFormed`)
+-- for every width (`IsWidth`): after any possible runs (`AreRuns`) of which fewer than six in a row ended while they synchronized,
+-- the next one may begin. What is in flight before the first is as a run that had synchronized leaves it, or nothing
+-- (`HasRisingIds`, `IsWellFormed`)
+abbrev pub NextMayBegin : {State : Type 0} → (ends : Ends State) → (Good : State → Type 0) → (kept : State → Option KeptReply) → Type 0
+NextMayBegin {State = State} ends Good kept =
+    (width : ℕ) → IsWidth width → (u : UnderWay State) → IsWellFormed Good u → HasRisingIds u →
+    (rs : List (Run State)) → AreRuns width ends Good kept u rs → AreFewKilled width ends 0 u rs →
+    LacksTheWord (left_by_runs width ends u rs)
+
+-- `NextMayBegin`, for any instrument, in any state
 abbrev pub FewKilledMayBegin : Type 0 → Type 0
-FewKilledMayBegin State =
-    (ends : Ends State) (kept : State → Option KeptReply) → IsAnInstrument ends AnyState kept →
-    (width : ℕ) → IsWidth width → (u : UnderWay State) → IsWellFormed AnyState u → HasRisingIds u →
-    (rs : List (Run State)) → AreRuns width ends AnyState kept u rs → AreFewKilled width ends 0 u rs → LacksTheWord (left_by_runs width ends u rs)
+FewKilledMayBegin State = OfAnyInstrument {State = State} (λ ends Good kept. NextMayBegin ends Good kept)
 
 -- the call on a state sends no raw request
 abbrev pub IsOfTheTable : Step → Type 0

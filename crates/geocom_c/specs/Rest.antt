@@ -1,10 +1,8 @@
 -- The bytes of an incomplete line, this project's own: what a state keeps of those since the last line feed.
-use Rattle.std.specs.Prelude.{◌≡◌, ◌≢◌, ◌≤◌, ◌+◌, ℕ, List, [], ◌++◌, length, take, All, Some, None}
+use Rattle.std.specs.Prelude.{◌≡◌, ◌≢◌, ◌≤◌, ◌+◌, ℕ, List, ◌++◌, length, take, All, Some, None}
 use Rattle.std.specs.List.{position}
-use Rattle.gc_lines.specs.Frames.{is_line_feed, frame_of}
+use Rattle.gc_lines.specs.Frames.{is_line_feed, frame_of, rest_behind}
 pub use Rattle.gc_lines.specs.Passing.{lines_completed}
-use Rattle.gc_lines.specs.declared.frame.Frame.{Frame}
-use Rattle.gc_lines.specs.declared.frame.Frame.TheVariants.{More}
 use Rattle.geocom_c.specs.declared.rest.GeocomRest.{GeocomRest}
 
 -- the bytes that are kept
@@ -22,26 +20,26 @@ pub record IsRest (r : GeocomRest) (rest : List ℕ) : Type 0 where
   pub valid : IsValid r
   pub same : (more : List ℕ) → frame_of (kept r ++ more) ≡ frame_of (rest ++ more)
 
--- no part of a promise: without a line feed in `piece`, which comes after the bytes that `r` keeps, all of it is used, and the
--- frame is `More`
-abbrev pub UsesUnended : GeocomRest → (piece : List ℕ) → (used : ℕ) → Frame → Type 0
-UsesUnended r piece used frame = (rest : List ℕ) → IsRest r rest → position is_line_feed piece ≡ None → (used ≡ length piece) × (frame ≡ More)
+-- no part of a promise: if `piece`, which comes after the bytes that `r` keeps, has no line feed, all of it is used, and `Then`
+-- holds of all bytes since the last line feed, `piece` included
+abbrev pub UsesUnended : GeocomRest → (piece : List ℕ) → (used : ℕ) → (Then : List ℕ → Type 0) → Type 0
+UsesUnended r piece used Then =
+    (rest : List ℕ) → IsRest r rest → position is_line_feed piece ≡ None → (used ≡ length piece) × Then (rest ++ piece)
 
--- no part of a promise: if `piece`, which comes after the bytes that `r` keeps, has a line feed, the bytes through the first are
--- used, and the frame is the one that it ends
-abbrev pub UsesFrame : GeocomRest → (piece : List ℕ) → (used : ℕ) → Frame → Type 0
-UsesFrame r piece used frame =
-    (rest : List ℕ) (at : ℕ) → IsRest r rest → position is_line_feed piece ≡ Some at → (used ≡ at + 1) × (frame ≡ frame_of (rest ++ take at piece))
+-- no part of a promise: if `piece`, which comes after the bytes that `r` keeps, has a line feed, the bytes through the first one
+-- are used, and `Then` holds of the bytes that came before it, since the line feed before
+abbrev pub UsesFirstLine : GeocomRest → (piece : List ℕ) → (used : ℕ) → (Then : List ℕ → Type 0) → Type 0
+UsesFirstLine r piece used Then =
+    (rest : List ℕ) (at : ℕ) → IsRest r rest → position is_line_feed piece ≡ Some at
+    → (used ≡ at + 1) × Then (rest ++ take at piece)
 
--- no part of a promise: without a line feed in `piece` all of it is used, the frame is `More`, and `new` keeps it after what
--- `old` keeps
-abbrev pub TakesUnended : (old new : GeocomRest) → (piece : List ℕ) → (used : ℕ) → Frame → Type 0
-TakesUnended old new piece used frame =
-    (rest : List ℕ) → IsRest old rest → position is_line_feed piece ≡ None → (used ≡ length piece) × (frame ≡ More) × IsRest new (rest ++ piece)
-
--- no part of a promise: if `piece` has a line feed, the bytes through the first are used, the frame is the one that it ends after
--- what `old` keeps, and `new` keeps nothing
-abbrev pub TakesFrame : (old new : GeocomRest) → (piece : List ℕ) → (used : ℕ) → Frame → Type 0
-TakesFrame old new piece used frame =
-    (rest : List ℕ) (at : ℕ) → IsRest old rest → position is_line_feed piece ≡ Some at
-    → (used ≡ at + 1) × (frame ≡ frame_of (rest ++ take at piece)) × IsRest new []
+-- no part of a promise: hearing all of `bytes` but the last ones, `unheard`, led from `x`, with the bytes `rest` since the last
+-- line feed, to `reached`, with the bytes `now`; `Stands` holds of these two. Hearing `unheard` from there leads to where hearing
+-- all of `bytes` leads from `x`. `hears` says where lines lead that are heard in order
+pub record HeardBut {X : Type 0} (hears : X → List (List ℕ) → X) (Stands : X → List ℕ → Type 0) (x : X) (rest bytes unheard : List ℕ)
+    : Type 0 where
+  pub reached : X
+  pub now : List ℕ
+  pub stands : Stands reached now
+  pub same : hears reached (lines_completed now unheard) ≡ hears x (lines_completed rest bytes)
+  pub behind : rest_behind now unheard ≡ rest_behind rest bytes

@@ -3,7 +3,7 @@
 -- begins among what the run before it left.
 use Rattle.std.specs.Prelude.{ℕ, List, [], ◌∷◌, ◌++◌, map, drop, Option}
 use Rattle.gc_catalogue.specs.declared.asked.Asked.{Asked}
-use Rattle.gc_client.specs.Beginning.{the_word}
+use Rattle.gc_client.specs.Beginning.{the_word, asks}
 use Rattle.gc_client.specs.OneForOne as one
 use Rattle.gc_client.specs.Rule.{ById, Settlement, fresh, lost}
 use Rattle.gc_instrument.specs.State.{KeptReply}
@@ -13,14 +13,9 @@ use Rattle.gc_field.specs.Begin.{InFlight, AreTurns, Asks, Comes, Foreign, Reach
 use Rattle.gc_field.specs.Beginnings.{Run, left_by_run, after_turns}
 use Rattle.gc_field.specs.Begun.{behind, ids_begun}
 use Rattle.gc_field.specs.Field.{ArePossible, seen}
-use Rattle.geocom_c.specs.Steps.{Event, Null, Came, Stepped}
+use Rattle.geocom_c.specs.Steps.{Event, Came, Stepped, ask_events}
 
 -- What a run is to the library.
-
--- the event that a null procedure is sent, where these ids of the word aren't answered; none once all are answered
-abbrev pub null_of : List ℕ → List Event
-null_of [] = []
-null_of (asked ∷ later) = Null ∷ []
 
 -- the event that the front one of these replies comes; none if there is no reply
 abbrev pub came_of : List (InFlight (List ℕ)) → List Event
@@ -29,7 +24,7 @@ came_of (x ∷ rest) = Came x.line ∷ []
 
 -- the event that a turn of a synchronization is to the library: a turn of the line or of the instrument is none
 abbrev pub event_of : {State : Type 0} → Model State → Turn State → List Event
-event_of s Asks = null_of s.left
+event_of s Asks = ask_events (asks s.left)
 event_of s Comes = came_of s.down
 event_of s (Foreign line) = Came line ∷ []
 event_of s Reaches = []

@@ -1,10 +1,9 @@
 -- What a send writes and returns, this project's own.
-use Rattle.std.specs.Prelude.{◌≡◌, ◌≢◌, ◌<◌, ◌≤◌, ℕ, List, [], length, take, Option, Some, None, Result, Ok, Err}
+use Rattle.std.specs.Prelude.{◌≡◌, ◌≢◌, ◌<◌, ◌≤◌, ℕ, List, [], length, Option, Some, None, Result, Ok, Err}
 use Rattle.gc_values.specs.ValueFault as of_value
 use Rattle.gc_values.specs.declared.fault.ValueFault.TheVariants as value
 use Rattle.gc_lines.specs.Faults as of_line
 use Rattle.gc_lines.specs.declared.fault.LineFault.TheVariants as line
-use Rattle.gc_lines.specs.Lines.{with_end}
 use Rattle.gc_catalogue.specs.declared.asked.Asked.{Asked}
 use Rattle.gc_catalogue.specs.declared.asked.Asked.TheVariants.{Raw}
 use Rattle.gc_catalogue.specs.declared.raw.RawCall.{RawCall}
@@ -12,6 +11,7 @@ use Rattle.gc_catalogue.specs.Asked.{IsAsked, asked_line}
 use Rattle.gc_catalogue.specs.declared.raw.RawFault.{RawFault}
 use Rattle.gc_catalogue.specs.declared.raw.RawFault.TheVariants.{InTable, NotPlain, TooLong, OpenQuote, TooMany}
 use Rattle.gc_client.specs.Rule.{ById, Windowed, Sending, sends}
+use Rattle.geocom_c.specs.Beginning.{IsGiven}
 use Rattle.geocom_c.specs.Rest.{IsRest}
 use Rattle.geocom_c.specs.Rooms.{FaultLeavesAll, KeepsAfter, KeepsLength, ReportsNoClient, ReportsNoRoom}
 use Rattle.geocom_c.specs.State.{KeepsAnswered, StandsFor, left_of}
@@ -34,7 +34,7 @@ abbrev pub SendMeets : (c : Windowed Asked) (rest : List ℕ) (asked : Asked) �
 SendMeets c rest asked None sent = (sent.told.fault ≡ WINDOW_FULL) × (sent.new ≡ sent.old) × (sent.after ≡ sent.before)
 SendMeets c rest asked (Some s) sent =
     (sent.told.fault ≡ 0) × StandsFor sent.new (record c { ids = s.client }) rest
-    × (sent.told.count ≡ length (with_end (asked_line (Some s.id) asked))) × (take sent.told.count sent.after ≡ with_end (asked_line (Some s.id) asked))
+    × IsGiven (Some (asked_line (Some s.id) asked)) sent.told.count sent.after
 
 -- a client that has synchronized sends `to x`, for each x of which `Is` holds, to this target and with this deadline, or refuses
 -- it where the window is full (`SendMeets`)
@@ -62,9 +62,14 @@ RefusesUnbegun state fault = (c : Windowed Asked) (rest : List ℕ) → StandsFo
 
 -- the state is that of a client that has synchronized, it was asked for an x of which `Is` holds, and the number of its
 -- outstanding requests and its width meet `Fills`
-abbrev pub WasAsked : {X : Type 0} → (Is : X → Type 0) → (Fills : (count width : ℕ) → Type 0) → GeocomClient → Type 0
-WasAsked {X = X} Is Fills state =
-    (c : Windowed Asked) × (rest : List ℕ) × (x : X) × StandsFor state c rest × (left_of state ≡ []) × Is x × Fills (length c.ids.waiting) c.width
+pub record WasAsked {X : Type 0} (Is : X → Type 0) (Fills : (count width : ℕ) → Type 0) (state : GeocomClient) : Type 0 where
+  pub client : Windowed Asked
+  pub rest : List ℕ
+  pub asked : X
+  pub stands : StandsFor state client rest
+  pub begun : left_of state ≡ []
+  pub is : Is asked
+  pub fills : Fills (length client.ids.waiting) client.width
 
 -- the fault number of a raw request that is refused. For a CR or LF among its parameters it is the number of a parameter that
 -- doesn't read (`Spelling`); for a request whose line would be too long, it is the number of a line that is too long (`TooLong`)

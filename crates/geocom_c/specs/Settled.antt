@@ -111,11 +111,11 @@ pub record IsRecord (text : List ℕ) (r : GeocomSettlement) (s : Rule.Settlemen
 abbrev pub ListsItems : (text : List ℕ) → (count : ℕ) → (places : List GeocomItem) → (params : List ℕ) → Type 0
 ListsItems text count places params = (items : List (List ℕ)) → IsParams params items → length items ≤ 16 → AreStanding count places text items
 
--- no part of a promise: the text begins with this line; and if the line is a reply whose parameters are at most 16 items, these
--- are in the text, as many as `count` says, and where `places` says
-pub record IsListedLine (text : List ℕ) (count : ℕ) (places : List GeocomItem) (line : List ℕ) : Type 0 where
-  pub front : take (length line) text ≡ line
-  pub listed : (reply : ReplyFields) → IsReply line reply → ListsItems text count places reply.params
+-- no part of a promise: what was listed is that of this line: the text begins with the line, and if the line is a reply whose
+-- parameters are at most 16 items, these are in the text, as many as are counted, and where the places say
+pub record IsListingOf (told : ListedLine) (line : List ℕ) : Type 0 where
+  pub front : take (length line) told.text.items ≡ line
+  pub listed : (reply : ReplyFields) → IsReply line reply → ListsItems told.text.items told.items told.places reply.params
 
 -- no part of a promise: an outcome that is an answer has this line
 abbrev pub AnswerHasLine : List ℕ → Rule.Outcome → Type 0
@@ -126,10 +126,6 @@ AnswerHasLine line Rule.Lost = Unit {0}
 -- no part of a promise: each of these settlements that is an answer has this line
 abbrev pub AnswersHaveLine : List ℕ → List (Rule.Settlement Asked) → Type 0
 AnswersHaveLine line ss = AllByRecursion (λ (s : Rule.Settlement Asked). AnswerHasLine line s.outcome) ss
-
--- no part of a promise: what was listed is that of this line (`IsListedLine`)
-abbrev pub IsListingOf : ListedLine → (line : List ℕ) → Type 0
-IsListingOf told line = IsListedLine told.text.items told.items told.places line
 
 -- no part of a promise: what was listed is that of some line, which the settlement has if it is an answer
 abbrev pub ListsAnswer : ListedLine → Settlement Asked → Type 0

@@ -2,7 +2,7 @@
 
 ghost use Rattle.std.specs.Prelude.{◌≡◌, ◌↔◌};
 ghost use Rattle.geocom_c.specs.Beginning.{unbegun_with};
-ghost use Rattle.geocom_c.specs.declared.header.TheConstants.{MORE};
+ghost use Rattle.geocom_c.specs.Feeding.{unheard_with};
 
 use crate::header::MORE;
 use crate::state::NULLS;
@@ -114,7 +114,7 @@ pub(crate) fn heard(kind: u32, line_fault: u32, count: u32) -> GeocomHeard
 
 // The fault of a feed that used nothing; all other fields are 0.
 pub(crate) fn unheard(fault: u32) -> GeocomHeard
-    ensures { result ≡ record { used = 0; fault = fault; count = 0; kind = MORE; line_fault = 0 } }
+    ensures { result ≡ unheard_with fault }
 {
     GeocomHeard {
         used: 0,

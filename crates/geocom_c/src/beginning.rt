@@ -1,13 +1,13 @@
 //! The synchronization: a client sends nothing before eight null procedures were answered, so that no old reply is taken for an
 //! answer.
 
-ghost use Rattle.std.specs.Prelude.{◌≡◌, ◌≤◌, ℕ, List, length, drop};
-ghost use Rattle.gc_lines.specs.Frames.{rest_behind};
+ghost use Rattle.std.specs.Prelude.{◌≡◌, ◌≤◌, ℕ, List, [], length, drop};
+ghost use Rattle.gc_lines.specs.Frames.{frame_of, rest_behind};
 ghost use Rattle.gc_lines.specs.Taking.{IsUsedOf};
 ghost use Rattle.gc_client.specs.Beginning.{asks};
-ghost use Rattle.geocom_c.specs.Beginning.{given, given_unless, left_by_bytes, left_past, BeginFaultLeavesAll, GivesLine, HearsBytes, HearsFirst, IsGiven, KeepsUnended, ReportsBegun};
+ghost use Rattle.geocom_c.specs.Beginning.{given, given_unless, left_by_bytes, left_past, BeginFaultLeavesAll, GivesLine, HearsBytes, IsGiven, ReportsBegun};
 ghost use Rattle.gc_client.specs.Beginning.{the_word};
-ghost use Rattle.geocom_c.specs.Rest.{IsValid, IsRest};
+ghost use Rattle.geocom_c.specs.Rest.{IsValid, IsRest, UsesFirstLine, UsesUnended};
 ghost use Rattle.geocom_c.specs.Rooms.{KeepsLength, KeepsAfter, ReportsNoClient, ReportsNoRoom};
 ghost use Rattle.geocom_c.specs.State.{IsClients};
 ghost use Rattle.geocom_c.specs.declared.header.TheConstants.{LINE_ROOM};
@@ -37,8 +37,9 @@ fn hear_frame(beginning: &mut Beginning, frame: &Frame)
 fn hear_line(rest: &mut GeocomRest, beginning: &mut Beginning, bytes: &[u8]) -> usize
     requires { IsValid rest.old }
     ensures used { IsUsedOf bytes.now result }
-    ensures more { KeepsUnended bytes.now result rest.old rest.new beginning.old beginning.new }
-    ensures frame { HearsFirst bytes.now result rest.old rest.new beginning.old beginning.new }
+    ensures more { UsesUnended rest.old bytes.now result (λ line. IsRest rest.new line × (beginning.new ≡ beginning.old)) }
+    ensures frame { UsesFirstLine rest.old bytes.now result
+        (λ line. IsRest rest.new [] × (beginning.new ≡ left_past beginning.old (frame_of line))) }
 {
     let (used, frame) = rest.take(bytes);
     hear_frame(beginning, &frame);
@@ -62,7 +63,7 @@ fn hear_all(rest: &mut GeocomRest, beginning: &mut Beginning, bytes: &[u8])
 // synchronized, it writes nothing and returns 0.
 fn ask(beginning: &Beginning, line: &mut [u8]) -> u32
     requires { LINE_ROOM ≤ length line.old }
-    ensures asked { (told : GeocomBeginning) → told.count ≡ result → IsGiven (asks beginning.now) told line.new }
+    ensures asked { IsGiven (asks beginning.now) result line.new }
     ensures untouched { KeepsAfter result line.old line.new }
     ensures length { KeepsLength line.old line.new }
 {
@@ -80,7 +81,7 @@ fn ask(beginning: &Beginning, line: &mut [u8]) -> u32
 // nothing and returns 0.
 fn ask_unless(is_waiting: bool, beginning: &Beginning, line: &mut [u8]) -> u32
     requires { LINE_ROOM ≤ length line.old }
-    ensures asked { (told : GeocomBeginning) → told.count ≡ result → IsGiven (given_unless is_waiting beginning.now) told line.new }
+    ensures asked { IsGiven (given_unless is_waiting beginning.now) result line.new }
     ensures untouched { KeepsAfter result line.old line.new }
     ensures length { KeepsLength line.old line.new }
 {

@@ -2,9 +2,9 @@
 
 ghost use Rattle.std.specs.Prelude.{◌≡◌, ◌≢◌, ◌≤◌, ◌↔◌, All, ◌+◌, ◌++◌, ℕ, List, [], length, drop, None, IsTrue};
 ghost use Rattle.std.specs.List.{position};
-ghost use Rattle.gc_lines.specs.Frames.{is_line_feed};
+ghost use Rattle.gc_lines.specs.Frames.{frame_of, is_line_feed};
 ghost use Rattle.gc_lines.specs.Taking.{IsUsedOf};
-ghost use Rattle.geocom_c.specs.Rest.{IsValid, IsRest, TakesFrame, TakesUnended, UsesFrame, UsesUnended};
+ghost use Rattle.geocom_c.specs.Rest.{IsValid, IsRest, UsesFirstLine, UsesUnended};
 ghost use Rattle.geocom_c.specs.Rooms.{IsWritten, KeepsLength, KeepsAfter};
 
 use gc_lines::{Assembler, Frame};
@@ -47,8 +47,8 @@ impl GeocomRest {
     pub(crate) fn take(&mut self, piece: &[u8]) -> (usize, Frame)
         requires { IsValid self.old }
         ensures used { IsUsedOf piece.now result.0 }
-        ensures more { TakesUnended self.old self.new piece.now result.0 result.1 }
-        ensures frame { TakesFrame self.old self.new piece.now result.0 result.1 }
+        ensures more { UsesUnended self.old piece.now result.0 (λ line. (result.1 ≡ Frame.More) × IsRest self.new line) }
+        ensures frame { UsesFirstLine self.old piece.now result.0 (λ line. (result.1 ≡ frame_of line) × IsRest self.new []) }
     {
         let (used, frame) = self.frame(piece);
         match frame {
@@ -69,8 +69,8 @@ impl GeocomRest {
     fn frame(&self, piece: &[u8]) -> (usize, Frame)
         requires { IsValid self.now }
         ensures used { IsUsedOf piece.now result.0 }
-        ensures more { UsesUnended self.now piece.now result.0 result.1 }
-        ensures frame { UsesFrame self.now piece.now result.0 result.1 }
+        ensures more { UsesUnended self.now piece.now result.0 (λ line. result.1 ≡ Frame.More) }
+        ensures frame { UsesFirstLine self.now piece.now result.0 (λ line. result.1 ≡ frame_of line) }
     {
         let mut assembler = Assembler::new();
         let _ = assembler.take(&self.bytes[..usize::from(self.length)]);

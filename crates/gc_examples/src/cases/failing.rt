@@ -105,7 +105,7 @@ impl<'a> Groups<'a> {
     // Appends what was written by the run whose port failed at call k. If the port is the output, and the run wrote the first k
     // bytes of what the run without a fault wrote, it appends `a part` instead.
     fn append_output(&self, came: &Came, k: u64, output: &mut Told) {
-        let written = came.output.bytes.as_slice();
+        let written = came.output.taken();
         if self.case.is("port", "output") && self.whole.begins_with(written, k) {
             output.text("a part");
         } else {

@@ -59,18 +59,18 @@ impl Came {
     /// out for the text of how this one ended.
     pub fn is_same_as(&self, other: &Came) -> bool {
         self.end.is_same_as(&other.end)
-            && self.output.bytes.as_slice() == other.output.bytes.as_slice()
-            && self.link.bytes.as_slice() == other.link.bytes.as_slice()
+            && self.output.taken() == other.output.taken()
+            && self.link.taken() == other.link.taken()
     }
 
     /// Whether the run ended well and wrote exactly `output`.
     pub fn wrote(&self, output: &[u8]) -> bool {
-        self.end.is_done && self.output.bytes.as_slice() == output
+        self.end.is_done && self.output.taken() == output
     }
 
     /// Whether `front` is the first `count` bytes of what was written.
     pub fn begins_with(&self, front: &[u8], count: u64) -> bool {
-        front.len() as u64 == count && self.output.bytes.starts_with(front)
+        front.len() as u64 == count && self.output.taken().starts_with(front)
     }
 
     /// Compares how the run ended, what it wrote and what it sent with what the case has under `end`, `output` and `sent`, and,
@@ -84,8 +84,8 @@ impl Came {
         wrong: &mut Told,
     ) {
         self.end.compare(alloc, case, differs, wrong);
-        case.tell("output", self.output.bytes.as_slice(), wrong);
-        case.tell("sent", self.link.bytes.as_slice(), wrong);
+        case.tell("output", self.output.taken(), wrong);
+        case.tell("sent", self.link.taken(), wrong);
         if !case.is("writes", "") {
             compare_writes(alloc, case, self.output.sizes.as_slice(), wrong);
         }

@@ -5,7 +5,7 @@
 use gc_cases::{Case, Player, Told, bytes_of};
 use gc_catalogue::{Answer, Asked, Asking, Call, Reading};
 use gc_lines::{Line, ToWriter, read_reply};
-use gc_rows::{Form, When, write_head, write_record};
+use gc_rows::{EndedCommand, Form, When, write_head, write_record};
 use gc_texts::{Ending, Quality, Stamp, Turn, Wish, read_tasks, reading_as_zero};
 use gc_values::ValueFault;
 use std::alloc::Global;
@@ -80,8 +80,7 @@ struct Spelled<'a> {
     reply: &'a [u8],
 }
 
-// Appends the record of a command that ended with this reply, or as the case has it under `ending`, for a target of this name, of
-// which the first 64 bytes are used.
+// Appends the record of a command that ended with this reply, or as the case has it under `ending`.
 fn write_with_reply(
     case: &Case<'_>,
     form: Form,
@@ -89,22 +88,32 @@ fn write_with_reply(
     spelled: Spelled<'_>,
     written: &mut Told,
 ) {
-    let Spelled { name, reply } = spelled;
-    let name = name.get(..64).unwrap_or(name);
-    let line = line_of(reply);
+    let line = line_of(spelled.reply);
     let reading = reading_of(&command.call, &line);
     let zeroed = reading_as_zero(&command.call, &line);
     let ending = ending_of(case.value("ending"), &reading, &zeroed, &line);
+    write_ended(case, form, command, spelled.name, ending, written)
+}
+
+// Appends the record of a command that ended so, for a target of this name, of which the first 64 bytes are used.
+fn write_ended<'a>(
+    case: &Case<'_>,
+    form: Form,
+    command: &'a Wish,
+    name: &'a [u8],
+    ending: Ending<'a>,
+    written: &mut Told,
+) {
+    let name = name.get(..64).unwrap_or(name);
     // Always so: the contract of `write_record` asks for it.
     if name.len() <= 64 {
-        let _ = write_record(
-            &mut ToWriter::new(written),
-            form,
-            &when_of(case),
+        let ended = EndedCommand {
+            when: when_of(case),
             name,
             command,
             ending,
-        );
+        };
+        let _ = write_record(&mut ToWriter::new(&mut *written), form, ended);
     }
 }
 

@@ -9,7 +9,8 @@ use crate::cases::sink::Taking;
 use gc_ask::{Duplex, run_ask, run_loop_on};
 use gc_cases::{Case, input_of, push_bytes_of};
 use gc_engines::{
-    StillForm, read_rule_scene, read_scene, run_check, run_check_log, run_drill_on, run_exec,
+    Playable, StillForm, read_rule_scene, read_scene, run_check, run_check_log, run_drill_on,
+    run_exec,
 };
 use gc_lines::{ServeFault, Served};
 use gc_probes::{PieceSource, Pipe};
@@ -332,14 +333,7 @@ impl Setup {
         output: &mut Taking,
     ) -> Result<(), RunFault> {
         let instrument = read_scene(alloc, self.scene.as_slice())?;
-        run_drill_on(
-            alloc,
-            instrument,
-            source,
-            output,
-            self.totals,
-            width_of(self.width),
-        )
+        self.drill_on(alloc, instrument, source, output)
     }
 
     // Drills the input on the instrument of the scene, which has rules. `Err`: the fault of the scene, or of the drill.
@@ -350,6 +344,17 @@ impl Setup {
         output: &mut Taking,
     ) -> Result<(), RunFault> {
         let instrument = read_rule_scene::<StillForm>(alloc, self.scene.as_slice())?;
+        self.drill_on(alloc, instrument, source, output)
+    }
+
+    // Drills the input on this instrument. `Err`: the fault of the drill.
+    fn drill_on<I: Playable>(
+        &self,
+        alloc: Global,
+        instrument: I,
+        source: &mut PieceSource<'_>,
+        output: &mut Taking,
+    ) -> Result<(), RunFault> {
         run_drill_on(
             alloc,
             instrument,

@@ -2,16 +2,12 @@
 //! whose write is cut counts as sent, and the connection is to be closed for that (`note_cut`).
 
 ghost use Rattle.std.specs.Prelude.{◌≡◌, ◌<◌, ◌≤◌, [], ◌∷◌, false, length, drop, Option};
-ghost use Rattle.gc_client.specs.declared.window.TheConstants.{WINDOW};
-ghost use Rattle.gc_catalogue.specs.declared.asked.Asked.TheVariants.{Table};
-ghost use Rattle.gc_catalogue.specs.declared.call.Call.TheVariants.{NullProc};
 ghost use Rattle.gc_lines.specs.Lines.{with_end};
 ghost use Rattle.gc_links.specs.Acts.{Tells, put_act, IsPart};
 ghost use Rattle.gc_station.specs.Deciding.{has_begun};
-ghost use Rattle.gc_station.specs.Requests.{command_at};
 ghost use Rattle.gc_station.specs.Model.{request_text, null_text};
 ghost use Rattle.gc_station.specs.NextCommand.{mark_setup};
-ghost use Rattle.gc_station.specs.Stations.{IsPaired, DoesAlone, cut_progress, setup_asked, station_asking};
+ghost use Rattle.gc_station.specs.Stations.{CanSend, DoesAlone, cut_progress, request_for, null_request, setup_asked, station_asking};
 ghost use Rattle.gc_station.specs.declared.progress.Action.TheVariants.{Clear, Ask, Prepare, Send, Flush};
 
 use super::Station;
@@ -33,24 +29,31 @@ pub(crate) struct Outgoing {
     pub(crate) mark: Option<Mark>,
 }
 
-// The command of a task whose request is sent at the moment `utc`, in milliseconds since 1970-01-01, UTC: a task that sets the
-// clock asks for that moment (`call_at`).
-fn command_at(task: &Task, utc: u64) -> Wish
-    ensures { result ≡ command_at utc task.entry.now }
+// The request for the command of a task, with this mark. A task that sets the clock asks for the moment of the mark (`call_at`).
+fn request_for(task: &Task, mark: Mark) -> Outgoing
+    ensures { result ≡ request_for mark task.entry.now }
 {
-    Wish {
-        target: task.command.target,
-        call: task.call_at(utc),
+    Outgoing {
+        command: Wish {
+            target: task.command.target,
+            call: task.call_at(mark.sent),
+        },
+        wait: task.deadline,
+        mark: Some(mark),
     }
 }
 
-// The null procedure, for no target.
-fn null_command() -> Wish
-    ensures { result ≡ record { target = 0; call = Table NullProc } }
+// The request for a null procedure of the station's own: it is for no target, and waits for the plan's deadline.
+fn null_request(plan: &Plan) -> Outgoing
+    ensures { result ≡ null_request plan.now }
 {
-    Wish {
-        target: 0,
-        call: Asked::Table(Call::NullProc),
+    Outgoing {
+        command: Wish {
+            target: 0,
+            call: Asked::Table(Call::NullProc),
+        },
+        wait: plan.deadline,
+        mark: None,
     }
 }
 
@@ -87,23 +90,15 @@ impl Station {
         self.note_cut(put, requests);
     }
 
-    // Sends a request, which has this mark and waits for `wait` milliseconds. `Err`: the write was cut, with the number of
-    // bytes that were sent. The request is outstanding then, too.
-    fn ask<L: Link>(
-        &mut self,
-        link: &mut L,
-        command: &Wish,
-        wait: u64,
-        mark: Option<Mark>,
-    ) -> Result<(), usize>
-        requires width { self.old.client.width ≡ WINDOW }
-        requires room { length self.old.client.ids.waiting < WINDOW }
-        requires paired { IsPaired self.old }
-        ensures tells { Tells (L.acts link.old) (L.acts link.new) (put_act result (request_text self.old.client.ids command.now.call) ∷ []) }
-        ensures part { IsPart result (request_text self.old.client.ids command.now.call) }
-        ensures asks { self.new ≡ station_asking command.now wait mark self.old }
+    // Sends a request. `Err`: the write was cut, with the number of bytes that were sent. The request is outstanding then, too.
+    fn ask<L: Link>(&mut self, link: &mut L, asking: &Outgoing) -> Result<(), usize>
+        requires { CanSend self.old }
+        ensures tells { Tells (L.acts link.old) (L.acts link.new) (put_act result (request_text self.old.client.ids asking.now.command.call) ∷ []) }
+        ensures part { IsPart result (request_text self.old.client.ids asking.now.command.call) }
+        ensures asks { self.new ≡ station_asking asking.now self.old }
     {
-        let deadline = later(self.progress.moment.elapsed, wait);
+        let command = &asking.command;
+        let deadline = later(self.progress.moment.elapsed, asking.wait);
         let mut line = Line::new();
         let Ok(()) = self
             .client
@@ -111,7 +106,7 @@ impl Station {
         else {
             unreachable!()
         };
-        self.marks.push(mark);
+        self.marks.push(asking.mark);
         put_line(link, &line)
     }
 
@@ -141,9 +136,7 @@ impl Station {
 
     // Sends the cycle's next command, and notes a cut write (`note_cut`). One that sets the clock asks for the moment of its mark.
     pub(super) fn send<L: Link>(&mut self, link: &mut L, plan: &Plan, commands: &[Task])
-        requires width { self.old.client.width ≡ WINDOW }
-        requires room { length self.old.client.ids.waiting < WINDOW }
-        requires paired { IsPaired self.old }
+        requires ready { CanSend self.old }
         requires unsent { 0 < self.old.progress.unsent }
         requires within { self.old.progress.unsent ≤ length commands.now }
         ensures { DoesAlone plan.now commands.now Send (L.acts link.old) (L.acts link.new) self.old self.new }
@@ -152,8 +145,8 @@ impl Station {
         let mark = self.mark(plan, commands);
         let task = &commands[self.place(commands)];
         let next = self.upcoming_after(1, commands);
-        let command = command_at(task, mark.sent);
-        let put = self.ask(link, &command, task.deadline, Some(mark));
+        let asking = request_for(task, mark);
+        let put = self.ask(link, &asking);
         self.progress.note_sent(next);
         self.note_cut(put, requests);
     }
@@ -164,29 +157,19 @@ impl Station {
     {
         let mark = self.mark_setup(commands);
         match commands.get(self.progress.prepared) {
-            Some(task) => Outgoing {
-                command: command_at(task, mark.sent),
-                wait: task.deadline,
-                mark: Some(mark),
-            },
-            None => Outgoing {
-                command: null_command(),
-                wait: plan.deadline,
-                mark: None,
-            },
+            Some(task) => request_for(task, mark),
+            None => null_request(plan),
         }
     }
 
     // Sends the next command of the setup, if the list has one; otherwise a null procedure. A cut write is noted (`note_cut`).
     pub(super) fn prepare<L: Link>(&mut self, link: &mut L, plan: &Plan, commands: &[Task])
-        requires width { self.old.client.width ≡ WINDOW }
-        requires room { length self.old.client.ids.waiting < WINDOW }
-        requires paired { IsPaired self.old }
+        requires { CanSend self.old }
         ensures { DoesAlone plan.now commands.now Prepare (L.acts link.old) (L.acts link.new) self.old self.new }
     {
         let requests = self.commands_before(plan, commands);
         let asking = self.next_setup(plan, commands);
-        let put = self.ask(link, &asking.command, asking.wait, asking.mark);
+        let put = self.ask(link, &asking);
         self.progress.note_setup(plan);
         self.note_cut(put, requests);
     }
@@ -194,13 +177,11 @@ impl Station {
     // Sends a null procedure: after requests that have all timed out, since its reply settles them, or before a command, as
     // `Action::Flush` says. A cut write is noted (`note_cut`).
     pub(super) fn flush<L: Link>(&mut self, link: &mut L, plan: &Plan, commands: &[Task])
-        requires width { self.old.client.width ≡ WINDOW }
-        requires room { length self.old.client.ids.waiting < WINDOW }
-        requires paired { IsPaired self.old }
+        requires { CanSend self.old }
         ensures { DoesAlone plan.now commands.now Flush (L.acts link.old) (L.acts link.new) self.old self.new }
     {
         let requests = self.commands_before(plan, commands);
-        let put = self.ask(link, &null_command(), plan.deadline, None);
+        let put = self.ask(link, &null_request(plan));
         self.progress.note_request();
         self.note_cut(put, requests);
     }

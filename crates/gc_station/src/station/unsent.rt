@@ -3,15 +3,15 @@
 ghost use Rattle.std.specs.Prelude.{◌≡◌, ◌<◌, ◌≤◌, length, OnOk, false};
 ghost use Rattle.gc_lines.specs.Ports.{FailsWith};
 ghost use Rattle.gc_links.specs.Acts.{Told};
+ghost use Rattle.gc_texts.specs.Endings.{ending_seen};
 ghost use Rattle.gc_station.specs.Records.{WritesMore};
-ghost use Rattle.gc_station.specs.Model.{unsent_record};
+ghost use Rattle.gc_station.specs.Model.{end_unsent, unsent_record};
 ghost use Rattle.gc_station.specs.Stations.{DoesAlone, Moves, seen, station_advancing, station_skipping};
 ghost use Rattle.gc_station.specs.declared.progress.Action.TheVariants.{Skip, Pass};
 
 use super::Station;
 use crate::book::Book;
 use crate::plan::Plan;
-use crate::writing::is_listed_after;
 use gc_lines::PortFailed;
 use gc_links::{Link, Moment};
 use gc_texts::{Ending, Stamp, Task};
@@ -69,9 +69,19 @@ impl Station {
         self.progress.note_early(plan, waiting);
     }
 
-    // Writes the record of the next command, which isn't sent: as missed if its cycle is missed, otherwise as skipped. Notes in
-    // `recorded` its ending, that it wasn't answered well, and whether it or one before it of its attempt ended as its rule names.
-    // `Err`: the book failed at the record, and nothing is noted.
+    // How the next command ends if it isn't sent: as missed if its cycle is missed, otherwise as skipped.
+    fn ending_unsent<'a>(&self) -> Ending<'a>
+        ensures { ending_seen result ≡ end_unsent self.now.progress }
+    {
+        if self.progress.missed {
+            Ending::Missed
+        } else {
+            Ending::Skipped
+        }
+    }
+
+    // Writes the record of the next command, which isn't sent, with the ending that `ending_unsent` gives, and notes that in
+    // `recorded`. `Err`: the book failed at the record, and nothing is noted.
     fn write_unsent<B: Book>(
         &mut self,
         book: &mut B,
@@ -95,19 +105,11 @@ impl Station {
             place: mark.place,
             turn: mark.expected.turn,
         };
-        let ending = if self.progress.missed {
-            Ending::Missed
-        } else {
-            Ending::Skipped
-        };
+        let ending = self.ending_unsent();
         if let Err(failed) = book.write(stamp, &task.command, ending) {
             return Err(failed);
         }
-        self.recorded
-            .tally
-            .count(mark.cycle, mark.expected.turn, ending);
-        self.recorded.well = false;
-        self.recorded.listed = is_listed_after(self.recorded.listed, &mark.expected, None, ending);
+        self.recorded.note(&mark, moment.elapsed, None, ending);
         Ok(())
     }
 }

@@ -1,7 +1,8 @@
 use Rattle.std.proofs.Common.{◌≡◌, ap, rules}
-use Rattle.gc_lines.specs.Answering.{Ports, ports_of}
-use Rattle.gc_ask.specs.AskRuns.{AskRuns}
+use Rattle.gc_lines.specs.Answering.{ports_of}
+use Rattle.gc_ask.specs.AskRuns.{AskRuns, Seen}
 use Rattle.gc_ask.specs.Asking.{taken_by}
+use Rattle.gc_ask.specs.Looping.{SeenAtBoth}
 use Rattle.gc_ask.proofs.Runs.{runs_remote}
 use Rattle.gc_ask.proofs.ask.run_ask.Goals as goal
 use Rattle.gc_texts.specs.WholeTexts.{input_of}
@@ -16,10 +17,8 @@ returns-clause-asks g c =
 
 pub returns-clause-memory : goal.returns-clause-memory
 returns-clause-memory g c is =
-    let same = c.run_over.ensures.memory is in
-    let all : (g.I.Source.remaining c.run_over.new.link.source.now ≡ g.I.Source.remaining c.args.link_in.now)
-    × (g.I.Source.reads c.run_over.new.link.source.now ≡ g.I.Source.reads c.args.link_in.now)
-    × (g.O.Sink.taken c.run_over.new.link.sink.now ≡ g.O.Sink.taken c.args.link_out.now)
-    × (g.K.Sink.taken c.run_over.new.sink ≡ g.K.Sink.taken c.args.sink.now) =
-    (ap (λ (p : Ports). p.remaining) same.0, ap (λ (p : Ports). p.reads) same.0, ap (λ (p : Ports). p.taken) same.0, same.2) in
+    let same : ◌≡◌ {A = Seen}
+    (record { link = ports_of g.I.Source c.run_over.new.link.source.now g.O.Sink c.run_over.new.link.sink.now; sink = taken_by g.K.Sink c.run_over.new.sink })
+    (record { link = ports_of g.I.Source c.args.link_in.now g.O.Sink c.args.link_out.now; sink = taken_by g.K.Sink c.args.sink.now }) =
+    ap (λ (s : SeenAtBoth). record { link = s.client; sink = s.sink }) (c.run_over.ensures.memory is) in
     search rules

@@ -9,9 +9,3 @@ returns-clause-asks g c =
 
 pub returns-clause-memory : goal.returns-clause-memory
 returns-clause-memory g c is = absurd (no_memory _ _ _ _ _ _ c.ask_all.ensures.asks is)
-
-pub returns-clause-bound : goal.returns-clause-bound
-returns-clause-bound g c = c.ask_all.ensures.asks.bound
-
-pub returns-clause-too_many : goal.returns-clause-too_many
-returns-clause-too_many g c = c.ask_all.ensures.asks.too_many

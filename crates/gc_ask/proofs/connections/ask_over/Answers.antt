@@ -5,7 +5,6 @@ pub returns : goal.returns
 returns g c = record {
   before = _;
   after = _;
-  unread = c.new-source.ensures.reads;
-  sound = (c.new-source.ensures.failed, c.new-to.ensures.failed);
+  fresh = (c.new-source.ensures.reads, c.new-source.ensures.failed, c.new-to.ensures.failed);
   asks = over_remote _ _ (record { link = _; sink = _ }) (record { link = _; sink = _ }) _ c.ask_all.ensures.asks;
 }

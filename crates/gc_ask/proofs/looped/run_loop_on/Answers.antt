@@ -1,6 +1,5 @@
 use Rattle.std.proofs.Common.{rules}
-use Rattle.gc_ask.specs.Looping.{LoopsWithin, SeenAtBoth, seen_of, seen_over}
-use Rattle.gc_ask.proofs.Runs.{loop_runs}
+use Rattle.gc_ask.specs.Looping.{LoopRuns, SeenAtBoth, seen_of, seen_over}
 use Rattle.gc_ask.proofs.looped.run_loop_on.Goals as goal
 use Rattle.gc_texts.specs.WholeTexts.{input_of}
 
@@ -10,11 +9,9 @@ returns g c =
     let old : SeenAtBoth = seen_over g.A.Source g.B.Sink c.args.client.now g.C.Source g.D.Sink c.args.instrument_end.now g.K.Sink c.args.sink.now in
     let new : SeenAtBoth = seen_of g.A.Source link.client_in.now g.B.Sink link.client_out.now
     g.C.Source link.instrument_in.now g.D.Sink link.instrument_out.now g.K.Sink c.run_over.new.sink in
-    let within : LoopsWithin (input_of g.S.Source c.args.commands.now) (input_of g.S.Source c.run_over.new.commands)
+    let within : LoopRuns (input_of g.S.Source c.args.commands.now) (input_of g.S.Source c.run_over.new.commands)
     c.args.max_reads old new c.run_over.result = record {
-      loops = loop_runs _ _ _ _ _ _ _ c.run_over.ensures.asks;
-      bound = c.run_over.ensures.bound;
-      too_many = c.run_over.ensures.too_many;
+      runs = c.run_over.ensures.asks;
       memory = c.run_over.ensures.memory;
     } in
     search rules

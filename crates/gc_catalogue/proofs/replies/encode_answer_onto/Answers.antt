@@ -15,14 +15,14 @@ use Rattle.gc_catalogue.proofs.replies.encode_answer_onto.Goals as goal
 
 -- the answer's values, each double rounded, were appended, each before a comma, and lie in their ranges
 handed : (g : _) (c : goal.After-pop g) → (c.write_row.new.to.items ≡ c.push.new.self.items ++ before_commas
-    (shown_values (Some c.args.places) (answer_fields c.args.answer.now).values))
-    × AreValues (shown_values (Some c.args.places) (answer_fields c.args.answer.now).values)
+    (shown_values c.args.places (answer_fields c.args.answer.now).values))
+    × AreValues (shown_values c.args.places (answer_fields c.args.answer.now).values)
 handed g c = c.write_row.ensures c.write_row.new.to (sym (append-nil _), tt)
 
 -- the rounded answer's values, each after a comma, follow the reply's return code
 listed : (g : _) (c : goal.After-pop g) → c.pop.new.self.items ≡ c.push_reply.new.to.items ++ behind_commas (answer_fields (rounded_answer c.args.places c.args.answer.now)).values
 listed g c =
-    let vs : List Value = shown_values (Some c.args.places) (answer_fields c.args.answer.now).values in
+    let vs : List Value = shown_values c.args.places (answer_fields c.args.answer.now).values in
     comma_list c.push_reply.new.to.items vs c.write_row.new.to.items c.pop.new.self.items
     ((handed g c).0 ∙ ap (λ bytes. bytes ++ before_commas vs) c.push.ensures.items) c.pop.ensures.rest
     ∙ ap (λ vs. c.push_reply.new.to.items ++ behind_commas vs) (sym (values-rounded c.args.places c.args.answer.now))

@@ -21,7 +21,7 @@ pub returns-clause-line : goal.returns-clause-line
 returns-clause-line g c =
     request_ends c.args.out.now.items (call_fields c.args.call.now).number c.args.id
     (call_fields c.args.call.now).values c.write_row.new.to.items c.end_list.new.out.items (begun g c).0
-    (record { comma = c.end_list.ensures.comma; other = c.end_list.ensures.other })
+    c.end_list.ensures
 
 pub returns-clause-fitting : goal.returns-clause-fitting
 returns-clause-fitting g c = (begun g c).1

@@ -7,8 +7,9 @@ use Rattle.gc_engines.proofs.check_log.check_piece.Given as goal
 -- went out for each byte; and whether the sink has failed is as at the start
 abbrev pub invariant-loop-b : goal.invariant-loop-b
 invariant-loop-b g l = record {
-  so : (rest : List ℕ) → KeepsLine l.initial.kept rest
-      → KeepsLine l.kept (rest_behind rest (take l.b-index l.piece)) × WritesVerdicts rest (take l.b-index l.piece) (g.K.Sink.taken l.initial.sink) (g.K.Sink.taken l.sink) l.initial.replies l.replies;
+  so : (rest : List ℕ) → KeepsLine l.initial.check.kept rest
+      → KeepsLine l.check.kept (rest_behind rest (take l.b-index l.piece))
+      × WritesVerdicts rest (take l.b-index l.piece) (g.K.Sink.taken l.initial.sink) (g.K.Sink.taken l.sink) l.initial.check.replies l.check.replies;
   failed : g.K.Sink.failed l.sink ≡ g.K.Sink.failed l.initial.sink;
-  few : l.replies ≤ l.initial.replies + l.b-index;
+  few : l.check.replies ≤ l.initial.check.replies + l.b-index;
 }

@@ -8,6 +8,5 @@ returns-in-Some c = λ rest keeps.
     let whole : rest ≡ c.args.kept.now.bytes.items = keeps.whole c.if-kept.false in
     let same : c.deref.result.now ≡ rest = c.deref.ensures.0 ∙ sym whole in
     let read = subst (λ (l : List ℕ). IsLogLine l c.in-Some.line.moment.now c.in-Some.line.mark c.in-Some.line.bytes.items) same c.in-Some.ensures in
-    let verdict = c.log_line_verdict.ensures.verdict in
-    reads c.in-Some.line.moment.now verdict.0 c.in-Some.line.bytes.items c.in-Some.line.mark
-    (subst (λ (l : List ℕ). length l ≤ 2100) same c.deref.ensures.1) c.log_line_verdict.ensures.room read verdict.1 verdict.2
+    reads c.in-Some.line.moment.now c.in-Some.line.bytes.items c.in-Some.line.mark
+    (subst (λ (l : List ℕ). length l ≤ 2100) same c.deref.ensures.1) c.log_line_verdict.ensures.room read c.log_line_verdict.ensures.verdict

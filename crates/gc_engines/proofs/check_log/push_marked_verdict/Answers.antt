@@ -7,19 +7,19 @@ use Rattle.gc_engines.proofs.check_log.push_marked_verdict.Goals as goal
 pub returns-in-Went-clause-items : goal.returns-in-Went-clause-items
 returns-in-Went-clause-items c =
     let it = c.push_whole.ensures.items in
-    let bytes = c.args.bytes.now in (
-      it.0,
-      elim c.in-Went.is as (λ _. IsMarkedVerdict c.args.mark bytes it.0) [
-        | inl went ↦ subst (λ (m : LogMark). IsMarkedVerdict m bytes it.0) (sym went) it.1
-        | inr came ↦ subst (λ (m : LogMark). IsMarkedVerdict m bytes it.0) (sym came) it.1
-      ],
-      it.2,
-    )
+    let bytes = c.args.bytes.now in record {
+      text = it.text;
+      appended = it.appended;
+      is = elim c.in-Went.is as (λ _. IsMarkedVerdict c.args.mark bytes it.text) [
+        | inl went ↦ subst (λ (m : LogMark). IsMarkedVerdict m bytes it.text) (sym went) it.is
+        | inr came ↦ subst (λ (m : LogMark). IsMarkedVerdict m bytes it.text) (sym came) it.is
+      ];
+    }
 
 pub returns-in-Link-clause-items : goal.returns-in-Link-clause-items
 returns-in-Link-clause-items c =
-    let bytes = c.args.bytes.now in (
-      escaped bytes,
-      subst (λ (m : LogMark). IsMarkedVerdict m bytes (escaped bytes)) (sym c.in-Link.is) refl,
-      c.append_escaped.ensures.text,
-    )
+    let bytes = c.args.bytes.now in record {
+      text = escaped bytes;
+      appended = c.append_escaped.ensures.text;
+      is = subst (λ (m : LogMark). IsMarkedVerdict m bytes (escaped bytes)) (sym c.in-Link.is) refl;
+    }

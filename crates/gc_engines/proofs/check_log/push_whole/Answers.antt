@@ -5,4 +5,8 @@ use Rattle.gc_engines.proofs.check_log.push_whole.Goals as goal
 
 pub returns-else-bytes-gt512-clause-items : goal.returns-else-bytes-gt512-clause-items
 returns-else-bytes-gt512-clause-items c =
-    (verdict_text c.line_verdict.result, line c.line_verdict.result c.if-bytes-gt512.false c.line_verdict.ensures refl, c.push_verdict-else-bytes-gt512.ensures.items)
+    record {
+      text = verdict_text c.line_verdict.result;
+      appended = c.push_verdict-else-bytes-gt512.ensures.items;
+      is = line c.line_verdict.result c.if-bytes-gt512.false c.line_verdict.ensures refl;
+    }

@@ -13,8 +13,7 @@ pub loop-preserved : goal.loop-preserved
 loop-preserved g c =
     let short : length (take c.in-Ok.n c.read.new.buf) ≤ 256 = omega (arith, c.loop.invariant.room, c.read.auto.buf, length-take c.in-Ok.n c.read.new.buf) in
     record {
-      so = so_far_more _ _ (g.S.Source.remaining c.read.new.self) _ _ _ c.loop.kept c.check_piece.new.kept c.loop.counter c.loop.replies
-          c.check_piece.new.replies _ c.loop.invariant.so c.in-Ok.ensures.bytes.1 short c.in_default.ensures.ok;
+      so = so_far_more _ _ (g.S.Source.remaining c.read.new.self) _ _ _ c.loop.check c.check_piece.new.check c.loop.counter _ c.loop.invariant.so c.in-Ok.ensures.bytes.1 short c.in_default.ensures.ok;
       reads = omega (arith, c.loop.invariant.reads, c.in-Ok.ensures.counts.0);
       going = λ _. c.in-Ok.ensures.counts.1 ∙ not_zero c.in-Ok.n c.in-Ok.n-test.1;
       source = c.in-Ok.ensures.fails.1 ∙ sym c.in-Ok.ensures.fails.0 ∙ c.loop.invariant.source;
@@ -27,7 +26,7 @@ pub returns-in-Err-check_piece : goal.returns-in-Err-check_piece
 returns-in-Err-check_piece g c =
     let short : length (take c.in-Ok.n c.read.new.buf) ≤ 256 = omega (arith, c.loop.invariant.room, c.read.auto.buf, length-take c.in-Ok.n c.read.new.buf) in
     let it = so_far_part _ _ (g.S.Source.remaining c.read.new.self) _ _
-    (g.K.Sink.taken c.check_piece.new.sink) c.loop.kept c.check_piece.new.kept c.loop.counter c.loop.replies c.check_piece.new.replies _
+    (g.K.Sink.taken c.check_piece.new.sink) c.loop.check c.check_piece.new.check c.loop.counter _
     c.loop.invariant.so c.in-Ok.ensures.bytes.1 c.in-Err-check_piece.bytes short
     c.in-Err-check_piece.ensures.err in
     record {

@@ -1,17 +1,19 @@
-use Rattle.std.proofs.Common.{ap, rules, Some, None}
+use Rattle.std.proofs.Common.{◌≡◌, ℕ, ap, rules, subst, Some, None}
 use Rattle.std.specs.Option.{option_copied}
+use Rattle.gc_texts.specs.Procedures.{IsNumber}
 use Rattle.gc_texts.proofs.Procedures.{with_rest}
-use Rattle.gc_engines.proofs.Forms.{no_first_space, no_second_space, has_target, has_deadline, has_procedure}
+use Rattle.gc_engines.proofs.Forms.{has_target, has_deadline, has_procedure}
+use Rattle.gc_engines.proofs.InThree.{in_three, no_first_space, no_second_space}
 use Rattle.gc_engines.proofs.event.read_requested.Goals as goal
 
 pub returns-in_default-clause-none : goal.returns-in_default-clause-none
 returns-in_default-clause-none c isnt t call d r =
-    no_first_space c.args.text.now t call d r c.cut_at.result.0.now
+    no_first_space c.args.text.now r.parts c.cut_at.result.0.now
     (with_rest 32 c.args.text.now c.cut_at.result.0.now (option_copied c.cut_at.result.1) None c.cut_at.ensures (search rules))
 
 pub returns-in_default-procedure-clause-none : goal.returns-in_default-procedure-clause-none
 returns-in_default-procedure-clause-none c isnt t call d r =
-    no_second_space c.args.text.now t call d r c.cut_at.result.0.now c.in-Some.rest.now c.cut_at-2.result.0.now
+    no_second_space c.args.text.now r.parts c.cut_at.result.0.now c.in-Some.rest.now c.cut_at-2.result.0.now
     (with_rest 32 c.args.text.now c.cut_at.result.0.now (option_copied c.cut_at.result.1) (Some c.in-Some.rest.now) c.cut_at.ensures (ap option_copied c.in-Some.is))
     (with_rest 32 c.in-Some.rest.now c.cut_at-2.result.0.now (option_copied c.cut_at-2.result.1) None c.cut_at-2.ensures (search rules))
 
@@ -33,3 +35,17 @@ returns-clause-none c isnt t call d r =
     (with_rest 32 c.args.text.now c.cut_at.result.0.now (option_copied c.cut_at.result.1) (Some c.in-Some.rest.now) c.cut_at.ensures (ap option_copied c.in-Some.is))
     (with_rest 32 c.in-Some.rest.now c.cut_at-2.result.0.now (option_copied c.cut_at-2.result.1) (Some c.in-Some-procedure.procedure.now) c.cut_at-2.ensures (ap option_copied c.in-Some-procedure.is))
     (c.read_procedure_into.ensures.none isnt)
+
+pub returns-clause-found : goal.returns-clause-found
+returns-clause-found c = λ found.
+    let sent = c.in-Send.is in
+    let target : c.in-Some-number_of.target ≡ c.in-Send.field-0 = cc in
+    let deadline : c.in-Some-number_of-2.deadline ≡ c.in-Send.field-2 = cc in
+    record {
+      parts = in_three c.args.text.now c.cut_at.result.0.now c.in-Some.rest.now c.cut_at-2.result.0.now c.in-Some-procedure.procedure.now
+          (with_rest 32 c.args.text.now c.cut_at.result.0.now (option_copied c.cut_at.result.1) (Some c.in-Some.rest.now) c.cut_at.ensures (ap option_copied c.in-Some.is))
+          (with_rest 32 c.in-Some.rest.now c.cut_at-2.result.0.now (option_copied c.cut_at-2.result.1) (Some c.in-Some-procedure.procedure.now) c.cut_at-2.ensures (ap option_copied c.in-Some-procedure.is));
+      target_is = subst (λ (n : ℕ). IsNumber c.cut_at.result.0.now n 4294967295) target c.in-Some-number_of.ensures;
+      deadline_is = subst (λ (n : ℕ). IsNumber c.cut_at-2.result.0.now n 18446744073709551615) deadline c.in-Some-number_of-2.ensures;
+      procedure_is = c.read_procedure_into.ensures.found found;
+    }

@@ -1,7 +1,14 @@
-use Rattle.gc_files.proofs.Feeds.{counted_next}
+use Rattle.std.proofs.Common.{rules, ◌≡◌, ◌==◌, ◌∙◌, sym, arith}
+use Rattle.std.specs.Prelude.{count_by}
+use Rattle.std.proofs.lemmas.List.Sums.{length-filter, count_by-le-length}
 use Rattle.gc_files.proofs.copying.feeds_in.Goals as goal
 
-pub loop-at-preserved : goal.loop-at-preserved
-loop-at-preserved c =
-    let next = counted_next c.args.block.now c.loop-at.count c.loop-at.at c.feed_of-count.result c.loop-at-test.true c.loop-at.invariant.few c.loop-at.invariant.is c.feed_of-count.ensures in
-    record { within = next.within; few = next.few; is = next.is }
+pub returns-clause-is : goal.returns-clause-is
+returns-clause-is c =
+    let counted : c.count.result ≡ count_by (λ b. b == 10) c.args.block.now = search rules in
+    counted ∙ sym (length-filter (λ b. b == 10) c.args.block.now)
+
+pub returns-clause-within : goal.returns-clause-within
+returns-clause-within c =
+    let counted : c.count.result ≡ count_by (λ b. b == 10) c.args.block.now = search rules in
+    omega (arith, counted, count_by-le-length (λ b. b == 10) c.args.block.now)

@@ -11,10 +11,10 @@ returns-then-not-starts_with g c known is =
     let size = size_of c.min-size.result c.loop-at.buf c.read_all.new.buf (search rules) c.read_all.auto.buf in
     let few : c.min-size.result ≤ length c.behind-rest.result.now = search rules in
     let room : c.loop-at.at + c.min-size.result ≤ c.args.len = search rules in
-    sym (c.loop-at.invariant.same known is
+    c.loop-at.invariant.same known is
     ∙ looked_not c.loop-at.at (length c.read_all.new.buf) c.args.sign.now (content known) c.behind-rest.result.now c.behind-rest.ensures
     (omega (arith, size, few)) (omega (arith, size, room, c.requires known is))
-    (λ same. true≢false (sym ((slice_eq-Decides Decides-eqb _ _ _ c.if-not-starts_with.ensures.value).1 (c.in-Ok.ensures known is ∙ sym same)))))
+    (λ same. true≢false (sym ((slice_eq-Decides Decides-eqb _ _ _ c.if-not-starts_with.ensures.value).1 (c.in-Ok.ensures known is ∙ sym same))))
 
 pub loop-at-preserved : goal.loop-at-preserved
 loop-at-preserved g c =
@@ -30,4 +30,4 @@ loop-at-preserved g c =
     }
 
 pub returns-else-at-len : goal.returns-else-at-len
-returns-else-at-len g c known is = sym (c.loop-at.invariant.same known is ∙ looked_all c.loop-at.at _ _ (omega (arith, c.if-at-len.false, c.requires known is)))
+returns-else-at-len g c known is = c.loop-at.invariant.same known is ∙ looked_all c.loop-at.at _ _ (omega (arith, c.if-at-len.false, c.requires known is))

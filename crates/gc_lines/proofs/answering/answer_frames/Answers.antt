@@ -9,7 +9,7 @@ pub loop-preserved : goal.loop-preserved
 loop-preserved g c =
     let short : length (take c.in-Ok.n c.read.new.buf) ≤ 256 = omega (arith, c.loop.invariant.room, c.read.auto.buf, length-take c.in-Ok.n c.read.new.buf) in
     record {
-      so = given_more _ _ (g.S.Source.remaining c.loop.source) _ c.loop.session.assembler _ _ c.loop.counter c.loop.invariant.so _ c.in-Ok.ensures.bytes.1 short _ _ c.in_default.ensures.ok;
+      so = given_more _ _ (g.S.Source.remaining c.loop.source) _ c.loop.session.assembler _ _ c.loop.counter c.loop.invariant.so _ c.in-Ok.ensures.bytes.1 short _ _ c.in_default.ensures.answered;
       reads = omega (arith, c.loop.invariant.reads, c.in-Ok.ensures.counts.0);
       going = λ _. c.in-Ok.ensures.counts.1 ∙ ne_eqb c.in-Ok.n 0 c.in-Ok.n-test.1;
       source = c.in-Ok.ensures.fails.1 ∙ sym c.in-Ok.ensures.fails.0 ∙ c.loop.invariant.source;
@@ -24,7 +24,7 @@ pub returns-in-Err-answer_piece-clause-answers : goal.returns-in-Err-answer_piec
 returns-in-Err-answer_piece-clause-answers g c =
     let short : length (take c.in-Ok.n c.read.new.buf) ≤ 256 = omega (arith, c.loop.invariant.room, c.read.auto.buf, length-take c.in-Ok.n c.read.new.buf) in
     let it = given_part _ _ (g.S.Source.remaining c.loop.source) _ c.loop.session.assembler _ _ c.loop.counter c.loop.invariant.so
-    _ c.in-Ok.ensures.bytes.1 short _ _ c.loop.session.gathers c.in-Err-answer_piece.ensures.err in
+    _ c.in-Ok.ensures.bytes.1 short _ _ c.loop.session.gathers c.in-Err-answer_piece.ensures.answered in
     (it.0, (it.1.0, it.1.1, omega (arith, it.1.2, c.loop.invariant.reads, c.in-Ok.ensures.counts.0), it.1.3), λ e. it.2 (c.loop.invariant.gathers ∙ e))
 
 pub returns-in-Err-answer_piece-clause-ended : goal.returns-in-Err-answer_piece-clause-ended

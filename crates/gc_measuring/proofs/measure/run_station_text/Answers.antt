@@ -4,15 +4,15 @@ use Rattle.gc_measuring.proofs.measure.run_station_text.Goals as goal
 pub returns-in-Ok-end-clause-measures : goal.returns-in-Ok-end-clause-measures
 returns-in-Ok-end-clause-measures g c =
     let h = rw (sym c.measure-streams.ensures.input) at c.in-Ok.ensures.found in
-    let ran = rw (c.in-Ok-end.is, c.work_of-work.ensures.setup, c.work_of-work.ensures.tasks, c.work_of-work.ensures.names) at c.measure-streams.ensures.ran in
-    let keeps = rw (c.in-Ok-end.is, c.work_of-work.ensures.setup, c.work_of-work.ensures.tasks, c.work_of-work.ensures.names) at c.measure-streams.ensures.keeps in
+    let ran = rw (c.in-Ok-end.is) at c.measure-streams.ensures.ran in
+    let keeps = rw (c.in-Ok-end.is) at c.measure-streams.ensures.keeps in
     (h.0, h.1, h.2, inr (_, _, _, h.3, inr (record { between = _; front = c.in-Ok-write_front.ensures.ok; end = Ok c.in-Ok-end.tally; is = refl; ran = ran; keeps = keeps })))
 
 pub returns-in-Err-end-clause-measures : goal.returns-in-Err-end-clause-measures
 returns-in-Err-end-clause-measures g c =
     let h = rw (sym c.measure-streams.ensures.input) at c.in-Ok.ensures.found in
-    let ran = rw (c.work_of-work.ensures.setup, c.work_of-work.ensures.tasks, c.work_of-work.ensures.names, c.in-Err-end.is) at c.measure-streams.ensures.ran in
-    let keeps = rw (c.work_of-work.ensures.setup, c.work_of-work.ensures.tasks, c.work_of-work.ensures.names, c.in-Err-end.is) at c.measure-streams.ensures.keeps in
+    let ran = rw (c.in-Err-end.is) at c.measure-streams.ensures.ran in
+    let keeps = rw (c.in-Err-end.is) at c.measure-streams.ensures.keeps in
     (h.0, h.1, h.2, inr (_, _, _, h.3, inr (record { between = _; front = c.in-Ok-write_front.ensures.ok; end = Err c.in-Err-end.fault; is = refl; ran = ran; keeps = keeps })))
 
 pub returns-in_default-clause-measures : goal.returns-in_default-clause-measures

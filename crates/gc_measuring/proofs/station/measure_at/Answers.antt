@@ -3,6 +3,8 @@ use Rattle.std.proofs.Common.{inl, inr, refl, false, Err, Some, sym, ap, ◌∙�
 use Rattle.std.proofs.lemmas.Bool.{false≢true}
 use Rattle.std.proofs.lemmas.Result.{IfOk-weaker}
 use Rattle.gc_measuring.specs.declared.stop.Stop.TheVariants.{Run}
+use Rattle.gc_measuring.specs.Telling.{acts_of, stage, with_messages}
+use Rattle.gc_measuring.proofs.AtLink.{measures_at_link, measures_all_at_link}
 use Rattle.gc_measuring.proofs.Unbegun.{sink_is_as_it_was}
 use Rattle.gc_measuring.proofs.station.measure_at.Goals as goal
 
@@ -33,6 +35,7 @@ returns-in-Err-clause-told g c =
 
 pub returns-in-None-clause-told : goal.returns-in-None-clause-told
 returns-in-None-clause-told g c =
+    let new = stage c.measure_over-streams.result.0 (acts_of (Some c.into_link.result)) c.measure_over-streams.new.kept.turns in
     IfOk-weaker c.measure_over-streams.result.1 _ _
     (λ status t. record {
       end = t.end;
@@ -40,12 +43,8 @@ returns-in-None-clause-told g c =
       behind = c.measure_over-streams.result.0.messages;
       is_lost = false;
       logged = λ lost. absurd (false≢true lost);
-      ran = inl (record {
-        told = c.measure_over-streams.new.link.link.history.acts;
-        is = ap (λ l. Some l.history.acts) c.into_link.ensures;
-        measured = (c.in-Ok.opened.moment.utc, t.measured);
-        all_last = t.all_last;
-      });
+      ran =
+          inl (measures_at_link _ c.args.station _ new c.measure_over-streams.new.link.link.history.acts c.in-Ok.opened.moment.utc _ (ap (λ l. Some l.history.acts) c.into_link.ensures) t);
       fails = t.fails;
       counts = t.counts;
       loss = refl;
@@ -54,16 +53,15 @@ returns-in-None-clause-told g c =
 
 pub returns-in-None-clause-done : goal.returns-in-None-clause-done
 returns-in-None-clause-done g c =
+    let new = stage c.measure_over-streams.result.0 (acts_of (Some c.into_link.result)) c.measure_over-streams.new.kept.turns in
     IfOk-weaker c.measure_over-streams.result.1 _ _
-    (λ status d zero. (
-      c.measure_over-streams.new.link.link.history.acts,
-      ap (λ l. Some l.history.acts) c.into_link.ensures,
-      (c.in-Ok.opened.moment.utc, d zero),
-    ))
+    (λ status d zero. measures_all_at_link _ c.args.station _ new c.measure_over-streams.new.link.link.history.acts c.in-Ok.opened.moment.utc
+    (ap (λ l. Some l.history.acts) c.into_link.ensures) (d zero))
     (rw (c.new-link.ensures, c.new-told.ensures, c.begun-station.ensures) at c.measure_over-streams.ensures.done)
 
 pub returns-in-Some-clause-told : goal.returns-in-Some-clause-told
 returns-in-Some-clause-told g c =
+    let new = stage c.measure_logged-streams.result.0 (acts_of (Some c.into_link-in-Some-2.result)) c.measure_logged-streams.new.kept.turns in
     IfOk-weaker c.measure_logged-streams.result.1 _ _
     (λ status t. record {
       end = t.1.end;
@@ -71,12 +69,8 @@ returns-in-Some-clause-told g c =
       behind = t.0;
       is_lost = _;
       logged = λ _. sym c.in-Ok.ensures.logged ∙ ap is_some c.in-Some.is;
-      ran = inl (record {
-        told = c.measure_logged-streams.new.logged.link.link.history.acts;
-        is = ap (λ l. Some l.history.acts) (c.into_link-in-Some-2.ensures ∙ ap (λ n. n.link) c.into_link-in-Some.ensures);
-        measured = (c.in-Ok.opened.moment.utc, t.1.measured);
-        all_last = t.1.all_last;
-      });
+      ran = inl (measures_at_link _ c.args.station _ (with_messages new t.0) c.measure_logged-streams.new.logged.link.link.history.acts c.in-Ok.opened.moment.utc _
+          (ap (λ l. Some l.history.acts) (c.into_link-in-Some-2.ensures ∙ ap (λ n. n.link) c.into_link-in-Some.ensures)) t.1);
       fails = t.1.fails;
       counts = t.1.counts;
       loss = t.2;
@@ -85,10 +79,8 @@ returns-in-Some-clause-told g c =
 
 pub returns-in-Some-clause-done : goal.returns-in-Some-clause-done
 returns-in-Some-clause-done g c =
+    let new = stage c.measure_logged-streams.result.0 (acts_of (Some c.into_link-in-Some-2.result)) c.measure_logged-streams.new.kept.turns in
     IfOk-weaker c.measure_logged-streams.result.1 _ _
-    (λ status d zero. (
-      c.measure_logged-streams.new.logged.link.link.history.acts,
-      ap (λ l. Some l.history.acts) (c.into_link-in-Some-2.ensures ∙ ap (λ n. n.link) c.into_link-in-Some.ensures),
-      (c.in-Ok.opened.moment.utc, d zero),
-    ))
+    (λ status d zero. measures_all_at_link _ c.args.station _ new c.measure_logged-streams.new.logged.link.link.history.acts c.in-Ok.opened.moment.utc
+    (ap (λ l. Some l.history.acts) (c.into_link-in-Some-2.ensures ∙ ap (λ n. n.link) c.into_link-in-Some.ensures)) (d zero))
     (rw (c.new-logged.ensures, c.new-link.ensures, c.new-told.ensures, c.begun-station.ensures) at c.measure_logged-streams.ensures.done)

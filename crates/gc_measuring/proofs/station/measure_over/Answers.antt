@@ -23,6 +23,6 @@ returns-clause-done g c =
     IfOk-weaker c.report_end_of_run-ended.result _ _
     (λ status told zero. record {
       between = c.run_station_text-streams.result.0.messages;
-      is = done_at_0 m.0 _ _ _ _ (exit_status status) _ _ m.1 m.3 told zero;
+      is = done_at_0 _ _ _ _ (exit_status status) _ _ (m.0, m.1, m.3) told zero;
     })
     c.report_end_of_run-ended.ensures.told

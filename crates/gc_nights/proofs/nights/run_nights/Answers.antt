@@ -7,5 +7,5 @@ pub returns : goal.returns
 returns g c =
     let acts = c.run_each_night-end.new.link.carried in
     let tasks = c.args.programme.tasks.now in
-    faithful_runs tasks acts c.rehearsals_in_a_row_are_faithful.ensures c.is_of_line.ensures
+    faithful_runs tasks acts c.rehearsals_in_a_row_are_faithful.ensures c.line_keeps_order.ensures
     (subst (λ old. AreRuns tasks old acts) c.requires c.run_each_night-end.ensures)

@@ -1,7 +1,8 @@
 use Rattle.std.proofs.Common.{◌≡◌, drop}
-use Rattle.gc_scenes.specs.Slow.{delay_from}
+use Rattle.std.specs.Prelude.{fold}
+use Rattle.gc_scenes.specs.Slow.{delay_of, delayed}
 use Rattle.gc_scenes.proofs.slow.delay_of.Given as goal
 
 -- the delays that are left make of `ms` what all delays make of 0
 abbrev pub invariant-loop-delay : goal.invariant-loop-delay
-invariant-loop-delay l = delay_from l.rpc l.ms (drop l.delay-index l.delays) ≡ delay_from l.rpc 0 l.delays
+invariant-loop-delay l = fold (delayed l.rpc) l.ms (drop l.delay-index l.delays) ≡ delay_of l.rpc l.delays

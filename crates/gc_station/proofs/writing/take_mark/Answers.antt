@@ -1,9 +1,6 @@
-use Rattle.std.proofs.Common.{sym, ◌∙◌}
-use Rattle.gc_station.proofs.Records.{listed_first, records_first}
+use Rattle.std.proofs.Common.{None, ap, sym, ◌∙◌}
+use Rattle.std.specs.Prelude.{unwrap_or}
 use Rattle.gc_station.proofs.writing.take_mark.Goals as goal
 
-pub returns-in-Some-clause-listed : goal.returns-in-Some-clause-listed
-returns-in-Some-clause-listed c reads b settlement = listed_first reads b c.args.marks.now.items c.in-Some.mark settlement (sym c.in-Some.is ∙ c.pop_at.ensures.value)
-
-pub returns-in-Some-clause-records : goal.returns-in-Some-clause-records
-returns-in-Some-clause-records c reads utc settlement = records_first reads utc c.args.marks.now.items c.in-Some.mark settlement (sym c.in-Some.is ∙ c.pop_at.ensures.value)
+pub returns-in-Some-clause-first : goal.returns-in-Some-clause-first
+returns-in-Some-clause-first c = ap (λ m. unwrap_or m None) (sym c.in-Some.is ∙ c.pop_at.ensures.value)

@@ -1,7 +1,10 @@
-use Rattle.std.proofs.Common.{◌++◌, subst, [], ◌∷◌}
+use Rattle.std.proofs.Common.{◌≡◌, ◌++◌, ap, ◌∙◌, subst, [], ◌∷◌}
 use Rattle.gc_texts.specs.Endings.{ending_seen}
 use Rattle.gc_client.specs.Settlements.{settlement_seen}
+use Rattle.gc_station.specs.Attempts.{code_of}
+use Rattle.gc_station.specs.Marks.{end_of}
 use Rattle.gc_station.specs.Records.{Record, WritesPart}
+use Rattle.gc_station.specs.Writing.{noted}
 use Rattle.gc_station.proofs.Records.{part_one, record_as, record_same}
 use Rattle.gc_station.proofs.writing.write_settlement.Goals as goal
 
@@ -13,3 +16,14 @@ returns-in-Err-clause-wrote g c reads are start before so =
     let same = record_same reads c.args.now.utc c.in-Some.mark x end (c.ending_of-ending.ensures reads x.call are c.requires c.zero_of-zero.ensures) in
     rw c.in-Some.is (subst (λ (r : Record). WritesPart (g.B.Book.text c.args.book.now) before (before ++ r ∷ []) start (g.B.Book.taken c.write.new.self)) same
     (part_one (g.B.Book.text c.args.book.now) before (record_as c.args.now.utc c.in-Some.mark x end) start (g.B.Book.taken c.args.book.now) (g.B.Book.taken c.write.new.self) w.0 so w.1 w.2))
+
+pub returns-clause-notes : goal.returns-clause-notes
+returns-clause-notes g c reads are =
+    let x = settlement_seen c.args.settlement.now in
+    let mark = c.in-Some.mark in
+    let old = c.args.recorded.now in
+    let end : ending_seen c.ending_of-ending.result ≡ end_of reads mark.expected x.call x.outcome =
+    c.ending_of-ending.ensures reads x.call are c.requires c.zero_of-zero.ensures in
+    let code : c.code_of-code.result ≡ code_of reads x.call x.outcome = c.code_of-code.ensures reads x.call are c.requires in
+    rw c.in-Some.is (c.note.ensures ∙ ap (λ e. noted mark c.args.now.elapsed c.code_of-code.result e old) end
+    ∙ ap (λ k. noted mark c.args.now.elapsed k (end_of reads mark.expected x.call x.outcome) old) code)

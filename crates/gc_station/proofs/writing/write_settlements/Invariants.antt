@@ -3,30 +3,22 @@ use Rattle.std.specs.Io.KnownBytes.{Appends}
 use Rattle.gc_catalogue.specs.declared.answer.Reading.{Reading}
 use Rattle.gc_catalogue.specs.declared.asked.Asked.{Asked}
 use Rattle.gc_client.specs.Settlements.{settlement_seen}
-use Rattle.gc_station.specs.Attempts.{listed_by}
-use Rattle.gc_station.specs.Marks.{records_of, last_well, fresh_after}
+use Rattle.gc_station.specs.Marks.{records_of}
 use Rattle.gc_station.specs.Records.{Record, texts_of}
 use Rattle.gc_station.specs.Scopes.{AreReadings}
-use Rattle.gc_station.specs.Tallies.{tallied}
+use Rattle.gc_station.specs.Writing.{recorded_after}
 use Rattle.gc_station.proofs.writing.write_settlements.Given as goal
 
 -- the records of the settlements before this one are in the book, which writes records as at first, and has failed exactly if it
--- had at first; the tally, `well`, `listed` and `fresh` are as these records make them; and the marks of these settlements are
--- taken out
+-- had at first; what is kept of the records is as these settlements make it; and the marks of these settlements are taken out
 abbrev pub invariant-loop-settlement : goal.invariant-loop-settlement
 invariant-loop-settlement g l = record {
   wrote : (reads : Asked → List ℕ → Reading) → AreReadings reads → (start : Option (List ℕ)) (before : List Record)
       → Appends start (g.B.Book.taken l.initial.book) (texts_of (g.B.Book.text l.initial.book) before)
       → Appends start (g.B.Book.taken l.book) (texts_of (g.B.Book.text l.initial.book)
       (before ++ records_of reads l.now.utc l.initial.marks.items (map settlement_seen (take l.settlement-index l.settlements))));
-  tally : (reads : Asked → List ℕ → Reading) → AreReadings reads → l.recorded.tally ≡ tallied l.initial.recorded.tally
-      (records_of reads l.now.utc l.initial.marks.items (map settlement_seen (take l.settlement-index l.settlements)));
-  well : (reads : Asked → List ℕ → Reading) → AreReadings reads → l.recorded.well ≡ last_well l.initial.recorded.well
-      (records_of reads l.now.utc l.initial.marks.items (map settlement_seen (take l.settlement-index l.settlements)));
-  listed : (reads : Asked → List ℕ → Reading) → AreReadings reads → l.recorded.listed ≡ listed_by reads l.initial.recorded.listed l.initial.marks.items
-      (map settlement_seen (take l.settlement-index l.settlements));
-  fresh : (reads : Asked → List ℕ → Reading) → AreReadings reads → l.recorded.fresh ≡ fresh_after l.now.elapsed l.initial.recorded.fresh
-      (records_of reads l.now.utc l.initial.marks.items (map settlement_seen (take l.settlement-index l.settlements)));
+  recorded : (reads : Asked → List ℕ → Reading) → AreReadings reads
+      → l.recorded ≡ recorded_after l.now l.initial.marks.items (map settlement_seen (take l.settlement-index l.settlements)) reads l.initial.recorded;
   marks : l.marks.items ≡ drop l.settlement-index l.initial.marks.items;
   form : g.B.Book.text l.book ≡ g.B.Book.text l.initial.book;
   failed : g.B.Book.failed l.book ≡ g.B.Book.failed l.initial.book;

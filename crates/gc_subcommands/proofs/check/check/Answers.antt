@@ -4,5 +4,5 @@ use Rattle.gc_subcommands.proofs.check.check.Goals as goal
 pub returns-clause-told : goal.returns-clause-told
 returns-clause-told g c =
     IfOk-weaker c.report_served.result _ _
-    (λ status told. record { end = c.check_input.result; checks = c.check_input.ensures.checks; tells = told })
+    (λ status told. record { end = c.check_input.result; ends = c.check_input.ensures.checks; tells = told })
     c.report_served.ensures.told

@@ -9,9 +9,9 @@ returns-in_default c command is =
     unspaced_is_no_command c.args.line.now command is c.cut_at.result.0.now
     (with_rest 32 c.args.line.now c.cut_at.result.0.now (option_copied c.cut_at.result.1) None c.cut_at.ensures (search rules))
 
-pub returns-in_default-number_of : goal.returns-in_default-number_of
-returns-in_default-number_of c command is =
-    targetless_is_no_command c.args.line.now command is c.cut_at.result.0.now (option_copied c.cut_at.result.1) c.cut_at.ensures c.in_default-number_of.ensures
+pub returns-in_default-target_of : goal.returns-in_default-target_of
+returns-in_default-target_of c command is =
+    targetless_is_no_command c.args.line.now command is c.cut_at.result.0.now (option_copied c.cut_at.result.1) c.cut_at.ensures c.in_default-target_of.ensures
 
 pub returns-in-None : goal.returns-in-None
 returns-in-None c command is =

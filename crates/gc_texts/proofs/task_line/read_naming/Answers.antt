@@ -9,9 +9,9 @@ returns-in_default-text c name is =
     unspaced_is_no_name c.args.line.now c.in-Some.rest.now name c.in-Some.ensures is c.cut_at.result.0.now
     (with_rest 32 c.in-Some.rest.now c.cut_at.result.0.now (option_copied c.cut_at.result.1) None c.cut_at.ensures (search rules))
 
-pub returns-in_default-number_of : goal.returns-in_default-number_of
-returns-in_default-number_of c name is =
-    targetless_is_no_name c.args.line.now c.in-Some.rest.now name c.in-Some.ensures is c.cut_at.result.0.now (option_copied c.cut_at.result.1) c.cut_at.ensures c.in_default-number_of.ensures
+pub returns-in_default-target_of : goal.returns-in_default-target_of
+returns-in_default-target_of c name is =
+    targetless_is_no_name c.args.line.now c.in-Some.rest.now name c.in-Some.ensures is c.cut_at.result.0.now (option_copied c.cut_at.result.1) c.cut_at.ensures c.in_default-target_of.ensures
 
 pub returns-then-not-is_name : goal.returns-then-not-is_name
 returns-then-not-is_name c name is =

@@ -1,8 +1,8 @@
-use Rattle.std.proofs.Common.{rules, length, ◌≤◌, [], Some, inl, refl, ap, arith}
+use Rattle.std.proofs.Common.{rules, length, ◌≤◌, [], Some, inl, refl, ap, sym, ◌∙◌, arith}
 use Rattle.std.specs.Option.{option_copied}
 use Rattle.gc_texts.specs.TaskLines.{IsTaskLine}
 use Rattle.gc_texts.specs.Tasks.{opening, Grows}
-use Rattle.gc_texts.proofs.TextLines.{Reads}
+use Rattle.gc_texts.proofs.TextLines.{Reads, comes_to}
 use Rattle.gc_texts.proofs.TaskReading.{counted, cycle_few, tasks_few, task_skips, task_reads, task_fails, task_refused, task_wants}
 use Rattle.gc_texts.proofs.tasks.read_task_lines.Goals as goal
 
@@ -26,50 +26,41 @@ overflow_add-number c =
 
 pub loop-left-preserved-then-is_skipped : goal.loop-left-preserved-then-is_skipped
 loop-left-preserved-then-is_skipped c =
-    task_skips c.args.text.now (opening c.args.deadline c.args.chained) (option_copied c.loop-left.left) c.in-Some.text.now c.cut_at.result.0.now c.without_cr-line.result.now
-    (option_copied c.cut_at.result.1) c.loop-left.number _ _ c.is_skipped.result c.loop-left.invariant
-    (ap option_copied c.in-Some.is) c.cut_at.ensures c.without_cr-line.ensures c.is_skipped.ensures
-    c.if-is_skipped.true
+    let at = comes_to IsTaskLine c.args.text.now (option_copied c.loop-left.left) c.in-Some.text.now c.cut_line.result.0.now (option_copied c.cut_line.result.1)
+    c.loop-left.number _ c.loop-left.invariant.reads (ap option_copied c.in-Some.is) c.cut_line.ensures in
+    task_skips _ _ _ _ _ _ c.loop-left.invariant _ _ at (sym c.is_skipped.ensures ∙ c.if-is_skipped.true)
 
 pub returns-in_default-read_task_line-clause-fault : goal.returns-in_default-read_task_line-clause-fault
-returns-in_default-read_task_line-clause-fault c = (
-  c.requires,
-  task_fails c.args.text.now (opening c.args.deadline c.args.chained) (option_copied c.loop-left.left) c.in-Some.text.now c.cut_at.result.0.now c.without_cr-line.result.now
-      (option_copied c.cut_at.result.1) c.loop-left.number _ _ c.is_skipped.result c.loop-left.invariant
-      (ap option_copied c.in-Some.is) c.cut_at.ensures c.without_cr-line.ensures c.is_skipped.ensures
-      c.if-is_skipped.false c.in_default-read_task_line.ensures,
-)
+returns-in_default-read_task_line-clause-fault c =
+    let at = comes_to IsTaskLine c.args.text.now (option_copied c.loop-left.left) c.in-Some.text.now c.cut_line.result.0.now (option_copied c.cut_line.result.1)
+    c.loop-left.number _ c.loop-left.invariant.reads (ap option_copied c.in-Some.is) c.cut_line.ensures in
+    (c.requires, task_fails _ _ _ _ _ _ c.loop-left.invariant _ _ at (sym c.is_skipped.ensures ∙ c.if-is_skipped.false) c.in_default-read_task_line.ensures)
 
 pub returns-then-not-allows-clause-fault : goal.returns-then-not-allows-clause-fault
-returns-then-not-allows-clause-fault c = (
-  c.requires,
-  task_refused c.args.text.now (opening c.args.deadline c.args.chained) (option_copied c.loop-left.left) c.in-Some.text.now c.cut_at.result.0.now c.without_cr-line.result.now
-      (option_copied c.cut_at.result.1) c.loop-left.number _ _ c.is_skipped.result c.loop-left.invariant
-      (ap option_copied c.in-Some.is) c.cut_at.ensures c.without_cr-line.ensures c.is_skipped.ensures
-      c.in-Some-read_task_line.said c.allows.result c.if-is_skipped.false c.in-Some-read_task_line.ensures
-      c.allows.ensures c.if-not-allows.true,
-)
+returns-then-not-allows-clause-fault c =
+    let at = comes_to IsTaskLine c.args.text.now (option_copied c.loop-left.left) c.in-Some.text.now c.cut_line.result.0.now (option_copied c.cut_line.result.1)
+    c.loop-left.number _ c.loop-left.invariant.reads (ap option_copied c.in-Some.is) c.cut_line.ensures in (
+      c.requires,
+      task_refused _ _ _ _ _ _ c.loop-left.invariant _ _ at c.in-Some-read_task_line.said c.allows.result
+          (sym c.is_skipped.ensures ∙ c.if-is_skipped.false) c.in-Some-read_task_line.ensures c.allows.ensures c.if-not-allows.true,
+    )
 
 pub returns-then-is_err-clause-fault : goal.returns-then-is_err-clause-fault
-returns-then-is_err-clause-fault c = (
-  c.requires,
-  task_wants c.args.text.now (opening c.args.deadline c.args.chained) (option_copied c.loop-left.left) c.in-Some.text.now c.cut_at.result.0.now c.without_cr-line.result.now
-      (option_copied c.cut_at.result.1) c.loop-left.number _ _ c.is_skipped.result c.loop-left.invariant
-      (ap option_copied c.in-Some.is) c.cut_at.ensures c.without_cr-line.ensures c.is_skipped.ensures
-      c.in-Some-read_task_line.said c.allows.result c.if-is_skipped.false c.in-Some-read_task_line.ensures
-      c.allows.ensures c.if-not-allows.false,
-)
+returns-then-is_err-clause-fault c =
+    let at = comes_to IsTaskLine c.args.text.now (option_copied c.loop-left.left) c.in-Some.text.now c.cut_line.result.0.now (option_copied c.cut_line.result.1)
+    c.loop-left.number _ c.loop-left.invariant.reads (ap option_copied c.in-Some.is) c.cut_line.ensures in (
+      c.requires,
+      task_wants _ _ _ _ _ _ c.loop-left.invariant _ _ at c.in-Some-read_task_line.said c.allows.result
+          (sym c.is_skipped.ensures ∙ c.if-is_skipped.false) c.in-Some-read_task_line.ensures c.allows.ensures c.if-not-allows.false,
+    )
 
 pub loop-left-preserved : goal.loop-left-preserved
 loop-left-preserved c =
+    let at = comes_to IsTaskLine c.args.text.now (option_copied c.loop-left.left) c.in-Some.text.now c.cut_line.result.0.now (option_copied c.cut_line.result.1)
+    c.loop-left.number _ c.loop-left.invariant.reads (ap option_copied c.in-Some.is) c.cut_line.ensures in
     let grows : Grows c.loop-left.mode c.in-Some-read_task_line.said c.loop-left.given c.append.new.self = search rules in
-    task_reads c.args.text.now (opening c.args.deadline c.args.chained) (option_copied c.loop-left.left) c.in-Some.text.now c.cut_at.result.0.now c.without_cr-line.result.now
-    (option_copied c.cut_at.result.1) c.loop-left.number _ _ c.is_skipped.result c.loop-left.invariant
-    (ap option_copied c.in-Some.is) c.cut_at.ensures c.without_cr-line.ensures c.is_skipped.ensures
-    c.in-Some-read_task_line.said
-    c.append.new.self c.mode_after-next.result c.allows.result
-    c.if-is_skipped.false c.in-Some-read_task_line.ensures
-    c.allows.ensures c.if-not-allows.false grows c.mode_after-next.ensures
+    task_reads _ _ _ _ _ _ c.loop-left.invariant _ _ at c.in-Some-read_task_line.said c.append.new.self c.mode_after-next.result c.allows.result
+    (sym c.is_skipped.ensures ∙ c.if-is_skipped.false) c.in-Some-read_task_line.ensures c.allows.ensures c.if-not-allows.false grows c.mode_after-next.ensures
 
 pub mode_after-next-requires : goal.mode_after-next-requires
 mode_after-next-requires c =

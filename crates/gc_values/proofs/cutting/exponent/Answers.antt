@@ -20,11 +20,11 @@ reads_exponent_text text rest digits negative n marked signed short = record {
 pub returns-then-negative-clause-found : goal.returns-then-negative-clause-found
 returns-then-negative-clause-found c =
     let r = reads_exponent_text c.args.text.now c.in_ok-rest.rest.now c.cut_sign-negative.result.1.now c.cut_sign-negative.result.0 c.in_ok-value.value
-    c.in_ok-rest.ensures.found c.cut_sign-negative.ensures (c.in_ok-value.ensures.found.0, c.in_ok-value.ensures.found.1) in
+    c.in_ok-rest.ensures.found c.cut_sign-negative.ensures c.in_ok-value.ensures.found in
     subst (λ b. ReadsExponent c.args.text.now (cond b 0 c.in_ok-value.value) (cond b c.in_ok-value.value 0)) c.if-negative.true r
 
 pub returns-else-negative-clause-found : goal.returns-else-negative-clause-found
 returns-else-negative-clause-found c =
     let r = reads_exponent_text c.args.text.now c.in_ok-rest.rest.now c.cut_sign-negative.result.1.now c.cut_sign-negative.result.0 c.in_ok-value.value
-    c.in_ok-rest.ensures.found c.cut_sign-negative.ensures (c.in_ok-value.ensures.found.0, c.in_ok-value.ensures.found.1) in
+    c.in_ok-rest.ensures.found c.cut_sign-negative.ensures c.in_ok-value.ensures.found in
     subst (λ b. ReadsExponent c.args.text.now (cond b 0 c.in_ok-value.value) (cond b c.in_ok-value.value 0)) c.if-negative.false r

@@ -4,7 +4,6 @@ use Rattle.std.proofs.lemmas.List.{take_all}
 use Rattle.gc_values.specs.Digits.{IsDigit, number}
 use Rattle.gc_values.proofs.Every.{every_more}
 use Rattle.gc_values.proofs.Kept.{number-take_more}
-use Rattle.gc_values.proofs.Powers.{ten_pow_le}
 use Rattle.gc_values.proofs.cutting.exponent_number.Goals as goal
 
 pub loop-byte-preserved : goal.loop-byte-preserved
@@ -22,5 +21,4 @@ returns-clause-found c =
     let all : take c.loop-byte.byte-index c.args.text.now ≡ c.args.text.now = take_all c.loop-byte.byte-index c.args.text.now (omega arith) in (
       record { digits_are = rw all at c.loop-byte.invariant.2; some = search rules; few = omega arith },
       c.loop-byte.invariant.0 ∙ ap number all,
-      omega (arith, ten_pow_le c.loop-byte.byte-index 3 (omega arith)),
     )

@@ -1,8 +1,10 @@
-use Rattle.std.proofs.Common.{◌≡◌, ◌∙◌, drop, sym, ap}
+use Rattle.std.proofs.Common.{◌≡◌, ◌∙◌, drop, sym, ap, inl, inr, arith}
+use Rattle.std.proofs.lemmas.Bool.{cases_lt}
 use Rattle.gc_client.specs.Beginning.{the_word}
 use Rattle.geocom_c.specs.Beginning.{left_by_bytes}
 use Rattle.geocom_c.specs.declared.answers.GeocomBeginning.{GeocomBeginning}
 use Rattle.geocom_c.specs.declared.header.TheConstants.{NO_CLIENT}
+use Rattle.geocom_c.proofs.Answering.{is_begun, not_begun}
 use Rattle.geocom_c.proofs.beginning.geocom_client_begin.Goals as goal
 
 pub returns-in_default-clause-heard : goal.returns-in_default-clause-heard
@@ -29,3 +31,13 @@ returns-clause-heard c = λ room c' rest s.
 
 pub returns-clause-astray : goal.returns-clause-astray
 returns-clause-astray c = (λ e. let zero : 0 ≡ NO_CLIENT = sym c.begun.ensures.fault ∙ e in cc, λ both. absurd (both.1 _ _ c.in-Some.ensures.found))
+
+pub returns-clause-begun : goal.returns-clause-begun
+returns-clause-begun c = λ _.
+    let answered = c.answered.result in (
+      (λ one. is_begun answered (let all = c.begun.ensures.begun.0 one in omega (arith, all))),
+      (λ none. c.begun.ensures.begun.1 (elim (cases_lt answered 8) [
+        | inl few ↦ absurd (not_begun answered few none)
+        | inr many ↦ let most = c.answered.ensures.within in omega (arith, many, most)
+      ])),
+    )

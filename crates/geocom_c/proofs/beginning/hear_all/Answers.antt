@@ -1,17 +1,19 @@
-use Rattle.std.proofs.Common.{rules, ◌≡◌, ◌∙◌, List, ℕ, [], drop, length, refl, ap, subst}
+use Rattle.std.proofs.Common.{rules, ◌≡◌, ◌++◌, ◌∙◌, List, ℕ, [], take, drop, length, refl, ap}
 use Rattle.std.proofs.lemmas.List.{nil_from_length}
 use Rattle.std.specs.List.{position}
-use Rattle.gc_lines.specs.Frames.{is_line_feed}
-use Rattle.geocom_c.specs.Rest.{IsRest, kept}
-use Rattle.geocom_c.proofs.Answering.{heard_none, heard_on, heard_some, heard_to_end}
-use Rattle.geocom_c.proofs.Hearings.{either, nothing_left}
+use Rattle.gc_client.specs.Beginning.{unanswered_after}
+use Rattle.gc_lines.specs.Frames.{is_line_feed, frame_of}
+use Rattle.geocom_c.specs.Beginning.{left_past}
+use Rattle.geocom_c.specs.Rest.{kept}
+use Rattle.geocom_c.proofs.Answering.{synchronizes_in_turn, HasLeft}
+use Rattle.geocom_c.proofs.Hearings.{either, heard_all, heard_none, heard_on, heard_some, nothing_left}
 use Rattle.geocom_c.proofs.beginning.hear_all.Goals as goal
 
 pub loop-left-init : goal.loop-left-init
-loop-left-init c = λ r is. record { now = r; is = is; same = refl; behind = refl }
+loop-left-init c = λ r is. record { reached = c.args.beginning.now; now = r; stands = (is, refl); same = refl; behind = refl }
 
 pub hear_line-used-requires : goal.hear_line-used-requires
-hear_line-used-requires c = (c.loop-left.invariant (kept c.args.rest.now) (record { valid = c.requires; same = λ more. refl })).is.valid
+hear_line-used-requires c = (c.loop-left.invariant (kept c.args.rest.now) (record { valid = c.requires; same = λ more. refl })).stands.0.valid
 
 pub loop-left-preserved : goal.loop-left-preserved
 loop-left-preserved c = λ r is.
@@ -19,17 +21,20 @@ loop-left-preserved c = λ r is.
     let line = c.hear_line-used in
     let bytes = c.loop-left.left.now in
     let left = c.bytes_from-left.ensures in
-    heard_on r c.args.bytes.now c.args.beginning.now c.loop-left.rest line.new.rest c.loop-left.beginning bytes line.new.beginning c.bytes_from-left.result.now f
+    let Old : List ℕ → List ℕ → Type 0 = HasLeft c.loop-left.rest c.loop-left.beginning in
+    let New : List ℕ → List ℕ → Type 0 = HasLeft line.new.rest line.new.beginning in
+    heard_on unanswered_after Old New c.args.beginning.now r c.args.bytes.now bytes c.bytes_from-left.result.now f
     (either (position is_line_feed bytes)
-    (λ e. let told = line.ensures.more f.now f.is e in
-    heard_none f.now bytes c.loop-left.beginning line.new.rest line.new.beginning c.bytes_from-left.result.now e (left ∙ nothing_left bytes line.result told.0) told.1 told.2)
-    (λ at e. let told = line.ensures.frame f.now at f.is e in
-    heard_some f.now bytes c.loop-left.beginning line.new.rest line.new.beginning c.bytes_from-left.result.now at e (left ∙ ap (λ n. drop n bytes) told.0) told.1 told.2))
+    (λ e. let told = line.ensures.more f.now f.stands.0 e in
+    heard_none unanswered_after left_past synchronizes_in_turn New f.reached f.now bytes c.bytes_from-left.result.now e
+    (left ∙ nothing_left bytes line.result told.0) (told.1.0, told.1.1 ∙ f.stands.1))
+    (λ at e. let told = line.ensures.frame f.now at f.stands.0 e in
+    heard_some unanswered_after left_past synchronizes_in_turn New f.reached f.now bytes c.bytes_from-left.result.now at e
+    (left ∙ ap (λ n. drop n bytes) told.0) (told.1.0, told.1.1 ∙ ap (λ ids. left_past ids (frame_of (f.now ++ take at bytes))) f.stands.1)))
 
 pub returns : goal.returns
 returns c = λ r is.
     let n : length c.loop-left.left.now ≡ 0 = search rules in
     let none : c.loop-left.left.now ≡ [] = nil_from_length c.loop-left.left.now n in
-    let f = c.loop-left.invariant r is in
-    let end = heard_to_end r c.args.bytes.now c.args.beginning.now c.loop-left.rest c.loop-left.beginning c.loop-left.left.now f none in
-    (subst (λ (l : List ℕ). IsRest c.loop-left.rest l) end.0 f.is, end.1)
+    heard_all unanswered_after left_past synchronizes_in_turn (HasLeft c.loop-left.rest c.loop-left.beginning) c.args.beginning.now r c.args.bytes.now c.loop-left.left.now
+    (c.loop-left.invariant r is) none

@@ -1,11 +1,12 @@
 use Rattle.std.proofs.Common.{ℕ, List, length}
-use Rattle.geocom_c.specs.Rest.{IsRest}
-use Rattle.geocom_c.proofs.Answering.{HeardTo}
+use Rattle.gc_client.specs.Beginning.{unanswered_after}
+use Rattle.geocom_c.specs.Rest.{IsRest, HeardBut}
+use Rattle.geocom_c.proofs.Answering.{HasLeft}
 use Rattle.geocom_c.proofs.beginning.hear_all.Given as goal
 
--- all bytes but those that are left were heard (`HeardTo`)
+-- all bytes but those that are left were heard (`HeardBut`)
 abbrev pub invariant-loop-left : goal.invariant-loop-left
-invariant-loop-left l = (r : List ℕ) → IsRest l.fn.rest r → HeardTo r l.bytes l.fn.beginning l.rest l.beginning l.left
+invariant-loop-left l = (r : List ℕ) → IsRest l.fn.rest r → HeardBut unanswered_after (HasLeft l.rest l.beginning) l.fn.beginning r l.bytes l.left
 
 -- how many bytes are left
 abbrev pub decreases-loop-left : goal.decreases-loop-left

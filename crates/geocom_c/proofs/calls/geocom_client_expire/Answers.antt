@@ -1,6 +1,7 @@
 use Rattle.std.proofs.Common.{rules, ◌≡◌, ◌∙◌, sym, subst, length, take}
 use Rattle.gc_catalogue.specs.declared.asked.Asked.{Asked}
-use Rattle.gc_client.specs.Rule.{Windowed, expires, expiring}
+use Rattle.gc_client.specs.Rule.{Windowed, expiring}
+use Rattle.geocom_c.specs.Deadlines.{HasExpired}
 use Rattle.geocom_c.specs.State.{StandsFor}
 use Rattle.geocom_c.specs.declared.header.TheConstants.{NO_CLIENT}
 use Rattle.std.proofs.lemmas.Option.{same_Some}
@@ -19,10 +20,9 @@ returns-clause-expired c = λ room c' rest s.
     let n : c.counted.result.count ≡ length (expiring now c.in-Some.client.ids.waiting) = search rules in
     let text : take c.counted.result.count c.put_targets.new.targets ≡ expiring now c.in-Some.client.ids.waiting = search rules in
     let stands = subst (λ (d : Windowed Asked). StandsFor c.store.new.state d rest) c.expire-due.ensures.client (c.store.ensures.client rest s.incomplete s.head.answered) in
-    subst (λ (d : Windowed Asked). (c.counted.result.fault ≡ 0) × StandsFor c.store.new.state (record d { ids = expires d.ids now }) rest
-    × (c.counted.result.count ≡ length (expiring now d.ids.waiting)) × (take c.counted.result.count c.put_targets.new.targets ≡ expiring now d.ids.waiting))
+    subst (λ (d : Windowed Asked). HasExpired d rest now c.store.new.state c.counted.result c.put_targets.new.targets)
     (same_Some c.in-Some.client c' (sym c.in-Some.is ∙ c.load.ensures.only c' rest s))
-    (c.counted.ensures.fault, stands, n, text)
+    (record { fault = c.counted.ensures.fault; stands = stands; count = n; front = text })
 
 pub returns-clause-astray : goal.returns-clause-astray
 returns-clause-astray c = (λ e. let zero : 0 ≡ NO_CLIENT = sym c.counted.ensures.fault ∙ e in cc, λ both. absurd (both.1 _ _ c.in-Some.ensures.found))

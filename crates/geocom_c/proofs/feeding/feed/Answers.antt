@@ -19,17 +19,18 @@ returns c =
     record {
       more = λ rest s none.
           let t = took.more rest s.incomplete none in (
-            fed_unended client frame c.feed_frame.result c.using.result _ _ used _ t.1 t.0 same fed,
-            subst (λ (g : Frame). StandsFor c.feed_frame.new.state (client_past client g) (rest ++ c.args.bytes.now)) t.1
-                (c.feed_frame.ensures.state (rest ++ c.args.bytes.now) (with_rest c.args.state.now rest_now client rest (rest ++ c.args.bytes.now) s t.2)),
+            fed_unended client frame c.feed_frame.result c.using.result _ _ used same fed _ t.1.0 t.0,
+            subst (λ (g : Frame). StandsFor c.feed_frame.new.state (client_past client g) (rest ++ c.args.bytes.now)) t.1.0
+                (c.feed_frame.ensures.state (rest ++ c.args.bytes.now) (with_rest c.args.state.now rest_now client rest (rest ++ c.args.bytes.now) s t.1.1)),
           );
       frame = λ rest at s some.
-          let t = took.frame rest at s.incomplete some in (
-            ap (λ (x : GeocomHeard). x.used) same ∙ t.0,
-            fed_used client frame (frame_of (rest ++ take at c.args.bytes.now)) c.feed_frame.result c.using.result _ _ used t.1 same fed,
-            subst (λ (g : Frame). StandsFor c.feed_frame.new.state (client_past client g) []) t.1
-                (c.feed_frame.ensures.state [] (with_rest c.args.state.now rest_now client rest [] s t.2)),
-          );
+          let t = took.frame rest at s.incomplete some in
+          record {
+            used_is = ap (λ (x : GeocomHeard). x.used) same ∙ t.0;
+            fed = fed_used client frame c.feed_frame.result c.using.result _ _ used same fed (frame_of (rest ++ take at c.args.bytes.now)) t.1.0;
+            stands = subst (λ (g : Frame). StandsFor c.feed_frame.new.state (client_past client g) []) t.1.0
+                (c.feed_frame.ensures.state [] (with_rest c.args.state.now rest_now client rest [] s t.1.1));
+          };
       fault = ap (λ (x : GeocomHeard). x.fault) same ∙ fed.fault;
       used = (
         omega (arith, ap (λ (x : GeocomHeard). x.used) same, took.used.0),

@@ -4,6 +4,7 @@ use Rattle.gc_catalogue.specs.declared.asked.Asked.{Asked}
 use Rattle.gc_client.specs.Rule.{Settlement, Windowed, restarts}
 use Rattle.gc_client.specs.Settlements.{settlement_seen}
 use Rattle.geocom_c.specs.FirstAre.{FirstAre}
+use Rattle.geocom_c.specs.Feeding.{HasRestarted}
 use Rattle.geocom_c.specs.State.{StandsFor}
 use Rattle.geocom_c.specs.Settled.{IsRecord}
 use Rattle.geocom_c.specs.declared.header.TheConstants.{NO_CLIENT}
@@ -26,10 +27,9 @@ returns-clause-restarted c = λ room c' rest s.
     let stands = subst (λ (d : Windowed Asked). StandsFor c.store.new.state d []) c.restart-settled.ensures.client
     (c.store.ensures.client [] c.new-state.ensures c.answered_after_restart-state.ensures.within) in
     let told = subst (λ (ss : List (Settlement Asked)). FirstAre (IsRecord []) c.put_lost.new.records ss) seen c.put_lost.ensures.records in
-    subst (λ (d : Windowed Asked). (c.counted.result.fault ≡ 0) × StandsFor c.store.new.state (record d { ids = (restarts d.ids).client }) []
-    × (c.counted.result.count ≡ length (restarts d.ids).settlements) × FirstAre (IsRecord []) c.put_lost.new.records (restarts d.ids).settlements)
+    subst (λ (d : Windowed Asked). HasRestarted d c.store.new.state c.counted.result c.put_lost.new.records)
     (same_Some c.in-Some.client c' (sym c.in-Some.is ∙ c.load.ensures.only c' rest s))
-    (c.counted.ensures.fault, stands, n, told)
+    (record { fault = c.counted.ensures.fault; stands = stands; count = n; recorded = told })
 
 pub returns-clause-astray : goal.returns-clause-astray
 returns-clause-astray c = (λ e. let zero : 0 ≡ NO_CLIENT = sym c.counted.ensures.fault ∙ e in cc, λ both. absurd (both.1 _ _ c.in-Some.ensures.found))

@@ -41,7 +41,7 @@ pub returns-in-Expire : goal.returns-in-Expire
 returns-in-Expire c = λ width s steps at. record {
   stage = record s { reached = course_after width s.reached (one.Expire c.in-Expire.now) };
   at = record {
-    stands = (c.geocom_client_expire.ensures.expired (search rules) (record { width = width; ids = s.reached.client }) s.rest at.stands).1;
+    stands = (c.geocom_client_expire.ensures.expired (search rules) (record { width = width; ids = s.reached.client }) s.rest at.stands).stands;
     left = ap (λ n. drop n the_word) c.geocom_client_expire.ensures.answered ∙ at.left;
   };
   on = λ t f. subst (λ (e : Step). CallsReach width s (e ∷ steps) t) (sym c.in-Expire.is) f;
@@ -52,7 +52,7 @@ returns-in-Restart c = λ width s steps at.
     let r = c.geocom_client_restart.ensures.restarted (search rules) (record { width = width; ids = s.reached.client }) s.rest at.stands in
     record {
       stage = record { reached = course_after width s.reached one.Restart; rest = []; left = left_by_restart s.left };
-      at = record { stands = r.1; left = c.geocom_client_restart.ensures.begins r.0 ∙ ap left_by_restart at.left };
+      at = record { stands = r.stands; left = c.geocom_client_restart.ensures.begins r.fault ∙ ap left_by_restart at.left };
       on = λ t f. subst (λ (e : Step). CallsReach width s (e ∷ steps) t) (sym c.in-Restart.is) f;
     }
 
@@ -80,8 +80,8 @@ returns-in-Send c = λ width s steps at.
       at = record { stands = subst (λ (t : GeocomClient). StandsFor t client s.rest) (sym (did.refused no).1) at.stands; left = answered ∙ at.left };
       on = λ t f. subst (λ (e : Step). CallsReach width s (e ∷ steps) t) (sym c.in-Send.is) (inr (never, f));
     } in
-    by_equality n 0 (λ e. let d = did.done e in by d.2 d.4 d.5)
-    (λ no. by_equality n WINDOW_FULL (λ e. let d = did.full e in by d.2 d.4 d.5)
+    by_equality n 0 (λ e. let d = did.done e in by d.asked d.begun d.is)
+    (λ no. by_equality n WINDOW_FULL (λ e. let d = did.full e in by d.asked d.begun d.is)
     (λ not_full. by_equality n NOT_BEGUN (λ e. none no (λ begun call is. did.begun e (at.left ∙ begun)))
     (λ begun. let r = did.refusal (no, not_full, (λ e. let short = did.room.0 e in absurd (search rules)), (λ e. absurd ((did.astray.0 e).1 client s.rest at.stands)), begun) in
     none no (λ left call is. no_refusal _ _ call r.0 is r.1))))
@@ -110,8 +110,8 @@ returns-in-SendRaw c = λ width s steps at.
       at = record { stands = subst (λ (t : GeocomClient). StandsFor t client s.rest) (sym (did.refused no).1) at.stands; left = answered ∙ at.left };
       on = λ t f. subst (λ (e : Step). CallsReach width s (e ∷ steps) t) (sym c.in-SendRaw.is) (inr (never, f));
     } in
-    by_equality n 0 (λ e. let d = did.done e in by d.2 d.4 d.5)
-    (λ no. by_equality n WINDOW_FULL (λ e. let d = did.full e in by d.2 d.4 d.5)
+    by_equality n 0 (λ e. let d = did.done e in by d.asked d.begun d.is)
+    (λ no. by_equality n WINDOW_FULL (λ e. let d = did.full e in by d.asked d.begun d.is)
     (λ not_full. by_equality n NOT_BEGUN (λ e. none no (λ begun call is. did.begun e (at.left ∙ begun)))
     (λ begun. let r = did.refusal (no, not_full, (λ e. let short = did.room.0 e in absurd (search rules)), (λ e. absurd ((did.astray.0 e).1 client s.rest at.stands)), begun) in
     none no (λ left raw is. never_refused _ _ raw r.0 is r.1))))

@@ -1,7 +1,10 @@
 use Rattle.std.proofs.Common.{rules, ◌≡◌, ◌∙◌, List, ℕ, [], length, refl, sym, subst}
 use Rattle.std.proofs.lemmas.List.{nil_from_length}
-use Rattle.geocom_c.specs.Following.{FedTo}
-use Rattle.geocom_c.proofs.Hearings.{fed_on, fed_all}
+use Rattle.gc_catalogue.specs.declared.asked.Asked.{Asked}
+use Rattle.gc_client.specs.OneForOne.{Course}
+use Rattle.geocom_c.specs.Following.{hearing_lines, StandsForCourse}
+use Rattle.geocom_c.specs.Rest.{HeardBut}
+use Rattle.geocom_c.proofs.Hearings.{course_past, courses_in_turn, heard_all, heard_on}
 use Rattle.geocom_c.proofs.following.feed_all.Goals as goal
 
 pub loop-left-init : goal.loop-left-init
@@ -13,8 +16,9 @@ loop-left-preserved c =
       fed = λ width x rest s.
           let f = c.loop-left.invariant.fed width x rest s in
           let g = c.feed_line-used.ensures.fed width f.reached f.now f.stands in
-          subst (λ (e : List ℕ). FedTo width x rest c.args.bytes.now c.feed_line-used.new.state e) (sym c.bytes_from-left.ensures)
-          (fed_on width x rest c.args.bytes.now c.loop-left.left.now _ c.loop-left.state c.feed_line-used.new.state f g);
+          let New : Course Asked → List ℕ → Type 0 = StandsForCourse width c.feed_line-used.new.state in
+          subst (λ (e : List ℕ). HeardBut (hearing_lines width) New x rest c.args.bytes.now e) (sym c.bytes_from-left.ensures)
+          (heard_on (hearing_lines width) (StandsForCourse width c.loop-left.state) New x rest c.args.bytes.now c.loop-left.left.now _ f g);
       answered = c.feed_line-used.ensures.answered ∙ c.loop-left.invariant.answered;
     }
 
@@ -24,6 +28,7 @@ returns c =
       fed = λ width x rest s.
           let n : length c.loop-left.left.now ≡ 0 = search rules in
           let none : c.loop-left.left.now ≡ [] = nil_from_length c.loop-left.left.now n in
-          fed_all width x rest c.args.bytes.now c.loop-left.left.now c.loop-left.state (c.loop-left.invariant.fed width x rest s) none;
+          heard_all (hearing_lines width) (course_past width) (courses_in_turn width) (StandsForCourse width c.loop-left.state) x rest c.args.bytes.now
+          c.loop-left.left.now (c.loop-left.invariant.fed width x rest s) none;
       answered = c.loop-left.invariant.answered;
     }

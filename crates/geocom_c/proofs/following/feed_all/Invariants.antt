@@ -1,15 +1,16 @@
 use Rattle.std.proofs.Common.{◌≡◌, ℕ, List, length}
 use Rattle.gc_catalogue.specs.declared.asked.Asked.{Asked}
 use Rattle.gc_client.specs.OneForOne.{Course}
-use Rattle.geocom_c.specs.State.{StandsFor}
-use Rattle.geocom_c.specs.Following.{FedTo}
+use Rattle.geocom_c.specs.Following.{hearing_lines, StandsForCourse}
+use Rattle.geocom_c.specs.Rest.{HeardBut}
 use Rattle.geocom_c.proofs.following.feed_all.Given as goal
 
--- all bytes but those that are left were fed (`FedTo`), and as many null procedures are answered as at first
+-- all bytes but those that are left were fed (`HeardBut`), and as many null procedures are answered as at first
 abbrev pub invariant-loop-left : goal.invariant-loop-left
 invariant-loop-left l =
     record {
-      fed : (width : ℕ) (x : Course Asked) (rest : List ℕ) → StandsFor l.fn.state (record { width = width; ids = x.client }) rest → FedTo width x rest l.bytes l.state l.left;
+      fed : (width : ℕ) (x : Course Asked) (rest : List ℕ) → StandsForCourse width l.fn.state x rest
+          → HeardBut (hearing_lines width) (StandsForCourse width l.state) x rest l.bytes l.left;
       answered : l.state.answered ≡ l.fn.state.answered;
     }
 

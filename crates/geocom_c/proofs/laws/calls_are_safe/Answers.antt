@@ -6,5 +6,5 @@ use Rattle.geocom_c.proofs.laws.calls_are_safe.Goals as goal
 pub returns : goal.returns
 returns g c = record {
   alike = λ ends kept alike width u rs. alike_safe width ends AnyState kept alike (parts width ends u rs);
-  table = λ ends kept width calls t u rs are. calls_safe width ends AnyState kept calls u rs t are;
+  table = λ ends kept. calls_safe ends AnyState kept;
 }

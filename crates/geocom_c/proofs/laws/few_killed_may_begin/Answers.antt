@@ -3,4 +3,4 @@ use Rattle.geocom_c.proofs.Killed.{may_begin}
 use Rattle.geocom_c.proofs.laws.few_killed_may_begin.Goals as goal
 
 pub returns : goal.returns
-returns g c = λ ends kept is width iw u lines row rs runs few. may_begin ends AnyState kept is width iw.1 u lines row rs runs few
+returns g c = λ ends kept is. may_begin ends AnyState kept is

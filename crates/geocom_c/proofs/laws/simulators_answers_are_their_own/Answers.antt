@@ -6,4 +6,4 @@ use Rattle.geocom_c.proofs.Parting.{owned}
 use Rattle.geocom_c.proofs.laws.simulators_answers_are_their_own.Goals as goal
 
 pub returns : goal.returns
-returns c = λ width iw calls t follows u lines may rs are possible safe. owned width ends IsFittingState kept_of simulator.instrument iw.1 calls t follows u lines may rs are possible safe
+returns c = owned ends IsFittingState kept_of simulator.instrument

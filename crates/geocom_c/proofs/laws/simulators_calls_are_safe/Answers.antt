@@ -5,4 +5,4 @@ use Rattle.geocom_c.proofs.Safely.{calls_safe}
 use Rattle.geocom_c.proofs.laws.simulators_calls_are_safe.Goals as goal
 
 pub returns : goal.returns
-returns c = λ width calls t u rs are. calls_safe width ends IsFittingState kept_of calls u rs t are
+returns c = calls_safe ends IsFittingState kept_of

@@ -12,13 +12,12 @@ pub returns : goal.returns
 returns c =
     let procedure = c.args.procedure in
     let params = c.args.params.now in
-    let sends = sends_as Raw (IsRawOf procedure params) (IsRawRefusal procedure params) raw_number c.args.target c.args.deadline c.read_raw.result
-    (send_effect c.args.state.now c.send_read.new.state c.args.line.now c.send_read.new.line c.send_read.result)
-    c.read_raw.ensures c.send_read.ensures.sends in
+    let sends = sends_as Raw (IsRawOf procedure params) (IsRawRefusal procedure params) raw_number c.read_raw.result c.read_raw.ensures
+    c.args.target c.args.deadline (send_effect c.args.state.now c.send_read.new.state c.args.line.now c.send_read.new.line c.send_read.result)
+    c.send_read.ensures.sends in
     record {
       sends = sends;
       given = λ none.
           let done = sends.done none in
-          let raw = done.2 in
-          as_given raw procedure params c.args.state.now.next _ done.5 (c.send_read.ensures.given (Raw raw) (c.read_raw.ensures.only raw done.5) none);
+          as_given done.asked procedure params c.args.state.now.next _ done.is (c.send_read.ensures.given (Raw done.asked) (c.read_raw.ensures.only done.asked done.is) none);
     }

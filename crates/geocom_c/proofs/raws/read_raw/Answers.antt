@@ -9,12 +9,12 @@ returns-in-Ok c =
     let procedure = c.args.procedure in
     let params = c.args.params.now in
     reads_found Raw (IsRawOf procedure params) (IsRawRefusal procedure params) raw_number
-    c.raw_call.result c.in-Ok.raw c.in-Ok.is c.in-Ok.ensures.found (λ raw is. c.raw_call.ensures.only raw is.0 is.1) c.raw_call.ensures.exactly
+    c.raw_call.result (λ raw is. c.raw_call.ensures.only raw is.0 is.1) c.raw_call.ensures.exactly c.in-Ok.raw c.in-Ok.is c.in-Ok.ensures.found
 
 pub returns-in-Err : goal.returns-in-Err
 returns-in-Err c =
     let procedure = c.args.procedure in
     let params = c.args.params.now in
     reads_fault Raw (IsRawOf procedure params) (IsRawRefusal procedure params) raw_number
-    c.raw_call.result c.in-Err.fault c.number_of.result c.in-Err.is c.in-Err.ensures.fault c.number_of.ensures
-    (raw_of_request c.in-Err.fault) (λ raw is. c.raw_call.ensures.only raw is.0 is.1) c.raw_call.ensures.exactly
+    c.raw_call.result (λ raw is. c.raw_call.ensures.only raw is.0 is.1) c.raw_call.ensures.exactly
+    c.in-Err.fault c.number_of.result c.in-Err.is c.in-Err.ensures.fault c.number_of.ensures (raw_of_request c.in-Err.fault)

@@ -13,7 +13,7 @@ returns c =
     let procedure = c.args.procedure in
     let params = c.args.params.now in
     record {
-      sends = sends_as Table (IsCall procedure params) (IsRefusal procedure params) refusal_number c.args.target c.args.deadline c.read_call.result
-          (send_effect c.args.state.now c.send_read.new.state c.args.line.now c.send_read.new.line c.send_read.result)
-          c.read_call.ensures c.send_read.ensures.sends;
+      sends = sends_as Table (IsCall procedure params) (IsRefusal procedure params) refusal_number c.read_call.result c.read_call.ensures
+          c.args.target c.args.deadline (send_effect c.args.state.now c.send_read.new.state c.args.line.now c.send_read.new.line c.send_read.result)
+          c.send_read.ensures.sends;
     }

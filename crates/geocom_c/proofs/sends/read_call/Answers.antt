@@ -10,12 +10,12 @@ returns-in-Ok c =
     let procedure = c.args.procedure in
     let params = c.args.params.now in
     reads_found Table (IsCall procedure params) (IsRefusal procedure params) refusal_number
-    c.decode_call.result c.in-Ok.call c.in-Ok.is c.in-Ok.ensures.found c.decode_call.ensures.only c.decode_call.ensures.exactly
+    c.decode_call.result c.decode_call.ensures.only c.decode_call.ensures.exactly c.in-Ok.call c.in-Ok.is c.in-Ok.ensures.found
 
 pub returns-in-Err : goal.returns-in-Err
 returns-in-Err c =
     let procedure = c.args.procedure in
     let params = c.args.params.now in
     reads_fault Table (IsCall procedure params) (IsRefusal procedure params) refusal_number
-    c.decode_call.result c.in-Err.fault c.from.result c.in-Err.is c.in-Err.ensures.fault (c.from.ensures ∙ c.refusal_number.ensures)
-    (call_of_request c.in-Err.fault) c.decode_call.ensures.only c.decode_call.ensures.exactly
+    c.decode_call.result c.decode_call.ensures.only c.decode_call.ensures.exactly
+    c.in-Err.fault c.from.result c.in-Err.is c.in-Err.ensures.fault (c.from.ensures ∙ c.refusal_number.ensures) (call_of_request c.in-Err.fault)

@@ -20,7 +20,7 @@ returns-in-Ok-clause-sent c = λ rest is part.
     let count : c.counted.result.count ≡ length (line ++ 13 ∷ 10 ∷ []) = omega (arith, c.counted.ensures.count, n, c.len-in-Ok.ensures.value, length-append line (13 ∷ 10 ∷ [])) in
     let text : take c.counted.result.count after ≡ line ++ 13 ∷ 10 ∷ [] = search rules in
     let sent : SendEffect = record { old = c.args.state.now; new = c.store.new.state; before = c.args.line.now; after = after; told = c.counted.result } in
-    subst (λ o. SendMeets old rest c.args.asked o sent) (sym rule.0) (c.counted.ensures.fault, stands, count, text)
+    subst (λ o. SendMeets old rest c.args.asked o sent) (sym rule.0) (c.counted.ensures.fault, stands, (count, text))
 
 pub returns-in-Ok-clause-untouched : goal.returns-in-Ok-clause-untouched
 returns-in-Ok-clause-untouched c =

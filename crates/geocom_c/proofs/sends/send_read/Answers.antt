@@ -91,8 +91,24 @@ returns-in-Ok-clause-sends c =
       begun = λ e. absurd (never_above_full _ _ either (omega arith) e);
       room = (λ e. absurd (never_above_full _ _ either (omega arith) e), λ short. absurd (omega (arith, room, short)));
       astray = (λ e. absurd (never_above_full _ _ either (omega arith) e), λ both. absurd (both.1 _ _ c.in-Some.ensures.found));
-      full = λ e. (client, kept c.args.state.now.rest, asked, c.in-Some.ensures.found, begun, c.in-Ok.is, c.send_asked.ensures.full e);
-      done = λ e. (client, kept c.args.state.now.rest, asked, c.in-Some.ensures.found, begun, c.in-Ok.is, c.send_asked.ensures.done e);
+      full = λ e. record {
+        client = client;
+        rest = kept c.args.state.now.rest;
+        asked = asked;
+        stands = c.in-Some.ensures.found;
+        begun = begun;
+        is = c.in-Ok.is;
+        fills = c.send_asked.ensures.full e;
+      };
+      done = λ e. record {
+        client = client;
+        rest = kept c.args.state.now.rest;
+        asked = asked;
+        stands = c.in-Some.ensures.found;
+        begun = begun;
+        is = c.in-Ok.is;
+        fills = c.send_asked.ensures.done e;
+      };
       refusal = λ of_request. absurd (of_request.1 (either of_request.0));
       refused = c.send_asked.ensures.refused;
       answered = c.send_asked.ensures.answered;

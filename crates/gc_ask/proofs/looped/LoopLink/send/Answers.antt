@@ -3,7 +3,7 @@ use Rattle.std.proofs.lemmas.Bool.{false≢true}
 use Rattle.gc_lines.specs.Answering.{ports_of}
 use Rattle.gc_lines.specs.Lines.{with_end}
 use Rattle.gc_ask.specs.Asking.{taken_by}
-use Rattle.gc_ask.proofs.Ends.{sends_not_too_many, step_none, step_sends}
+use Rattle.gc_ask.proofs.Ends.{sends_not_too_many, step_none, step_sent}
 use Rattle.gc_ask.proofs.Exchanging.{takes_answered, takes_sent}
 use Rattle.gc_ask.proofs.looped.LoopLink.send.Goals as goal
 
@@ -15,10 +15,10 @@ pub returns-in-Err-clause-ends : goal.returns-in-Err-clause-ends
 returns-in-Err-clause-ends g c =
     let self = c.args.self.now in
     inl (
-      step_sends c.args.place (with_end c.args.request.now.items)
+      step_sent c.args.place (with_end c.args.request.now.items)
           (ports_of g.A.Source self.client_in.now g.B.Sink self.client_out.now)
           (ports_of g.A.Source self.client_in.now g.B.Sink c.send_line.new.sink)
-          c.in-Err.fault c.in-Err.ensures refl refl refl,
+          (Err c.in-Err.fault) c.in-Err.ensures refl refl refl,
       step_none (ports_of g.C.Source self.instrument_in.now g.D.Sink self.instrument_out.now) (ports_of g.C.Source self.instrument_in.now g.D.Sink self.instrument_out.now) refl refl refl refl,
     )
 

@@ -21,28 +21,28 @@ text_joined old new more lengths lengths' before now at to is pushed =
     let same : now - before ≡ length more = omega (arith, at, to, ap (λ (xs : List ℕ). length xs) is, length-append old more) in
     record { longer = is; counted = pushed ∙ ap (λ (k : ℕ). lengths ++ k ∷ []) same }
 
-pub returns-then-not-answer-clause-ok : goal.returns-then-not-answer-clause-ok
-returns-then-not-answer-clause-ok g c from seen h =
+pub returns-then-not-answer-clause-answered : goal.returns-then-not-answer-clause-answered
+returns-then-not-answer-clause-answered g c from seen h =
     let answered = c.if-not-answer.ensures.answered in
     rw (completed_unless_more c.args.frame c.in_default.not-More, answered.1) (gathering_silent _ from _ seen _ _ h _ _ answered.0)
 
-pub returns-then-may_wait-clause-ok : goal.returns-then-may_wait-clause-ok
-returns-then-may_wait-clause-ok g c from seen h =
+pub returns-then-may_wait-clause-answered : goal.returns-then-may_wait-clause-answered
+returns-then-may_wait-clause-answered g c from seen h =
     let answered = c.if-not-answer.ensures.answered in
     rw (completed_unless_more c.args.frame c.in_default.not-More) (gathering_more _ from _ seen _ _ h _ _ answered.0 _ _ answered.1
     (text_joined _ _ _ _ _ _ _ c.len-before.ensures.value c.len.ensures.value answered.2 c.push.ensures))
 
-pub returns-in-Err-clause-err : goal.returns-in-Err-clause-err
-returns-in-Err-clause-err g c from seen h =
+pub returns-in-Err-clause-answered : goal.returns-in-Err-clause-answered
+returns-in-Err-clause-answered g c from seen h =
     let answered = c.if-not-answer.ensures.answered in
-    let failed = c.in-Err.ensures.err in
+    let failed = c.in-Err.ensures.written in
     rw (completed_unless_more c.args.frame c.in_default.not-More) (answered_part _ from _ seen _ _ h _ _ answered.0 _ _ _ c.args.self.now.gathers c.requires.room.alone answered.1
     (text_joined _ _ _ _ _ _ _ c.len-before.ensures.value c.len.ensures.value answered.2 c.push.ensures) failed)
 
-pub returns-clause-ok : goal.returns-clause-ok
-returns-clause-ok g c from seen h =
+pub returns-clause-answered : goal.returns-clause-answered
+returns-clause-answered g c from seen h =
     let answered = c.if-not-answer.ensures.answered in
-    let written = c.in_default-write_texts.ensures.ok in
+    let written = c.in_default-write_texts.ensures.written in
     let more = gathering_more _ from _ seen _ _ h _ _ answered.0 _ _ answered.1
     (text_joined _ _ _ _ _ _ _ c.len-before.ensures.value c.len.ensures.value answered.2 c.push.ensures) in
     rw (completed_unless_more c.args.frame c.in_default.not-More, c.in_default-write_texts.ensures.nothing.0, c.in_default-write_texts.ensures.nothing.1)

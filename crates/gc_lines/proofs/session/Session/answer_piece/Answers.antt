@@ -34,11 +34,11 @@ loop-left-preserved g c =
           let h = c.loop-left.invariant.going rest s in
           let taken : Takes h.now left used (lent_seen c.next-taken.result.1) c.next-taken.new.self = takes h.now left used (lent_seen c.next-taken.result.1) _
           (λ e. let m = more e in (m.0, m.1, m.2 h.now h.stands)) (λ at e. let m = whole at e in (m.0, m.1 h.now h.stands, m.2)) in
-          rw (take_rest left used) (piece_goes_on _ rest _ left _ _ _ h used _ _ taken _ _ c.answer_frame.ensures.same.0 (c.in_default.ensures.ok _ h.answered h.gathered));
+          rw (take_rest left used) (piece_goes_on _ rest _ left _ _ _ h used _ _ taken _ _ c.answer_frame.ensures.same.0 (c.in_default.ensures.answered _ h.answered h.gathered));
     }
 
-pub returns-in-Err-clause-err : goal.returns-in-Err-clause-err
-returns-in-Err-clause-err g c rest s =
+pub returns-in-Err-clause-answered : goal.returns-in-Err-clause-answered
+returns-in-Err-clause-answered g c rest s =
     let left = c.loop-left.left.now in
     let used = c.next-taken.result.0 in
     let more = c.next-taken.ensures.more in
@@ -46,18 +46,18 @@ returns-in-Err-clause-err g c rest s =
     let h = c.loop-left.invariant.going rest s in
     let taken : Takes h.now left used (lent_seen c.next-taken.result.1) c.next-taken.new.self = takes h.now left used (lent_seen c.next-taken.result.1) _
     (λ e. let m = more e in (m.0, m.1, m.2 h.now h.stands)) (λ at e. let m = whole at e in (m.0, m.1 h.now h.stands, m.2)) in
-    let part = piece_cut _ rest _ left _ _ _ h used _ _ taken _ _ _ (c.in-Err.ensures.err _ h.answered h.gathered) in
+    let part = piece_cut _ rest _ left _ _ _ h used _ _ taken _ _ _ (c.in-Err.ensures.answered _ h.answered h.gathered) in
     record { reached = part.reached; part = part.part; alone = λ e. part.alone (c.loop-left.invariant.gathers ∙ e) }
 
-pub returns-clause-ok : goal.returns-clause-ok
-returns-clause-ok g c rest s =
+pub returns-clause-answered : goal.returns-clause-answered
+returns-clause-answered g c rest s =
     let empty : c.loop-left.left.now ≡ [] = nil_from_length _ (eqb-true _ 0 (sym c.is_empty.ensures ∙ c.loop-left-test.false)) in
     let it = piece_end _ rest _ _ _ _ (rw empty at (c.loop-left.invariant.going rest s)) in
-    (rw c.write_texts.ensures.same.0 it.0, gathering_written _ _ _ _ _ _ it.1 _ _ c.in_default-write_texts.ensures.ok.0 c.in_default-write_texts.ensures.ok.1)
+    (rw c.write_texts.ensures.same.0 it.0, gathering_written _ _ _ _ _ _ it.1 _ _ c.in_default-write_texts.ensures.written.0 c.in_default-write_texts.ensures.written.1)
 
-pub returns-in-Err-write_texts-clause-err : goal.returns-in-Err-write_texts-clause-err
-returns-in-Err-write_texts-clause-err g c rest s =
+pub returns-in-Err-write_texts-clause-answered : goal.returns-in-Err-write_texts-clause-answered
+returns-in-Err-write_texts-clause-answered g c rest s =
     let empty : c.loop-left.left.now ≡ [] = nil_from_length _ (eqb-true _ 0 (sym c.is_empty.ensures ∙ c.loop-left-test.false)) in
     let it = piece_end _ rest _ _ _ _ (rw empty at (c.loop-left.invariant.going rest s)) in
-    let part = rest_part _ _ _ _ _ _ it.1 _ _ _ c.loop-left.self.gathers c.loop-left.invariant.room.alone c.in-Err-write_texts.ensures.err in
+    let part = rest_part _ _ _ _ _ _ it.1 _ _ _ c.loop-left.self.gathers c.loop-left.invariant.room.alone c.in-Err-write_texts.ensures.written in
     record { reached = part.reached; part = part.part; alone = λ e. part.alone (c.loop-left.invariant.gathers ∙ e) }

@@ -32,16 +32,12 @@ returns-clause-hears g c s start stands so =
       marks = refl;
       assembler = refl;
       progress = refl;
-      tally = refl;
-      well = refl;
-      listed = refl;
-      fresh = refl;
+      recorded = refl;
     })
     same
     (sym (length-map items settlement_seen) ∙ ap length same)
     (hears_paired s.marks s.client line (heard line) stands.paired)
-    (λ are. c.in_default-write.ensures.wrote s.reads are start s.records (so are)) c.in_default-write.ensures.after c.in_default-write.ensures.tally c.in_default-write.ensures.well
-    c.in_default-write.ensures.listed c.in_default-write.ensures.fresh in
+    (λ are. c.in_default-write.ensures.wrote s.reads are start s.records (so are)) c.in_default-write.ensures.after c.in_default-write.ensures.notes in
     let after = c.in_default-write.ensures.after in
     let table = c.ends_with_table-of_table.ensures ∙ ap (λ l. ends_with_table (map settlement_seen l)) c.as_slice.ensures.value ∙ ap
     (λ (st : Station). ends_with_table (map settlement_seen st.settled.items)) after ∙ ap ends_with_table same in
@@ -74,10 +70,7 @@ returns-in-Err-clause-hears g c s start stands so =
       marks = refl;
       assembler = refl;
       progress = refl;
-      tally = refl;
-      well = refl;
-      listed = refl;
-      fresh = refl;
+      recorded = refl;
     })
     same
     (λ are. c.in-Err.ensures.wrote s.reads are start s.records (so are)) in

@@ -24,7 +24,7 @@ loop-at-preserved g c =
           let t : Takes h.now.rest left used frame c.next-used.new.self = takes h.now.rest left used frame c.next-used.new.self
           (λ e. let m = more e in (m.0, m.1, m.2 h.now.rest h.stands.assembles)) (λ i e. let m = whole i e in (m.0, m.1 h.now.rest h.stands.assembles, m.2)) in
           rw (← drop-drop used at piece) (hearing_on c.args.begun (g.B.Book.text c.args.book.now) start (g.B.Book.taken c.loop-at.book)
-          (g.B.Book.taken c.hear.new.book) c.loop-at.self c.hear.new.self s piece left used frame c.next-used.new.self h t
+          (g.B.Book.taken c.hear.new.book) c.loop-at.self s piece left used frame c.next-used.new.self h t c.hear.new.self
           ((rw c.loop-at.invariant.form at c.in_default.ensures.hears) (with_rest t.now h.now) start (with_kept c.loop-at.self c.next-used.new.self t.now h.now h.stands t.stands) h.wrote));
       form = c.in_default.ensures.form ∙ c.loop-at.invariant.form;
       failed = c.in_default.ensures.fails ∙ c.loop-at.invariant.failed;

@@ -28,7 +28,7 @@ returns g c text known =
           let is : asking ≡ setup_asked plan mark list =
           c.next_setup-asking.ensures ∙ ap (λ (p : Progress). setup_asked plan (mark_setup commands p) (drop p.prepared commands)) stands.progress in
           let f : Model → Model = λ (x : Model). with_progress (setup_sent plan) (asks_setup plan commands x) in
-          let asked = asks_refines old c.ask-put.new.self s asking.wait asking.command asking.command asking.mark stands c.requires.room refl c.ask-put.ensures.asks in
+          let asked = asks_refines old c.ask-put.new.self s asking asking stands c.requires.1 refl c.ask-put.ensures.asks in
           let first = setup_refines plan c.ask-put.new.self s asking mark list is asked in (
             put_puts put line (text_or_null s.progress.moment.utc s.client list) (ap (λ (ids : ById Asked). request_text ids asking.command.call) stands.ids
                 ∙ ap (λ (a : Outgoing). request_text s.client a.command.call) is ∙ setup_text plan s.client mark list) c.ask-put.ensures.part,

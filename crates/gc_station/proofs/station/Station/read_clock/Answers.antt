@@ -27,4 +27,4 @@ returns-in-Some g c commands text known =
     }
 
 pub returns-in_default : goal.returns-in_default
-returns-in_default g c commands text known = untold_does _ _ _ _ _ _ _ (λ s. tt) (λ s. refl) c.in_default.ensures text known
+returns-in_default g c commands text known = untold_does (λ s. tt) (λ s. refl) c.in_default.ensures text known

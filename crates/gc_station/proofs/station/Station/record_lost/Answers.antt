@@ -25,15 +25,12 @@ returns-clause-ends g c s start stands so =
       marks = refl;
       assembler = refl;
       progress = refl;
-      tally = refl;
-      well = refl;
-      listed = refl;
-      fresh = refl;
+      recorded = refl;
     })
     same
     (sym (length-map items settlement_seen) ∙ ap length same)
     (restarts_paired s.marks s.client stands.paired)
-    (λ are. c.write.ensures.wrote s.reads are start s.records (so are)) c.write.ensures.after c.write.ensures.tally c.write.ensures.well c.write.ensures.listed c.write.ensures.fresh in
+    (λ are. c.write.ensures.wrote s.reads are start s.records (so are)) c.write.ensures.after c.write.ensures.notes in
     subst (λ b. ComesTo (g.B.Book.text c.args.book.now) s.records c.write.new.self start (g.B.Book.taken c.write.new.book) (losing b s) c.write.result) loses t
 
 pub returns-then-not-loses_all-clause-ends : goal.returns-then-not-loses_all-clause-ends

@@ -1,14 +1,14 @@
-use Rattle.std.proofs.Common.{◌≡◌, ◌+◌, ◌-◌, ◌<◌, List, ◌∷◌, Some, length, drop, ap, sym, ◌∙◌, arith}
+use Rattle.std.proofs.Common.{◌≡◌, ◌+◌, ◌-◌, ◌<◌, List, ◌∷◌, length, drop, ap, sym, ◌∙◌, arith}
 use Rattle.std.proofs.lemmas.List.{drop_more}
 use Rattle.gc_catalogue.specs.declared.asked.Asked.{Asked}
 use Rattle.gc_client.specs.Rule.{ById}
 use Rattle.gc_texts.specs.declared.tasks.Task.{Task}
-use Rattle.gc_texts.specs.declared.wish.Wish.{Wish}
+use Rattle.gc_station.specs.declared.station.sending.Outgoing.{Outgoing}
 use Rattle.gc_links.specs.Acts.{put_act}
 use Rattle.gc_station.specs.declared.mark.Mark.{Mark}
 use Rattle.gc_station.specs.declared.progress.Upcoming.{Upcoming}
 use Rattle.gc_station.specs.Progressing.{sent}
-use Rattle.gc_station.specs.Requests.{command_at}
+use Rattle.gc_station.specs.Stations.{request_for}
 use Rattle.gc_station.specs.Model.{Model, request_text, first_text, asks_next, with_progress}
 use Rattle.gc_station.specs.NextCommand.{place_next, mark_next, upcoming_after, commands_before}
 use Rattle.gc_station.proofs.Making.{refines_with, asks_refines, put_puts, put_refines, put_took, first_refines, first_took}
@@ -28,8 +28,8 @@ returns g c text known =
     let here : drop place commands ≡ task ∷ others =
     drop_more commands place task below ∙ ap (λ x. x ∷ others) (sym c.index-commands-place.is) in
     let mark = c.mark-mark.result in
-    let command = c.command_at-command.result in
-    let line = request_text old.client.ids command.call in
+    let asking = c.request_for-asking.result in
+    let line = request_text old.client.ids asking.command.call in
     record {
       act = put_act put line;
       tells = c.ask-put.ensures.tells;
@@ -37,12 +37,12 @@ returns g c text known =
           let list = drop (place_next commands s.progress) commands in
           let is : list ≡ task ∷ others = sym (ap (λ n. drop n commands) (at ∙ ap (place_next commands) stands.progress)) ∙ here in
           let f : Model → Model = λ (x : Model). with_progress (sent (upcoming_after 1 commands x.progress)) (asks_next plan commands x) in
-          let asked = asks_refines old c.ask-put.new.self s task.deadline command (command_at mark.sent task) (Some mark) stands c.requires.room c.command_at-command.ensures c.ask-put.ensures.asks in
+          let asked = asks_refines old c.ask-put.new.self s asking (request_for mark task) stands c.requires.ready.1 c.request_for-asking.ensures c.ask-put.ensures.asks in
           let utc = s.progress.moment.utc in
           let next : mark ≡ mark_next plan commands s.progress = c.mark-mark.ensures ∙ ap (mark_next plan commands) stands.progress in
           let first = first_refines c.ask-put.new.self s mark (mark_next plan commands s.progress) list task others is next asked in (
-            put_puts put line (first_text utc s.client list) (ap (λ (ids : ById Asked). request_text ids command.call) stands.ids
-                ∙ ap (λ (w : Wish). request_text s.client w.call) (c.command_at-command.ensures ∙ ap (λ (m : Mark). command_at m.sent task) next) ∙ sym
+            put_puts put line (first_text utc s.client list) (ap (λ (ids : ById Asked). request_text ids asking.command.call) stands.ids
+                ∙ ap (λ (a : Outgoing). request_text s.client a.command.call) (c.request_for-asking.ensures ∙ ap (λ (m : Mark). request_for m task) next) ∙ sym
                 (ap (first_text utc s.client) is)) c.ask-put.ensures.part,
             put_refines put line c.commands_before-requests.result (commands_before plan commands s.progress) f s (record c.ask-put.new.self { progress = c.note_sent.new.self }) c.note_cut.new.self
                 (refines_with c.ask-put.new.self c.note_sent.new.self (sent (upcoming_after 1 commands s.progress)) (asks_next plan commands s) first

@@ -82,5 +82,5 @@ returns-in-Err-clause-does g c =
 
 pub returns-in-None-clause-does : goal.returns-in-None-clause-does
 returns-in-None-clause-does g c =
-    untold_does _ _ _ _ _ _ _ (λ s. tt) (λ s. ap (with_progress (failing Clock)) (sym (with_no_records s))) c.in-None.ensures
+    untold_does (λ s. tt) (λ s. ap (with_progress (failing Clock)) (sym (with_no_records s))) c.in-None.ensures
     (g.B.Book.text c.args.book.now) (g.B.Book.taken c.args.book.now)

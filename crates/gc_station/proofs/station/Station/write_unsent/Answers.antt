@@ -1,13 +1,13 @@
-use Rattle.std.proofs.Common.{◌≡◌, ◌+◌, ◌-◌, ◌<◌, List, ◌∷◌, ◌++◌, length, drop, None, if◌then◌else◌, ap, sym, ◌∙◌, arith, subst}
+use Rattle.std.proofs.Common.{◌≡◌, ◌+◌, ◌-◌, ◌<◌, List, ◌∷◌, ◌++◌, length, drop, None, ap, sym, ◌∙◌, arith, subst}
 use Rattle.std.proofs.lemmas.List.{drop_more}
 use Rattle.gc_texts.specs.declared.tasks.Task.{Task}
-use Rattle.gc_texts.specs.Endings.{ending_seen, Skipped, Missed}
+use Rattle.gc_texts.specs.Endings.{ending_seen}
 use Rattle.gc_station.specs.Records.{Record, WritesPart}
 use Rattle.gc_station.specs.NextCommand.{mark_next}
-use Rattle.gc_station.proofs.Making.{skips_as}
+use Rattle.gc_station.specs.declared.recorded.Recorded.{Recorded}
+use Rattle.gc_station.proofs.Making.{noted_unsent, skips_as}
 use Rattle.gc_station.proofs.Records.{part_one}
 use Rattle.gc_station.proofs.station.Station.write_unsent.Goals as goal
-use Rattle.gc_station.proofs.station.Station.write_unsent.Goals.{then-self, else-self}
 
 pub returns-in-Err-clause-wrote : goal.returns-in-Err-clause-wrote
 returns-in-Err-clause-wrote g c start before so =
@@ -23,11 +23,6 @@ returns-in-Err-clause-wrote g c start before so =
     let here : drop place commands ≡ task ∷ others =
     drop_more commands place task below ∙ ap (λ x. x ∷ others) (sym c.index-commands-place.is) in
     let is = sym (ap (λ n. drop n commands) at) ∙ here in
-    let ends : ending_seen c.if-self.ending ≡ (if p.missed then Missed else Skipped) =
-    elim c.if-self.branch [
-      | then-self w ↦ ap ending_seen w.ending-is ∙ sym (ap (λ b. if b then Missed else Skipped) w.if-self.true)
-      | else-self w ↦ ap ending_seen w.ending-is ∙ sym (ap (λ b. if b then Missed else Skipped) w.if-self.false)
-    ] in
     let r : Record = record {
       sent = None;
       utc = c.skipped_at.result;
@@ -36,9 +31,26 @@ returns-in-Err-clause-wrote g c start before so =
       turn = c.mark-mark.result.expected.turn;
       command =
           task.command;
-      end = ending_seen c.if-self.ending;
+      end = ending_seen c.ending_unsent-ending.result;
     } in
-    let same = skips_as p c.args.moment c.mark-mark.result (mark_next c.args.plan.now commands p) c.skipped_at.result (ending_seen c.if-self.ending)
-    (drop (length commands - p.unsent) commands) task others is c.mark-mark.ensures c.skipped_at.ensures ends in
+    let same = skips_as p c.args.moment c.mark-mark.result (mark_next c.args.plan.now commands p) c.skipped_at.result (ending_seen c.ending_unsent-ending.result)
+    (drop (length commands - p.unsent) commands) task others is c.mark-mark.ensures c.skipped_at.ensures c.ending_unsent-ending.ensures in
     subst (λ (rs : List Record). WritesPart (g.B.Book.text c.args.book.now) before (before ++ rs) start (g.B.Book.taken c.write.new.self)) same
     (part_one (g.B.Book.text c.args.book.now) before r start (g.B.Book.taken c.args.book.now) (g.B.Book.taken c.write.new.self) w.0 so w.1 w.2)
+
+pub returns-clause-after : goal.returns-clause-after
+returns-clause-after g c =
+    let old = c.args.self.now in
+    let p = old.progress in
+    let commands = c.args.commands.now in
+    let task : Task = c.index-commands-place.result in
+    let place = c.place.result in
+    let at : place ≡ length commands - p.unsent = c.place.ensures in
+    let below : place < length commands = omega (arith, at, c.requires.unsent, c.requires.within) in
+    let others : List Task = drop (place + 1) commands in
+    let here : drop place commands ≡ task ∷ others =
+    drop_more commands place task below ∙ ap (λ x. x ∷ others) (sym c.index-commands-place.is) in
+    let is = sym (ap (λ n. drop n commands) at) ∙ here in
+    ap (λ (r : Recorded). record old { recorded = r })
+    (c.note.ensures ∙ noted_unsent p c.args.moment c.mark-mark.result (mark_next c.args.plan.now commands p) (ending_seen c.ending_unsent-ending.result)
+    (drop (length commands - p.unsent) commands) task others old.recorded is c.mark-mark.ensures c.ending_unsent-ending.ensures)

@@ -9,7 +9,7 @@ use Rattle.gc_values.proofs.decimal.Decimal.read.Goals.{After-try_from_parts}
 result_is_reading : (c : After-try_from_parts) → IsDecimalRead c.args.text.now c.try_from_parts.result
 result_is_reading c =
     reads_units c.args.text.now _ _ _ c.try_from_parts.result
-    (record { whole = _; fraction = _; up = _; down = _; numeral = c.in-Some.ensures.found; rounded = c.rounded_units-magnitude.ensures })
+    (record { numeral = c.in-Some.ensures.found; rounded = c.rounded_units-magnitude.ensures })
     c.try_from_parts.ensures.made c.try_from_parts.ensures.exact
 
 pub returns-clause-value : goal.returns-clause-value

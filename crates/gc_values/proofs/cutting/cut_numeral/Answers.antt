@@ -1,8 +1,11 @@
-use Rattle.std.proofs.Common.{◌≡◌, ◌+◌, ◌<◌, ap, length, arith, rules}
+use Rattle.std.proofs.Common.{◌≡◌, ◌+◌, ◌<◌, refl, ap, length, arith, rules}
 use Rattle.gc_values.specs.Spelling.{fraction_digits}
 use Rattle.gc_values.proofs.Unique.{Cut, same_parts, cut_is_numeral}
-use Rattle.gc_values.proofs.numeral.cut_numeral.Goals as goal
-use Rattle.gc_values.proofs.numeral.cut_numeral.Goals.{else-is_empty-via-then-is_empty+else-is_empty-2, else-is_empty-via-else-is_empty}
+use Rattle.gc_values.proofs.cutting.cut_numeral.Goals as goal
+use Rattle.gc_values.proofs.cutting.cut_numeral.Goals.{else-is_empty-via-then-is_empty+else-is_empty-2, else-is_empty-via-else-is_empty}
+
+pub invariant_of-result : goal.invariant_of-result
+invariant_of-result c = record { whole_are_digits = c.cut_digits.ensures.digits; fraction_are_digits = c.cut_fraction.ensures.digits }
 
 pub returns-then-is_empty-2-clause-none : goal.returns-then-is_empty-2-clause-none
 returns-then-is_empty-2-clause-none c p n e =
@@ -25,7 +28,7 @@ pub returns-clause-found : goal.returns-clause-found
 returns-clause-found c =
     let cut : Cut c.args.text.now =
     record { negative = _; behind_sign = _; whole = _; behind_whole = _; fraction = _; rest = _; sign = c.cut_sign-negative.ensures; digits = c.cut_digits.ensures; point = c.cut_fraction.ensures } in
-    cut_is_numeral c.args.text.now cut _ _
+    cut_is_numeral c.args.text.now cut _ (refl, refl, refl)
     (elim c.else-is_empty.branch [
       | else-is_empty-via-then-is_empty+else-is_empty-2 w ↦ search rules
       | else-is_empty-via-else-is_empty w ↦ search rules

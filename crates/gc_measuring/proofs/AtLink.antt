@@ -1,0 +1,34 @@
+-- What a run over a link measured, once it is known which acts the link recorded.
+use Rattle.std.proofs.Common.{◌≡◌, ℕ, List, Some, sym, subst}
+use Rattle.gc_links.specs.Acts.{Act}
+use Rattle.gc_measuring.specs.Measuring.{IsMeasured, MeasuresGiven}
+use Rattle.gc_measuring.specs.Telling.{MeasuresAll, MeasuresAllAtLink, MeasuresAtLink, ReportsMeasuring, Stage, Views, seen_at, with_messages}
+use Rattle.gc_words.specs.Stations.{begun_at}
+use Rattle.gc_words.specs.declared.settings.Settings.{Settings}
+
+-- a run that measured, as it reports, and whose link recorded the acts `told`, measured over that link
+pub measures_at_link : {S K E : Type 0} (views : Views S K E) (station : Settings) (old new : Stage S K E) (told : List Act) (run status : ℕ)
+    → new.acts ≡ Some told → (reports : ReportsMeasuring views (begun_at run station) old (record new { acts = Some told }) status)
+    → MeasuresAtLink views station old (with_messages new reports.between) reports.end
+measures_at_link views station old new told run status is reports = record {
+  told = told;
+  is = is;
+  run = run;
+  measured =
+      subst (λ acts. MeasuresGiven (begun_at run station) (seen_at views old) (seen_at views (with_messages (record new { acts = acts }) reports.between)) reports.end) (sym is)
+      reports.measured;
+  all_last = reports.all_last;
+}
+
+-- a run that is done, and whose link recorded the acts `told`, is done over that link
+pub measures_all_at_link : {S K E : Type 0} (views : Views S K E) (station : Settings) (old new : Stage S K E) (told : List Act) (run : ℕ)
+    → new.acts ≡ Some told → MeasuresAll views (begun_at run station) old (record new { acts = Some told }) → MeasuresAllAtLink views station old new
+measures_all_at_link views station old new told run is all = record {
+  told = told;
+  is = is;
+  run = run;
+  all = record {
+    between = all.between;
+    is = subst (λ acts. IsMeasured (begun_at run station) (seen_at views old) (seen_at views (with_messages (record new { acts = acts }) all.between))) (sym is) all.is;
+  };
+}

@@ -1,0 +1,10 @@
+use Rattle.std.proofs.Common.{arith}
+use Rattle.gc_values.specs.KeptDigits.{all_digits}
+use Rattle.gc_values.proofs.Kept.{kept_none, kept_more}
+use Rattle.gc_values.proofs.numeral.Numeral.kept_digits.Goals as goal
+
+pub loop-place-init : goal.loop-place-init
+loop-place-init c = omega (arith, kept_none (all_digits c.args.self.now))
+
+pub loop-place-preserved : goal.loop-place-preserved
+loop-place-preserved c = omega (arith, kept_more (all_digits c.args.self.now) c.loop-place.place)

@@ -1,0 +1,20 @@
+use Rattle.std.proofs.Common.{◌+◌, ◌*◌, ◌^◌, ◌≤◌, length, subst, sym, ap, ◌∙◌, arith}
+use Rattle.gc_values.specs.Digits.{number}
+use Rattle.gc_values.proofs.Kept.{number-append, room_behind}
+use Rattle.gc_values.proofs.Powers.{ten_pow_le}
+use Rattle.gc_values.proofs.numeral.Numeral.short_number.Goals as goal
+
+pub followed_by-requires-clause-small : goal.followed_by-requires-clause-small
+followed_by-requires-clause-small c = omega (arith, ten_pow_le (length c.args.self.now.whole.now) 18 (omega arith))
+
+pub followed_by-requires-2-clause-small : goal.followed_by-requires-2-clause-small
+followed_by-requires-2-clause-small c =
+    let n = c.args.self.now in
+    subst (λ front. (front + 1) * 10 ^ length n.fraction.now ≤ 10 ^ 18) (sym (omega (arith, c.followed_by.ensures)))
+    (room_behind n.whole.now n.fraction.now n.whole_are_digits c.requires)
+
+pub returns : goal.returns
+returns c =
+    let n = c.args.self.now in
+    c.followed_by-2.ensures ∙ ap (λ front. front * 10 ^ length n.fraction.now + number n.fraction.now) (omega (arith, c.followed_by.ensures))
+    ∙ sym (number-append n.whole.now n.fraction.now)

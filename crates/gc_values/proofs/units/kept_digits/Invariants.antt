@@ -1,7 +1,0 @@
-use Rattle.std.proofs.Common.{◌≡◌, ◌++◌, min}
-use Rattle.gc_values.specs.KeptDigits.{kept}
-use Rattle.gc_values.specs.declared.units.TheConstants.{CAP}
-use Rattle.gc_values.proofs.units.kept_digits.Given as goal
-
-abbrev pub invariant-loop-place : goal.invariant-loop-place
-invariant-loop-place l = l.kept ≡ min CAP (kept (l.whole ++ l.fraction) l.place)
