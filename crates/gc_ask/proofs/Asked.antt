@@ -8,18 +8,19 @@ use Rattle.std.proofs.KnownBytes.{Appends-trans, Appends-nil}
 use Rattle.gc_lines.specs.Answering.{all_of}
 use Rattle.gc_lines.specs.Assembler.{Kept, StandsFor}
 use Rattle.gc_lines.specs.Frames.{lines, rest_of, rest_behind}
+use Rattle.gc_lines.specs.Passing.{lines_completed}
 use Rattle.gc_lines.proofs.Cutting.{rest-append}
 use Rattle.gc_lines.proofs.InOrder.{all_of-append}
 use Rattle.gc_lines.proofs.Known.{Appends-is}
 use Rattle.gc_catalogue.specs.declared.call.Call.{Call}
 use Rattle.gc_client.specs.Rule.{ById, Settlement, heard, fits, hears, settled_by_line, place_in}
 use Rattle.gc_client.specs.Settlements.{settlement_seen}
-use Rattle.gc_ask.specs.Asking.{awaited, idle, waiting_for, Reply, first_reply, settled_by, asked_from, asked, request_text, request_texts, lost_of}
-use Rattle.gc_ask.specs.Asking.{LinkEnd, IsNext, AsksAll, IsCut, LosesOne, StopsAt, WritesPart}
+use Rattle.gc_ask.specs.Asking.{awaited, idle, waiting_for, FirstReply, first_reply, settled_by, asked_from, asked, written_request, written_requests, lost_of}
+use Rattle.gc_ask.specs.Asking.{LinkResult, IsNext, AsksAll, IsCutAt, LosesOne, StopsAt, WritesPart}
 use Rattle.gc_texts.specs.declared.commands.Command.{Command}
 use Rattle.gc_texts.specs.Settlements.{settlement_line, settlement_lines, lines_from, WrotePartOfSettlements}
-use Rattle.gc_ask.specs.Looping.{SeenAtBoth, written_there}
-use Rattle.gc_ask.specs.Listening.{lines_completed, Heard, Settles}
+use Rattle.gc_ask.specs.Looping.{SeenAtBoth, written_at_both}
+use Rattle.gc_ask.specs.Listening.{ClientHeard, Settles}
 use Rattle.gc_texts.proofs.SettlementLines.{lines_one}
 use Rattle.gc_ask.proofs.FirstReplies.{lines_completed-append, first_reply-at}
 
@@ -45,18 +46,18 @@ hears_one k c line fit = by_id (heard line) fit where
 -- Requests and settlements in order.
 
 -- the request lines of the commands `done` and then c, the first of which is request k, are those of `done`, and then that of c
-texts_one : (k : ℕ) (done : List Command) (c : Command) → request_texts k (done ++ c ∷ []) ≡ request_texts k done ++ request_text (k + length done) c ∷ []
-texts_one k [] c = ap (λ n. request_text n c ∷ []) (omega arith)
-texts_one k (x ∷ done) c =
+requests_last : (k : ℕ) (done : List Command) (c : Command) → written_requests k (done ++ c ∷ []) ≡ written_requests k done ++ written_request (k + length done) c ∷ []
+requests_last k [] c = ap (λ n. written_request n c ∷ []) (omega arith)
+requests_last k (x ∷ done) c =
     let place : k + 1 + length done ≡ k + length (x ∷ done) = omega arith in
-    ap (λ ts. request_text k x ∷ ts) (texts_one (k + 1) done c ∙ ap (λ n. request_texts (k + 1) done ++ request_text n c ∷ []) place)
+    ap (λ ts. written_request k x ∷ ts) (requests_last (k + 1) done c ∙ ap (λ n. written_requests (k + 1) done ++ written_request n c ∷ []) place)
 
 -- the text of the request lines of `done` and then c is that of `done`, and then the line of c
-pub all_texts_one : (done : List Command) (c : Command) → all_of (request_texts 0 (done ++ c ∷ [])) ≡ all_of (request_texts 0 done) ++ request_text (length done) c
-all_texts_one done c =
+pub all_requests_last : (done : List Command) (c : Command) → all_of (written_requests 0 (done ++ c ∷ [])) ≡ all_of (written_requests 0 done) ++ written_request (length done) c
+all_requests_last done c =
     let place : 0 + length done ≡ length done = omega arith in
-    ap all_of (texts_one 0 done c ∙ ap (λ n. request_texts 0 done ++ request_text n c ∷ []) place) ∙ all_of-append (request_texts 0 done) (request_text (length done) c ∷ [])
-    ∙ ap (λ t. all_of (request_texts 0 done) ++ t) (append-nil (request_text (length done) c))
+    ap all_of (requests_last 0 done c ∙ ap (λ n. written_requests 0 done ++ written_request n c ∷ []) place) ∙ all_of-append (written_requests 0 done) (written_request (length done) c ∷ [])
+    ∙ ap (λ t. all_of (written_requests 0 done) ++ t) (append-nil (written_request (length done) c))
 
 -- the lines of k settlements and one more are those of the k, and then the line of that one, at place k
 pub lines_last : (settled : List (Settlement Call)) (k : ℕ) (next : Settlement Call) → length settled ≡ k
@@ -100,16 +101,16 @@ pub record Course (done : List Command) (s : RunState) : Type 0 where
   pub count : length settled ≡ length done
   pub asks : (more : List Command) (later : List (List ℕ)) → asked_from 0 (done ++ more) (looked ++ later) ≡ settled ++ asked_from (length done) more later
   pub client_is : s.client ≡ idle (length done)
-  pub link : Appends s.first.client.taken s.latest.client.taken (all_of (request_texts 0 done))
+  pub link : Appends s.first.client.taken s.latest.client.taken (all_of (written_requests 0 done))
   pub sink : Appends s.first.sink.bytes s.latest.sink.bytes (settlement_lines settled)
 
 -- what the client's end has heard once the bytes `more` came: what `h` has, but that it was heard after the rest of a line that the
 -- assembler kept, and that its bytes are those that weren't looked at, and then `more`
-abbrev pub heard_after : {done : List Command} {s : RunState} → Course done s → (more : List ℕ) → Heard → Heard
+abbrev pub heard_after : {done : List Command} {s : RunState} → Course done s → (more : List ℕ) → ClientHeard → ClientHeard
 heard_after {s = s} at more h = record h { rest = at.now; bytes = s.left ++ more }
 
 -- where a run is once the bytes `more` came, the client's end has heard h, and `new` is seen of both ends and of the sink
-abbrev pub later_on : RunState → (more : List ℕ) → Heard → (new : SeenAtBoth) → RunState
+abbrev pub later_on : RunState → (more : List ℕ) → ClientHeard → (new : SeenAtBoth) → RunState
 later_on s more h new =
     record { given = s.given ++ more; left = h.left; kept = h.kept; client = h.client; first = s.first; latest = new }
 
@@ -140,7 +141,7 @@ asked_so done s more at =
 
 -- where `r` is the first reply to one more command, the bytes that came settle what the course says, then that command by
 -- `r`, and then the later ones by the lines after `r`; without a reply they settle what the course says, and no more
-asked_on : (done : List Command) (s : RunState) (more : List ℕ) (at : Course done s) (command : Command) (later : List Command) (r : Option Reply)
+asked_on : (done : List Command) (s : RunState) (more : List ℕ) (at : Course done s) (command : Command) (later : List Command) (r : Option FirstReply)
     → first_reply (waiting_for (length done) command) (lines_completed at.now (s.left ++ more)) ≡ r
     → asked (done ++ command ∷ later) (s.given ++ more) ≡ at.settled ++ settled_by (waiting_for (length done) command) (asked_from (length done + 1) later) r
 asked_on done s more at command later r is =
@@ -150,13 +151,13 @@ asked_on done s more at command later r is =
 
 -- a line that settles a request of the client `from` (`Settles`) is the first reply among the lines that were completed, and the lines
 -- of the bytes that are left come after it
-first_is : (from : ById Call) (h : Heard) (s : Settles from h)
+first_is : (from : ById Call) (h : ClientHeard) (s : Settles from h)
     → first_reply from (lines_completed h.rest h.bytes) ≡ Some (record { line = s.line; later = lines_completed [] h.left })
 first_is from h s = ap (first_reply from) s.seen ∙ first_reply-at from s.front s.line (lines_completed [] h.left) s.none s.fits
 
 -- where a line settles the request of a client that waits for request k alone (`Settles`), what was settled is that one request,
 -- by that line, and the client is then the one before request k + 1
-pub settled_is : (k : ℕ) (command : Command) (h : Heard) (s : Settles (waiting_for k command) h)
+pub settled_is : (k : ℕ) (command : Command) (h : ClientHeard) (s : Settles (waiting_for k command) h)
     → (map settlement_seen h.settled ≡ settled_by_line (awaited command) s.line ∷ []) × (h.client ≡ idle (k + 1))
 settled_is k command h s =
     let one = hears_one k command s.line s.fits in
@@ -164,7 +165,7 @@ settled_is k command h s =
 
 -- where a line of the bytes that came settles one more command (`Settles`), these bytes settle what the course says, and then
 -- this command by that line
-pub asked_with : (done : List Command) (s : RunState) (more : List ℕ) (at : Course done s) (command : Command) (h : Heard)
+pub asked_with : (done : List Command) (s : RunState) (more : List ℕ) (at : Course done s) (command : Command) (h : ClientHeard)
     (by : Settles (waiting_for (length done) command) (heard_after at more h))
     → asked (done ++ command ∷ []) (s.given ++ more) ≡ at.settled ++ settled_by_line (awaited command) by.line ∷ []
 asked_with done s more at command h by =
@@ -174,9 +175,9 @@ asked_with done s more at command h by =
 
 -- where `Course` is true of the commands `done`, one more command was sent, a line settles it (`Settles`), and the line of its
 -- settlement was written, `Course` is true of `done` and that command
-pub course_more : (done : List Command) (command : Command) (s : RunState) (more : List ℕ) (h : Heard) (new : SeenAtBoth) (at : Course done s)
+pub course_more : (done : List Command) (command : Command) (s : RunState) (more : List ℕ) (h : ClientHeard) (new : SeenAtBoth) (at : Course done s)
     → Settles (waiting_for (length done) command) (heard_after at more h)
-    → Appends s.latest.client.taken new.client.taken (request_text (length done) command)
+    → Appends s.latest.client.taken new.client.taken (written_request (length done) command)
     → Appends s.latest.sink.bytes new.sink.bytes (lines_from (length done) (map settlement_seen h.settled))
     → Course (done ++ command ∷ []) (later_on s more h new)
 course_more done command s more h new at by sent told =
@@ -206,14 +207,14 @@ course_more done command s more h new at by sent told =
           ∙ ap (λ n. at.settled ++ next ∷ asked_from n others later) place
           ∙ sym (append_assoc at.settled (next ∷ []) (asked_from (length (done ++ command ∷ [])) others later));
       client_is = is.1 ∙ ap idle place;
-      link = Appends-is _ _ _ _ (sym (all_texts_one done command)) (Appends-trans _ _ _ _ _ at.link sent);
+      link = Appends-is _ _ _ _ (sym (all_requests_last done command)) (Appends-trans _ _ _ _ _ at.link sent);
       sink = Appends-is _ _ _ _ (ap (λ zs. settlement_lines at.settled ++ lines_from k zs) is.0 ∙ sym (lines_last at.settled k next at.count)) (Appends-trans _ _ _ _ _ at.sink told);
     }
 
 -- Ends.
 
 -- where `Course` is true of all commands, all were asked and settled, as `AsksAll` has it
-pub course_all : (commands : List Command) (s : RunState) → Course commands s → AsksAll commands s.given (written_there s.first s.latest)
+pub course_all : (commands : List Command) (s : RunState) → Course commands s → AsksAll commands s.given (written_at_both s.first s.latest)
 course_all commands s at =
     let all : asked commands s.given ≡ at.settled = ap (asked commands) (sym (append-nil s.given)) ∙ asked_so commands s [] at in
     record {
@@ -232,7 +233,7 @@ pub record AtNext (commands : List Command) (s : RunState) : Type 0 where
 
 -- where the line was written that says the next command is lost, that command is lost (`LosesOne`)
 abbrev course_loses : (commands : List Command) (s : RunState) (n : AtNext commands s) (more : List ℕ) (new : SeenAtBoth)
-    → Appends s.latest.sink.bytes new.sink.bytes (lines_from (length n.done) (lost_of n.command ∷ [])) → LosesOne commands (s.given ++ more) (written_there s.first new)
+    → Appends s.latest.sink.bytes new.sink.bytes (lines_from (length n.done) (lost_of n.command ∷ [])) → LosesOne commands (s.given ++ more) (written_at_both s.first new)
 course_loses commands s n more new told =
     let at = n.course in
     let so : asked n.done (s.given ++ more) ≡ at.settled = asked_so n.done s more at in
@@ -250,39 +251,39 @@ course_loses commands s n more new told =
 -- asking stopped there (`StopsAt`)
 pub course_stops : (is_remote : Bool) (commands : List Command) (s : RunState) (n : AtNext commands s) (more : List ℕ) (new : SeenAtBoth)
     → (is_remote ≡ true → first_reply (waiting_for (length n.done) n.command) (lines_completed n.course.now (s.left ++ more)) ≡ None)
-    → Appends s.latest.client.taken new.client.taken (request_text (length n.done) n.command)
+    → Appends s.latest.client.taken new.client.taken (written_request (length n.done) n.command)
     → Appends s.latest.sink.bytes new.sink.bytes (lines_from (length n.done) (lost_of n.command ∷ []))
-    → StopsAt is_remote commands (s.given ++ more) (written_there s.first new)
+    → StopsAt is_remote commands (s.given ++ more) (written_at_both s.first new)
 course_stops is_remote commands s n more new none sent told = record {
   at = course_loses commands s n more new told;
-  sent = Appends-is _ _ _ _ (sym (all_texts_one n.done n.command)) (Appends-trans _ _ _ _ _ n.course.link sent);
+  sent = Appends-is _ _ _ _ (sym (all_requests_last n.done n.command)) (Appends-trans _ _ _ _ _ n.course.link sent);
   no_more = λ is. ap (λ xs. asked xs (s.given ++ more)) n.order ∙ asked_on n.done s more n.course n.command n.later None (none is) ∙ append-nil n.course.settled
       ∙ sym (asked_so n.done s more n.course);
 }
 
 -- where the link took the first `bytes` bytes of the next command's request (if the link is remote, `part` bytes, and not all), and the
--- line was written that says the command is lost, asking was cut there (`IsCut`), after `count` commands
+-- line was written that says the command is lost, asking was cut there (`IsCutAt`), after `count` commands
 pub course_cut : (is_remote : Bool) (commands : List Command) (s : RunState) (n : AtNext commands s) (more : List ℕ) (new : SeenAtBoth)
-    (count part bytes : ℕ) → count ≡ length n.done → (is_remote ≡ true → (bytes ≡ part) × (part < length (request_text (length n.done) n.command)))
-    → Appends s.latest.client.taken new.client.taken (take bytes (request_text (length n.done) n.command))
+    (count part bytes : ℕ) → count ≡ length n.done → (is_remote ≡ true → (bytes ≡ part) × (part < length (written_request (length n.done) n.command)))
+    → Appends s.latest.client.taken new.client.taken (take bytes (written_request (length n.done) n.command))
     → Appends s.latest.sink.bytes new.sink.bytes (lines_from (length n.done) (lost_of n.command ∷ []))
-    → IsCut is_remote commands (s.given ++ more) (written_there s.first new) count part
+    → IsCutAt is_remote commands (s.given ++ more) (written_at_both s.first new) count part
 course_cut is_remote commands s n more new count part bytes is cut sent told = record {
   at = course_loses commands s n more new told;
   count_is = is;
   bytes = bytes;
-  sent = Appends-is _ _ _ _ (ap (λ k. all_of (request_texts 0 n.done) ++ take bytes (request_text k n.command)) (sym is)) (Appends-trans _ _ _ _ _ n.course.link sent);
-  cut = subst (λ k. is_remote ≡ true → (bytes ≡ part) × (part < length (request_text k n.command))) (sym is) cut;
+  sent = Appends-is _ _ _ _ (ap (λ k. all_of (written_requests 0 n.done) ++ take bytes (written_request k n.command)) (sym is)) (Appends-trans _ _ _ _ _ n.course.link sent);
+  cut = subst (λ k. is_remote ≡ true → (bytes ≡ part) × (part < length (written_request k n.command))) (sym is) cut;
 }
 
 -- where the link took the first `bytes` bytes of the next command's request, the link's use ended with `link` (`over`), and the sink
 -- failed as it took the line of the next settlement (`IsNext`), asking ended there (`WritesPart`)
 pub course_sink_failed : (commands : List Command) (s : RunState) (n : AtNext commands s) (more : List ℕ) (new : SeenAtBoth)
-    (bytes : ℕ) (next : Settlement Call) (over : LinkEnd → Type 0) (link : LinkEnd)
+    (bytes : ℕ) (next : Settlement Call) (over : LinkResult → Type 0) (link : LinkResult)
     → over link → (asked n.done (s.given ++ more) ≡ n.course.settled → IsNext n.done n.command (s.given ++ more) next link)
-    → Appends s.latest.client.taken new.client.taken (take bytes (request_text (length n.done) n.command))
+    → Appends s.latest.client.taken new.client.taken (take bytes (written_request (length n.done) n.command))
     → WrotePartOfSettlements (length n.done) (next ∷ []) s.latest.sink.bytes new.sink.bytes
-    → WritesPart commands (s.given ++ more) (written_there s.first new) over
+    → WritesPart commands (s.given ++ more) (written_at_both s.first new) over
 course_sink_failed commands s n more new bytes next over link ends is sent told =
     let done = n.done in
     let at = n.course in

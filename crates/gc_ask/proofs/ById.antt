@@ -11,8 +11,8 @@ use Rattle.gc_ask.proofs.Asked.{hears_one}
 use Rattle.gc_ask.proofs.FirstReplies.{first_reply-at}
 
 -- a client that waits for one request has a window that the rule allows
-one_window : (k : ℕ) (c : Command) → IsWithinLimits (waiting_for k c)
-one_window k c = record { digit = omega arith; few = omega arith }
+one_within_limits : (k : ℕ) (c : Command) → IsWithinLimits (waiting_for k c)
+one_within_limits k c = record { digit = omega arith; few = omega arith }
 
 -- the rule's id of the oldest request that waits, where request k is the only one, is k modulo 8
 its_id : (k : ℕ) → ((k + 1) % 8 + 8 - 1 + 0) % 8 ≡ k % 8
@@ -21,7 +21,7 @@ its_id k = omega arith
 -- a reply with the id of request k fits the client that waits for it
 fits_its : (k : ℕ) (c : Command) (line : List ℕ) → heard line ≡ Some (k % 8) → fits (waiting_for k c) (heard line) ≡ true
 fits_its k c line e =
-    ap (fits (waiting_for k c)) e ∙ (fits_where_it_waits (waiting_for k c) (k % 8) (one_window k c) (heard_digit line (k % 8) e)).1 (0, omega arith, its_id k)
+    ap (fits (waiting_for k c)) e ∙ (fits_where_it_waits (waiting_for k c) (k % 8) (one_within_limits k c) (heard_digit line (k % 8) e)).1 (0, omega arith, its_id k)
 
 -- only a reply with the id of request k fits the client that waits for it
 fits_only : (k : ℕ) (c : Command) (line : List ℕ) → fits (waiting_for k c) (heard line) ≡ true → heard line ≡ Some (k % 8)
@@ -33,15 +33,15 @@ fits_only k c line fit = by_id (heard line) refl fit where
   -- what is heard of the line (`o`), if it fits, is the id of request k
   by_id : (o : Option ℕ) → heard line ≡ o → fits (waiting_for k c) o ≡ true → o ≡ Some (k % 8)
   by_id None e f = (cc)
-  by_id (Some id) e f = ap Some (the_id id e ((fits_where_it_waits (waiting_for k c) id (one_window k c) (heard_digit line id e)).0 f))
+  by_id (Some id) e f = ap Some (the_id id e ((fits_where_it_waits (waiting_for k c) id (one_within_limits k c) (heard_digit line id e)).0 f))
 
 -- lines without a reply to request k have no first reply to it
-no_reply : (k : ℕ) (c : Command) (came : List (List ℕ)) → HasNoReply k came → first_reply (waiting_for k c) came ≡ None
-no_reply k c [] none = refl
-no_reply k c (line ∷ later) none = elim (fits (waiting_for k c) (heard line)) as
+no_first_reply : (k : ℕ) (c : Command) (came : List (List ℕ)) → HasNoReply k came → first_reply (waiting_for k c) came ≡ None
+no_first_reply k c [] none = refl
+no_first_reply k c (line ∷ later) none = elim (fits (waiting_for k c) (heard line)) as
     (λ v. fits (waiting_for k c) (heard line) ≡ v → cond v (Some (record { line = line; later = later })) (first_reply (waiting_for k c) later) ≡ None) [
       | true ↦ λ e. absurd (none.0 (fits_only k c line e))
-      | false ↦ λ e. no_reply k c later none.1
+      | false ↦ λ e. no_first_reply k c later none.1
     ] refl
 
 -- the law: each request is settled by the first reply with its id, after the one that settled the request before it
@@ -49,7 +49,7 @@ pub asks_by_id : (k : ℕ) (command : Command) (later : List Command) → AsksBy
 asks_by_id k command later = record {
   settled = λ front line rest none its.
       let fit = fits_its k command line its in
-      ap (settled_by (waiting_for k command) (asked_from (k + 1) later)) (first_reply-at (waiting_for k command) front line rest (no_reply k command front none) fit)
+      ap (settled_by (waiting_for k command) (asked_from (k + 1) later)) (first_reply-at (waiting_for k command) front line rest (no_first_reply k command front none) fit)
       ∙ ap (λ (zs : List (Settlement Call)). zs ++ asked_from (k + 1) later rest) (hears_one k command line fit).0;
-  unsettled = λ came none. ap (settled_by (waiting_for k command) (asked_from (k + 1) later)) (no_reply k command came none);
+  unsettled = λ came none. ap (settled_by (waiting_for k command) (asked_from (k + 1) later)) (no_first_reply k command came none);
 }

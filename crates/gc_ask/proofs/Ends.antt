@@ -1,14 +1,14 @@
 -- The ports of a link's two ends, after one step (a call, or several in a row, that uses the link), and after all steps of a run.
--- Throughout, `c` or `p` is the client's end, and `i` or `q` the instrument's; `c0` is an end at first, `c` before a step, and
--- `c'` after it. An end is sound (`Sound`) while no read was the end of its input and neither of its ports failed.
+-- An end is sound (`Sound`) while no read was the end of its input and neither of its ports failed.
 use Rattle.std.proofs.Common.{◌≡◌, ℕ, ◌<◌, ◌≤◌, Bool, true, false, List, [], Option, Ok, Err, inl, inr, refl, sym, ap, ◌∙◌, subst, arith}
 use Rattle.std.specs.Io.KnownBytes.{Consumes}
 use Rattle.std.proofs.lemmas.Bool.{cases_lt}
 use Rattle.std.proofs.KnownBytes.{Consumes-nil}
 use Rattle.gc_lines.specs.Answering.{Ports}
-use Rattle.gc_ask.specs.Asking.{EndsWith, LinkEnd, LinkEnds, Taken}
+use Rattle.gc_ask.specs.AskRuns.{SeenAtClient}
+use Rattle.gc_ask.specs.Asking.{EndsWith, LinkResult, UseEnds, Taken}
 use Rattle.gc_ask.specs.Links.{BothStep, CountsReplies, ReadEnds, SeenStep, Sends, StepEnds, no_ports}
-use Rattle.gc_ask.specs.Looping.{BothEnd, SeenAtBoth}
+use Rattle.gc_ask.specs.Looping.{BothEnd, SeenAtBoth, seen_at_both}
 use Rattle.gc_texts.specs.declared.fault.RunFault.{RunFault}
 use Rattle.gc_texts.specs.declared.fault.RunFault.TheVariants.{Read, Write, TooManyReads, LinkClosed, Output}
 use Rattle.gc_texts.specs.WholeTexts.{Input, source_of}
@@ -25,23 +25,23 @@ step_none old new reads ended source sink = record {
 }
 
 -- a write of a request, while nothing was read, is a step of the end with the write's result, whatever came of it
-pub step_sent : (place : ℕ) (text : List ℕ) (old new : Ports) (r : LinkEnd)
+pub step_sent : (place : ℕ) (text : List ℕ) (old new : Ports) (r : LinkResult)
     → Sends place text (record { bytes = old.taken; failed = old.sink_failed }) (record { bytes = new.taken; failed = new.sink_failed }) r
     → new.reads ≡ old.reads → new.ended ≡ old.ended → new.source_failed ≡ old.source_failed → StepEnds old new r
 step_sent place text old new (Ok u) s reads ended source = step_none old new reads ended source s.1
 step_sent place text old new (Err (Write count bytes)) s reads ended source = record {
-  ends = ((λ some. absurd (omega (arith, some, reads))), source, s.3);
+  ends = ((λ some. absurd (omega (arith, some, reads))), source, s.1);
   same = λ _. ended;
   grows = omega (arith, reads);
 }
-step_sent place text old new (Err other) s reads ended source = absurd s
+step_sent place text old new (Err other) s reads ended source = absurd s.0
 
 -- a write never ends with `TooManyReads`
-pub sends_not_too_many : (place : ℕ) (text : List ℕ) (old new : Taken) (r : LinkEnd) → Sends place text old new r → r ≡ Err TooManyReads → ⊥
-sends_not_too_many place text old new r s is = subst (λ (e : LinkEnd). Sends place text old new e) is s
+pub sends_not_too_many : (place : ℕ) (text : List ℕ) (old new : Taken) (r : LinkResult) → Sends place text old new r → r ≡ Err TooManyReads → ⊥
+sends_not_too_many place text old new r s is = (subst (λ (e : LinkResult). Sends place text old new e) is s).0
 
 -- waiting for a reply, while nothing was written, is a step of the end with the result of the waiting
-pub step_hears : (old new : Ports) (after : ℕ) (r : LinkEnd) → ReadEnds (source_of old) (source_of new) after r
+pub step_hears : (old new : Ports) (after : ℕ) (r : LinkResult) → ReadEnds (source_of old) (source_of new) after r
     → old.reads ≤ new.reads → new.sink_failed ≡ old.sink_failed → StepEnds old new r
 step_hears old new after (Ok u) h grows sink = record { ends = (h.0, h.2, sink); same = h.1; grows = grows }
 step_hears old new after (Err Read) h grows sink = record { ends = (h.0, h.3, sink); same = h.1; grows = grows }
@@ -56,8 +56,9 @@ both_ok a b c d (inl s) = s
 both_ok a b c d (inr s) = s
 
 -- the sending of a request that went well, and the reading at the client's end after it, are together one step, with the result of the
--- reading, if the sending read nothing of the client's end, and the reading left its sink and the instrument's end as they were
-pub step_both : (c c' c'' i i' i'' : Ports) (after : ℕ) (r : LinkEnd) → (sent : BothStep c c' i i' (Ok tt)) → (unread : source_of c' ≡ source_of c)
+-- reading, if the sending read nothing of the client's end, and the reading left its sink and the instrument's end as they were. Before,
+-- between and after the two the client's end is c, c' and c'', and the instrument's i, i' and i''
+pub step_both : (c c' c'' i i' i'' : Ports) (after : ℕ) (r : LinkResult) → (sent : BothStep c c' i i' (Ok tt)) → (unread : source_of c' ≡ source_of c)
     → (sink : c''.sink_failed ≡ c'.sink_failed) → (same : i'' ≡ i') → (grows : c'.reads ≤ c''.reads) → (ends : ReadEnds (source_of c') (source_of c'') after r)
     → BothStep c c'' i i'' r
 step_both c c' c'' i i' i'' after r sent unread sink same grows ends =
@@ -88,7 +89,7 @@ none_in_both old mid new mid_end new_end more going on same below = elim (cases_
 ]
 
 -- where reading went on well from `old` to `mid`, and then ended so by `new`, that is how it ended from `old` on
-pub ends_then : (old mid new : Input) (between after : ℕ) (r : LinkEnd) → (more : old.reads ≤ mid.reads) → (on : mid.reads ≤ new.reads)
+pub ends_then : (old mid new : Input) (between after : ℕ) (r : LinkResult) → (more : old.reads ≤ mid.reads) → (on : mid.reads ≤ new.reads)
     → ReadEnds old mid between (Ok tt) → ReadEnds mid new after r → ReadEnds old new after r
 ends_then old mid new between after (Ok u) more on e f = (
   none_in_both old.reads mid.reads new.reads mid.ended new.ended on e.0 f.0 f.1,
@@ -112,8 +113,8 @@ ends_then old mid new between after (Err (Write count part)) more on e f = absur
 ends_then old mid new between after (Err other) more on e f = absurd f
 
 -- where reading ended with `TooManyReads`, no read is left
-pub ends_too_many : (old new : Input) (after : ℕ) (r : LinkEnd) → ReadEnds old new after r → r ≡ Err TooManyReads → after ≡ 0
-ends_too_many old new after r e is = (subst (λ (x : LinkEnd). ReadEnds old new after x) is e).2
+pub ends_too_many : (old new : Input) (after : ℕ) (r : LinkResult) → ReadEnds old new after r → r ≡ Err TooManyReads → after ≡ 0
+ends_too_many old new after r e is = (subst (λ (x : LinkResult). ReadEnds old new after x) is e).2
 
 -- reading never ends with `Write`
 pub ends_uncut : (place : ℕ) (old new : Input) (after : ℕ) (fault : RunFault) → ReadEnds old new after (Err fault) → CountsReplies place (Err fault)
@@ -125,7 +126,7 @@ ends_uncut place old new after other e = absurd e
 
 -- an end that is sound so far: since `old` no read was the end of its input, and neither of its ports failed
 pub record Sound (old new : Ports) : Type 0 where
-  pub ends : LinkEnds old new (Ok tt)
+  pub ends : UseEnds old new (Ok tt)
   pub grows : old.reads ≤ new.reads
 
 -- an end of which nothing was used yet is sound
@@ -133,12 +134,12 @@ pub sound_start : (old : Ports) → Sound old old
 sound_start old = record { ends = ((λ some. absurd (omega (arith, some))), refl, refl); grows = omega arith }
 
 -- where an end was sound, and no read of a step after that was the end of its input, no read at all was
-none_ended : (old mid new : Ports) (r : LinkEnd) → Sound old mid → StepEnds mid new r → (mid.reads < new.reads → new.ended ≡ false)
+none_ended : (old mid new : Ports) (r : LinkResult) → Sound old mid → StepEnds mid new r → (mid.reads < new.reads → new.ended ≡ false)
     → old.reads < new.reads → new.ended ≡ false
 none_ended old mid new r g s more = none_in_both old.reads mid.reads new.reads mid.ended new.ended s.grows g.ends.0 more s.same
 
 -- where an end was sound, and then made a step with this result, its whole use ended with this result
-link_step : (old mid new : Ports) (r : LinkEnd) → Sound old mid → StepEnds mid new r → LinkEnds old new r
+link_step : (old mid new : Ports) (r : LinkResult) → Sound old mid → StepEnds mid new r → UseEnds old new r
 link_step old mid new (Ok u) g s = (none_ended old mid new (Ok u) g s s.ends.0, s.ends.1 ∙ g.ends.1, s.ends.2 ∙ g.ends.2)
 link_step old mid new (Err Read) g s = (none_ended old mid new (Err Read) g s s.ends.0, s.ends.1, s.ends.2 ∙ g.ends.2)
 link_step old mid new (Err (Write count part)) g s = (none_ended old mid new (Err (Write count part)) g s s.ends.0, s.ends.1 ∙ g.ends.1, s.ends.2)
@@ -158,38 +159,42 @@ sound_on first old new client instrument ends =
     (sound_step first.client old.client new.client client both.0, sound_step first.instrument old.instrument new.instrument instrument both.1)
 
 -- where two ends were sound, and then made a step with this result, their whole use ended with this result
-pub both_end : (first old new : SeenAtBoth) (r : LinkEnd) → Sound first.client old.client → Sound first.instrument old.instrument → SeenStep old new r
-    → BothEnd first.client new.client first.instrument new.instrument r
+pub both_end : (first old new : SeenAtBoth) (r : LinkResult) → Sound first.client old.client → Sound first.instrument old.instrument → SeenStep old new r
+    → BothEnd first new r
 both_end first old new r client instrument (inl s) =
     inl (link_step first.client old.client new.client r client s.0, link_step first.instrument old.instrument new.instrument (Ok tt) instrument s.1)
 both_end first old new r client instrument (inr s) =
     inr (link_step first.client old.client new.client (Ok tt) client s.0, link_step first.instrument old.instrument new.instrument r instrument s.1)
 
 -- where both ends are sound, their whole use ended well, as `BothEnd` has it
-pub both_sound : (c0 c i0 i : Ports) → Sound c0 c → Sound i0 i → BothEnd c0 c i0 i (Ok tt)
-both_sound c0 c i0 i gc gi = inl (gc.ends, gi.ends)
+pub both_sound : (first new : SeenAtBoth) → Sound first.client new.client → Sound first.instrument new.instrument → BothEnd first new (Ok tt)
+both_sound first new client instrument = inl (client.ends, instrument.ends)
 
 -- a step of the link's ends never ends with `Output`, the fault of the sink of the settlements
-pub no_output : (p p' q q' : Ports) → BothStep p p' q q' (Err Output) → ⊥
-no_output p p' q q' (inl s) = s.0.ends
-no_output p p' q q' (inr s) = s.1.ends
+pub no_output : (old new : SeenAtBoth) → SeenStep old new (Err Output) → ⊥
+no_output old new (inl s) = s.0.ends
+no_output old new (inr s) = s.1.ends
 
 -- A remote link: all that ends it comes at the client's end.
 
--- where the instrument's end isn't there (`no_ports`), the client's end alone has the result that one of the two ends has
-pub remote_end : (p p' : Ports) (r : LinkEnd) → BothEnd p p' no_ports no_ports r → LinkEnds p p' r
-remote_end p p' r (inl s) = s.0
-remote_end p p' (Ok u) (inr s) = s.0
-remote_end p p' (Err Read) (inr s) = let bad : false ≡ true = s.1.1 in cc
-remote_end p p' (Err (Write count part)) (inr s) = let bad : false ≡ true = s.1.2 in cc
-remote_end p p' (Err TooManyReads) (inr s) = s.0
-remote_end p p' (Err LinkClosed) (inr s) = absurd (omega (arith, s.1.0))
-remote_end p p' (Err other) (inr s) = absurd s.1
+-- what is seen of both ends of a remote link: the instrument's end isn't there (`no_ports`)
+abbrev pub at_remote : SeenAtClient → SeenAtBoth
+at_remote seen = seen_at_both seen.link no_ports seen.sink
 
--- `EndsWith over` implies `EndsWith other`, if `over` implies `other`, and also with x in place of y, where these are equal: x and y say
--- whether the sink had failed at two moments before, and z whether it has failed in the end
-pub ends_as : (over other : LinkEnd → Type 0) → ((r : LinkEnd) → over r → other r) → (x y z : Bool) → y ≡ x → (r : LinkEnd) → EndsWith over y z r
-    → EndsWith other x z r
-ends_as over other so x y z same (Ok u) ends = (so (Ok u) ends.0, ends.1 ∙ same)
-ends_as over other so x y z same (Err Output) ends = (ends.0, (ends.1.0, so ends.1.0 ends.1.1))
-ends_as over other so x y z same (Err e) ends = (so (Err e) ends.0, ends.1 ∙ same)
+-- where a link is remote, the client's end alone has the result that one of the two ends has
+pub remote_end : (old new : SeenAtClient) (r : LinkResult) → BothEnd (at_remote old) (at_remote new) r → UseEnds old.link new.link r
+remote_end old new r (inl s) = s.0
+remote_end old new (Ok u) (inr s) = s.0
+remote_end old new (Err Read) (inr s) = let bad : false ≡ true = s.1.1 in cc
+remote_end old new (Err (Write count part)) (inr s) = let bad : false ≡ true = s.1.2 in cc
+remote_end old new (Err TooManyReads) (inr s) = s.0
+remote_end old new (Err LinkClosed) (inr s) = absurd (omega (arith, s.1.0))
+remote_end old new (Err other) (inr s) = absurd s.1
+
+-- `EndsWith over` implies `EndsWith other`, if `over` implies `other`, and if whether the sink had failed is the same at the moment from
+-- which on `over` speaks (`mid`) as at an earlier one, from which on `other` does (`first`)
+pub ends_as : (over other : LinkResult → Type 0) → ((r : LinkResult) → over r → other r) → (first mid now : Bool) → mid ≡ first → (r : LinkResult)
+    → EndsWith over mid now r → EndsWith other first now r
+ends_as over other so first mid now same (Ok u) ends = (so (Ok u) ends.0, ends.1 ∙ same)
+ends_as over other so first mid now same (Err Output) ends = (ends.0, (ends.1.0, so ends.1.0 ends.1.1))
+ends_as over other so first mid now same (Err e) ends = (so (Err e) ends.0, ends.1 ∙ same)

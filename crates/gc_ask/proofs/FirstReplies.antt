@@ -7,7 +7,7 @@ use Rattle.std.proofs.lemmas.List.{map-append}
 use Rattle.std.proofs.lemmas.List.Elements.{filter_map-append}
 use Rattle.gc_lines.specs.Assembler.{Kept, StandsFor}
 use Rattle.gc_lines.specs.Frames.{is_line_feed, frame_of, line_in, pieces_behind, rest_behind}
-use Rattle.gc_lines.specs.Passing.{completed, frames_behind}
+use Rattle.gc_lines.specs.Passing.{completed, frames_behind, lines_completed}
 use Rattle.gc_lines.specs.declared.frame.Frame.{Frame}
 use Rattle.gc_lines.specs.declared.frame.Frame.TheVariants.{Line, Cleared, Overlong, More}
 use Rattle.gc_lines.proofs.Cutting.{cut_some, pieces-append, rest-append}
@@ -17,19 +17,19 @@ use Rattle.gc_client.specs.declared.settlement.Settlement.{Settlement}
 use Rattle.gc_client.specs.Rule.{ById, heard, fits, hears}
 use Rattle.gc_client.specs.Settlements.{AreSettlements}
 use Rattle.gc_ask.specs.Asking.{first_reply}
-use Rattle.gc_ask.specs.Listening.{lines_completed, SettlesNothing, TakesFrame, IsQuiet, Heard, Settles}
+use Rattle.gc_ask.specs.Listening.{SettlesNothing, TakesFrame, IsQuiet, ClientHeard, Settles}
 
 -- the lines among pieces of a stream that was cut at its line feeds
-abbrev lines_of : List (List ℕ) → List (List ℕ)
-lines_of pieces = filter_map line_in (map frame_of pieces)
+abbrev lines_among : List (List ℕ) → List (List ℕ)
+lines_among pieces = filter_map line_in (map frame_of pieces)
 
 -- the lines among the pieces `xs ++ ys` are those among `xs`, and then those among `ys`
-lines_of-append : (xs ys : List (List ℕ)) → lines_of (xs ++ ys) ≡ lines_of xs ++ lines_of ys
-lines_of-append xs ys = ap (λ fs. filter_map line_in fs) (map-append frame_of xs ys) ∙ filter_map-append line_in (map frame_of xs) (map frame_of ys)
+lines_among-append : (xs ys : List (List ℕ)) → lines_among (xs ++ ys) ≡ lines_among xs ++ lines_among ys
+lines_among-append xs ys = ap (λ fs. filter_map line_in fs) (map-append frame_of xs ys) ∙ filter_map-append line_in (map frame_of xs) (map frame_of ys)
 
 -- the lines of the bytes `xs ++ ys` are those of `xs`, and then those that `ys` complete after what `xs` leave
 pub lines_completed-append : (rest xs ys : List ℕ) → lines_completed rest (xs ++ ys) ≡ lines_completed rest xs ++ lines_completed (rest_behind rest xs) ys
-lines_completed-append rest xs ys = ap lines_of (pieces-append rest xs ys) ∙ lines_of-append (pieces_behind rest xs) (pieces_behind (rest_behind rest xs) ys)
+lines_completed-append rest xs ys = ap lines_among (pieces-append rest xs ys) ∙ lines_among-append (pieces_behind rest xs) (pieces_behind (rest_behind rest xs) ys)
 
 -- where the lines in front have no first reply, the first reply of all lines is that of the others
 pub first_reply-none : (c : ById Call) (xs ys : List (List ℕ)) → first_reply c xs ≡ None → first_reply c (xs ++ ys) ≡ first_reply c ys
@@ -60,7 +60,7 @@ quiet_then {kept' = kept'} {a = a} rest xs ys q r = record {
 
 -- where a piece settles nothing, and the bytes that were heard after it (h) settle a request, the two together settle that
 -- request
-pub settles_then : {kept : Kept} {a b : ById Call} (rest xs : List ℕ) (h : Heard) → IsQuiet rest xs kept a b
+pub settles_then : {kept : Kept} {a b : ById Call} (rest xs : List ℕ) (h : ClientHeard) → IsQuiet rest xs kept a b
     → Settles b (record h { rest = rest_behind rest xs }) → Settles a (record h { rest = rest; bytes = xs ++ h.bytes })
 settles_then {a = a} rest xs h q s =
     let front : List (List ℕ) = lines_completed rest xs in
@@ -81,7 +81,7 @@ settles_then {a = a} rest xs h q s =
 
 -- of the bytes that were heard (h), those before `h.left` were looked at, and none of their lines, which are `front`, settled a
 -- request. `now` is what the assembler keeps of a line whose end hasn't come
-pub record Passed (from : ById Call) (h : Heard) : Type 0 where
+pub record Passed (from : ById Call) (h : ClientHeard) : Type 0 where
   pub now : List ℕ
   pub front : List (List ℕ)
   pub stands : StandsFor h.kept now
@@ -92,11 +92,11 @@ pub record Passed (from : ById Call) (h : Heard) : Type 0 where
 
 -- what was heard, once `used` more bytes than in h were looked at. The rest and the bytes are those of h; what the assembler
 -- keeps, the client and the settlements are those of `next`
-abbrev pub used_up : (h next : Heard) → (used : ℕ) → Heard
+abbrev pub used_up : (h next : ClientHeard) → (used : ℕ) → ClientHeard
 used_up h next used = record next { rest = h.rest; bytes = h.bytes; left = drop used h.left }
 
 -- where all bytes were passed, so that nothing of them is left, they settled nothing
-pub passed_end : (from : ById Call) (h : Heard) → Passed from (record h { left = [] }) → IsQuiet h.rest h.bytes h.kept from h.client
+pub passed_end : (from : ById Call) (h : ClientHeard) → Passed from (record h { left = [] }) → IsQuiet h.rest h.bytes h.kept from h.client
 passed_end from h p = record {
   none = ap (first_reply from) (p.seen ∙ append-nil p.front) ∙ p.none;
   stands = subst (λ (zs : List ℕ). StandsFor h.kept zs) (sym p.rests) p.stands;
@@ -117,7 +117,7 @@ no_reply c (Some line) q = rw q refl
 
 -- where the bytes before `h.left` were passed (`Passed`), and the line of the next frame, if it has one, settles nothing, the
 -- bytes were passed as far as that frame's end
-pub passed_on : (from : ById Call) (h next : Heard) (used : ℕ) (frame : Frame) → (p : Passed from h) → Takes p.now h.left used frame next.kept
+pub passed_on : (from : ById Call) (h next : ClientHeard) (used : ℕ) (frame : Frame) → (p : Passed from h) → Takes p.now h.left used frame next.kept
     → TakesFrame h.client next.client (line_in frame) next.settled false → Passed from (used_up h next used)
 passed_on from h next used frame p t taken =
     let later : List (List ℕ) = lines_completed t.now (drop used h.left) in
@@ -162,7 +162,7 @@ takes_line rest left used frame line kept is more whole = elim (position is_line
       let cut = cut_some rest left at e in
       let its : line_in (frame_of (rest ++ take at left)) ≡ Some line = ap line_in (sym w.1) ∙ is in
       record {
-        seen = ap lines_of cut.0 ∙ first_line (frame_of (rest ++ take at left)) line (map frame_of (pieces_behind [] (drop (at + 1) left))) its
+        seen = ap lines_among cut.0 ∙ first_line (frame_of (rest ++ take at left)) line (map frame_of (pieces_behind [] (drop (at + 1) left))) its
             ∙ ap (λ n. line ∷ lines_completed [] (drop n left)) (sym w.0);
         rests = cut.1 ∙ ap (λ n. rest_behind [] (drop n left)) (sym w.0);
         stands = w.2;
@@ -174,19 +174,19 @@ takes_line rest left used frame line kept is more whole = elim (position is_line
 
 -- a frame that settled a request has a line, which fits; what was settled, and the client then, are by the client's rule for that
 -- line
-taken_line : (a b : ById Call) (o : Option (List ℕ)) (settled : List (Settlement Call)) → TakesFrame a b o settled true
+settling_line : (a b : ById Call) (o : Option (List ℕ)) (settled : List (Settlement Call)) → TakesFrame a b o settled true
     → (line : List ℕ) × (o ≡ Some line) × (fits a (heard line) ≡ true) × AreSettlements settled (hears a line (heard line)).settlements × (b ≡ (hears a line (heard line)).client)
-taken_line a b None settled t = absurd t
-taken_line a b (Some line) settled t = (line, refl, t.0, t.1, t.2)
+settling_line a b None settled t = absurd t
+settling_line a b (Some line) settled t = (line, refl, t.0, t.1, t.2)
 
 -- where the bytes before `h.left` were passed (`Passed`), and the line of the next frame settles a request, the bytes settle that
 -- request (`Settles`); `used` and `frame` are what the assembler gave for `h.left`
-pub passed_settles : (from : ById Call) (h next : Heard) (used : ℕ) (frame : Frame) → (p : Passed from h)
+pub passed_settles : (from : ById Call) (h next : ClientHeard) (used : ℕ) (frame : Frame) → (p : Passed from h)
     → TakesFrame h.client next.client (line_in frame) next.settled true → (more : position is_line_feed h.left ≡ None → frame ≡ More)
     → (whole : (at : ℕ) → position is_line_feed h.left ≡ Some at → (used ≡ at + 1) × (frame ≡ frame_of (p.now ++ take at h.left)) × StandsFor next.kept [])
     → Settles from (used_up h next used)
 passed_settles from h next used frame p taken more whole =
-    let (line, is, fit, settles, client) = taken_line h.client next.client (line_in frame) next.settled taken in
+    let (line, is, fit, settles, client) = settling_line h.client next.client (line_in frame) next.settled taken in
     let t = takes_line p.now h.left used frame line next.kept is more whole in
     record {
       front = p.front;
@@ -205,15 +205,15 @@ passed_settles from h next used frame p taken more whole =
 -- reading goes on: after the bytes `start`, which were left from before, `given` came. Of all these, `looked_at` were looked
 -- at and settle nothing, and `ahead` weren't looked at yet. `kept` is what the assembler keeps now. The client is `from` before and
 -- `to` after, which are the same
-pub record Reading (rest start given ahead : List ℕ) (kept : Kept) (from to : ById Call) : Type 0 where
+pub record ReadsOn (rest start given ahead : List ℕ) (kept : Kept) (from to : ById Call) : Type 0 where
   pub looked_at : List ℕ
   pub order : start ++ given ≡ looked_at ++ ahead
   pub quiet : IsQuiet rest looked_at kept from to
 
--- where all that was ahead settles nothing, and one more piece was read, `Reading` is true with that piece as what is ahead
-pub reading_more : {rest start given ahead : List ℕ} {kept kept' : Kept} {a b c : ById Call} (piece : List ℕ) → (r : Reading rest start given ahead kept a b)
+-- where all that was ahead settles nothing, and one more piece was read, `ReadsOn` is true with that piece as what is ahead
+pub reading_more : {rest start given ahead : List ℕ} {kept kept' : Kept} {a b c : ById Call} (piece : List ℕ) → (r : ReadsOn rest start given ahead kept a b)
     → IsQuiet (rest_behind rest r.looked_at) ahead kept' b c
-    → Reading rest start (given ++ piece) piece kept' a c
+    → ReadsOn rest start (given ++ piece) piece kept' a c
 reading_more {rest = rest} {start = start} {given = given} {ahead = ahead} piece r q = record {
   looked_at = r.looked_at ++ ahead;
   order = sym (append_assoc start given piece) ∙ ap (λ zs. zs ++ piece) r.order;
@@ -223,7 +223,7 @@ reading_more {rest = rest} {start = start} {given = given} {ahead = ahead} piece
 -- where all that is ahead settles nothing either, no line of all bytes since the start is a first reply, and the client is as
 -- before
 pub reading_quiet : {rest start given ahead : List ℕ} {kept kept' : Kept} {a b c : ById Call}
-    (r : Reading rest start given ahead kept a b) → IsQuiet (rest_behind rest r.looked_at) ahead kept' b c
+    (r : ReadsOn rest start given ahead kept a b) → IsQuiet (rest_behind rest r.looked_at) ahead kept' b c
     → (first_reply a (lines_completed rest (start ++ given)) ≡ None) × (c ≡ a)
 reading_quiet {rest = rest} {ahead = ahead} {a = a} r q =
     let all = quiet_then rest r.looked_at ahead r.quiet q in
@@ -231,7 +231,7 @@ reading_quiet {rest = rest} {ahead = ahead} {a = a} r q =
 
 -- where the bytes that are ahead, which h has heard, settle a request after those that were looked at, all bytes since the start
 -- settle it
-pub reading_settles : {rest start given : List ℕ} {kept : Kept} {a b : ById Call} (h : Heard) → (r : Reading rest start given h.bytes kept a b)
+pub reading_settles : {rest start given : List ℕ} {kept : Kept} {a b : ById Call} (h : ClientHeard) → (r : ReadsOn rest start given h.bytes kept a b)
     → Settles b (record h { rest = rest_behind rest r.looked_at }) → Settles a (record h { rest = rest; bytes = start ++ given })
 reading_settles {rest = rest} {a = a} h r s =
     subst (λ (zs : List ℕ). Settles a (record h { rest = rest; bytes = zs })) (sym r.order) (settles_then rest r.looked_at h r.quiet s)

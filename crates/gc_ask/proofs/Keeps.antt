@@ -8,20 +8,20 @@ use Rattle.std.proofs.KnownBytes.{Appends-trans, Appends-nil}
 use Rattle.gc_texts.specs.Faults.{run_fault_number}
 use Rattle.gc_texts.specs.declared.fault.RunFault.TheVariants as fault
 use Rattle.gc_lines.proofs.Known.{Appends-is}
-use Rattle.gc_ask.specs.Keeping.{ConnectionEnd, Grows, ServesCallers, caller_line, end_line, end_lines}
+use Rattle.gc_ask.specs.Keeping.{ConnectionEnd, AddsEnds, ServesCallers, caller_line, end_line, end_lines}
 use Rattle.gc_ask.specs.declared.callers.CallerFault.TheVariants.{Socket}
 
 -- where the ends that are known grew by some, and then by others, they grew by both in this order
-pub grows_more : (a b c : Option (List ConnectionEnd)) (xs ys : List ConnectionEnd) → Grows a b xs → Grows b c ys → Grows a c (xs ++ ys)
-grows_more None b c xs ys h k = tt
-grows_more (Some a) None c xs ys h k = absurd h
-grows_more (Some a) (Some b) None xs ys h k = absurd k
-grows_more (Some a) (Some b) (Some c) xs ys h k = k ∙ ap (λ zs. zs ++ ys) h ∙ append_assoc a xs ys
+pub adds_more : (a b c : Option (List ConnectionEnd)) (xs ys : List ConnectionEnd) → AddsEnds a b xs → AddsEnds b c ys → AddsEnds a c (xs ++ ys)
+adds_more None b c xs ys h k = tt
+adds_more (Some a) None c xs ys h k = absurd h
+adds_more (Some a) (Some b) None xs ys h k = absurd k
+adds_more (Some a) (Some b) (Some c) xs ys h k = k ∙ ap (λ zs. zs ++ ys) h ∙ append_assoc a xs ys
 
 -- ends that stayed the same grew by none
-pub grows_none : (a : Option (List ConnectionEnd)) → Grows a a []
-grows_none None = tt
-grows_none (Some a) = sym (append-nil a)
+pub adds_none : (a : Option (List ConnectionEnd)) → AddsEnds a a []
+adds_none None = tt
+adds_none (Some a) = sym (append-nil a)
 
 -- what is written of connections, the first of which has the number n, and of one more is what is written of them, and then what
 -- is written of that one under the next number
@@ -35,27 +35,27 @@ end_lines_append n (first ∷ later) end =
     ∙ sym (append_assoc (end_line n first) (end_lines (n + 1) later) (end_line (n + suc (length later)) end))
 
 -- before anybody is served, `ServesCallers` is true with 0 callers
-pub kept_none : (served : Option (List ConnectionEnd)) (messages : Option (List ℕ)) → ServesCallers 0 true served served messages messages
-kept_none served messages = record {
+pub serves_none : (served : Option (List ConnectionEnd)) (messages : Option (List ℕ)) → ServesCallers 0 true served served messages messages
+serves_none served messages = record {
   ends = [];
   count = refl;
-  served = grows_none served;
+  served = adds_none served;
   lines = λ _. Appends-nil messages;
 }
 
 -- where `ServesCallers` is true with n callers, and one more was served, it is true with n + 1, if `all_written'` says that his line was
 -- written, too. `s0` are the ends known at first, `s1` before this caller, and `s2` after him; `m0` to `m2` are the messages then
-pub kept_more : (n : ℕ) (all_written all_written' : Bool) (s0 s1 s2 : Option (List ConnectionEnd)) (m0 m1 m2 : Option (List ℕ)) (end : ConnectionEnd)
-    → ServesCallers n all_written s0 s1 m0 m1 → Grows s1 s2 (end ∷ []) → (all_written' ≡ true → (all_written ≡ true) × Appends m1 m2 (end_line (n + 1) end))
+pub serves_more : (n : ℕ) (all_written all_written' : Bool) (s0 s1 s2 : Option (List ConnectionEnd)) (m0 m1 m2 : Option (List ℕ)) (end : ConnectionEnd)
+    → ServesCallers n all_written s0 s1 m0 m1 → AddsEnds s1 s2 (end ∷ []) → (all_written' ≡ true → (all_written ≡ true) × Appends m1 m2 (end_line (n + 1) end))
     → ServesCallers (n + 1) all_written' s0 s2 m0 m2
-kept_more n all_written all_written' s0 s1 s2 m0 m1 m2 end kept grew tells =
+serves_more n all_written all_written' s0 s1 s2 m0 m1 m2 end kept grew tells =
     let at : 1 + length kept.ends ≡ n + 1 = omega (arith, kept.count) in
     let text : end_lines 1 kept.ends ++ end_line (n + 1) end ≡ end_lines 1 (kept.ends ++ end ∷ []) =
     ap (λ (m : ℕ). end_lines 1 kept.ends ++ end_line m end) (sym at) ∙ sym (end_lines_append 1 kept.ends end) in
     record {
       ends = kept.ends ++ end ∷ [];
       count = length-append kept.ends (end ∷ []) ∙ ap (λ m. m + 1) kept.count;
-      served = grows_more s0 s1 s2 kept.ends (end ∷ []) kept.served grew;
+      served = adds_more s0 s1 s2 kept.ends (end ∷ []) kept.served grew;
       lines = λ all.
           let t = tells all in
           Appends-is m0 m2 _ _ text (Appends-trans m0 m1 m2 (end_lines 1 kept.ends) (end_line (n + 1) end) (kept.lines t.0) t.1);

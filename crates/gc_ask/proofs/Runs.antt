@@ -1,16 +1,15 @@
 -- What a run over any link is, where the link is remote (somebody other than this program answers at its other end).
 use Rattle.std.proofs.Common.{◌≡◌, ℕ, Bool, true, List, Ok, Err, inl, inr, refl, ap, subst, arith}
-use Rattle.gc_ask.specs.AskRuns.{AskRuns, AsksOver, Seen, written}
-use Rattle.gc_ask.specs.Asking.{Asks, LinkEnd, LinkEnds, WritesPart, Written}
-use Rattle.gc_ask.specs.Links.{no_ports}
-use Rattle.gc_ask.specs.Looping.{AsksAt, BothEnd, RunsAt, SeenAtBoth, seen_at, written_there}
-use Rattle.gc_ask.proofs.Ends.{remote_end, ends_as}
+use Rattle.gc_ask.specs.AskRuns.{AskRuns, AsksAtClient, SeenAtClient, written_at_client}
+use Rattle.gc_ask.specs.Asking.{Asks, LinkResult, UseEnds, WritesPart, Written}
+use Rattle.gc_ask.specs.Looping.{AsksAtBoth, BothEnd, RunsAtBoth, SeenAtBoth, written_at_both}
+use Rattle.gc_ask.proofs.Ends.{at_remote, remote_end, ends_as}
 use Rattle.gc_texts.specs.declared.commands.Command.{Command}
 use Rattle.gc_texts.specs.declared.fault.RunFault.TheVariants.{Read, Write, TooManyReads, LinkClosed, Output, Memory}
 use Rattle.gc_texts.specs.WholeTexts.{Input}
 
 -- `WritesPart` with a condition `over` on the link's end holds with any weaker condition `other`
-writes_part_weaker : (commands : List Command) (given : List ℕ) (w : Written) (over other : LinkEnd → Type 0) → ((r : LinkEnd) → over r → other r)
+writes_part_weaker : (commands : List Command) (given : List ℕ) (w : Written) (over other : LinkResult → Type 0) → ((r : LinkResult) → over r → other r)
     → WritesPart commands given w over → WritesPart commands given w other
 writes_part_weaker commands given w over other so t = record {
   earlier = t.earlier;
@@ -30,8 +29,8 @@ writes_part_weaker commands given w over other so t = record {
 }
 
 -- what was asked over a link (`Asks`) with a condition `over` on the link's end was asked with any weaker condition `other`
-asks_weaker : (is_remote : Bool) (commands : List Command) (given : List ℕ) (w : Written) (over other : LinkEnd → Type 0) → ((r : LinkEnd) → over r → other r)
-    → (r : LinkEnd) → Asks is_remote commands given w over r → Asks is_remote commands given w other r
+asks_weaker : (is_remote : Bool) (commands : List Command) (given : List ℕ) (w : Written) (over other : LinkResult → Type 0) → ((r : LinkResult) → over r → other r)
+    → (r : LinkResult) → Asks is_remote commands given w over r → Asks is_remote commands given w other r
 asks_weaker is_remote commands given w over other so (Ok u) x = x
 asks_weaker is_remote commands given w over other so (Err Read) x = x
 asks_weaker is_remote commands given w over other so (Err LinkClosed) x = x
@@ -40,27 +39,27 @@ asks_weaker is_remote commands given w over other so (Err (Write count part)) x 
 asks_weaker is_remote commands given w over other so (Err Output) x = writes_part_weaker commands given w over other so x
 asks_weaker is_remote commands given w over other so (Err e) x = absurd x
 
--- a run of commands over a remote link is what `AsksOver` says
-pub over_remote : (commands : List Command) (most : ℕ) (old new : Seen) (r : LinkEnd)
-    → AsksAt true commands most (seen_at old.link no_ports old.sink) (seen_at new.link no_ports new.sink) r → AsksOver commands most old new r
+-- a run of commands over a remote link is what `AsksAtClient` says
+pub over_remote : (commands : List Command) (most : ℕ) (old new : SeenAtClient) (r : LinkResult)
+    → AsksAtBoth true commands most (at_remote old) (at_remote new) r → AsksAtClient commands most old new r
 over_remote commands most old new r x = record {
   given = x.given;
   gave = x.gave;
   few = x.few;
-  asks = asks_weaker true commands x.given (written old new) (BothEnd old.link new.link no_ports no_ports) (LinkEnds old.link new.link) (remote_end old.link new.link) r x.asks;
+  asks = asks_weaker true commands x.given (written_at_client old new) (BothEnd (at_remote old) (at_remote new)) (UseEnds old.link new.link) (remote_end old new) r x.asks;
   bound = omega (arith, x.bound);
   too_many = λ is. omega (arith, x.too_many is);
-  ends = ends_as (BothEnd old.link new.link no_ports no_ports) (LinkEnds old.link new.link) (remote_end old.link new.link) old.sink.failed old.sink.failed new.sink.failed refl r x.ends;
+  ends = ends_as (BothEnd (at_remote old) (at_remote new)) (UseEnds old.link new.link) (remote_end old new) old.sink.failed old.sink.failed new.sink.failed refl r x.ends;
 }
 
 -- a run of a text over a remote link is what `AskRuns` says
-pub runs_remote : (text_old text_new : Input) (most : ℕ) (old new : Seen) (r : LinkEnd)
-    → RunsAt true text_old text_new most (seen_at old.link no_ports old.sink) (seen_at new.link no_ports new.sink) r → AskRuns text_old text_new most old new r
+pub runs_remote : (text_old text_new : Input) (most : ℕ) (old new : SeenAtClient) (r : LinkResult)
+    → RunsAtBoth true text_old text_new most (at_remote old) (at_remote new) r → AskRuns text_old text_new most old new r
 runs_remote text_old text_new most old new r (given, gave, few, inl x) = (given, gave, few, inl (x.0, x.1, x.2, ap (λ (s : SeenAtBoth). record { link = s.client; sink = s.sink }) x.3))
 runs_remote text_old text_new most old new r (given, gave, few, inr x) = (given, gave, few, inr (x.0, x.1, over_remote x.0 most old new r x.2))
 
 -- asking commands never ends with `Memory`
-pub no_memory : (is_remote : Bool) (commands : List Command) (most : ℕ) (old new : SeenAtBoth) (r : LinkEnd)
-    → AsksAt is_remote commands most old new r → r ≡ Err Memory → ⊥
+pub no_memory : (is_remote : Bool) (commands : List Command) (most : ℕ) (old new : SeenAtBoth) (r : LinkResult)
+    → AsksAtBoth is_remote commands most old new r → r ≡ Err Memory → ⊥
 no_memory is_remote commands most old new r x is =
-    subst (λ (e : LinkEnd). Asks is_remote commands x.given (written_there old new) (BothEnd old.client new.client old.instrument new.instrument) e) is x.asks
+    subst (λ (e : LinkResult). Asks is_remote commands x.given (written_at_both old new) (BothEnd old new) e) is x.asks

@@ -1,17 +1,18 @@
--- How an instrument whose replies take time answers a frame.
-use Rattle.std.proofs.Common.{◌≡◌, ℕ, List, [], ◌∷◌, ◌++◌, Some, None, true, false, refl, ap, ◌∙◌, append_assoc}
+-- How an instrument whose replies take time answers a frame: as an answerer of lines does, at the moment at which the line came.
+use Rattle.std.proofs.Common.{◌≡◌, ℕ, List, [], ◌∷◌, ◌++◌, true, false}
 use Rattle.gc_lines.specs.Answering.{AppendsAnswer}
-use Rattle.gc_lines.specs.Lines.{with_end}
 use Rattle.gc_lines.specs.declared.frame.Frame.TheVariants.{Line}
+use Rattle.gc_lines.proofs.AnsweringLines.{line_answered, line_unanswered}
 use Rattle.gc_scenes.specs.Slow.{SlowState, HearsLine, HearsSometime}
 
 -- appending a line's reply, and CR LF after it, is how the frame of that line is answered
-pub heard_line : (before after : SlowState) (line : List ℕ) (at : ℕ) (old between new : List ℕ) → AppendsAnswer (HearsLine before line at after) old between true
+pub slowly_answered : (before after : SlowState) (line : List ℕ) (at : ℕ) (old between new : List ℕ) → AppendsAnswer (HearsLine before line at after) old between true
     → new ≡ between ++ 13 ∷ 10 ∷ [] → AppendsAnswer (HearsSometime before (Line (record { items = line })) after) old new true
-heard_line before after line at old between new h e =
-    (with_end h.0, (at, (Some h.0, h.1, refl)), e ∙ ap (λ (xs : List ℕ). xs ++ 13 ∷ 10 ∷ []) h.2 ∙ append_assoc old h.0 (13 ∷ 10 ∷ []))
+slowly_answered before after line at old between new h e =
+    let a = line_answered (λ s l t reply. HearsLine s l at t reply) before after line old between new h e in (a.0, (at, a.1), a.2)
 
 -- the frame of a line without a reply is answered by nothing
-pub unheard_line : (before after : SlowState) (line : List ℕ) (at : ℕ) (old new : List ℕ) → AppendsAnswer (HearsLine before line at after) old new false
+pub slowly_unanswered : (before after : SlowState) (line : List ℕ) (at : ℕ) (old new : List ℕ) → AppendsAnswer (HearsLine before line at after) old new false
     → AppendsAnswer (HearsSometime before (Line (record { items = line })) after) old new false
-unheard_line before after line at old new h = ((at, (None, h.0, refl)), h.1)
+slowly_unanswered before after line at old new h =
+    let a = line_unanswered (λ s l t reply. HearsLine s l at t reply) before after line old new h in ((at, a.0), a.1)

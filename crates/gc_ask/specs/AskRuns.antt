@@ -4,50 +4,50 @@ use Rattle.std.specs.Io.KnownBytes.{Consumes}
 use Rattle.gc_lines.specs.Answering.{Ports, ports_of}
 use Rattle.gc_lines.specs.declared.ports.Source.{Ghosts as Source}
 use Rattle.gc_lines.specs.declared.ports.Sink.{Ghosts as Sink}
-use Rattle.gc_ask.specs.Asking.{AreFresh, Taken, Written, Asks, LinkEnd, LinkEnds, EndsWith, RunsConnected, RunsText, taken_by}
+use Rattle.gc_ask.specs.Asking.{AreFresh, Taken, Written, Asks, LinkResult, UseEnds, EndsWith, RunsConnected, RunsText, taken_by}
 use Rattle.gc_ask.specs.declared.unused.TheConstants.{ROOM}
 use Rattle.gc_texts.specs.WholeTexts.{Input}
 use Rattle.gc_texts.specs.declared.commands.Command.{Command}
 use Rattle.gc_texts.specs.declared.fault.RunFault.{RunFault}
 use Rattle.gc_texts.specs.declared.fault.RunFault.TheVariants.{TooManyReads}
 
--- what is seen of a link, and of the sink of the settlements
-pub record Seen : Type 0 where
+-- what is seen of a link at the client's end, and of the sink of the settlements
+pub record SeenAtClient : Type 0 where
   pub link : Ports
   pub sink : Taken
 
 -- what is seen of a link with these ports, and of this sink of the settlements, by the ghost members of their traits
-abbrev pub seen_of_link : {I O K : Type 0} → Source I → I → Sink O → O → Sink K → K → Seen
+abbrev pub seen_of_link : {I O K : Type 0} → Source I → I → Sink O → O → Sink K → K → SeenAtClient
 seen_of_link of_source source of_sink sink of_told told = record { link = ports_of of_source source of_sink sink; sink = taken_by of_told told }
 
--- what a link and the sink of the settlements had taken before, and have taken now
-abbrev pub written : (old new : Seen) → Written
-written old new = record { link_old = old.link.taken; link_new = new.link.taken; sink_old = old.sink.bytes; sink_new = new.sink.bytes }
+-- what a link and the sink of the settlements had taken before, and have taken now, by what is seen at the client's end
+abbrev pub written_at_client : (old new : SeenAtClient) → Written
+written_at_client old new = record { link_old = old.link.taken; link_new = new.link.taken; sink_old = old.sink.bytes; sink_new = new.sink.bytes }
 
 -- commands were asked over a remote link, in at most `most` reads of it, with this result, which is `TooManyReads` only once these are used up;
 -- `given` is what the link gave meanwhile, at most `ROOM` bytes at each read. Which ports have failed then is as `EndsWith` has it
-pub record AsksOver (commands : List Command) (most : ℕ) (old new : Seen) (result : LinkEnd) : Type 0 where
+pub record AsksAtClient (commands : List Command) (most : ℕ) (old new : SeenAtClient) (result : LinkResult) : Type 0 where
   pub given : List ℕ
   pub gave : Consumes old.link.remaining new.link.remaining given
   pub few : length given ≤ ROOM * (new.link.reads - old.link.reads)
-  pub asks : Asks true commands given (written old new) (LinkEnds old.link new.link) result
+  pub asks : Asks true commands given (written_at_client old new) (UseEnds old.link new.link) result
   pub bound : new.link.reads ≤ old.link.reads + most
   pub too_many : result ≡ Err TooManyReads → new.link.reads ≡ old.link.reads + most
-  pub ends : EndsWith (LinkEnds old.link new.link) old.sink.failed new.sink.failed result
+  pub ends : EndsWith (UseEnds old.link new.link) old.sink.failed new.sink.failed result
 
 -- commands were asked, in at most `most` reads and with this result, over some remote link that was fresh (`AreFresh`)
-pub record AsksOverOne (commands : List Command) (most : ℕ) (old new : Taken) (result : LinkEnd) : Type 0 where
+pub record AsksOverFresh (commands : List Command) (most : ℕ) (old new : Taken) (result : LinkResult) : Type 0 where
   pub before : Ports
   pub after : Ports
   pub fresh : AreFresh before
-  pub asks : AsksOver commands most (record { link = before; sink = old }) (record { link = after; sink = new }) result
+  pub asks : AsksAtClient commands most (record { link = before; sink = old }) (record { link = after; sink = new }) result
 
 -- a run over a source of commands, a link and a sink: the text was refused, and then nothing was read of the link, sent or written; or
 -- its commands were asked
-abbrev pub AskRuns : (text_old text_new : Input) → (most : ℕ) → (old new : Seen) → LinkEnd → Type 0
-AskRuns text_old text_new most old new result = RunsText text_old text_new result (new ≡ old) (λ commands. AsksOver commands most old new result)
+abbrev pub AskRuns : (text_old text_new : Input) → (most : ℕ) → (old new : SeenAtClient) → LinkResult → Type 0
+AskRuns text_old text_new most old new result = RunsText text_old text_new result (new ≡ old) (λ commands. AsksAtClient commands most old new result)
 
 -- a run over a source of commands, a connection that it makes, and a sink (`RunsConnected`), with somebody else at the other end
-abbrev pub AskRunsAt : (unconnected : RunFault → Type 0) → (text_old text_new : Input) → (most : ℕ) → (old new : Taken) → LinkEnd → Type 0
-AskRunsAt unconnected text_old text_new most old new result =
-    RunsConnected unconnected text_old text_new old new result (λ commands. AsksOverOne commands most old new result)
+abbrev pub AskRunsConnected : (unconnected : RunFault → Type 0) → (text_old text_new : Input) → (most : ℕ) → (old new : Taken) → LinkResult → Type 0
+AskRunsConnected unconnected text_old text_new most old new result =
+    RunsConnected unconnected text_old text_new old new result (λ commands. AsksOverFresh commands most old new result)

@@ -31,18 +31,18 @@ abbrev pub waiting_for : ℕ → Command → ById Call
 waiting_for k command = record { next = (k + 1) % IDS; waiting = awaited command ∷ [] }
 
 -- a line that settles a request, and the lines after it
-pub record Reply : Type 0 where
+pub record FirstReply : Type 0 where
   pub line : List ℕ
   pub later : List (List ℕ)
 
 -- the first of the lines that is a reply with the id of a request that waits, with the lines after it; none if there is no such line
-abbrev pub first_reply : ById Call → (came : List (List ℕ)) → Option Reply
+abbrev pub first_reply : ById Call → (came : List (List ℕ)) → Option FirstReply
 first_reply client [] = None
 first_reply client (line ∷ later) = if fits client (heard line) then Some (record { line = line; later = later }) else first_reply client later
 
 -- the settlements after a search for the first reply: those of that reply by the client's rule, and then what `rest` makes of
 -- the lines after it; none where there is no reply
-abbrev pub settled_by : ById Call → (rest : (later : List (List ℕ)) → List (Settlement Call)) → Option Reply → List (Settlement Call)
+abbrev pub settled_by : ById Call → (rest : (later : List (List ℕ)) → List (Settlement Call)) → Option FirstReply → List (Settlement Call)
 settled_by client rest None = []
 settled_by client rest (Some reply) = (hears client reply.line (heard reply.line)).settlements ++ rest reply.later
 
@@ -56,13 +56,13 @@ abbrev pub asked : List Command → (stream : List ℕ) → List (Settlement Cal
 asked commands stream = asked_from 0 commands (lines stream)
 
 -- request k as it is written, with its CR LF
-abbrev pub request_text : (k : ℕ) → Command → List ℕ
-request_text k command = with_end (request_line (Some (k % IDS)) command.call)
+abbrev pub written_request : (k : ℕ) → Command → List ℕ
+written_request k command = with_end (request_line (Some (k % IDS)) command.call)
 
 -- the requests of these commands as they are written, the first of which is request k
-abbrev pub request_texts : (k : ℕ) → List Command → List (List ℕ)
-request_texts k [] = []
-request_texts k (command ∷ later) = request_text k command ∷ request_texts (k + 1) later
+abbrev pub written_requests : (k : ℕ) → List Command → List (List ℕ)
+written_requests k [] = []
+written_requests k (command ∷ later) = written_request k command ∷ written_requests (k + 1) later
 
 -- the settlement of a command that is lost
 abbrev pub lost_of : Command → Settlement Call
@@ -84,14 +84,14 @@ pub record Written : Type 0 where
   pub sink_old : Option (List ℕ)
   pub sink_new : Option (List ℕ)
 
--- how the use of a link ended: well, or with a fault
-abbrev pub LinkEnd : Type 0
-LinkEnd = Result (Unit {0}) RunFault
+-- how a use of a link ended: well, or with a fault
+abbrev pub LinkResult : Type 0
+LinkResult = Result (Unit {0}) RunFault
 
 -- each command was sent and settled, and the sink took the lines of the settlements
 pub record AsksAll (commands : List Command) (given : List ℕ) (w : Written) : Type 0 where
   pub settled : length (asked commands given) ≡ length commands
-  pub sent : Appends w.link_old w.link_new (all_of (request_texts 0 commands))
+  pub sent : Appends w.link_old w.link_new (all_of (written_requests 0 commands))
   pub sink_took : Appends w.sink_old w.sink_new (settlement_lines (asked commands given))
 
 -- what came settles the commands `earlier`; `command`, the one after them, is lost, even where a reply with its id came already.
@@ -108,36 +108,36 @@ pub record LosesOne (commands : List Command) (given : List ℕ) (w : Written) :
 -- remote, what came settles the commands before it, and no more
 pub record StopsAt (is_remote : Bool) (commands : List Command) (given : List ℕ) (w : Written) : Type 0 where
   pub at : LosesOne commands given w
-  pub sent : Appends w.link_old w.link_new (all_of (request_texts 0 (at.earlier ++ at.command ∷ [])))
+  pub sent : Appends w.link_old w.link_new (all_of (written_requests 0 (at.earlier ++ at.command ∷ [])))
   pub no_more : is_remote ≡ true → asked commands given ≡ asked at.earlier given
 
 -- a write was cut, that of a command's request or of the reply to it: the command is lost (`LosesOne`) after `count` others, and of its
 -- request the first `bytes` bytes were sent, or all. Where the link is remote, it was the request, of which `part` bytes were sent, and not all
-pub record IsCut (is_remote : Bool) (commands : List Command) (given : List ℕ) (w : Written) (count part : ℕ) : Type 0 where
+pub record IsCutAt (is_remote : Bool) (commands : List Command) (given : List ℕ) (w : Written) (count part : ℕ) : Type 0 where
   pub at : LosesOne commands given w
   pub count_is : count ≡ length at.earlier
   pub bytes : ℕ
-  pub sent : Appends w.link_old w.link_new (all_of (request_texts 0 at.earlier) ++ take bytes (request_text count at.command))
-  pub cut : is_remote ≡ true → (bytes ≡ part) × (part < length (request_text count at.command))
+  pub sent : Appends w.link_old w.link_new (all_of (written_requests 0 at.earlier) ++ take bytes (written_request count at.command))
+  pub cut : is_remote ≡ true → (bytes ≡ part) × (part < length (written_request count at.command))
 
 -- `next` is the settlement of `command`, after those of `earlier`: where the link ended well, the one by the bytes that came;
 -- else the one that says the command is lost
-abbrev pub IsNext : (earlier : List Command) → (command : Command) → (given : List ℕ) → (next : Settlement Call) → LinkEnd → Type 0
+abbrev pub IsNext : (earlier : List Command) → (command : Command) → (given : List ℕ) → (next : Settlement Call) → LinkResult → Type 0
 IsNext earlier command given next (Ok _) = asked (earlier ++ command ∷ []) given ≡ asked earlier given ++ next ∷ []
 IsNext earlier command given next (Err _) = next ≡ lost_of command
 
 -- the sink failed as it took the line of `next`, the settlement of `command`: it took the lines of the commands `earlier`, and
 -- of this line the first `part` bytes. Of the request of `command` the first `bytes` bytes were sent, or all; `later` weren't
 -- sent. `link` is how the use of the link had ended before; `over e` says what the link's ports are after the end e
-pub record WritesPart (commands : List Command) (given : List ℕ) (w : Written) (over : LinkEnd → Type 0) : Type 0 where
+pub record WritesPart (commands : List Command) (given : List ℕ) (w : Written) (over : LinkResult → Type 0) : Type 0 where
   pub earlier : List Command
   pub command : Command
   pub later : List Command
   pub order : commands ≡ earlier ++ command ∷ later
   pub settled : length (asked earlier given) ≡ length earlier
   pub bytes : ℕ
-  pub sent : Appends w.link_old w.link_new (all_of (request_texts 0 earlier) ++ take bytes (request_text (length earlier) command))
-  pub link : LinkEnd
+  pub sent : Appends w.link_old w.link_new (all_of (written_requests 0 earlier) ++ take bytes (written_request (length earlier) command))
+  pub link : LinkResult
   pub ends : over link
   pub next : Settlement Call
   pub next_is : IsNext earlier command given next link
@@ -147,12 +147,12 @@ pub record WritesPart (commands : List Command) (given : List ℕ) (w : Written)
 
 -- what was asked over a link that gave these bytes, by how asking ended. `is_remote` says that somebody other than this program answers at
 -- the other end, and `over e` what the link's ports are after the end e
-abbrev pub Asks : (is_remote : Bool) → List Command → (given : List ℕ) → Written → (over : LinkEnd → Type 0) → LinkEnd → Type 0
+abbrev pub Asks : (is_remote : Bool) → List Command → (given : List ℕ) → Written → (over : LinkResult → Type 0) → LinkResult → Type 0
 Asks is_remote commands given w over (Ok _) = AsksAll commands given w
 Asks is_remote commands given w over (Err Read) = StopsAt is_remote commands given w
 Asks is_remote commands given w over (Err LinkClosed) = StopsAt is_remote commands given w
 Asks is_remote commands given w over (Err TooManyReads) = StopsAt is_remote commands given w
-Asks is_remote commands given w over (Err (Write count part)) = IsCut is_remote commands given w count part
+Asks is_remote commands given w over (Err (Write count part)) = IsCutAt is_remote commands given w count part
 Asks is_remote commands given w over (Err Output) = WritesPart commands given w over
 Asks is_remote commands given w over (Err _) = ⊥
 
@@ -162,13 +162,13 @@ NoneEnded old new = old.reads < new.reads → new.ended ≡ false
 
 -- the two ports of a link's end after a use that ended with this result. Only with `LinkClosed` was the last read the end of
 -- the input; with `Read` the source has failed, with `Write` the sink; else whether they have failed is as before
-abbrev pub LinkEnds : (old new : Ports) → LinkEnd → Type 0
-LinkEnds old new (Ok _) = NoneEnded (source_of old) (source_of new) × (new.source_failed ≡ old.source_failed) × (new.sink_failed ≡ old.sink_failed)
-LinkEnds old new (Err Read) = NoneEnded (source_of old) (source_of new) × (new.source_failed ≡ true) × (new.sink_failed ≡ old.sink_failed)
-LinkEnds old new (Err (Write _ _)) = NoneEnded (source_of old) (source_of new) × (new.source_failed ≡ old.source_failed) × (new.sink_failed ≡ true)
-LinkEnds old new (Err TooManyReads) = NoneEnded (source_of old) (source_of new) × (new.source_failed ≡ old.source_failed) × (new.sink_failed ≡ old.sink_failed)
-LinkEnds old new (Err LinkClosed) = (old.reads < new.reads) × (new.ended ≡ true) × (new.source_failed ≡ old.source_failed) × (new.sink_failed ≡ old.sink_failed)
-LinkEnds old new (Err _) = ⊥
+abbrev pub UseEnds : (old new : Ports) → LinkResult → Type 0
+UseEnds old new (Ok _) = NoneEnded (source_of old) (source_of new) × (new.source_failed ≡ old.source_failed) × (new.sink_failed ≡ old.sink_failed)
+UseEnds old new (Err Read) = NoneEnded (source_of old) (source_of new) × (new.source_failed ≡ true) × (new.sink_failed ≡ old.sink_failed)
+UseEnds old new (Err (Write _ _)) = NoneEnded (source_of old) (source_of new) × (new.source_failed ≡ old.source_failed) × (new.sink_failed ≡ true)
+UseEnds old new (Err TooManyReads) = NoneEnded (source_of old) (source_of new) × (new.source_failed ≡ old.source_failed) × (new.sink_failed ≡ old.sink_failed)
+UseEnds old new (Err LinkClosed) = (old.reads < new.reads) × (new.ended ≡ true) × (new.source_failed ≡ old.source_failed) × (new.sink_failed ≡ old.sink_failed)
+UseEnds old new (Err _) = ⊥
 
 -- nothing was read of the ports of an end, and none of them has failed
 abbrev pub AreFresh : Ports → Type 0
@@ -176,14 +176,14 @@ AreFresh ports = (ports.reads ≡ 0) × (ports.source_failed ≡ false) × (port
 
 -- which ports have failed, by how asking ended. With `Output` the sink has failed, and `over` holds of some end of the link. With any other
 -- end `over` holds of that end, and whether the sink has failed is as before. `over e` says what the link's ports are after the end e
-abbrev pub EndsWith : (over : LinkEnd → Type 0) → (sink_old sink_new : Bool) → LinkEnd → Type 0
-EndsWith over sink_old sink_new (Err Output) = (sink_new ≡ true) × ((link : LinkEnd) × over link)
+abbrev pub EndsWith : (over : LinkResult → Type 0) → (sink_old sink_new : Bool) → LinkResult → Type 0
+EndsWith over sink_old sink_new (Err Output) = (sink_new ≡ true) × ((link : LinkResult) × over link)
 EndsWith over sink_old sink_new (Ok x) = over (Ok x) × (sink_new ≡ sink_old)
 EndsWith over sink_old sink_new (Err e) = over (Err e) × (sink_new ≡ sink_old)
 
 -- a run over a source of commands, with this result: the text was refused, and `unused` holds; or it gave commands, of which
 -- `claim` holds
-abbrev pub RunsText : (text_old text_new : Input) → LinkEnd → (unused : Type 0) → (claim : List Command → Type 0) → Type 0
+abbrev pub RunsText : (text_old text_new : Input) → LinkResult → (unused : Type 0) → (claim : List Command → Type 0) → Type 0
 RunsText text_old text_new result unused claim = Gave text_old text_new (λ given.
     ((fault : RunFault) × (result ≡ Err fault) × RefusesCommands given text_old text_new fault × unused)
     ⊎ ((commands : List Command) × GivesCommands given text_old text_new commands × claim commands))
@@ -191,7 +191,7 @@ RunsText text_old text_new result unused claim = Gave text_old text_new (λ give
 -- a run over a source of commands, a connection that it makes, and a sink, with this result: the text was refused, or it was read and no
 -- connection could be had, and in both cases nothing was written; or its commands were asked over the connection, as `claim` says.
 -- `unconnected e` says that e is a fault that comes where no connection can be had
-abbrev pub RunsConnected : (unconnected : RunFault → Type 0) → (text_old text_new : Input) → (old new : Taken) → LinkEnd → (claim : List Command → Type 0)
+abbrev pub RunsConnected : (unconnected : RunFault → Type 0) → (text_old text_new : Input) → (old new : Taken) → LinkResult → (claim : List Command → Type 0)
     → Type 0
 RunsConnected unconnected text_old text_new old new result claim = RunsText text_old text_new result (new ≡ old) (λ commands.
     ((fault : RunFault) × (result ≡ Err fault) × unconnected fault × (new ≡ old)) ⊎ claim commands)

@@ -2,7 +2,7 @@
 use Rattle.std.specs.Prelude.{◌≡◌, ℕ, ◌+◌, ◌-◌, ◌^◌, Bool, true, List, [], ◌∷◌, ◌++◌, length, Option, Some, None, Result, Ok, Err, codes}
 use Rattle.std.specs.Fmt.{decimal}
 use Rattle.std.specs.Io.KnownBytes.{Appends}
-use Rattle.gc_lines.specs.Answering.{fault_text}
+use Rattle.gc_lines.specs.Answering.{serve_fault_text}
 use Rattle.gc_lines.specs.declared.served.Served.{Served}
 use Rattle.gc_lines.specs.declared.served.ServeFault.{ServeFault}
 use Rattle.gc_texts.specs.Faults.{run_fault_text}
@@ -16,7 +16,7 @@ ConnectionEnd = Result (Unit {0}) CallerFault
 
 -- a fault as it is printed: an idle connection has no number, because nothing failed
 abbrev pub caller_fault_text : CallerFault → List ℕ
-caller_fault_text (Serving fault) = fault_text fault
+caller_fault_text (Serving fault) = serve_fault_text fault
 caller_fault_text Socket = run_fault_text fault.Socket
 caller_fault_text Idle = codes "idle"
 
@@ -36,10 +36,10 @@ end_lines number (end ∷ later) = end_line number end ++ end_lines (number + 1)
 
 -- some connections ended as `more` says: the ends known now are those known before, followed by these. What was known is known now, too.
 -- Where the ends before aren't known, nothing is said
-abbrev pub Grows : (old new : Option (List ConnectionEnd)) → (more : List ConnectionEnd) → Type 0
-Grows None new more = Unit {0}
-Grows (Some ends) None more = ⊥
-Grows (Some ends) (Some all) more = all ≡ ends ++ more
+abbrev pub AddsEnds : (old new : Option (List ConnectionEnd)) → (more : List ConnectionEnd) → Type 0
+AddsEnds None new more = Unit {0}
+AddsEnds (Some ends) None more = ⊥
+AddsEnds (Some ends) (Some all) more = all ≡ ends ++ more
 
 -- `most` callers were served, whatever became of each. If all lines were written (`all_written`), the messages grew by the line of
 -- each fault, and by nothing else. `old` are the ends of the connections that were served before, and `new` those of all,
@@ -47,7 +47,7 @@ Grows (Some ends) (Some all) more = all ≡ ends ++ more
 pub record ServesCallers (most : ℕ) (all_written : Bool) (old new : Option (List ConnectionEnd)) (messages_old messages_new : Option (List ℕ)) : Type 0 where
   pub ends : List ConnectionEnd
   pub count : length ends ≡ most
-  pub served : Grows old new ends
+  pub served : AddsEnds old new ends
   pub lines : all_written ≡ true → Appends messages_old messages_new (end_lines 1 ends)
 
 -- the end of a connection by the result of serving it

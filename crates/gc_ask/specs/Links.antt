@@ -5,14 +5,16 @@ use Rattle.std.specs.Prelude.{◌≡◌, ℕ, ◌+◌, ◌*◌, ◌-◌, ◌<◌
 use Rattle.std.specs.Borrow.{GName}
 use Rattle.std.specs.Io.KnownBytes.{Appends, Consumes, Keeps}
 use Rattle.gc_lines.specs.Answering.{Ports}
-use Rattle.gc_ask.specs.Asking.{Taken, LinkEnd, LinkEnds, NoneEnded}
+use Rattle.gc_lines.specs.Ports.{TakesFront}
+use Rattle.gc_ask.specs.Asking.{Taken, LinkResult, UseEnds, NoneEnded}
 use Rattle.gc_ask.specs.Looping.{IsOfOneEnd, SeenAtBoth}
 use Rattle.gc_ask.specs.declared.unused.TheConstants.{ROOM}
 use Rattle.gc_texts.specs.WholeTexts.{Input}
+use Rattle.gc_texts.specs.declared.fault.RunFault.{RunFault}
 use Rattle.gc_texts.specs.declared.fault.RunFault.TheVariants.{Read, Write, TooManyReads, LinkClosed}
 
 -- the ghost names of the references that a link holds: of its client's end, and of its instrument's
-pub record Held : Type 0 where
+pub record HeldNames : Type 0 where
   pub client_in : GName
   pub client_out : GName
   pub instrument_in : GName
@@ -30,7 +32,7 @@ ReadsOnce old new given (Err _) = Keeps old.remaining new.remaining × (new.read
 
 -- why reading a source ended, with `after` reads left. Only with `LinkClosed` was the last read the end of the input; with
 -- `Read` the source failed, and a read was left; with `TooManyReads` none was. Without a read `ended` is as before
-abbrev pub ReadEnds : (old new : Input) → (after : ℕ) → LinkEnd → Type 0
+abbrev pub ReadEnds : (old new : Input) → (after : ℕ) → LinkResult → Type 0
 ReadEnds old new after (Ok _) = NoneEnded old new × (new.reads ≡ old.reads → new.ended ≡ old.ended) × (new.failed ≡ old.failed)
 ReadEnds old new after (Err Read) =
     NoneEnded old new × (new.reads ≡ old.reads → new.ended ≡ old.ended) × (0 < after) × (new.failed ≡ true)
@@ -40,57 +42,63 @@ ReadEnds old new after (Err LinkClosed) = (old.reads < new.reads) × (new.ended 
 ReadEnds old new after (Err _) = ⊥
 
 -- the bytes that a read gave, by its result: none after a fault
-abbrev pub given_by : LinkEnd → (given : List ℕ) → List ℕ
-given_by (Ok _) given = given
-given_by (Err _) given = []
+abbrev pub given_unless_failed : LinkResult → (given : List ℕ) → List ℕ
+given_unless_failed (Ok _) given = given
+given_unless_failed (Err _) given = []
 
 -- a source was read once more, if one of `before` reads was left, where `after` are left then. `Ok`: it gave these bytes
-pub record ReadsMore (old new : Input) (given : List ℕ) (before after : ℕ) (result : LinkEnd) : Type 0 where
-  pub gave : Consumes old.remaining new.remaining (given_by result given)
-  pub few : length (given_by result given) ≤ ROOM * (new.reads - old.reads)
+pub record ReadsMore (old new : Input) (given : List ℕ) (before after : ℕ) (result : LinkResult) : Type 0 where
+  pub gave : Consumes old.remaining new.remaining (given_unless_failed result given)
+  pub few : length (given_unless_failed result given) ≤ ROOM * (new.reads - old.reads)
   pub ends : ReadEnds old new after result
   pub reads : new.reads + after ≡ old.reads + before
   pub grows : old.reads ≤ new.reads
   pub spends : OnOk result (after < before)
 
 -- the ports of an end after one step with this result: the reads don't get fewer, and without a read `ended` is as before
-pub record StepEnds (old new : Ports) (result : LinkEnd) : Type 0 where
-  pub ends : LinkEnds old new result
+pub record StepEnds (old new : Ports) (result : LinkResult) : Type 0 where
+  pub ends : UseEnds old new result
   pub same : new.reads ≡ old.reads → new.ended ≡ old.ended
   pub grows : old.reads ≤ new.reads
 
 -- the ports of both ends after one step, which had this result at one of them and went well at the other
-abbrev pub BothStep : (client_old client_new instrument_old instrument_new : Ports) → LinkEnd → Type 0
+abbrev pub BothStep : (client_old client_new instrument_old instrument_new : Ports) → LinkResult → Type 0
 BothStep client_old client_new instrument_old instrument_new result =
     IsOfOneEnd (StepEnds client_old client_new) (StepEnds instrument_old instrument_new) result
 
 -- one step, with this result, took both ends of a link from what was seen of them before (`old`) to what is seen now (`new`)
-abbrev pub SeenStep : (old new : SeenAtBoth) → LinkEnd → Type 0
+abbrev pub SeenStep : (old new : SeenAtBoth) → LinkResult → Type 0
 SeenStep old new = BothStep old.client new.client old.instrument new.instrument
 
--- the text at this place went out whole, or the sink failed and took its first bytes, but not all: the fault has the place and their count
-abbrev pub Sends : (place : ℕ) → (text : List ℕ) → (old new : Taken) → LinkEnd → Type 0
-Sends place text old new (Ok _) = Appends old.bytes new.bytes text × (new.failed ≡ old.failed)
-Sends place text old new (Err (Write count bytes)) =
-    (count ≡ place) × (bytes < length text) × Appends old.bytes new.bytes (take bytes text) × (new.failed ≡ true)
-Sends place text old new (Err _) = ⊥
+-- a write of the text at this place was cut, with this fault, which is `Write`: it has the place, and how many of the text's first bytes
+-- were taken, not all of them
+abbrev pub CutsText : (place : ℕ) → (text : List ℕ) → (old new : Option (List ℕ)) → RunFault → Type 0
+CutsText place text old new (Write count bytes) = (count ≡ place) × TakesFront old new bytes text
+CutsText place text old new _ = ⊥
 
--- what the client's end took as the request at this place was sent, and, unless the link is remote, answered at the other end.
--- `Ok`: all of it. `Write`, whose count is the place: its first bytes, or none or all of them; where the link is remote, as many as
--- the fault says, and not all. Another fault, which a link that is remote never has: all of it
-abbrev pub TakesRequest : (is_remote : Bool) → (place : ℕ) → (text : List ℕ) → (old new : Option (List ℕ)) → LinkEnd → Type 0
+-- the text at this place went out whole, or the sink failed and took its first bytes (`CutsText`)
+abbrev pub Sends : (place : ℕ) → (text : List ℕ) → (old new : Taken) → LinkResult → Type 0
+Sends place text old new (Ok _) = Appends old.bytes new.bytes text × (new.failed ≡ old.failed)
+Sends place text old new (Err fault) = CutsText place text old.bytes new.bytes fault × (new.failed ≡ true)
+
+-- what the client's end took of the request at this place, where this program answers at the other end, and sending or answering had
+-- this fault. `Write`, whose count is the place: its first bytes, or none or all of them. Another fault: all of it
+abbrev pub LeavesUnanswered : (place : ℕ) → (text : List ℕ) → (old new : Option (List ℕ)) → RunFault → Type 0
+LeavesUnanswered place text old new (Write count _) = (count ≡ place) × ((bytes : ℕ) × Appends old new (take bytes text))
+LeavesUnanswered place text old new _ = Appends old new text
+
+-- what the client's end took of the request at this place as it was sent, and, unless the link is remote, answered at the other end:
+-- all of it, or what a fault left
+abbrev pub TakesRequest : (is_remote : Bool) → (place : ℕ) → (text : List ℕ) → (old new : Option (List ℕ)) → LinkResult → Type 0
 TakesRequest is_remote place text old new (Ok _) = Appends old new text
-TakesRequest is_remote place text old new (Err (Write count part)) =
-    (count ≡ place) × ((bytes : ℕ) × Appends old new (take bytes text) × (is_remote ≡ true → (bytes ≡ part) × (part < length text)))
-TakesRequest is_remote place text old new (Err _) = Appends old new text × (is_remote ≡ true → ⊥)
+TakesRequest true place text old new (Err fault) = CutsText place text old new fault
+TakesRequest false place text old new (Err fault) = LeavesUnanswered place text old new fault
 
 -- where the result is `Write`, its count is `place`: that many replies went out whole before the one that was cut
-abbrev pub CountsReplies : (place : ℕ) → LinkEnd → Type 0
+abbrev pub CountsReplies : (place : ℕ) → LinkResult → Type 0
 CountsReplies place (Err (Write count _)) = count ≡ place
 CountsReplies place _ = Unit {0}
 
--- a read of the client's end left all else as it was: what the client's sink took and whether it failed, the instrument's end,
--- and the references held
-abbrev pub OnlyReads : (client_old client_new instrument_old instrument_new : Ports) → (held_old held_new : Held) → Type 0
-OnlyReads client_old client_new instrument_old instrument_new held_old held_new =
-    (client_new.taken ≡ client_old.taken) × (client_new.sink_failed ≡ client_old.sink_failed) × (instrument_new ≡ instrument_old) × (held_new ≡ held_old)
+-- a read of the client's end left its sink as it was: what that took, and whether it failed
+abbrev pub OnlyReads : (old new : Ports) → Type 0
+OnlyReads old new = (new.taken ≡ old.taken) × (new.sink_failed ≡ old.sink_failed)

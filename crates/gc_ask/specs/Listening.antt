@@ -7,7 +7,7 @@ use Rattle.std.specs.Io.KnownBytes.{Appends, Consumes}
 use Rattle.gc_lines.specs.Answering.{Ports}
 use Rattle.gc_lines.specs.Assembler.{Kept, StandsFor}
 use Rattle.gc_lines.specs.Frames.{rest_behind}
-pub use Rattle.gc_lines.specs.Passing.{lines_completed}
+use Rattle.gc_lines.specs.Passing.{lines_completed}
 use Rattle.gc_lines.specs.declared.ports.Sink.{Ghosts as Sink}
 use Rattle.gc_catalogue.specs.declared.call.Call.{Call}
 use Rattle.gc_client.specs.declared.settlement.Settlement.{Settlement}
@@ -16,39 +16,40 @@ use Rattle.gc_client.specs.Settlements.{AreSettlements, settlement_seen}
 use Rattle.gc_texts.specs.Settlements.{lines_from, WrotePartOfSettlements}
 use Rattle.gc_ask.specs.declared.ask.AskState.{AskState}
 use Rattle.gc_ask.specs.declared.client_end.ClientEnd.{ClientEnd}
-use Rattle.gc_ask.specs.declared.link.Link.{Ghosts as Link}
+use Rattle.gc_ask.specs.declared.link.AskedLink.{Ghosts as AskedLink}
 use Rattle.gc_ask.specs.declared.unused.TheConstants.{ROOM}
-use Rattle.gc_ask.specs.Asking.{Written, LinkEnd, taken_by, first_reply, waiting_for, request_text, lost_of}
+use Rattle.gc_ask.specs.Asking.{Written, LinkResult, taken_by, first_reply, waiting_for, written_request, lost_of}
 use Rattle.gc_ask.specs.Links.{BothStep, OnlyReads, SeenStep, TakesRequest}
-use Rattle.gc_ask.specs.Looping.{SeenAtBoth, seen_at, written_there}
+use Rattle.gc_ask.specs.Looping.{SeenAtBoth, seen_at_both, written_at_both}
 use Rattle.gc_texts.specs.declared.commands.Command.{Command}
 use Rattle.gc_texts.specs.declared.fault.RunFault.{RunFault}
 use Rattle.gc_texts.specs.declared.fault.RunFault.TheVariants.{Write, Output}
 
 -- what is seen of this link and of this sink of the settlements, by the ghost members of their traits
-abbrev pub seen_through : {L K : Type 0} → Link L → L → Sink K → K → SeenAtBoth
-seen_through of_link link of_sink sink = seen_at (of_link.client link) (of_link.instrument link) (taken_by of_sink sink)
+abbrev pub seen_through : {L K : Type 0} → AskedLink L → L → Sink K → K → SeenAtBoth
+seen_through of_link link of_sink sink = seen_at_both (of_link.client link) (of_link.instrument link) (taken_by of_sink sink)
 
 -- how many reads of both ends of this link were answered
-abbrev pub reads_of : {L : Type 0} → Link L → L → ℕ
+abbrev pub reads_of : {L : Type 0} → AskedLink L → L → ℕ
 reads_of of_link link = (of_link.client link).reads + (of_link.instrument link).reads
 
 -- what was done took a link from `old` to `new`, and the number of reads that are left from `before` to `after`: the client's
 -- end answered no fewer reads than before, each read that either end answered is one that isn't left any more, and the link
 -- holds the references that it held
-pub record SpendsReads {L : Type 0} (of_link : Link L) (old new : L) (before after : ℕ) : Type 0 where
+pub record SpendsReads {L : Type 0} (of_link : AskedLink L) (old new : L) (before after : ℕ) : Type 0 where
   pub grows : (of_link.client old).reads ≤ (of_link.client new).reads
   pub reads : reads_of of_link new + after ≡ reads_of of_link old + before
   pub held : of_link.held new ≡ of_link.held old
 
 -- one step, with this result, took both ends of a link from `old` to `new`
-abbrev pub LinkSteps : {L : Type 0} → Link L → (old new : L) → LinkEnd → Type 0
+abbrev pub LinkSteps : {L : Type 0} → AskedLink L → (old new : L) → LinkResult → Type 0
 LinkSteps of_link old new result = BothStep (of_link.client old) (of_link.client new) (of_link.instrument old) (of_link.instrument new) result
 
--- what took a link from `old` to `new` only read its client's end
-abbrev pub LinkOnlyReads : {L : Type 0} → Link L → (old new : L) → Type 0
+-- what took a link from `old` to `new` only read its client's end: that end's sink, the instrument's end, and the references held are as
+-- they were
+abbrev pub LinkOnlyReads : {L : Type 0} → AskedLink L → (old new : L) → Type 0
 LinkOnlyReads of_link old new =
-    OnlyReads (of_link.client old) (of_link.client new) (of_link.instrument old) (of_link.instrument new) (of_link.held old) (of_link.held new)
+    OnlyReads (of_link.client old) (of_link.client new) × (of_link.instrument new ≡ of_link.instrument old) × (of_link.held new ≡ of_link.held old)
 
 -- from `old` to `new` nothing was read: what the assembler keeps, the bytes that aren't used yet and the number of reads left are the same
 abbrev pub HasReadNothing : (old new : AskState) → Type 0
@@ -76,7 +77,7 @@ pub record IsQuiet (rest bytes : List ℕ) (kept : Kept) (from to : ById Call) :
 
 -- what a client's end has heard, and its state: the rest of a line, the bytes that came after that rest, those of them that it
 -- hasn't looked at yet, what the assembler keeps, the client by its ids, and what its last reply settled
-pub record Heard : Type 0 where
+pub record ClientHeard : Type 0 where
   pub rest : List ℕ
   pub bytes : List ℕ
   pub left : List ℕ
@@ -85,21 +86,14 @@ pub record Heard : Type 0 where
   pub settled : List (Settlement Call)
 
 -- what this client's end has heard: these bytes after a rest, of which these are left
-abbrev pub heard_by : ClientEnd → (rest bytes left : List ℕ) → Heard
+abbrev pub heard_by : ClientEnd → (rest bytes left : List ℕ) → ClientHeard
 heard_by end rest bytes left =
     record { rest = rest; bytes = bytes; left = left; kept = end.assembler; client = end.client.ids; settled = end.settled.items }
-
--- a link gave some bytes, at most `ROOM` at each read; and whatever rest of a line the assembler had kept, `claim` holds of that
--- rest and these bytes
-abbrev pub Gives : (old new : Ports) → Kept → ((rest given : List ℕ) → Type 0) → Type 0
-Gives old new assembler claim =
-    (given : List ℕ) × Consumes old.remaining new.remaining given
-    × (length given ≤ ROOM * (new.reads - old.reads)) × ((rest : List ℕ) → StandsFor assembler rest → claim rest given)
 
 -- of the lines that came, `line` is the first to settle a request of this client; `front` are those before it, and what is
 -- left of the bytes is after it. The settlements and the client then are those of the client's rule, and the assembler keeps
 -- nothing
-pub record Settles (from : ById Call) (hearing : Heard) : Type 0 where
+pub record Settles (from : ById Call) (hearing : ClientHeard) : Type 0 where
   pub front : List (List ℕ)
   pub line : List ℕ
   pub seen : lines_completed hearing.rest hearing.bytes ≡ front ++ line ∷ lines_completed [] hearing.left
@@ -111,46 +105,55 @@ pub record Settles (from : ById Call) (hearing : Heard) : Type 0 where
   pub client : hearing.client ≡ (hears from line (heard line)).client
 
 -- what is left of a piece of which this many bytes were used; nothing where no number is given
-abbrev pub left_by : (used : Option ℕ) → (piece : List ℕ) → List ℕ
-left_by None piece = []
-left_by (Some used) piece = drop used piece
+abbrev pub left_of_piece : (used : Option ℕ) → (piece : List ℕ) → List ℕ
+left_of_piece None piece = []
+left_of_piece (Some used) piece = drop used piece
 
 -- what the lines of a piece did: none of them settled a request (`None`), or one did (`Some`). The number of bytes that were used
 -- by then plays no part here: what is left after them is in `hearing`
-abbrev pub Listens : ById Call → Heard → Option ℕ → Type 0
+abbrev pub Listens : ById Call → ClientHeard → Option ℕ → Type 0
 Listens from hearing None = IsQuiet hearing.rest hearing.bytes hearing.kept from hearing.client
 Listens from hearing (Some used) = Settles from hearing
 
+-- no line that was heard settles a request of this client
+abbrev pub HearsNone : ById Call → ClientHeard → Type 0
+HearsNone from hearing = first_reply from (lines_completed hearing.rest hearing.bytes) ≡ None
+
 -- how a client's reading for a reply ended. `Ok`: a line settles its request. `Err`: no line that was read does, and the client
 -- is as before
-abbrev pub HearsReply : ById Call → Heard → LinkEnd → Type 0
+abbrev pub HearsReply : ById Call → ClientHeard → LinkResult → Type 0
 HearsReply from hearing (Ok _) = Settles from hearing
-HearsReply from hearing (Err _) = (first_reply from (lines_completed hearing.rest hearing.bytes) ≡ None) × (hearing.client ≡ from)
+HearsReply from hearing (Err _) = HearsNone from hearing × (hearing.client ≡ from)
 
--- a client's end heard what came over a link, and whatever rest of a line its assembler had kept, `claim` holds of all that it heard.
--- `ahead` are the bytes that were read before and not used, and `ahead'` those that aren't used now
-abbrev pub HearsMore : (from to : ClientEnd) → (ahead ahead' : List ℕ) → (client_old client_new : Ports) → (claim : Heard → Type 0) → Type 0
-HearsMore from to ahead ahead' client_old client_new claim =
-    Gives client_old client_new from.assembler (λ rest given. claim (heard_by to rest (ahead ++ given) ahead'))
+-- a client's end heard what came over a link, at most `ROOM` bytes at each read; and whatever rest of a line its assembler had kept,
+-- `claim` holds of all that it heard. `ahead` are the bytes that were read before and not used, and `ahead'` those that aren't used now
+abbrev pub HearsMore : (from to : ClientEnd) → (ahead ahead' : List ℕ) → (old new : Ports) → (claim : ClientHeard → Type 0) → Type 0
+HearsMore from to ahead ahead' old new claim =
+    (given : List ℕ) × Consumes old.remaining new.remaining given × (length given ≤ ROOM * (new.reads - old.reads))
+    × ((rest : List ℕ) → StandsFor from.assembler rest → claim (heard_by to rest (ahead ++ given) ahead'))
 
 -- `HearsMore` of the client's end that asking keeps from one command to the next, with the bytes that it keeps
-abbrev pub HearsOn : (old new : AskState) → (client_old client_new : Ports) → (claim : Heard → Type 0) → Type 0
+abbrev pub HearsOn : (old new : AskState) → (client_old client_new : Ports) → (claim : ClientHeard → Type 0) → Type 0
 HearsOn old new client_old client_new claim = HearsMore old.end new.end old.ahead new.ahead client_old client_new claim
 
 -- a request was sent, and its reply waited for, by how that ended. `Ok`: the request was sent whole, and a line settles it.
 -- `Write`: the request was cut, or the reply at the other end was. Another fault: the request was sent whole, and where the
--- link is remote, no line that came settles it. After each fault the client still waits
-abbrev pub Exchanges : (is_remote : Bool) → (place : ℕ) → Command → Heard → (old new : Option (List ℕ)) → LinkEnd → Type 0
-Exchanges is_remote place command hearing old new (Ok _) = Appends old new (request_text place command) × Settles (waiting_for place command) hearing
-Exchanges is_remote place command hearing old new (Err (Write count part)) =
-    TakesRequest is_remote place (request_text place command) old new (Err (Write count part)) × (hearing.client ≡ waiting_for place command)
-Exchanges is_remote place command hearing old new (Err _) =
-    Appends old new (request_text place command)
-    × (is_remote ≡ true → first_reply (waiting_for place command) (lines_completed hearing.rest hearing.bytes) ≡ None)
-    × (hearing.client ≡ waiting_for place command)
+-- link is remote, no line that came settles it
+abbrev pub SendsAndHears : (is_remote : Bool) → (place : ℕ) → Command → ClientHeard → (old new : Option (List ℕ)) → LinkResult → Type 0
+SendsAndHears is_remote place command hearing old new (Ok _) = Appends old new (written_request place command) × Settles (waiting_for place command) hearing
+SendsAndHears is_remote place command hearing old new (Err (Write count part)) =
+    TakesRequest is_remote place (written_request place command) old new (Err (Write count part))
+SendsAndHears is_remote place command hearing old new (Err _) =
+    Appends old new (written_request place command) × (is_remote ≡ true → HearsNone (waiting_for place command) hearing)
+
+-- an exchange, by how it ended (`SendsAndHears`): after each fault the client still waits
+abbrev pub Exchanges : (is_remote : Bool) → (place : ℕ) → Command → ClientHeard → (old new : Option (List ℕ)) → LinkResult → Type 0
+Exchanges is_remote place command hearing old new (Ok x) = SendsAndHears is_remote place command hearing old new (Ok x)
+Exchanges is_remote place command hearing old new (Err fault) =
+    SendsAndHears is_remote place command hearing old new (Err fault) × (hearing.client ≡ waiting_for place command)
 
 -- an exchange, by how it ended (`Exchanges`), over a link that was `old` before it and is `new` after it
-abbrev pub ExchangesOver : {L : Type 0} → Link L → (place : ℕ) → Command → (from to : AskState) → (old new : L) → LinkEnd → Type 0
+abbrev pub ExchangesOver : {L : Type 0} → AskedLink L → (place : ℕ) → Command → (from to : AskState) → (old new : L) → LinkResult → Type 0
 ExchangesOver of_link place command from to old new result =
     HearsOn from to (of_link.client old) (of_link.client new)
     (λ hearing. Exchanges of_link.is_remote place command hearing (of_link.client old).taken (of_link.client new).taken result)
@@ -158,33 +161,27 @@ ExchangesOver of_link place command from to old new result =
 -- the sink failed as it took the line of a settlement. Where the link had ended well (left case), the request was sent whole, and
 -- that is the settlement by the reply; after a fault of the link (right case), the first bytes of the request were sent, or none
 -- or all of them, and that is the settlement that says the command is lost
-abbrev pub WritesOnePart : (place : ℕ) → Command → Heard → Written → (over : LinkEnd → Type 0) → Type 0
+abbrev pub WritesOnePart : (place : ℕ) → Command → ClientHeard → Written → (over : LinkResult → Type 0) → Type 0
 WritesOnePart place command hearing w over =
-    (over (Ok tt) × Appends w.link_old w.link_new (request_text place command)
+    (over (Ok tt) × Appends w.link_old w.link_new (written_request place command)
     × Settles (waiting_for place command) hearing × WrotePartOfSettlements place (map settlement_seen hearing.settled) w.sink_old w.sink_new)
     ⊎ ((fault : RunFault) × over (Err fault)
-    × ((part : ℕ) × Appends w.link_old w.link_new (take part (request_text place command))
+    × ((part : ℕ) × Appends w.link_old w.link_new (take part (written_request place command))
     × WrotePartOfSettlements place (lost_of command ∷ []) w.sink_old w.sink_new))
 
--- a request was sent, its reply waited for, and its settlement written, by how that ended. `Ok`: a line settles it, and the
--- sink took this settlement. `Write`: the request was cut, or the reply at the other end was. `Output`: the sink failed.
--- Another fault: the request was sent whole, and where the link is remote, no line that came settles it. After each fault but
--- `Output` the sink took the line that says the command is lost
-abbrev pub AsksOne : (is_remote : Bool) → (place : ℕ) → Command → Heard → Written → (over : LinkEnd → Type 0) → LinkEnd → Type 0
-AsksOne is_remote place command hearing w over (Ok _) =
-    Appends w.link_old w.link_new (request_text place command)
-    × Settles (waiting_for place command) hearing × Appends w.sink_old w.sink_new (lines_from place (map settlement_seen hearing.settled))
-AsksOne is_remote place command hearing w over (Err (Write count part)) =
-    TakesRequest is_remote place (request_text place command) w.link_old w.link_new (Err (Write count part))
-    × Appends w.sink_old w.sink_new (lines_from place (lost_of command ∷ []))
+-- a request was sent, its reply waited for (`SendsAndHears`), and its settlement written, by how that ended. `Ok`: the sink took the
+-- settlement by the reply. `Output`: the sink failed. Another fault: the sink took the line that says the command is lost
+abbrev pub AsksOne : (is_remote : Bool) → (place : ℕ) → Command → ClientHeard → Written → (over : LinkResult → Type 0) → LinkResult → Type 0
+AsksOne is_remote place command hearing w over (Ok x) =
+    SendsAndHears is_remote place command hearing w.link_old w.link_new (Ok x)
+    × Appends w.sink_old w.sink_new (lines_from place (map settlement_seen hearing.settled))
 AsksOne is_remote place command hearing w over (Err Output) = WritesOnePart place command hearing w over
-AsksOne is_remote place command hearing w over (Err _) =
-    Appends w.link_old w.link_new (request_text place command)
-    × (is_remote ≡ true → first_reply (waiting_for place command) (lines_completed hearing.rest hearing.bytes) ≡ None)
+AsksOne is_remote place command hearing w over (Err fault) =
+    SendsAndHears is_remote place command hearing w.link_old w.link_new (Err fault)
     × Appends w.sink_old w.sink_new (lines_from place (lost_of command ∷ []))
 
 -- one command was asked, by how that ended (`AsksOne`), over a link and a sink of which `old` was seen before it, and `new`
 -- after it
-abbrev pub AsksOneOver : (is_remote : Bool) → (place : ℕ) → Command → (from to : AskState) → (old new : SeenAtBoth) → LinkEnd → Type 0
+abbrev pub AsksOneOver : (is_remote : Bool) → (place : ℕ) → Command → (from to : AskState) → (old new : SeenAtBoth) → LinkResult → Type 0
 AsksOneOver is_remote place command from to old new result =
-    HearsOn from to old.client new.client (λ hearing. AsksOne is_remote place command hearing (written_there old new) (SeenStep old new) result)
+    HearsOn from to old.client new.client (λ hearing. AsksOne is_remote place command hearing (written_at_both old new) (SeenStep old new) result)

@@ -9,18 +9,12 @@ use Rattle.gc_texts.specs.declared.commands.Command.{Command}
 use Rattle.gc_texts.specs.declared.fault.RunFault.TheVariants.{TooManyReads, Memory, Socket}
 use Rattle.gc_texts.specs.WholeTexts.{Input}
 use Rattle.gc_ask.specs.declared.looped.Duplex.{Duplex}
-use Rattle.gc_ask.specs.Asking.{taken_by, Taken, Written, LinkEnd, AreFresh, Asks, LinkEnds, EndsWith, RunsConnected, RunsText}
+use Rattle.gc_ask.specs.Asking.{taken_by, Taken, Written, LinkResult, AreFresh, Asks, UseEnds, EndsWith, RunsConnected, RunsText}
 use Rattle.gc_ask.specs.declared.unused.TheConstants.{ROOM}
 
 -- one end of a link has this result, and the other ended well: `Client` and `Instrument` say what a result means at each end
-abbrev pub IsOfOneEnd : (Client Instrument : LinkEnd → Type 0) → LinkEnd → Type 0
+abbrev pub IsOfOneEnd : (Client Instrument : LinkResult → Type 0) → LinkResult → Type 0
 IsOfOneEnd Client Instrument result = (Client result × Instrument (Ok tt)) ⊎ (Client (Ok tt) × Instrument result)
-
--- the ports of both ends of a link, by the result of asking over it. At one end they are as `LinkEnds` says for this result, so a fault is
--- a fault of that end; at the other end they are as it says for `Ok`
-abbrev pub BothEnd : (client_old client_new instrument_old instrument_new : Ports) → LinkEnd → Type 0
-BothEnd client_old client_new instrument_old instrument_new result =
-    IsOfOneEnd (LinkEnds client_old client_new) (LinkEnds instrument_old instrument_new) result
 
 -- what is seen of the two ends of a link, and of the sink of the settlements
 pub record SeenAtBoth : Type 0 where
@@ -29,56 +23,61 @@ pub record SeenAtBoth : Type 0 where
   pub sink : Taken
 
 -- what is seen of both ends of a link and of the sink, put together from what is seen of each
-abbrev pub seen_at : (client instrument : Ports) → (sink : Taken) → SeenAtBoth
-seen_at client instrument sink = record { client = client; instrument = instrument; sink = sink }
+abbrev pub seen_at_both : (client instrument : Ports) → (sink : Taken) → SeenAtBoth
+seen_at_both client instrument sink = record { client = client; instrument = instrument; sink = sink }
 
 -- what is seen of the client's source and sink (a and b), the instrument's source and sink (c and d), and the sink of the settlements
 -- (k), by the ghost members of their traits
 abbrev pub seen_of : {A B C D K : Type 0} → Source A → A → Sink B → B → Source C → C → Sink D → D → Sink K → K → SeenAtBoth
-seen_of of_a a of_b b of_c c of_d d of_k k = seen_at (ports_of of_a a of_b b) (ports_of of_c c of_d d) (taken_by of_k k)
+seen_of of_a a of_b b of_c c of_d d of_k k = seen_at_both (ports_of of_a a of_b b) (ports_of of_c c of_d d) (taken_by of_k k)
 
 -- what is seen of these two ends, each with both directions, and of this sink
 abbrev pub seen_over : {A B C D K : Type 0} → Source A → Sink B → Duplex A B → Source C → Sink D → Duplex C D → Sink K → K → SeenAtBoth
 seen_over of_a of_b client of_c of_d instrument of_k k = seen_of of_a client.source of_b client.sink of_c instrument.source of_d instrument.sink of_k k
 
--- what the client's end and the sink had taken before, and have taken now
-abbrev pub written_there : (old new : SeenAtBoth) → Written
-written_there old new = record { link_old = old.client.taken; link_new = new.client.taken; sink_old = old.sink.bytes; sink_new = new.sink.bytes }
+-- the ports of both ends of a link, by the result of asking over it. At one end they are as `UseEnds` says for this result, so
+-- a fault is a fault of that end; at the other end they are as it says for `Ok`
+abbrev pub BothEnd : (old new : SeenAtBoth) → LinkResult → Type 0
+BothEnd old new result = IsOfOneEnd (UseEnds old.client new.client) (UseEnds old.instrument new.instrument) result
+
+-- what the client's end and the sink had taken before, and have taken now, by what is seen at both ends
+abbrev pub written_at_both : (old new : SeenAtBoth) → Written
+written_at_both old new = record { link_old = old.client.taken; link_new = new.client.taken; sink_old = old.sink.bytes; sink_new = new.sink.bytes }
 
 -- commands were asked over a link, in at most `most` reads of both its ends, with this result, which is `TooManyReads` only once these are
 -- used up; `given` is what the client's end gave, at most `ROOM` bytes at each read. Which ports have failed then is as `EndsWith` has it
-pub record AsksAt (is_remote : Bool) (commands : List Command) (most : ℕ) (old new : SeenAtBoth) (result : LinkEnd) : Type 0 where
+pub record AsksAtBoth (is_remote : Bool) (commands : List Command) (most : ℕ) (old new : SeenAtBoth) (result : LinkResult) : Type 0 where
   pub given : List ℕ
   pub gave : Consumes old.client.remaining new.client.remaining given
   pub few : length given ≤ ROOM * (new.client.reads - old.client.reads)
-  pub asks : Asks is_remote commands given (written_there old new) (BothEnd old.client new.client old.instrument new.instrument) result
-  pub ends : EndsWith (BothEnd old.client new.client old.instrument new.instrument) old.sink.failed new.sink.failed result
+  pub asks : Asks is_remote commands given (written_at_both old new) (BothEnd old new) result
+  pub ends : EndsWith (BothEnd old new) old.sink.failed new.sink.failed result
   pub bound : new.client.reads + new.instrument.reads ≤ old.client.reads + old.instrument.reads + most
   pub too_many : result ≡ Err TooManyReads → new.client.reads + new.instrument.reads ≡ old.client.reads + old.instrument.reads + most
 
 -- a run over a source of commands, the two ends of a link and a sink: the text was refused, and then nothing was read of the link, sent or
 -- written; or its commands were asked
-abbrev pub RunsAt : (is_remote : Bool) → (text_old text_new : Input) → (most : ℕ) → (old new : SeenAtBoth) → LinkEnd → Type 0
-RunsAt is_remote text_old text_new most old new result = RunsText text_old text_new result (new ≡ old) (λ commands. AsksAt is_remote commands most old new result)
+abbrev pub RunsAtBoth : (is_remote : Bool) → (text_old text_new : Input) → (most : ℕ) → (old new : SeenAtBoth) → LinkResult → Type 0
+RunsAtBoth is_remote text_old text_new most old new result = RunsText text_old text_new result (new ≡ old) (λ commands. AsksAtBoth is_remote commands most old new result)
 
--- a run over a link with an instrument of this program at its other end (`RunsAt`); where memory was refused, nothing was read of the link,
--- sent or written (`new ≡ old`)
-pub record LoopRuns (text_old text_new : Input) (most : ℕ) (old new : SeenAtBoth) (result : LinkEnd) : Type 0 where
-  pub runs : RunsAt false text_old text_new most old new result
+-- a run over a link with an instrument of this program at its other end (`RunsAtBoth`); where memory was refused, nothing was
+-- read of the link, sent or written (`new ≡ old`)
+pub record LoopRuns (text_old text_new : Input) (most : ℕ) (old new : SeenAtBoth) (result : LinkResult) : Type 0 where
+  pub runs : RunsAtBoth false text_old text_new most old new result
   pub memory : result ≡ Err Memory → new ≡ old
 
 -- commands were asked, in at most `most` reads of both ends and with this result, over some connection with an instrument of this program at
 -- its other end, and both ends of it were fresh (`AreFresh`)
-pub record LoopsOverOne (commands : List Command) (most : ℕ) (old new : Taken) (result : LinkEnd) : Type 0 where
+pub record LoopsOverFresh (commands : List Command) (most : ℕ) (old new : Taken) (result : LinkResult) : Type 0 where
   pub client_before : Ports
   pub client_after : Ports
   pub instrument_before : Ports
   pub instrument_after : Ports
   pub client : AreFresh client_before
   pub instrument : AreFresh instrument_before
-  pub asks : AsksAt false commands most (seen_at client_before instrument_before old) (seen_at client_after instrument_after new) result
+  pub asks : AsksAtBoth false commands most (seen_at_both client_before instrument_before old) (seen_at_both client_after instrument_after new) result
 
 -- a run over a source of commands, a connection that it makes, and a sink (`RunsConnected`), with an instrument of its own at the other end
-abbrev pub LoopRunsAt : (text_old text_new : Input) → (most : ℕ) → (old new : Taken) → LinkEnd → Type 0
-LoopRunsAt text_old text_new most old new result =
-    RunsConnected (λ fault. fault ≡ Socket) text_old text_new old new result (λ commands. LoopsOverOne commands most old new result)
+abbrev pub LoopRunsConnected : (text_old text_new : Input) → (most : ℕ) → (old new : Taken) → LinkResult → Type 0
+LoopRunsConnected text_old text_new most old new result =
+    RunsConnected (λ fault. fault ≡ Socket) text_old text_new old new result (λ commands. LoopsOverFresh commands most old new result)

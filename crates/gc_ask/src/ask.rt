@@ -5,16 +5,16 @@ ghost use Rattle.std.specs.Prelude.{◌≡◌, ◌+◌, ◌≤◌, [], ℕ, List
 ghost use Rattle.gc_lines.specs.Assembler.{StandsFor};
 ghost use Rattle.gc_lines.specs.Lines.{with_end};
 ghost use Rattle.gc_ask.specs.AskRuns.{AskRuns, seen_of_link};
-ghost use Rattle.gc_ask.specs.Asking.{EndsWith, idle, request_text, waiting_for};
+ghost use Rattle.gc_ask.specs.Asking.{EndsWith, idle, written_request, waiting_for};
 ghost use Rattle.gc_ask.specs.Listening.{AsksOneOver, ExchangesOver, HasReadNothing, LinkSteps, SpendsReads};
 ghost use Rattle.gc_ask.specs.Listening.{seen_through};
-ghost use Rattle.gc_ask.specs.Looping.{AsksAt, RunsAt};
+ghost use Rattle.gc_ask.specs.Looping.{AsksAtBoth, RunsAtBoth};
 ghost use Rattle.gc_texts.specs.declared.fault.RunFault.{RunFault};
 ghost use Rattle.gc_texts.specs.declared.text.TheConstants.{TEXT_LIMIT};
 ghost use Rattle.gc_texts.specs.WholeTexts.{input_of};
 
 use crate::client_end::ClientEnd;
-use crate::link::{Link, Remote};
+use crate::link::{AskedLink, Remote};
 use crate::unused::Unused;
 use gc_lines::{Line, Sink, Source};
 use gc_texts::{Command, RunFault, read_command_text, write_settlements};
@@ -50,7 +50,7 @@ impl AskState {
     // No other request waits, so the client doesn't refuse this one.
     fn request(&mut self, place: usize, command: &Command) -> Line
         requires { self.old.end.client.ids ≡ idle place }
-        ensures text { with_end result.items ≡ request_text place command.now }
+        ensures text { with_end result.items ≡ written_request place command.now }
         ensures client { self.new.end.client.ids ≡ waiting_for place command.now }
         ensures same { HasReadNothing self.old self.new }
     {
@@ -67,16 +67,16 @@ impl AskState {
 
     // Sends the command at this place, and waits until it is settled, or the link has a fault, which is returned. After a
     // fault the client still waits for the command's reply.
-    fn exchange<L: Link>(
+    fn exchange<L: AskedLink>(
         &mut self,
         place: usize,
         command: &Command,
         link: &mut L,
     ) -> Result<(), RunFault>
         requires { self.old.end.client.ids ≡ idle place }
-        ensures exchanges { ExchangesOver L.Link place command.now self.old self.new link.old link.new result }
-        ensures ends { LinkSteps L.Link link.old link.new result }
-        ensures spends { SpendsReads L.Link link.old link.new self.old.reads self.new.reads }
+        ensures exchanges { ExchangesOver L.AskedLink place command.now self.old self.new link.old link.new result }
+        ensures ends { LinkSteps L.AskedLink link.old link.new result }
+        ensures spends { SpendsReads L.AskedLink link.old link.new self.old.reads self.new.reads }
         ensures too_many { result ≡ Err RunFault.TooManyReads → self.new.reads ≡ 0 }
     {
         let line = self.request(place, command);
@@ -88,7 +88,7 @@ impl AskState {
 
     // Asks the command at this place, and writes the line of its settlement. After a fault of the link the command is lost, and the line
     // says so. `Err`: the fault of the link, or `Output` if the sink failed, also where the link had a fault before.
-    fn ask<L: Link, K: Sink>(
+    fn ask<L: AskedLink, K: Sink>(
         &mut self,
         place: usize,
         command: &Command,
@@ -98,11 +98,11 @@ impl AskState {
         requires idle { self.old.end.client.ids ≡ idle place }
         requires stands { (rest : List ℕ) × StandsFor self.old.end.assembler rest }
         ensures asks { AsksOneOver L.is_remote place command.now self.old self.new
-            (seen_through L.Link link.old K.Sink sink.old)
-            (seen_through L.Link link.new K.Sink sink.new)
+            (seen_through L.AskedLink link.old K.Sink sink.old)
+            (seen_through L.AskedLink link.new K.Sink sink.new)
             result }
-        ensures ends { EndsWith (LinkSteps L.Link link.old link.new) (K.failed sink.old) (K.failed sink.new) result }
-        ensures spends { SpendsReads L.Link link.old link.new self.old.reads self.new.reads }
+        ensures ends { EndsWith (LinkSteps L.AskedLink link.old link.new) (K.failed sink.old) (K.failed sink.new) result }
+        ensures spends { SpendsReads L.AskedLink link.old link.new self.old.reads self.new.reads }
         ensures too_many { result ≡ Err RunFault.TooManyReads → self.new.reads ≡ 0 }
     {
         match self.exchange(place, command, link) {
@@ -163,22 +163,22 @@ pub fn run_ask<S: Source, I: Source, O: Sink, K: Sink>(
 
 /// Reads the whole command text of a source, and asks its commands over any link, in at most `max_reads` reads of the link's
 /// two ends together. The faults come as `run_ask` says, and those of an instrument's end as `run_loop` says.
-pub(crate) fn run_over<S: Source, L: Link, K: Sink>(
+pub(crate) fn run_over<S: Source, L: AskedLink, K: Sink>(
     alloc: Global,
     commands: &mut S,
     link: &mut L,
     sink: &mut K,
     max_reads: u32,
 ) -> Result<(), RunFault>
-    ensures asks { RunsAt L.is_remote (input_of S.Source commands.old) (input_of S.Source commands.new) max_reads
-        (seen_through L.Link link.old K.Sink sink.old)
-        (seen_through L.Link link.new K.Sink sink.new)
+    ensures asks { RunsAtBoth L.is_remote (input_of S.Source commands.old) (input_of S.Source commands.new) max_reads
+        (seen_through L.AskedLink link.old K.Sink sink.old)
+        (seen_through L.AskedLink link.new K.Sink sink.new)
         result }
     ensures bounded { S.reads commands.new ≤ S.reads commands.old + (TEXT_LIMIT + 1) }
 
     // Where memory was refused, nothing was read of the link, sent or written.
     ensures memory { result ≡ Err RunFault.Memory
-        → seen_through L.Link link.new K.Sink sink.new ≡ seen_through L.Link link.old K.Sink sink.old }
+        → seen_through L.AskedLink link.new K.Sink sink.new ≡ seen_through L.AskedLink link.old K.Sink sink.old }
     ensures held { L.held link.new ≡ L.held link.old }
 {
     let commands = match read_command_text(alloc, commands) {
@@ -190,16 +190,16 @@ pub(crate) fn run_over<S: Source, L: Link, K: Sink>(
 
 /// Asks commands in order, in at most `max_reads` reads of the link's two ends together. It ends at the first fault of the
 /// link or of the sink. The faults come as `run_ask` says, and those of an instrument's end as `run_loop` says.
-pub(crate) fn ask_all<L: Link, K: Sink>(
+pub(crate) fn ask_all<L: AskedLink, K: Sink>(
     commands: &[Command],
     link: &mut L,
     sink: &mut K,
     max_reads: u32,
 ) -> Result<(), RunFault>
     // What the link gave, what the link and the sink took, why the asking ended, and which ports have failed.
-    ensures asks { AsksAt L.is_remote commands.now max_reads
-        (seen_through L.Link link.old K.Sink sink.old)
-        (seen_through L.Link link.new K.Sink sink.new)
+    ensures asks { AsksAtBoth L.is_remote commands.now max_reads
+        (seen_through L.AskedLink link.old K.Sink sink.old)
+        (seen_through L.AskedLink link.new K.Sink sink.new)
         result }
     ensures held { L.held link.new ≡ L.held link.old }
 {

@@ -12,6 +12,9 @@ use std::io::{self, Write};
 use std::thread;
 use std::time::{Clock, Duration, Instant};
 
+/// The most bytes that are kept of what came while the instrument was busy.
+pub(crate) const EARLY_ROOM: usize = 8192;
+
 /// The clock of an instrument whose replies take time. Its moments are milliseconds since it was made.
 ///
 /// The instrument records here until when it is busy, and the writing end of a connection waits until then. The reading end
@@ -25,19 +28,19 @@ pub struct BusyClock {
     // When the last read returned, or when bytes that were handed on from `early` count as having come; 0 before the first
     // read.
     came: Cell<u64>,
-    // Until when the instrument is busy, and whether its reply has still to wait until then.
+    // Until when the instrument is busy.
     until: Cell<u64>,
+    // Whether its reply has still to wait until then.
     waits: Cell<bool>,
     // What came while it was busy, and hasn't been handed on.
     early: RefCell<Early>,
 }
 
-// Bytes that came while the instrument was busy, and how many of them were handed on. It holds 8192 bytes at most.
-// `End::take_in` reads no more at once: further ones wait in the system's buffer, and count as having come when they are
-// read.
+// Bytes that came while the instrument was busy, and how many of them were handed on. `Connection::take_in` reads no more at once
+// than there is room for: further ones wait in the system's buffer, and count as having come when they are read.
 #[derive(Drop)]
 struct Early {
-    bytes: ArrayVec<u8, 8192>,
+    bytes: ArrayVec<u8, EARLY_ROOM>,
     taken: usize,
 }
 

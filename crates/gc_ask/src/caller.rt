@@ -1,11 +1,12 @@
 //! The connection of a caller who is served: the end at which the instrument answers, with its reading and its writing side.
 
-ghost use Rattle.std.specs.Prelude.{◌≤◌, length, IfOk, IfSome};
+ghost use Rattle.std.specs.Io.{ReadsAtMost, WritesAtMost};
+ghost use Rattle.gc_links.specs.Acts.{GivesAtMost};
 
-use crate::busy_clock::BusyClock;
+use crate::busy_clock::{BusyClock, EARLY_ROOM};
 use crate::simulated::{Simulates, serve_anew};
 use gc_instrument::{ServeFault, Served};
-use gc_lines::{PortFailed, Source, ToWriter};
+use gc_lines::{FromReader, ToWriter};
 use gc_links::{Wire, read_stream_within, write_stream};
 use std::io::{self, ErrorKind, Read, Write};
 use std::net::TcpStream;
@@ -14,9 +15,9 @@ use std::time::{Clock, Duration};
 // The most tries of one read: it is tried again each time that it was interrupted.
 const MOST_TRIES: u32 = 1000;
 
-/// The instrument's end of a connection.
+/// The connection of a caller.
 #[derive(Drop)]
-pub(crate) enum End<'a, R> {
+pub(crate) enum Connection<'a, R> {
     /// Over TCP, and how long a read may wait, which the stream's time-out says already; `None`: without end.
     Stream(&'a TcpStream, Option<Duration>),
     /// Over a device.
@@ -32,7 +33,7 @@ pub(crate) struct Ended {
     pub(crate) is_idle: bool,
 }
 
-impl<'a, R: Clock> End<'a, R> {
+impl<'a, R: Clock> Connection<'a, R> {
     /// Serves the caller of this connection, of which nothing was read yet, with the instrument, which is restarted for it, in at
     /// most `max_reads` reads. It sets no time-outs: the connection has them already, or waits without end.
     pub(crate) fn serve<'c, I: Simulates<'c>>(
@@ -42,53 +43,50 @@ impl<'a, R: Clock> End<'a, R> {
         max_reads: u32,
     ) -> Ended {
         let clock = instrument.clock();
-        let mut reader = RequestReader {
+        let mut source = FromReader::new(RequestReader {
             rt,
-            end: self,
+            connection: self,
             clock,
-            answered: 0,
-            at_end: false,
-            broken: false,
             is_idle: false,
-        };
+        });
         let mut writer = ToWriter::new(ReplyWriter {
             rt,
-            end: self,
+            connection: self,
             clock,
         });
-        let served = serve_anew(instrument, &mut reader, &mut writer, max_reads);
+        let served = serve_anew(instrument, &mut source, &mut writer, max_reads);
         Ended {
             served,
-            is_idle: reader.is_idle,
+            is_idle: source.reader().is_idle,
         }
     }
 
     // Reads what comes within about a millisecond; over a device only what has come already. `None`: nothing came, or the read was
     // interrupted. `Some(0)`: the connection has ended. Reads after this one may wait as long as before.
     fn read_soon(&self, buf: &mut [u8]) -> io::Result<Option<usize>>
-        ensures { IfOk result (λ read. IfSome read (λ n. n ≤ length buf.new)) }
+        ensures { GivesAtMost result buf.new }
     {
         match self {
-            End::Stream(stream, longest) => read_stream_within(stream, buf, 1, *longest),
-            End::Device(wire) => wire.read_within(buf, 1),
+            Connection::Stream(stream, longest) => read_stream_within(stream, buf, 1, *longest),
+            Connection::Device(wire) => wire.read_within(buf, 1),
         }
     }
 
     // Reads the connection, waiting until something comes, the connection ends (0) or fails (`Err`), or its time-out has
     // passed (`Err`). A device has no time-out.
     fn read_plain(&self, buf: &mut [u8]) -> io::Result<usize>
-        ensures { IfOk result (λ n. n ≤ length buf.new) }
+        ensures { ReadsAtMost result buf.new }
     {
         match self {
-            End::Stream(stream, _) => read_stream(stream, buf),
-            End::Device(wire) => read_wire(wire, buf),
+            Connection::Stream(stream, _) => read_stream(stream, buf),
+            Connection::Device(wire) => read_wire(wire, buf),
         }
     }
 
     // Reads the connection, and records in the clock when that read returned, also at the end or with `Err`. Bytes that came while the
     // instrument was busy are handed out first, with no read, as `BusyClock::take_early` says.
     fn read_noted(&self, rt: &R, clock: &BusyClock, buf: &mut [u8]) -> io::Result<usize>
-        ensures { IfOk result (λ n. n ≤ length buf.new) }
+        ensures { ReadsAtMost result buf.new }
     {
         let early = clock.take_early(buf);
         if early > 0 {
@@ -101,7 +99,7 @@ impl<'a, R: Clock> End<'a, R> {
 
     // Reads the connection: as `read_noted` does if there is a clock, else as `read_plain` does.
     fn read(&self, rt: &R, clock: Option<&BusyClock>, buf: &mut [u8]) -> io::Result<usize>
-        ensures { IfOk result (λ n. n ≤ length buf.new) }
+        ensures { ReadsAtMost result buf.new }
     {
         match clock {
             Some(clock) => self.read_noted(rt, clock, buf),
@@ -111,19 +109,19 @@ impl<'a, R: Clock> End<'a, R> {
 
     // Writes to the connection, as much as it takes at once.
     fn write_plain(&self, buf: &[u8]) -> io::Result<usize>
-        ensures { IfOk result (λ n. n ≤ length buf.now) }
+        ensures { WritesAtMost result buf.now }
     {
         match self {
-            End::Stream(stream, _) => write_stream(stream, buf),
-            End::Device(wire) => write_wire(wire, buf),
+            Connection::Stream(stream, _) => write_stream(stream, buf),
+            Connection::Device(wire) => write_wire(wire, buf),
         }
     }
 
-    // Moves into the clock what has come while the instrument was busy, until a read brings nothing or fails. It makes at
-    // most 32 reads of at most 256 bytes each: as much as the clock has room for.
+    // Moves into the clock what has come while the instrument was busy, until a read brings nothing or fails, or as many bytes
+    // may have come as the clock has room for.
     fn take_in(&self, clock: &BusyClock) {
         let mut buf = [0u8; 256];
-        for _ in 0..32 {
+        for _ in 0..EARLY_ROOM / 256 {
             match self.read_soon(&mut buf) {
                 Ok(Some(n)) if n > 0 => clock.store_early(&buf[..n]),
                 _ => return,
@@ -137,7 +135,7 @@ impl<'a, R: Clock> End<'a, R> {
 #[derive(Drop)]
 struct ReplyWriter<'a, R> {
     rt: &'a R,
-    end: &'a End<'a, R>,
+    connection: &'a Connection<'a, R>,
     clock: Option<&'a BusyClock>,
 }
 
@@ -148,10 +146,10 @@ impl<'a, R: Clock> Write for ReplyWriter<'a, R> {
     fn write(&mut self, buf: &[u8]) -> io::Result<usize> {
         if let Some(clock) = self.clock {
             if clock.wait(self.rt) && clock.drops() {
-                self.end.take_in(clock);
+                self.connection.take_in(clock);
             }
         }
-        self.end.write_plain(buf)
+        self.connection.write_plain(buf)
     }
 
     fn flush(&mut self) -> io::Result<()> {
@@ -159,63 +157,38 @@ impl<'a, R: Clock> Write for ReplyWriter<'a, R> {
     }
 }
 
-// The reading end of a connection. It stores whether the read that failed had timed out, and for an instrument whose replies
-// take time, of which `clock` is the clock, it records when bytes came.
+// The reading end of a connection. For an instrument whose replies take time, of which `clock` is the clock, it records when
+// bytes came.
 #[derive(Drop)]
 struct RequestReader<'a, R> {
     rt: &'a R,
-    end: &'a End<'a, R>,
+    connection: &'a Connection<'a, R>,
     clock: Option<&'a BusyClock>,
-    // How many reads were answered, and whether the last of them was the end.
-    answered: u64,
-    at_end: bool,
-    // Whether a read failed, and whether that was because it had timed out (`is_time_out`).
-    broken: bool,
+    // Whether the last failed read had timed out (`is_time_out`).
     is_idle: bool,
 }
 
-// `remaining` is `None`: which bytes will come over a connection isn't known. A read fails as one of `FromReader` does: at
-// the first error, once 2^64 - 1 reads were answered, and always after that.
-impl<'a, R: Clock> Source for RequestReader<'a, R> {
+// `remaining` is `None`: which bytes will come over a connection isn't known.
+impl<'a, R: Clock> Read for RequestReader<'a, R> {
     ghost use Rattle.std.specs.Prelude.{None};
 
     ghost remaining = { λ _. None };
 
-    ghost reads = { λ c. c.answered };
-
-    ghost ended = { λ c. c.at_end };
-
-    ghost failed = { λ c. c.broken };
-
-    fn read(&mut self, buf: &mut [u8]) -> Result<usize, PortFailed> {
-        if self.broken || self.answered == u64::MAX {
-            self.broken = true;
-            return Err(PortFailed);
-        }
-        let read = self.end.read(self.rt, self.clock, buf);
-        match read {
-            Ok(n) => {
-                self.answered += 1;
-                self.at_end = n == 0;
-                Ok(n)
-            }
+    fn read(&mut self, buf: &mut [u8]) -> io::Result<usize> {
+        match self.connection.read(self.rt, self.clock, buf) {
+            Ok(n) => Ok(n),
             Err(error) => {
                 self.is_idle = is_time_out(error.kind());
-                self.broken = true;
-                Err(PortFailed)
+                Err(error)
             }
         }
-    }
-
-    fn has_failed(&self) -> bool {
-        self.broken
     }
 }
 
 // Reads a connection over TCP. A read that is interrupted is made again, up to `MOST_TRIES` times in all; after that the error is
 // `Interrupted`. The system interrupts a read with a time-out where the program was stopped and goes on.
 fn read_stream(stream: &TcpStream, buf: &mut [u8]) -> io::Result<usize>
-    ensures { IfOk result (λ n. n ≤ length buf.new) }
+    ensures { ReadsAtMost result buf.new }
 {
     let mut stream = stream;
     for _ in 0..MOST_TRIES {
@@ -230,7 +203,7 @@ fn read_stream(stream: &TcpStream, buf: &mut [u8]) -> io::Result<usize>
 
 // Reads a device.
 fn read_wire<R: Clock>(wire: &Wire<'_, R>, buf: &mut [u8]) -> io::Result<usize>
-    ensures { IfOk result (λ n. n ≤ length buf.new) }
+    ensures { ReadsAtMost result buf.new }
 {
     let mut wire = wire;
     wire.read(buf)
@@ -238,7 +211,7 @@ fn read_wire<R: Clock>(wire: &Wire<'_, R>, buf: &mut [u8]) -> io::Result<usize>
 
 // Writes to a device.
 fn write_wire<R: Clock>(wire: &Wire<'_, R>, buf: &[u8]) -> io::Result<usize>
-    ensures { IfOk result (λ n. n ≤ length buf.now) }
+    ensures { WritesAtMost result buf.now }
 {
     let mut wire = wire;
     wire.write(buf)

@@ -3,7 +3,7 @@
 
 ghost use Rattle.std.specs.Prelude.{◌≡◌, [], ◌∷◌, true, OnOk};
 ghost use Rattle.std.specs.Io.KnownBytes.{Appends};
-ghost use Rattle.gc_ask.specs.Keeping.{Grows, ServesCallers, caller_line, end_line, end_of_caller};
+ghost use Rattle.gc_ask.specs.Keeping.{AddsEnds, ServesCallers, caller_line, end_line, end_of_caller};
 
 use gc_instrument::{ServeFault, Served};
 use gc_texts::RunFault;
@@ -67,7 +67,7 @@ pub trait Callers {
 
     /// Waits for the next caller, and serves the connection to its end. `Err`: a fault came before the end.
     fn serve_next(&mut self) -> Result<(), CallerFault>
-        ensures { Grows (served self.old) (served self.new) (result ∷ []) };
+        ensures { AddsEnds (served self.old) (served self.new) (result ∷ []) };
 }
 
 /// Serves `most` callers, one after the other, and writes the line of each fault on `messages`, where the callers are

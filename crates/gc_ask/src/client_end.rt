@@ -6,10 +6,10 @@ ghost use Rattle.gc_lines.specs.Frames.{line_in};
 ghost use Rattle.gc_lines.specs.Lent.{lent_seen, IsLineWithin};
 ghost use Rattle.gc_ask.specs.Asking.{idle};
 ghost use Rattle.gc_ask.specs.Links.{ReadEnds};
-ghost use Rattle.gc_ask.specs.Listening.{TakesFrame, Listens, left_by, HearsMore, HearsReply, LinkOnlyReads, heard_by};
+ghost use Rattle.gc_ask.specs.Listening.{TakesFrame, Listens, left_of_piece, HearsMore, HearsReply, LinkOnlyReads, heard_by};
 ghost use Rattle.gc_texts.specs.WholeTexts.{source_of};
 
-use crate::link::Link;
+use crate::link::AskedLink;
 use crate::unused::Unused;
 use arrayvec::ArrayVec;
 use gc_catalogue::Call;
@@ -58,7 +58,7 @@ impl ClientEnd {
     fn listen(&mut self, piece: &[u8], cut: &mut Line) -> Option<usize>
         ensures within { IfSome result (λ used. used ≤ length piece.now) }
         ensures listens { (rest : List ℕ) → StandsFor self.old.assembler rest
-            → Listens self.old.client.ids (heard_by self.new rest piece.now (left_by result piece.now)) result }
+            → Listens self.old.client.ids (heard_by self.new rest piece.now (left_of_piece result piece.now)) result }
     {
         let mut at = 0;
         while at < piece.len() {
@@ -74,7 +74,7 @@ impl ClientEnd {
     // Takes the bytes that are left in `ahead`, and then reads a link, at most `reads` times, until a line settles a request that
     // waits, and subtracts from `reads` the reads that were answered. Bytes after that line stay in `ahead` for the next request.
     // The faults are `TooManyReads`, `Read` and `LinkClosed`, as `run_ask` has them; after a fault the request still waits.
-    pub(crate) fn hear_reply<L: Link>(
+    pub(crate) fn hear_reply<L: AskedLink>(
         &mut self,
         link: &mut L,
         ahead: &mut Unused,
@@ -85,7 +85,7 @@ impl ClientEnd {
         ensures grows { (L.client link.old).reads ≤ (L.client link.new).reads }
         ensures reads { (L.client link.new).reads + reads.new ≡ (L.client link.old).reads + reads.old }
         ensures ends { ReadEnds (source_of (L.client link.old)) (source_of (L.client link.new)) reads.new result }
-        ensures only { LinkOnlyReads L.Link link.old link.new }
+        ensures only { LinkOnlyReads L.AskedLink link.old link.new }
     {
         let mut cut = Line::new();
         loop {

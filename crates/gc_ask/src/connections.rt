@@ -1,9 +1,9 @@
 //! Asking and serving over real connections, to their ends. How a connection is made is in `gc_links`.
 
 ghost use Rattle.std.specs.Prelude.{◌≡◌, ◌≤◌};
-ghost use Rattle.gc_ask.specs.AskRuns.{AskRunsAt, AsksOverOne};
+ghost use Rattle.gc_ask.specs.AskRuns.{AskRunsConnected, AsksOverFresh};
 ghost use Rattle.gc_ask.specs.Asking.{taken_by};
-ghost use Rattle.gc_ask.specs.Looping.{LoopRunsAt, LoopsOverOne};
+ghost use Rattle.gc_ask.specs.Looping.{LoopRunsConnected, LoopsOverFresh};
 ghost use Rattle.gc_ask.specs.Places.{IsFaultOfPlace, fault_of_reason, fault_of_unusable};
 ghost use Rattle.gc_texts.specs.Faults.{end_of_serving};
 ghost use Rattle.gc_texts.specs.WholeTexts.{input_of};
@@ -11,7 +11,7 @@ ghost use Rattle.gc_texts.specs.declared.fault.RunFault.{RunFault};
 
 use crate::address::Address;
 use crate::ask::ask_all;
-use crate::caller::End;
+use crate::caller::Connection;
 use crate::instrument_end::InstrumentEnd;
 use crate::link::Remote;
 use crate::looped::Loop;
@@ -48,7 +48,7 @@ pub fn loop_tcp_on<
     sink: &mut K,
     max_reads: u32,
 ) -> Result<(), RunFault>
-    ensures loops { LoopRunsAt (input_of S.Source commands.old) (input_of S.Source commands.new) max_reads
+    ensures loops { LoopRunsConnected (input_of S.Source commands.old) (input_of S.Source commands.new) max_reads
         (taken_by K.Sink sink.old) (taken_by K.Sink sink.new) result }
 {
     let commands = match read_command_text(alloc, commands) {
@@ -78,7 +78,7 @@ fn loop_over<K: Sink, T: Answers + Drop>(
     sink: &mut K,
     max_reads: u32,
 ) -> Result<(), RunFault>
-    ensures { LoopsOverOne commands.now max_reads (taken_by K.Sink sink.old) (taken_by K.Sink sink.new) result }
+    ensures { LoopsOverFresh commands.now max_reads (taken_by K.Sink sink.old) (taken_by K.Sink sink.new) result }
 {
     let mut client_in = FromReader::new(near);
     let mut client_out = ToWriter::new(near);
@@ -103,7 +103,7 @@ pub fn loop_tcp<R: Net<Listener = TcpListener, Stream = TcpStream>, S: Source, K
     sink: &mut K,
     max_reads: u32,
 ) -> Result<(), RunFault>
-    ensures loops { LoopRunsAt (input_of S.Source commands.old) (input_of S.Source commands.new) max_reads
+    ensures loops { LoopRunsConnected (input_of S.Source commands.old) (input_of S.Source commands.new) max_reads
         (taken_by K.Sink sink.old) (taken_by K.Sink sink.new) result }
 {
     loop_tcp_on(
@@ -152,8 +152,8 @@ pub fn serve_on<'c, R: Clock, I: Simulates<'c>>(
         let Ok(stream) = accept(listener) else {
             return Err(RunFault::Socket);
         };
-        let end = End::Stream(&stream, None);
-        let ended = end.serve(rt, instrument, max_reads);
+        let connection = Connection::Stream(&stream, None);
+        let ended = connection.serve(rt, instrument, max_reads);
         end_of_serving(ended.served)?;
     }
     Ok(())
@@ -173,7 +173,7 @@ pub fn ask_tcp<R: Net<Listener = TcpListener, Stream = TcpStream>, S: Source, K:
     max_reads: u32,
 ) -> Result<(), RunFault>
     requires { 1 ≤ port }
-    ensures asks { AskRunsAt (λ fault. fault ≡ RunFault.Socket) (input_of S.Source commands.old) (input_of S.Source commands.new) max_reads
+    ensures asks { AskRunsConnected (λ fault. fault ≡ RunFault.Socket) (input_of S.Source commands.old) (input_of S.Source commands.new) max_reads
         (taken_by K.Sink sink.old) (taken_by K.Sink sink.new) result }
 {
     let commands = match read_command_text(alloc, commands) {
@@ -202,7 +202,7 @@ pub fn ask_at<
     sink: &mut K,
     max_reads: u32,
 ) -> Result<(), RunFault>
-    ensures asks { AskRunsAt IsFaultOfPlace (input_of S.Source commands.old) (input_of S.Source commands.new) max_reads
+    ensures asks { AskRunsConnected IsFaultOfPlace (input_of S.Source commands.old) (input_of S.Source commands.new) max_reads
         (taken_by K.Sink sink.old) (taken_by K.Sink sink.new) result }
 {
     let commands = match read_command_text(alloc, commands) {
@@ -225,7 +225,7 @@ fn ask_over<I: Read + Drop, O: Write + Drop, K: Sink>(
     sink: &mut K,
     max_reads: u32,
 ) -> Result<(), RunFault>
-    ensures { AsksOverOne commands.now max_reads (taken_by K.Sink sink.old) (taken_by K.Sink sink.new) result }
+    ensures { AsksOverFresh commands.now max_reads (taken_by K.Sink sink.old) (taken_by K.Sink sink.new) result }
 {
     let mut source = FromReader::new(reader);
     let mut to = ToWriter::new(writer);

@@ -4,7 +4,7 @@ ghost use Rattle.std.specs.Prelude.{◌≡◌, None, IfErr, IfOk};
 ghost use Rattle.gc_ask.specs.Keeping.{ServesConnections};
 ghost use Rattle.gc_ask.specs.Places.{IsFaultOfDevice};
 
-use crate::caller::End;
+use crate::caller::Connection;
 use crate::callers::{CallerFault, Callers, PAUSE, end_of_caller, keep};
 use crate::connections::{end_of_serving, fault_of_reason, fault_of_unusable};
 use crate::kept_port::Keeping;
@@ -35,8 +35,8 @@ pub fn serve_device<'c, R: Files<File = File> + Clock, I: Simulates<'c>>(
             Ok(wire) => wire,
             Err(reason) => return Err(fault_of_reason(reason)),
         };
-        let end = End::Device(&wire);
-        let ended = end.serve(rt, instrument, max_reads);
+        let connection = Connection::Device(&wire);
+        let ended = connection.serve(rt, instrument, max_reads);
         end_of_serving(ended.served)?;
     }
     Ok(())
@@ -108,8 +108,8 @@ impl<'a, 'c, R: Files<File = File> + Clock, I> DeviceCallers<'a, 'c, R, I> {
     where
         I: Simulates<'c>,
     {
-        let end = End::Device(&wire);
-        let ended = end.serve(self.rt, self.instrument, self.max_reads);
+        let connection = Connection::Device(&wire);
+        let ended = connection.serve(self.rt, self.instrument, self.max_reads);
         end_of_caller(ended.served)
     }
 

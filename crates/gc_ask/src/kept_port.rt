@@ -5,7 +5,7 @@ ghost use Rattle.gc_ask.specs.Keeping.{ServesConnections, most_callers};
 ghost use Rattle.gc_texts.specs.declared.fault.RunFault.{RunFault};
 
 use crate::address::Address;
-use crate::caller::End;
+use crate::caller::Connection;
 use crate::callers::{CallerFault, Callers, PAUSE, end_of_caller, keep};
 use crate::simulated::Simulates;
 use gc_instrument::ServeFault;
@@ -21,7 +21,8 @@ use std::time::{Clock, Duration};
 pub struct Keeping {
     /// How many connections are served. `None`: as many as come.
     pub connections: Option<u32>,
-    /// After how many seconds in which nothing came, or nothing was taken, a connection is closed. 0 counts as 1. A device isn't closed so.
+    /// After how many seconds in which nothing came, or nothing was taken, a connection is closed. 0 counts as 1. A device is
+    /// never closed for that.
     pub idle: u32,
     /// How many reads are made of each connection at most.
     pub max_reads: u32,
@@ -112,8 +113,8 @@ impl<'a, 'c, R: Clock, I: Simulates<'c>> Callers for PortCallers<'a, 'c, R, I> {
         let Ok(()) = bound_waits(&stream, self.idle) else {
             return Err(CallerFault::Socket);
         };
-        let end = End::Stream(&stream, Some(self.idle));
-        let ended = end.serve(self.rt, self.instrument, self.max_reads);
+        let connection = Connection::Stream(&stream, Some(self.idle));
+        let ended = connection.serve(self.rt, self.instrument, self.max_reads);
         match ended.served {
             Err(ServeFault::Read { .. }) if ended.is_idle => Err(CallerFault::Idle),
             served => end_of_caller(served),

@@ -13,10 +13,10 @@ use gc_lines::{Line, Sink, Source, write_line};
 use gc_texts::RunFault;
 
 /// A link that commands are asked over, one after the other.
-pub(crate) trait Link {
+pub(crate) trait AskedLink {
     ghost use Rattle.std.specs.Prelude.{Bool};
     ghost use Rattle.gc_lines.specs.Answering.{Ports};
-    ghost use Rattle.gc_ask.specs.Links.{Held};
+    ghost use Rattle.gc_ask.specs.Links.{HeldNames};
 
     /// Whether somebody other than this program answers at the other end.
     ghost is_remote: { Bool };
@@ -28,7 +28,7 @@ pub(crate) trait Link {
     ghost instrument: { Self → Ports };
 
     /// The references that the link holds. No call changes them, so a caller knows after a call what became of its ports.
-    ghost held: { Self → Held };
+    ghost held: { Self → HeldNames };
 
     /// Sends the request at this place (its number, counted from 0). Where this program answers at the other end, too, it has
     /// the request answered there, in at most `reads` reads, and subtracts from `reads` those that were answered. `Err`: `Write`, or a
@@ -45,7 +45,9 @@ pub(crate) trait Link {
     fn read(&mut self, ahead: &mut Unused, reads: &mut u32) -> Result<(), RunFault>
         ensures more { ReadsMore (source_of (client self.old)) (source_of (client self.new)) ahead.new reads.old reads.new
             result }
-        ensures only { OnlyReads (client self.old) (client self.new) (instrument self.old) (instrument self.new) (held self.old) (held self.new) };
+        ensures only { OnlyReads (client self.old) (client self.new) }
+        ensures instrument { instrument self.new ≡ instrument self.old }
+        ensures held { held self.new ≡ held self.old };
 }
 
 /// A link at whose other end somebody else answers.
@@ -55,7 +57,7 @@ pub(crate) struct Remote<'a, 'b, I, O> {
     pub(crate) sink: &'b mut O,
 }
 
-impl<'a, 'b, I: Source, O: Sink> Link for Remote<'a, 'b, I, O> {
+impl<'a, 'b, I: Source, O: Sink> AskedLink for Remote<'a, 'b, I, O> {
     ghost use Rattle.gc_lines.specs.Answering.{ports_of};
     ghost use Rattle.gc_ask.specs.Links.{no_ports};
 

@@ -6,7 +6,7 @@ ghost use Rattle.gc_texts.specs.WholeTexts.{input_of};
 
 use crate::ask::run_over;
 use crate::instrument_end::InstrumentEnd;
-use crate::link::{Link, send_line};
+use crate::link::{AskedLink, send_line};
 use crate::unused::Unused;
 use gc_instrument::Instrument;
 use gc_lines::{Answers, Line, Sink, Source};
@@ -94,7 +94,7 @@ pub(crate) struct Loop<'a, 'b, 'c, 'd, 'e, A, B, C, D, T> {
     pub(crate) instrument_out: &'d mut D,
 }
 
-impl<'a, 'b, 'c, 'd, 'e, A: Source, B: Sink, C: Source, D: Sink, T: Answers> Link
+impl<'a, 'b, 'c, 'd, 'e, A: Source, B: Sink, C: Source, D: Sink, T: Answers> AskedLink
     for Loop<'a, 'b, 'c, 'd, 'e, A, B, C, D, T> {
     ghost use Rattle.std.specs.Prelude.{false};
 

@@ -8,9 +8,9 @@ pub fn not_found<T>() -> io::Result<T> {
     Err(io::Error::from(ErrorKind::NotFound))
 }
 
-/// The error of a call that comes while another one is still running.
-pub fn in_use() -> io::Error {
-    io::Error::from(ErrorKind::ResourceBusy)
+/// A result, always the error of a call that comes while another one is still running.
+pub fn in_use<T>() -> io::Result<T> {
+    Err(io::Error::from(ErrorKind::ResourceBusy))
 }
 
 /// The port of a listener; 0 if the system doesn't say.

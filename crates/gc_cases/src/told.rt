@@ -97,7 +97,7 @@ impl Told {
     }
 
     /// The number that a word writes. If it writes none of this type, `no number, ` is appended, and the number is 0.
-    pub fn number<T: FromStr + Default + Drop>(&mut self, word: &str) -> T
+    pub fn number_in<T: FromStr + Default + Drop>(&mut self, word: &str) -> T
     where
         T::Err: Drop,
     {

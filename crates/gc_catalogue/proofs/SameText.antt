@@ -7,15 +7,11 @@ use Rattle.std.proofs.lemmas.List.{take-append-drop}
 use Rattle.gc_catalogue.specs.RawTexts.{raw_bytes}
 use Rattle.gc_catalogue.specs.declared.raw_text.RawText.{RawText}
 
--- the places after the first `len` are zeros, 503 - len of them
-abbrev AreZeros : (bytes : List ℕ) → (len : ℕ) → Type 0
-AreZeros bytes len = drop len bytes ≡ replicate (503 - len) 0
-
 -- the facts that a text with these places and this count carries
 record Facts (bytes : List ℕ) (len : ℕ) : Type 0 where
   few : len ≤ 503
   long : length bytes ≡ 503
-  zeros : AreZeros bytes len
+  zeros : drop len bytes ≡ replicate (503 - len) 0
 
 -- the facts of a text
 abbrev facts_of : (t : RawText) → Facts t.bytes t.len

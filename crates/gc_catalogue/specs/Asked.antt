@@ -6,7 +6,7 @@ use Rattle.gc_catalogue.specs.declared.answer.Reading.{Reading}
 use Rattle.gc_catalogue.specs.declared.asked.Asked.{Asked}
 use Rattle.gc_catalogue.specs.declared.asked.Asked.TheVariants.{Table, Raw}
 use Rattle.gc_catalogue.specs.declared.raw.RawCall.{RawCall}
-use Rattle.gc_catalogue.specs.Calls.{IsCall, IsFitting}
+use Rattle.gc_catalogue.specs.Calls.{call_fields, IsCall, IsFitting}
 use Rattle.gc_catalogue.specs.Raws.{IsRawCall, IsRawReading}
 use Rattle.gc_catalogue.specs.RawTexts.{raw_bytes}
 use Rattle.gc_catalogue.specs.Readings.{IsReading}
@@ -23,6 +23,11 @@ raw_request id raw = record { rpc = raw.rpc; id = id; params = raw_params raw }
 -- the line of the request for a procedure that isn't in the table, with an id or without one
 abbrev pub raw_line : Option ℕ → RawCall → List ℕ
 raw_line id raw = request_text (raw_request id raw)
+
+-- the number of the procedure that is asked for
+abbrev pub procedure_of : Asked → ℕ
+procedure_of (Table call) = (call_fields call).number
+procedure_of (Raw raw) = raw.rpc
 
 -- the fields of the request for what is asked, with an id or without one
 abbrev pub asked_request : Option ℕ → Asked → RequestFields

@@ -1,12 +1,12 @@
 //! What is asked of an instrument: a call of the table, or a procedure that isn't in it.
 
-ghost use Rattle.std.specs.Prelude.{◌≡◌, ◌+◌, ◌≤◌, ◌<◌, ◌++◌, Some, None, IfSome};
+ghost use Rattle.std.specs.Prelude.{◌≡◌, ◌+◌, ◌≤◌, ◌<◌, ◌++◌, Some, IfSome};
 ghost use Rattle.std.specs.Option.{ForSome};
 ghost use Rattle.arrayvec.specs.ArrayVec.{array_vec_len};
 ghost use Rattle.gc_lines.specs.Lines.{IsPlain};
 ghost use Rattle.gc_lines.specs.Replies.{reply_seen};
 ghost use Rattle.gc_values.specs.declared.fault.ValueFault.{ValueFault};
-ghost use Rattle.gc_catalogue.specs.Asked.{asked_line, asked_request, is_of_table, raw_line, raw_params, IsAsked, IsAskedFitting, IsAskedReading};
+ghost use Rattle.gc_catalogue.specs.Asked.{asked_line, is_of_table, procedure_of, raw_line, raw_params, IsAsked, IsAskedFitting, IsAskedReading};
 ghost use Rattle.gc_catalogue.specs.AskedLaws.{ReadsBackAsked};
 ghost use Rattle.gc_catalogue.specs.Raws.{IsRawCall, IsRawReading};
 ghost use Rattle.gc_catalogue.specs.declared.answer.Reading.{Reading};
@@ -56,7 +56,7 @@ impl Asked {
 
     /// The number of the procedure that is asked for.
     pub fn number(&self) -> u16
-        ensures { result ≡ (asked_request None self.now).rpc }
+        ensures { result ≡ procedure_of self.now }
     {
         match self {
             Asked::Table(call) => call.number(),
@@ -112,12 +112,12 @@ pub fn decode_asked(request: &Request<'_>) -> Option<Asked>
     ensures found { IfSome result (λ asked. IsAsked request.now.rpc request.now.params.now asked) }
     ensures only { (asked : Asked) → IsAsked request.now.rpc request.now.params.now asked → result ≡ Some asked }
 {
-    match decode_call(request) {
-        Ok(call) => Some(Asked::Table(call)),
-        Err(_) => match raw_call(request.rpc, request.params) {
-            Ok(raw) => Some(Asked::Raw(raw)),
-            Err(_) => None,
-        },
+    if let Ok(call) = decode_call(request) {
+        return Some(Asked::Table(call));
+    }
+    match raw_call(request.rpc, request.params) {
+        Ok(raw) => Some(Asked::Raw(raw)),
+        Err(_) => None,
     }
 }
 
@@ -161,7 +161,7 @@ impl Asking for Asked {
 
     ghost says = { IsAskedReading };
 
-    ghost fits = { IsAskedFitting };
+    ghost is_fitting = { IsAskedFitting };
 
     #[inline(always)]
     fn blank() -> Asked {

@@ -33,7 +33,7 @@ pub trait Asking: Copy + Drop {
     ghost says: { Self → ReplyFields → Reading → Type 0 };
 
     /// The values of the request are within their ranges.
-    ghost fits: { Self → Type 0 };
+    ghost is_fitting: { Self → Type 0 };
 
     /// A value for a place in which nothing has been put yet.
     fn blank() -> Self
@@ -45,7 +45,7 @@ pub trait Asking: Copy + Drop {
         requires room { array_vec_len out.old + 512 ≤ 512 }
         ensures line { out.new.items ≡ out.old.items ++ line id self.now }
         ensures plain { IsPlain (line id self.now) }
-        ensures fitting { fits self.now };
+        ensures fitting { is_fitting self.now };
 
     /// Reads what a reply says in answer to this request, into `reading`.
     fn read_into(&self, reply: &Reply<'_>, reading: &mut Reading)
@@ -59,7 +59,7 @@ impl Asking for Call {
 
     ghost says = { IsReading };
 
-    ghost fits = { IsFitting };
+    ghost is_fitting = { IsFitting };
 
     #[inline(always)]
     fn blank() -> Call {

@@ -43,8 +43,8 @@ impl Call {
         }
     }
 
-    // How many parameters the call's procedure has.
-    fn parameter_count(&self) -> u8
+    // How many values the call has, one for each parameter of its procedure.
+    fn value_count(&self) -> u8
         ensures { result ≡ length (call_fields self.now).values }
     {
         match self {
@@ -92,7 +92,7 @@ pub fn parameter_count(rpc: u16) -> u8
     ensures none { IsNoProcedure rpc → result ≡ 0 }
 {
     match call_with_number(rpc) {
-        Some(call) => call.parameter_count(),
+        Some(call) => call.value_count(),
         None => 0,
     }
 }

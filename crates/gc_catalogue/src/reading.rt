@@ -13,9 +13,9 @@ use crate::call::{Call, DateTime, Station};
 use gc_values::Parameters;
 
 /// Reads the parameters of the procedure with this number, and makes a call of them in `call`. It returns `false` if no procedure
-/// has the number; `call` may then be any call. `true` doesn't say that the parameters were read: for one that wasn't, a zero of
-/// its kind (or `false`) stands in the call. Whether all were, and none is left, `Quick::is_done` or `Listed::finish` says
-/// afterwards.
+/// has the number; `call` may then be any call. Otherwise it returns `true`, also if a parameter couldn't be read: the call has a
+/// zero of its kind (or `false`) then. `Quick::is_done` or `Listed::finish` says afterwards whether all parameters were read, and
+/// none is left.
 pub(crate) fn read_row<P: Parameters>(rpc: u16, params: &mut P, call: &mut Call) -> bool
     ensures found { IsTrue result → (call_fields call.new).number ≡ rpc }
     ensures row { IsTrue result → ReadsRow P.Parameters params.old params.new (call_fields call.new).values }
@@ -129,9 +129,9 @@ fn read_fine_adjust<P: Parameters>(params: &mut P, call: &mut Call)
     };
 }
 
-/// Reads the values of an answer of this shape, and makes an answer of them in `answer`. As in `read_row`, a zero (or an empty
-/// string) stands in it for each value that wasn't read. Whether all were, and none is left, `Quick::is_done` or `Listed::finish`
-/// says afterwards.
+/// Reads the values of an answer of this shape, and makes an answer of them in `answer`. As in `read_row`, the answer has a zero
+/// (or an empty string) for each value that couldn't be read, and `Quick::is_done` or `Listed::finish` says afterwards whether all
+/// were, and none is left.
 pub(crate) fn read_answer_row<P: Parameters>(shape: Shape, params: &mut P, answer: &mut Answer)
     ensures found { (answer_fields answer.new).shape ≡ shape }
     ensures row { ReadsRow P.Parameters params.old params.new (answer_fields answer.new).values }

@@ -114,8 +114,6 @@ pub fn decode_call(request: &Request<'_>) -> Result<Call, CallFault>
     ensures exactly { GivesRefusalOf request.now result }
 {
     let mut call = Call::NullProc;
-    match decode_call_into(request, &mut call) {
-        Ok(()) => Ok(call),
-        Err(fault) => Err(fault),
-    }
+    decode_call_into(request, &mut call)?;
+    Ok(call)
 }

@@ -7,7 +7,7 @@ use Rattle.gc_lines.specs.Replies.{ReplyFields, IsReply}
 use Rattle.gc_lines.specs.Readers.{reply_at}
 use Rattle.gc_lines.proofs.Replies.{reply_found, reply_again}
 use Rattle.gc_client.specs.Rule.{ById, place, place_in, heard, id_in}
-use Rattle.gc_client.specs.Ids.{id_at, FitsWaiting, IdsDiffer, IdsHavePlaces, SendKeepsIds, SettlingKeepsIds, HearsByGrammar}
+use Rattle.gc_client.specs.Ids.{id_at_place, FitsWaiting, IdsDiffer, IdsHavePlaces, SendKeepsIds, SettlingKeepsIds, HearsByGrammar}
 
 -- where the next id is below 8 and fewer than seven requests wait, a request that is sent has the next id, and the others keep
 -- theirs
@@ -24,11 +24,11 @@ settling next waiting few count k below = omega arith
 
 -- where the next id is below 8, and at most seven requests wait, `place` gives k for the id of the request at place k, where one
 -- waits
-place_back : (next waiting k : ℕ) → next < 8 → waiting ≤ 7 → k < waiting → place next waiting (id_at next waiting k) ≡ k
+place_back : (next waiting k : ℕ) → next < 8 → waiting ≤ 7 → k < waiting → place next waiting (id_at_place next waiting k) ≡ k
 place_back next waiting k digit few below = omega arith
 
 -- where the next id is below 8, and at most seven requests wait, the place that `place` gives for an id below 8 has this id
-pub id_back : (next waiting id : ℕ) → next < 8 → waiting ≤ 7 → id < 8 → id_at next waiting (place next waiting id) ≡ id
+pub id_back : (next waiting id : ℕ) → next < 8 → waiting ≤ 7 → id < 8 → id_at_place next waiting (place next waiting id) ≡ id
 id_back next waiting id digit few below = omega arith
 
 -- in a client within its limits the id of each request that waits leads back to its place

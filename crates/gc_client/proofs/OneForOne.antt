@@ -1,11 +1,11 @@
--- A course is what has come so far: the sends that weren't refused, the settlements, and the client. It is one for one where
--- the settled requests, and after them those that wait, are the requests that were sent. Every course that begins with a new
--- client is one for one.
+-- A course is what has come so far: the sends that weren't refused, the settlements, and the client. It accounts for its sends
+-- where the settled requests, and after them those that wait, are the requests that were sent. Every course that begins with a
+-- new client does.
 use Rattle.std.proofs.Common.{◌≡◌, ℕ, zero, suc, ◌+◌, ◌<◌, Bool, true, false, List, [], ◌∷◌, ◌++◌, length, map, drop, Option, Some, None, refl, sym, ap, ◌∙◌, arith, append_assoc, ltb, eqb}
 use Rattle.std.proofs.lemmas.List.{map-append, append-nil}
 use Rattle.gc_client.specs.declared.pending.Pending.{Pending}
-use Rattle.gc_client.specs.Rule.{Settled, ById, expired, lost, settle, place, heard, id_send, id_settled, hears, restarts}
-use Rattle.gc_client.specs.OneForOne.{Step, Send, Hear, Expire, Restart, Course, of_settled, of_pending, begun, sent_on, settled_on, course_after, course, IsOneForOne}
+use Rattle.gc_client.specs.Rule.{Settled, ById, expired, lost, settle, place, heard, send_unless_full, settles_at, hears, restarts}
+use Rattle.gc_client.specs.OneForOne.{Step, Send, Hear, Expire, Restart, Course, of_settled, of_pending, begun, sent_on, settled_on, course_after, course, AccountsForSends}
 
 -- where a request waits at place k, settling through place k settles k + 1 requests
 pub length-settle : {Q : Type 0} (k : ℕ) (line : List ℕ) (ps : List (Pending Q)) → k < length ps → length (settle k line ps) ≡ k + 1
@@ -33,7 +33,7 @@ expired_parts now (p ∷ ps) = ap (λ qs. of_pending p ∷ qs) (expired_parts no
 -- the requests that a reply to place k settles, if it settles any (b is true), and after them those that then wait, are those
 -- that waited before
 reply_parts : {Q : Type 0} (c : ById Q) (line : List ℕ) (k : ℕ) (b : Bool)
-    → map of_settled (id_settled c line k b).settlements ++ map of_pending (id_settled c line k b).client.waiting ≡ map of_pending c.waiting
+    → map of_settled (settles_at c line k b).settlements ++ map of_pending (settles_at c line k b).client.waiting ≡ map of_pending c.waiting
 reply_parts c line k false = refl
 reply_parts c line k true = ap (λ n. map of_settled (settle k line c.waiting) ++ map of_pending (drop n c.waiting)) (let e : k + 1 ≡ suc k = omega arith in e) ∙ settle_parts k line c.waiting
 
@@ -44,35 +44,35 @@ pub heard_parts : {Q : Type 0} (c : ById Q) (line : List ℕ) (o : Option ℕ)
 heard_parts c line None = refl
 heard_parts c line (Some id) = reply_parts c line (place c.next (length c.waiting) id) (ltb (place c.next (length c.waiting) id) (length c.waiting))
 
--- a course that is one for one still is after a send, also after one that is refused (`full`)
-sent_keeps : {Q : Type 0} (x : Course Q) (target : ℕ) (call : Q) (deadline : ℕ) (full : Bool) → IsOneForOne x
-    → IsOneForOne (sent_on x target call (id_send x.client target call deadline full))
+-- a course that accounts for its sends still does after a send, also after one that is refused (`full`)
+sent_keeps : {Q : Type 0} (x : Course Q) (target : ℕ) (call : Q) (deadline : ℕ) (full : Bool) → AccountsForSends x
+    → AccountsForSends (sent_on x target call (send_unless_full x.client target call deadline full))
 sent_keeps x target call deadline true h = h
 sent_keeps x target call deadline false h =
     simp map-append (sym (append_assoc (map of_settled x.settlements) (map of_pending x.client.waiting) _) ∙ ap (λ l. l ++ record { target = target; call = call } ∷ []) h)
 
--- a course that is one for one still is after a settling, where the requests settled, and after them those that then wait, are
--- those that waited before
+-- a course that accounts for its sends still does after a settling, where the requests settled, and after them those that then
+-- wait, are those that waited before
 settled_keeps : {Q : Type 0} (x : Course Q) (s : Settled Q (ById Q))
-    → map of_settled s.settlements ++ map of_pending s.client.waiting ≡ map of_pending x.client.waiting → IsOneForOne x
-    → IsOneForOne (settled_on x s)
+    → map of_settled s.settlements ++ map of_pending s.client.waiting ≡ map of_pending x.client.waiting → AccountsForSends x
+    → AccountsForSends (settled_on x s)
 settled_keeps x s parts h = pieces ∙ ap (λ l. map of_settled x.settlements ++ l) parts ∙ h where
   -- all settled requests and those that wait are those settled before, and then those settled now with those that wait
   pieces : map of_settled (x.settlements ++ s.settlements) ++ map of_pending s.client.waiting ≡ map of_settled x.settlements ++ (map of_settled s.settlements ++ map of_pending s.client.waiting)
   pieces = simp (map-append, append_assoc)
 
--- a course that is one for one still is after any step
-step_keeps : {Q : Type 0} (width : ℕ) (x : Course Q) (step : Step Q) → IsOneForOne x → IsOneForOne (course_after width x step)
+-- a course that accounts for its sends still does after any step
+step_keeps : {Q : Type 0} (width : ℕ) (x : Course Q) (step : Step Q) → AccountsForSends x → AccountsForSends (course_after width x step)
 step_keeps width x (Send target call deadline) h = sent_keeps x target call deadline (eqb (length x.client.waiting) width) h
 step_keeps width x (Hear line) h = settled_keeps x (hears x.client line (heard line)) (heard_parts x.client line (heard line)) h
 step_keeps width x (Expire now) h = ap (λ l. map of_settled x.settlements ++ l) (expired_parts now x.client.waiting) ∙ h
 step_keeps width x Restart h = settled_keeps x (restarts x.client) (append-nil _ ∙ lost_parts x.client.waiting) h
 
--- a course that is one for one still is after any steps, one after the other
-steps_keep : {Q : Type 0} (width : ℕ) (x : Course Q) (steps : List (Step Q)) → IsOneForOne x → IsOneForOne (course width x steps)
+-- a course that accounts for its sends still does after any steps, one after the other
+steps_keep : {Q : Type 0} (width : ℕ) (x : Course Q) (steps : List (Step Q)) → AccountsForSends x → AccountsForSends (course width x steps)
 steps_keep width x [] h = h
 steps_keep width x (step ∷ steps) h = steps_keep width (course_after width x step) steps (step_keeps width x step h)
 
--- the course of a new client is one for one after any steps
-pub one_for_one : {Q : Type 0} (width : ℕ) (steps : List (Step Q)) → IsOneForOne (course width begun steps)
-one_for_one width steps = steps_keep width begun steps refl
+-- the course of a new client accounts for its sends after any steps
+pub accounts_for_sends : {Q : Type 0} (width : ℕ) (steps : List (Step Q)) → AccountsForSends (course width begun steps)
+accounts_for_sends width steps = steps_keep width begun steps refl

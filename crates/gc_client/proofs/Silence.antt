@@ -15,8 +15,8 @@ ours_by_grammar line = (λ b. heard_is_reply (heard line) refl b, λ is. ap is_s
       let found = (heard_by_grammar line).only id e in
       record { reply = found.0; id = id; is_reply = found.1; has_id = found.2 }
 
--- Let two lists of lines do the same to every client. Then they still do with one more line in front: before the first list
--- always, before the second only if an id is heard in the line.
+-- where two lists of lines do the same to every client, they still do once a line is put in front of the first, and in front of
+-- the second only if an id is heard in the line
 one_more_line : {Q : Type 0} (c : ById Q) (line : List ℕ) (lines kept : List (List ℕ)) (h : Option ℕ) → heard line ≡ h
     → ((d : ById Q) → hears_all d lines ≡ hears_all d kept)
     → hears_all c (line ∷ lines) ≡ hears_all c (if is_some h then line ∷ kept else kept)

@@ -12,7 +12,7 @@ use Rattle.gc_client.specs.declared.heard.Hearing.{Hearing}
 use Rattle.gc_client.specs.declared.heard.Hearing.TheVariants as kind
 use Rattle.gc_lines.specs.declared.fault.LineFault.TheVariants.{TooLong}
 use Rattle.gc_client.specs.declared.heard.Heard.TheVariants.{Settled, Stray, Unread}
-use Rattle.gc_client.specs.Rule.{ById, Windowed, heard, fits, hears, id_settled, lost}
+use Rattle.gc_client.specs.Rule.{ById, Windowed, heard, fits, hears_line, settles_at, lost}
 use Rattle.gc_client.specs.Settlements.{Says, AreSettledBy}
 
 -- the settlements in what a client reports of a line
@@ -42,11 +42,11 @@ HearsAs old line report new = HearsInto old line (hearing_of report) (settlement
 -- these settlements are those that the rule makes of the line in the client `old`. By the relation `says` an answer's reading is
 -- that of its line
 abbrev pub AreSettledByLine : {Q : Type 0} → Says Q → ById Q → (line : List ℕ) → List (Settlement Q) → Type 0
-AreSettledByLine says old line settlements = AreSettledBy says settlements (hears old line (heard line)).settlements
+AreSettledByLine says old line settlements = AreSettledBy says settlements (hears_line old line).settlements
 
 -- the client `new` is what the rule makes of `old` by the line
 abbrev pub IsAfterLine : {Q : Type 0} → (old : Windowed Q) → (line : List ℕ) → (new : Windowed Q) → Type 0
-IsAfterLine old line new = new ≡ record old { ids = (hears old.ids line (heard line)).client }
+IsAfterLine old line new = new ≡ record old { ids = (hears_line old.ids line).client }
 
 -- the line, which isn't overlong, is this reply, and the request that waits at place k of the client is the one that it is for
 pub record FitsAt {Q : Type 0} (c : ById Q) (k : ℕ) (reply : ReplyFields) (line : List ℕ) : Type 0 where
@@ -60,8 +60,8 @@ pub record FitsAt {Q : Type 0} (c : ById Q) (k : ℕ) (reply : ReplyFields) (lin
 -- (`HearsInto`)
 pub record ChangesNothing {Q : Type 0} (c : ById Q) (line : List ℕ) (hearing : Hearing) : Type 0 where
   pub reported : HearsInto c line hearing [] c
-  pub none : (hears c line (heard line)).settlements ≡ []
-  pub same : (hears c line (heard line)).client ≡ c
+  pub none : (hears_line c line).settlements ≡ []
+  pub same : (hears_line c line).client ≡ c
 
 -- a line is reported as too long, with no settlements, and the client `new` is `old`
 abbrev pub ReportsTooLong : {Q : Type 0} → Hearing → List (Settlement Q) → (old new : Windowed Q) → Type 0
@@ -70,11 +70,11 @@ ReportsTooLong hearing settlements old new = (hearing ≡ kind.Unread TooLong) �
 -- where a request of the client waits at place k: these settlements are those of the requests before it, as lost, and then that
 -- of this request, by the line. By the relation `says` an answer's reading is that of its line
 abbrev pub AreSettledAt : {Q : Type 0} → Says Q → ById Q → (line : List ℕ) → (k : ℕ) → List (Settlement Q) → Type 0
-AreSettledAt says old line k settlements = AreSettledBy says settlements (id_settled old line k true).settlements
+AreSettledAt says old line k settlements = AreSettledBy says settlements (settles_at old line k true).settlements
 
 -- the client `new` is what is left of `old` when its request at place k, and those before it, are settled by the line
 abbrev pub IsAfterSettling : {Q : Type 0} → (old : Windowed Q) → (line : List ℕ) → (k : ℕ) → (new : Windowed Q) → Type 0
-IsAfterSettling old line k new = new ≡ record old { ids = (id_settled old.ids line k true).client }
+IsAfterSettling old line k new = new ≡ record old { ids = (settles_at old.ids line k true).client }
 
 -- the first `count` settlements are those of the first `count` requests as lost; `says` is the relation of replies and their
 -- readings

@@ -2,7 +2,7 @@
 -- that wait, are the requests that were sent, in order, each once.
 use Rattle.std.specs.Prelude.{◌≡◌, ℕ, List, [], ◌∷◌, ◌++◌, map, Option, Some, None}
 use Rattle.gc_client.specs.declared.pending.Pending.{Pending}
-use Rattle.gc_client.specs.Rule.{Settlement, Settled, Sending, ById, fresh, sends, heard, hears, expires, restarts}
+use Rattle.gc_client.specs.Rule.{Settlement, Settled, Sending, ById, fresh, sends, hears_line, expires, restarts}
 
 -- what a client is asked to do: a send, taking a line of any origin, timing out at a moment, or a restart
 pub data Step (Q : Type 0) : Type 0 where
@@ -54,7 +54,7 @@ settled_on x s = record { sent = x.sent; settlements = x.settlements ++ s.settle
 -- the course after one step, by the client's rule with a window of this width
 abbrev pub course_after : {Q : Type 0} → (width : ℕ) → Course Q → Step Q → Course Q
 course_after width x (Send target call deadline) = sent_on x target call (sends width x.client target call deadline)
-course_after width x (Hear line) = settled_on x (hears x.client line (heard line))
+course_after width x (Hear line) = settled_on x (hears_line x.client line)
 course_after width x (Expire now) = record { sent = x.sent; settlements = x.settlements; client = expires x.client now }
 course_after width x Restart = settled_on x (restarts x.client)
 
@@ -63,6 +63,7 @@ abbrev pub course : {Q : Type 0} → (width : ℕ) → Course Q → List (Step Q
 course width x [] = x
 course width x (step ∷ steps) = course width (course_after width x step) steps
 
--- the settlements so far, and after them the requests that wait, are the sends that weren't refused
-abbrev pub IsOneForOne : {Q : Type 0} → Course Q → Type 0
-IsOneForOne x = map of_settled x.settlements ++ map of_pending x.client.waiting ≡ x.sent
+-- a course accounts for its sends: the settlements so far, and after them the requests that wait, are the sends that weren't
+-- refused, in order, each once
+abbrev pub AccountsForSends : {Q : Type 0} → Course Q → Type 0
+AccountsForSends x = map of_settled x.settlements ++ map of_pending x.client.waiting ≡ x.sent

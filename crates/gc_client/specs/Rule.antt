@@ -130,9 +130,9 @@ heard line = id_in (reply_at line)
 
 -- what a send gives, by whether the window is full: if it is (true), none, which is a refusal, and else the request's id and the
 -- client after the send
-abbrev pub id_send : {Q : Type 0} → ById Q → (target : ℕ) → Q → (deadline : ℕ) → (full : Bool) → Option (Sending (ById Q))
-id_send c target call deadline true = None
-id_send c target call deadline false =
+abbrev pub send_unless_full : {Q : Type 0} → ById Q → (target : ℕ) → Q → (deadline : ℕ) → (full : Bool) → Option (Sending (ById Q))
+send_unless_full c target call deadline true = None
+send_unless_full c target call deadline false =
     Some (record {
       id = c.next;
       client = record { next = (c.next + 1) % IDS; waiting = c.waiting ++ pending_of target call deadline ∷ [] };
@@ -141,7 +141,7 @@ id_send c target call deadline false =
 -- what a send gives: none, which is a refusal, where as many requests wait as the window is wide, and else the request's id and
 -- the client after the send
 abbrev pub sends : {Q : Type 0} → (width : ℕ) → ById Q → (target : ℕ) → Q → (deadline : ℕ) → Option (Sending (ById Q))
-sends width c target call deadline = id_send c target call deadline (nat_eq (length c.waiting) width)
+sends width c target call deadline = send_unless_full c target call deadline (nat_eq (length c.waiting) width)
 
 -- the rule accepts a send of this call to this target, with this deadline, and takes what the client stores (`ids`) from that in
 -- `old` to that in `new`. `line` is the request line with the id that was next, where `line_of` gives the request line of a call,
@@ -162,9 +162,9 @@ IsFull c = length c.ids.waiting ≡ c.width
 
 -- what a reply line does, by the place k of its id. If a request waits at that place (true), it is settled by the line, and those
 -- before it as lost. If none does (false), nothing changes
-abbrev pub id_settled : {Q : Type 0} → ById Q → (line : List ℕ) → (k : ℕ) → (waits : Bool) → Settled Q (ById Q)
-id_settled c line k false = record { settlements = []; client = c }
-id_settled c line k true = record {
+abbrev pub settles_at : {Q : Type 0} → ById Q → (line : List ℕ) → (k : ℕ) → (waits : Bool) → Settled Q (ById Q)
+settles_at c line k false = record { settlements = []; client = c }
+settles_at c line k true = record {
   settlements = settle k line c.waiting;
   client = record { next = c.next; waiting = drop (k + 1) c.waiting };
 }
@@ -172,7 +172,11 @@ id_settled c line k true = record {
 -- what a line with this id settles, and the client after it; a line without an id settles nothing
 abbrev pub hears : {Q : Type 0} → ById Q → (line : List ℕ) → (id : Option ℕ) → Settled Q (ById Q)
 hears c line None = record { settlements = []; client = c }
-hears c line (Some id) = id_settled c line (place_in c id) (nat_lt (place_in c id) (length c.waiting))
+hears c line (Some id) = settles_at c line (place_in c id) (nat_lt (place_in c id) (length c.waiting))
+
+-- what a line settles, by the id that is heard in it, and the client after it
+abbrev pub hears_line : {Q : Type 0} → ById Q → (line : List ℕ) → Settled Q (ById Q)
+hears_line c line = hears c line (heard line)
 
 -- the client after this moment: each request whose deadline is at most the moment has timed out, and goes on waiting
 abbrev pub expires : {Q : Type 0} → ById Q → (now : ℕ) → ById Q

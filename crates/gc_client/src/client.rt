@@ -282,7 +282,7 @@ impl<W: Window> Client<W> {
         ensures first { self.old.ids.waiting ≡ [] → IsOk result }
         ensures width { self.new.width ≡ self.old.width }
         ensures plain { IfOk result (λ line. IsPlain line.items) }
-        ensures fitting { OnOk result (W.Asked.fits call) }
+        ensures fitting { OnOk result (W.Asked.is_fitting call) }
     {
         let mut line = Line::new();
         self.send_into(target, &call, deadline, &mut line)?;
@@ -305,7 +305,7 @@ impl<W: Window> Client<W> {
         ensures first { self.old.ids.waiting ≡ [] → IsOk result }
         ensures width { self.new.width ≡ self.old.width }
         ensures plain { OnOk result (IsPlain line.new.items) }
-        ensures fitting { OnOk result (W.Asked.fits call.now) }
+        ensures fitting { OnOk result (W.Asked.is_fitting call.now) }
     {
         if self.window.len() == usize::from(self.width) {
             return Err(WindowFull);

@@ -6,7 +6,7 @@ ghost use Rattle.gc_client.specs.declared.window.TheConstants.{WINDOW, IDS};
 ghost use Rattle.gc_client.specs.Rule.{ById};
 ghost use Rattle.gc_client.specs.Ids.{FitsWaiting, IdsDiffer, IdsHavePlaces, SendKeepsIds, SettlingKeepsIds, HearsByGrammar};
 ghost use Rattle.gc_client.specs.Silence.{IsReplyWithId, is_ours, IgnoresForeign};
-ghost use Rattle.gc_client.specs.OneForOne.{Step, begun, course, IsOneForOne};
+ghost use Rattle.gc_client.specs.OneForOne.{Step, begun, course, AccountsForSends};
 
 /// The widest window lets seven requests wait, and there are eight ids.
 pub fn limits()
@@ -43,5 +43,5 @@ pub fn foreign_lines_are_silent<Q>()
 /// From a new client on, over every list of sends, lines of any origin, times and restarts: the settlements so far, followed by
 /// the outstanding requests, are the sends that weren't refused, with their targets and calls, in order, each once.
 pub fn settles_one_for_one<Q>()
-    ensures { (width : ℕ) (steps : List (Step Q)) → IsOneForOne (course width begun steps) }
+    ensures { (width : ℕ) (steps : List (Step Q)) → AccountsForSends (course width begun steps) }
 {}

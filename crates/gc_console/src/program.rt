@@ -35,8 +35,8 @@ use std::time::Clock;
 /// line, and for some faults more, unless they are closed; and 2 for words that don't parse, or that ask for what can't be done.
 /// Where `words` is an error, that is reported: with status 1 if memory ran out, and else with status 2.
 ///
-/// `Err`: the lines of a fault, or those on why the words are refused, couldn't be written. A station that measures loses such
-/// lines without an error, and any other message that can't be written is lost so, too.
+/// `Err`: the lines of a fault, or those on why the words are refused, couldn't be written. Any other message that can't be
+/// written is lost without an error, and so are the lines of a fault of a station that measures.
 ///
 /// `standard` says which of the three streams are open. If one isn't, `station`, `ask` and `loop` only report it, and `serve`
 /// fills its place.
@@ -56,7 +56,7 @@ pub fn run_program<
 {
     match all_words(alloc, words) {
         Ok(words) => run_words(rt, alloc, standard, words, streams),
-        Err(error) => refuse_words(&error, &mut streams.messages),
+        Err(error) => refuse_unreadable(&error, &mut streams.messages),
     }
 }
 
@@ -272,7 +272,7 @@ fn answer_words<O: Write, E: Write>(
         return report_out_of_memory(messages);
     }
     if error.use_stderr() {
-        return refuse(error, reads, messages);
+        return refuse_unparsed(error, reads, messages);
     }
     show(error, output, messages)
 }
@@ -301,7 +301,7 @@ fn reads_a_text(words: &[String]) -> bool {
 
 // Writes why a command line doesn't parse. If an argument is unknown, and the subcommand reads a text (`reads`), a tip follows:
 // the text comes on standard input. The status is 2.
-fn refuse<E: Write>(error: &Error, reads: bool, messages: &mut E) -> io::Result<ExitCode>
+fn refuse_unparsed<E: Write>(error: &Error, reads: bool, messages: &mut E) -> io::Result<ExitCode>
     ensures { IfOk result (λ status. exit_status status ≡ 2) }
 {
     write!(messages, "{error}")?;
@@ -320,7 +320,7 @@ fn all_words(alloc: Global, words: io::Result<Args>) -> io::Result<Vec<String>> 
 }
 
 // Reports that the words couldn't be read: with status 2 if one isn't UTF-8, and with status 1 if memory ran out.
-fn refuse_words<E: Write>(error: &io::Error, messages: &mut E) -> io::Result<ExitCode>
+fn refuse_unreadable<E: Write>(error: &io::Error, messages: &mut E) -> io::Result<ExitCode>
     ensures refused { IfOk result (λ status. 1 ≤ exit_status status) }
     ensures bound { IfOk result (λ status. exit_status status ≤ 2) }
 {

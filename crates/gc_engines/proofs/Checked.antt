@@ -14,7 +14,7 @@ use Rattle.gc_lines.specs.declared.served.Served.{Served}
 use Rattle.gc_lines.specs.declared.served.ServeFault.{ServeFault}
 use Rattle.gc_lines.specs.declared.served.ServeFault.TheVariants.{Read, Write, TooManyReads}
 use Rattle.gc_lines.proofs.InOrder.{in_order_then, in_order_one}
-use Rattle.gc_engines.specs.Verdicts.{IsVerdict, AreVerdicts, verdict_line, verdict_lines_from, AreLinesOf}
+use Rattle.gc_engines.specs.Verdicts.{IsVerdict, AreVerdicts, verdict_line, verdict_lines_from, AreFrameVerdicts}
 use Rattle.gc_engines.specs.Checking.{WritesVerdictOn, JudgesFrame, WritesAll, WritesPart, Checks}
 use Rattle.gc_engines.specs.declared.check.Judge.{Judge}
 use Rattle.gc_engines.specs.declared.verdict.Verdict.{Verdict}
@@ -94,9 +94,9 @@ judged s t (Overlong ∷ later) texts n at few ended h = subst (Judged n (Overlo
 judged s t (More ∷ later) texts n at few ended h = absurd ended
 
 -- ended frames that were judged from the first on got the lines of their verdicts, if they are fewer than 2 ^ 64
-lines_of : (s t : Judge) (seen : List Frame) (texts : List (List ℕ)) → s.frames ≡ 0 → length seen < 2 ^ 64 → AreEnded seen
-    → AnswersInOrder Judge Frame JudgesFrame s seen t texts → AreLinesOf seen texts
-lines_of s t seen texts at few ended h =
+verdicts_of : (s t : Judge) (seen : List Frame) (texts : List (List ℕ)) → s.frames ≡ 0 → length seen < 2 ^ 64 → AreEnded seen
+    → AnswersInOrder Judge Frame JudgesFrame s seen t texts → AreFrameVerdicts seen texts
+verdicts_of s t seen texts at few ended h =
     let k = judged s t seen texts 0 at (omega (arith, few)) ended h in
     record { verdicts = k.verdicts; are = k.are; numbered = k.numbered }
 
@@ -105,10 +105,10 @@ lines_of s t seen texts at few ended h =
 module _
     (s t : Judge) (given : List ℕ) (a b : Option (List ℕ)) (count : ℕ) (at : s.frames ≡ 0) (few : length given < 2 ^ 64) where
   -- where all frames were judged, and the lines of their verdicts went out, the check is as `WritesAll` has it
-  all_checked : AnswersAll JudgesFrame (progress s a 0) (progress t b count) (frames given) → WritesAll AreLinesOf (frames given) a b 0 count
+  all_checked : AnswersAll JudgesFrame (progress s a 0) (progress t b count) (frames given) → WritesAll AreFrameVerdicts (frames given) a b 0 count
   all_checked all = record {
     texts = all.texts;
-    are = lines_of s t (frames given) all.texts at (omega (arith, few, few_frames given)) (ended_pieces (pieces_behind [] given)) all.answers;
+    are = verdicts_of s t (frames given) all.texts at (omega (arith, few, few_frames given)) (ended_pieces (pieces_behind [] given)) all.answers;
     counts = omega (arith, all.counts);
     took = all.took;
   }
@@ -116,7 +116,7 @@ module _
   -- where the first frames were judged, and the lines of their verdicts went out, but of the last line only a front that isn't all
   -- of it, the check is as `WritesPart` has it
   part_checked : (bytes : ℕ) → AnswersPart JudgesFrame (progress s a 0) (progress t b count) (frames given) bytes
-      → WritesPart AreLinesOf (frames given) a b 0 count bytes
+      → WritesPart AreFrameVerdicts (frames given) a b 0 count bytes
   part_checked bytes part =
       let seen = part.earlier ++ part.frame ∷ [] in
       let order : frames given ≡ seen ++ part.later = part.order ∙ sym (append_assoc part.earlier (part.frame ∷ []) part.later) in
@@ -128,7 +128,7 @@ module _
         order = order;
         whole = part.texts;
         line = part.text;
-        are = lines_of s t seen (part.texts ++ part.text ∷ []) at fewer ended
+        are = verdicts_of s t seen (part.texts ++ part.text ∷ []) at fewer ended
             (in_order_then JudgesFrame s part.state t part.earlier (part.frame ∷ []) part.texts (part.text ∷ []) part.answers
             (in_order_one JudgesFrame part.state t part.frame (Some part.text) part.gives));
         counts = omega (arith, part.counts);

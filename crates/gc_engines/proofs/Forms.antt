@@ -5,7 +5,8 @@ use Rattle.gc_catalogue.specs.declared.call.Call.{Call}
 use Rattle.gc_world.specs.declared.event.Event.{Event}
 use Rattle.gc_world.specs.declared.event.Event.TheVariants.{Send}
 use Rattle.gc_texts.specs.Cuts.{Cuts}
-use Rattle.gc_texts.specs.Procedures.{IsNumber, IsProcedure}
+use Rattle.gc_texts.specs.Procedures.{IsNumber, IsProcedureText, IsTarget}
+use Rattle.gc_texts.specs.Troubles.{NoNumber, NoTarget}
 use Rattle.gc_texts.specs.LineForms.{IsReadAs}
 use Rattle.gc_texts.proofs.Cutting.{read_alike}
 use Rattle.std.proofs.lemmas.Option.{same_Some}
@@ -23,22 +24,22 @@ numbered_is word line rest max r e =
 -- the parts of a text that requests a call, with a target (t), a deadline (d), and a procedure with its parameters
 module _ (text : List ℕ) (t : ℕ) (call : Call) (d : ℕ) (r : IsRequested text t call d) where
   -- what stands before the first space is a target, a number of 32 bits
-  pub has_target : (target rest : List ℕ) → Cuts 32 text target (Some rest) → ((n : ℕ) → IsNumber target n 4294967295 → ⊥) → ⊥
+  pub has_target : (target rest : List ℕ) → Cuts 32 text target (Some rest) → NoTarget target → ⊥
   has_target target rest cut none =
-      none t (subst (λ (ds : List ℕ). IsNumber ds t 4294967295) (sym (first_cut text r.parts target (Some rest) cut).0) r.target_is)
+      none t (subst (λ (ds : List ℕ). IsTarget ds t) (sym (first_cut text r.parts target (Some rest) cut).0) r.target_is)
 
   -- what stands between the first two spaces is a deadline, a number of 64 bits
   pub has_deadline : (target rest deadline : List ℕ) (behind : Option (List ℕ)) → Cuts 32 text target (Some rest) → Cuts 32 rest deadline behind
-      → ((n : ℕ) → IsNumber deadline n 18446744073709551615 → ⊥) → ⊥
+      → NoNumber deadline 18446744073709551615 → ⊥
   has_deadline target rest deadline behind cut next none =
       none d (subst (λ (ds : List ℕ). IsNumber ds d 18446744073709551615) (sym (second_cut text r.parts target rest deadline behind cut next).0) r.deadline_is)
 
   -- what stands after the second space is a procedure and its parameters
   pub has_procedure : (target rest deadline procedure : List ℕ) → Cuts 32 text target (Some rest) → Cuts 32 rest deadline (Some procedure)
-      → ((c : Call) → IsProcedure procedure c → ⊥) → ⊥
+      → ((c : Call) → IsProcedureText procedure c → ⊥) → ⊥
   has_procedure target rest deadline procedure cut next none =
       let same = same_Some procedure r.parts.third (second_cut text r.parts target rest deadline (Some procedure) cut next).1 in
-      none call (subst (λ (p : List ℕ). IsProcedure p call) (sym same) r.procedure_is)
+      none call (subst (λ (p : List ℕ). IsProcedureText p call) (sym same) r.procedure_is)
 
 -- where a line is `send ` and `rest`, and `event` is the send that `rest` requests, the line has the form of the event
 pub send_is : (word line rest : List ℕ) (event : Event) → word ≡ codes "send " → line ≡ word ++ rest → SendsRequested rest event → IsEvent line event

@@ -13,7 +13,7 @@ use Rattle.gc_lines.specs.Ports.{TakesFront}
 use Rattle.gc_lines.proofs.Cutting.{pieces-append, rest-append}
 use Rattle.gc_lines.proofs.InOrder.{all_of-append}
 use Rattle.gc_lines.proofs.Known.{Appends-is}
-use Rattle.gc_texts.proofs.TextLines.{AreItems-append}
+use Rattle.gc_texts.proofs.TextLines.{AreLinesOf-append}
 use Rattle.gc_engines.specs.LogChecking.{IsLogVerdict, AreLogVerdicts, KeepsLine, TakesPiece, TakesPieceInPart, WritesVerdicts, WritesVerdictsInPart}
 use Rattle.gc_engines.specs.declared.check_log.LogCheck.{LogCheck}
 use Rattle.gc_engines.specs.declared.check_log.PartialLine.{PartialLine}
@@ -24,7 +24,7 @@ pub verdicts_then : (rest p q : List ℕ) (a b c : Option (List ℕ)) (n m k : �
 verdicts_then rest p q a b c n m k one next = record {
   texts = one.texts ++ next.texts;
   are = subst (λ ls. AreLogVerdicts ls (one.texts ++ next.texts)) (sym (pieces-append rest p q))
-      (AreItems-append IsLogVerdict (pieces_behind rest p) (pieces_behind (rest_behind rest p) q) one.texts next.texts one.are next.are);
+      (AreLinesOf-append IsLogVerdict (pieces_behind rest p) (pieces_behind (rest_behind rest p) q) one.texts next.texts one.are next.are);
   took = Appends-is a c (all_of one.texts ++ all_of next.texts) (all_of (one.texts ++ next.texts)) (sym (all_of-append one.texts next.texts)) (Appends-trans a b c _ _ one.took next.took);
   counts = omega (arith, one.counts, next.counts, length-append one.texts next.texts);
 }
@@ -39,7 +39,7 @@ part_then rest p q a b c n m k bytes one next = record {
   whole = one.texts ++ next.whole;
   line = next.line;
   are = subst (AreLogVerdicts (pieces_behind rest p ++ next.seen)) (sym (append_assoc one.texts next.whole (next.line ∷ [])))
-      (AreItems-append IsLogVerdict (pieces_behind rest p) next.seen one.texts (next.whole ++ next.line ∷ []) one.are next.are);
+      (AreLinesOf-append IsLogVerdict (pieces_behind rest p) next.seen one.texts (next.whole ++ next.line ∷ []) one.are next.are);
   counts = omega (arith, one.counts, next.counts, length-append one.texts next.whole);
   not_all = next.not_all;
   took = Appends-is a c _ _

@@ -7,7 +7,7 @@ use Rattle.gc_catalogue.specs.declared.call.Call.{Call}
 use Rattle.gc_world.specs.declared.event.Event.{Event}
 use Rattle.gc_world.specs.declared.event.Event.TheVariants.{Send, UpDeliver, UpBytes, UpLose, UpRepeat, DownDeliver, DownBytes, DownLose, DownRepeat, Expire, RestartClient, RestartInstrument}
 use Rattle.gc_texts.specs.LineForms.{is_kept, text_lines}
-use Rattle.gc_texts.specs.Procedures.{IsNumber, IsProcedure}
+use Rattle.gc_texts.specs.Procedures.{IsNumber, IsProcedureText, IsTarget}
 use Rattle.gc_texts.proofs.OneReading.{one_procedure, one_list}
 use Rattle.gc_texts.proofs.Procedures.{one_number}
 use Rattle.gc_engines.specs.Schedule.{IsRequested, IsSend, IsEvent, IsSchedule}
@@ -29,9 +29,9 @@ kind (UpBytes n) = 10
 kind (DownBytes n) = 11
 
 -- the second part of an event is what it sends, if it is a send: its target, call and deadline
-abbrev sends : Event → Option (ℕ × Call × ℕ)
-sends (Send target call deadline) = Some (target, call, deadline)
-sends _ = None
+abbrev request_in : Event → Option (ℕ × Call × ℕ)
+request_in (Send target call deadline) = Some (target, call, deadline)
+request_in _ = None
 
 -- the third part of an event is the number after its words, or 0 if it has none
 abbrev count : Event → ℕ
@@ -45,26 +45,26 @@ count (DownBytes n) = n
 count _ = 0
 
 -- the event of these three parts: a kind, what it sends if it is a send, and the number after its words
-abbrev joined : ℕ → Option (ℕ × Call × ℕ) → ℕ → Event
-joined k (Some s) n = Send s.0 s.1 s.2
-joined k None n =
+abbrev event_from : ℕ → Option (ℕ × Call × ℕ) → ℕ → Event
+event_from k (Some s) n = Send s.0 s.1 s.2
+event_from k None n =
     if k == 1 then UpDeliver else if k == 2 then UpLose n else if k == 3 then UpRepeat n else if k == 4 then DownDeliver else if k == 5 then DownLose n
     else if k == 6 then DownRepeat n else if k == 7 then Expire n else if k == 8 then RestartClient else if k == 10 then UpBytes n else if k == 11 then DownBytes n else RestartInstrument
 
 -- an event is what its three parts make
-joined_is : (e : Event) → joined (kind e) (sends e) (count e) ≡ e
-joined_is (Send target call deadline) = refl
-joined_is UpDeliver = refl
-joined_is (UpLose k) = refl
-joined_is (UpRepeat k) = refl
-joined_is DownDeliver = refl
-joined_is (DownLose k) = refl
-joined_is (DownRepeat k) = refl
-joined_is (Expire moment) = refl
-joined_is RestartClient = refl
-joined_is RestartInstrument = refl
-joined_is (UpBytes n) = refl
-joined_is (DownBytes n) = refl
+event_from_is : (e : Event) → event_from (kind e) (request_in e) (count e) ≡ e
+event_from_is (Send target call deadline) = refl
+event_from_is UpDeliver = refl
+event_from_is (UpLose k) = refl
+event_from_is (UpRepeat k) = refl
+event_from_is DownDeliver = refl
+event_from_is (DownLose k) = refl
+event_from_is (DownRepeat k) = refl
+event_from_is (Expire moment) = refl
+event_from_is RestartClient = refl
+event_from_is RestartInstrument = refl
+event_from_is (UpBytes n) = refl
+event_from_is (DownBytes n) = refl
 
 -- the kind of an `up` or a `down` line, by b, the first byte of the next word: `deliver` has the kind `from`, `lose` the next,
 -- `bytes` the kind `bytes`, and `repeat` the kind `from + 2`
@@ -119,37 +119,37 @@ one_requested : (text : List ℕ) (t u : ℕ) (c d : Call) (m n : ℕ) → IsReq
     → (t ≡ u) × (c ≡ d) × (m ≡ n)
 one_requested text t u c d m n r s =
     let same = one_in_three text r.parts s.parts in (
-      one_number s.parts.first t u 4294967295 (subst (λ (x : List ℕ). IsNumber x t 4294967295) same.0 r.target_is) s.target_is,
-      one_procedure s.parts.third c d (subst (λ (x : List ℕ). IsProcedure x c) same.2 r.procedure_is) s.procedure_is,
+      one_number s.parts.first t u 4294967295 (subst (λ (x : List ℕ). IsTarget x t) same.0 r.target_is) s.target_is,
+      one_procedure s.parts.third c d (subst (λ (x : List ℕ). IsProcedureText x c) same.2 r.procedure_is) s.procedure_is,
       one_number s.parts.second m n 18446744073709551615 (subst (λ (x : List ℕ). IsNumber x m 18446744073709551615) same.1 r.deadline_is) s.deadline_is,
     )
 
 -- what a `send` line with this target, call and deadline sends
-abbrev sent : ℕ → Call → ℕ → Option (ℕ × Call × ℕ)
-sent t c m = Some (t, c, m)
+abbrev request : ℕ → Call → ℕ → Option (ℕ × Call × ℕ)
+request t c m = Some (t, c, m)
 
 -- requests with one target, one call and one deadline are one
-same_request : (t u : ℕ) (c d : Call) (m n : ℕ) → (t ≡ u) × (c ≡ d) × (m ≡ n) → sent t c m ≡ sent u d n
+same_request : (t u : ℕ) (c d : Call) (m n : ℕ) → (t ≡ u) × (c ≡ d) × (m ≡ n) → request t c m ≡ request u d n
 same_request t u c d m n h = rw (h.0, h.1, h.2) refl
 
 -- a line sends one request at most
-one_send : (line : List ℕ) (t u : ℕ) (c d : Call) (m n : ℕ) → IsSend line t c m → IsSend line u d n → sent t c m ≡ sent u d n
+one_send : (line : List ℕ) (t u : ℕ) (c d : Call) (m n : ℕ) → IsSend line t c m → IsSend line u d n → request t c m ≡ request u d n
 one_send line t u c d m n x y =
     let rests : x.rest ≡ y.rest = append_cancel_left (codes "send ") x.rest y.rest (sym x.line_is ∙ y.line_is) in
     same_request t u c d m n (one_requested y.rest t u c d m n (subst (λ (r : List ℕ). IsRequested r t c m) rests x.requested) y.requested)
 
 -- an event that isn't a send sends nothing
-sends_nothing : (e : Event) (k : ℕ) → kind e ≡ k + 1 → sends e ≡ None
+sends_nothing : (e : Event) (k : ℕ) → kind e ≡ k + 1 → request_in e ≡ None
 sends_nothing (Send target call deadline) k h = absurd (omega (arith, h))
 sends_nothing e k h = refl
 
 -- an event of a `send` line, if it is a send, sends what the line says
-sends_this : (line : List ℕ) (t : ℕ) (c : Call) (m : ℕ) (e : Event) → IsSend line t c m → IsEvent line e → 0 ≡ kind e → sent t c m ≡ sends e
+sends_this : (line : List ℕ) (t : ℕ) (c : Call) (m : ℕ) (e : Event) → IsSend line t c m → IsEvent line e → 0 ≡ kind e → request t c m ≡ request_in e
 sends_this line t c m (Send u d n) x y h = one_send line t u c d m n x y
 sends_this line t c m e x y h = absurd (omega (arith, h))
 
 -- two events of one line and one kind send the same
-one_sent : (line : List ℕ) (a b : Event) → IsEvent line a → IsEvent line b → kind a ≡ kind b → sends a ≡ sends b
+one_sent : (line : List ℕ) (a b : Event) → IsEvent line a → IsEvent line b → kind a ≡ kind b → request_in a ≡ request_in b
 one_sent line (Send t c m) b x y h = sends_this line t c m b x y h
 one_sent line UpDeliver b x y h = sym (sends_nothing b 0 (sym h))
 one_sent line (UpLose n) b x y h = sym (sends_nothing b 1 (sym h))
@@ -164,15 +164,15 @@ one_sent line (UpBytes n) b x y h = sym (sends_nothing b 9 (sym h))
 one_sent line (DownBytes n) b x y h = sym (sends_nothing b 10 (sym h))
 
 -- events of one kind, one request and one number are one
-same_joined : (k l : ℕ) (s r : Option (ℕ × Call × ℕ)) (m n : ℕ) → k ≡ l → s ≡ r → m ≡ n → joined k s m ≡ joined l r n
-same_joined k l s r m n e f g = ap (λ x. joined x s m) e ∙ ap (λ x. joined l x m) f ∙ ap (λ x. joined l r x) g
+same_event : (k l : ℕ) (s r : Option (ℕ × Call × ℕ)) (m n : ℕ) → k ≡ l → s ≡ r → m ≡ n → event_from k s m ≡ event_from l r n
+same_event k l s r m n e f g = ap (λ x. event_from x s m) e ∙ ap (λ x. event_from l x m) f ∙ ap (λ x. event_from l r x) g
 
 -- a line has the form of one event at most
 one_event : (line : List ℕ) (a b : Event) → IsEvent line a → IsEvent line b → a ≡ b
 one_event line a b x y =
     let kinds : kind a ≡ kind b = sym (kind_is line a x) ∙ kind_is line b y in
     let counts : count a ≡ count b = sym (count_is line a x) ∙ ap (λ k. count_in k line) kinds ∙ count_is line b y in
-    sym (joined_is a) ∙ same_joined (kind a) (kind b) (sends a) (sends b) (count a) (count b) kinds (one_sent line a b x y kinds) counts ∙ joined_is b
+    sym (event_from_is a) ∙ same_event (kind a) (kind b) (request_in a) (request_in b) (count a) (count b) kinds (one_sent line a b x y kinds) counts ∙ event_from_is b
 
 -- a text is the schedule of one list of events at most
 pub one_schedule : (text : List ℕ) (xs ys : List Event) → IsSchedule text xs → IsSchedule text ys → xs ≡ ys

@@ -5,12 +5,11 @@ use Rattle.gc_catalogue.specs.RawTexts.{raw_bytes}
 use Rattle.gc_catalogue.specs.declared.raw.RawCall.{RawCall}
 use Rattle.gc_scenes.specs.Params.{scripted_params}
 use Rattle.gc_scenes.specs.declared.rules.Scripted.{Scripted}
-use Rattle.gc_texts.specs.Cuts.{before, behind}
-use Rattle.gc_texts.specs.Procedures.{IsNumber}
-use Rattle.gc_texts.specs.Words.{second_word, after_two_words}
+use Rattle.gc_texts.specs.Procedures.{IsNumber, IsRpc}
+use Rattle.gc_texts.specs.Words.{second_word}
 use Rattle.gc_texts.specs.LineForms.{IsReadAs}
 use Rattle.gc_texts.proofs.Procedures.{one_number}
-use Rattle.gc_engines.specs.RuleScenes.{Begins, IsAnswer, Scripts}
+use Rattle.gc_engines.specs.RuleScenes.{Begins, rc_in_answer, params_in_answer, IsAnswerLine, Scripts}
 
 -- where a request of this procedure has these parameters, and r is the reply made of it with this return code, or `None` if its
 -- parameters have more than 490 bytes, too many for a reply, r is read as `Scripts` says
@@ -27,19 +26,19 @@ scripts rpc rc params call (Some s) number bytes made long =
 -- the line is `answer` with this procedure's number, this return code and these parameters
 pub record HasAnswer (line params : List ℕ) (rpc rc : ℕ) : Type 0 where
   pub word : Begins (codes "answer") line
-  pub rpc_is : IsNumber (second_word line) rpc 65535
-  pub rc_is : IsNumber (before 44 (after_two_words line)) rc 65535
-  pub params_is : params ≡ behind 44 (after_two_words line)
+  pub rpc_is : IsRpc (second_word line) rpc
+  pub rc_is : IsNumber (rc_in_answer line) rc 65535
+  pub params_is : params ≡ params_in_answer line
 
 -- where a line is `answer` with this procedure, this return code and these parameters, and r is the reply made of them, r is
 -- what the line is read as
 pub answer_is : (line params : List ℕ) (rpc rc : ℕ) (r : Option Scripted) → HasAnswer line params rpc rc → IsReadAs (Scripts rpc rc params) r
-    → IsReadAs (IsAnswer line) r
+    → IsReadAs (IsAnswerLine line) r
 answer_is line params rpc rc None has none = λ a is.
     let rpc_is : a.rpc ≡ rpc = one_number (second_word line) a.rpc rpc 65535 is.rpc has.rpc_is in
     none a (record {
       rpc_is = rpc_is;
-      rc_is = one_number (before 44 (after_two_words line)) a.rc rc 65535 is.rc has.rc_is;
+      rc_is = one_number (rc_in_answer line) a.rc rc 65535 is.rc has.rc_is;
       call = is.reply.call;
       with_is = is.reply.with_is;
       number = is.reply.number ∙ rpc_is;
@@ -47,8 +46,8 @@ answer_is line params rpc rc None has none = λ a is.
     })
 answer_is line params rpc rc (Some a) has made = record {
   word = has.word;
-  rpc = subst (λ (n : ℕ). IsNumber (second_word line) n 65535) (sym made.rpc_is) has.rpc_is;
-  rc = subst (λ (n : ℕ). IsNumber (before 44 (after_two_words line)) n 65535) (sym made.rc_is) has.rc_is;
+  rpc = subst (λ (n : ℕ). IsRpc (second_word line) n) (sym made.rpc_is) has.rpc_is;
+  rc = subst (λ (n : ℕ). IsNumber (rc_in_answer line) n 65535) (sym made.rc_is) has.rc_is;
   reply = record {
     rpc_is = refl;
     rc_is = refl;

@@ -10,7 +10,7 @@ use Rattle.gc_lines.specs.declared.frame.Frame.TheVariants.{More}
 use Rattle.gc_lines.specs.declared.served.Served.{Served}
 use Rattle.gc_lines.specs.declared.served.ServeFault.{ServeFault}
 use Rattle.gc_lines.specs.declared.served.ServeFault.TheVariants.{Read, Write, TooManyReads}
-use Rattle.gc_engines.specs.Verdicts.{IsVerdict, verdict_line, AreLinesOf}
+use Rattle.gc_engines.specs.Verdicts.{IsVerdict, verdict_line, AreFrameVerdicts}
 use Rattle.gc_engines.specs.declared.check.Judge.{Judge}
 use Rattle.gc_engines.specs.declared.verdict.Verdict.{Verdict}
 
@@ -46,7 +46,7 @@ WritesBy Written pieces old new (Err (TooManyReads count)) = WritesAll Written p
 
 -- how much of the lines of the verdicts on the frames of these bytes went out, by the result
 abbrev pub Checks : List ℕ → (old new : Option (List ℕ)) → Result Served ServeFault → Type 0
-Checks given old new result = WritesBy AreLinesOf (frames given) old new result
+Checks given old new result = WritesBy AreFrameVerdicts (frames given) old new result
 
 -- a check in at most `most` reads took the ports from old to new, and gave this result. `Writes` says what the sink takes for the
 -- bytes that the source gives, by the result

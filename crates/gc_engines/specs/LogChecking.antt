@@ -6,7 +6,7 @@ use Rattle.gc_lines.specs.Answering.{Ports}
 use Rattle.gc_lines.specs.Frames.{ends_in_return, pieces_behind, rest_behind}
 use Rattle.gc_lines.specs.declared.served.Served.{Served}
 use Rattle.gc_lines.specs.declared.served.ServeFault.{ServeFault}
-use Rattle.gc_texts.specs.LineForms.{AreItems}
+use Rattle.gc_texts.specs.LineForms.{AreLinesOf}
 use Rattle.gc_texts.specs.Logs.{mark_text, escaped, IsLogLine}
 use Rattle.gc_texts.specs.declared.log_line.LogMark.{LogMark}
 use Rattle.gc_texts.specs.declared.log_line.LogMark.TheVariants as mark
@@ -55,7 +55,7 @@ pub data IsLogVerdict (line text : List ℕ) : Type 0 where
 
 -- the texts are what is written of the lines of a checked log, one for one
 abbrev pub AreLogVerdicts : (lines texts : List (List ℕ)) → Type 0
-AreLogVerdicts lines texts = AreItems IsLogVerdict lines texts
+AreLogVerdicts lines texts = AreLinesOf IsLogVerdict lines texts
 
 -- the value `kept` holds the bytes since the last line feed, `rest`: all of them, or only that they are more than 2100
 pub record KeepsLine (kept : PartialLine) (rest : List ℕ) : Type 0 where

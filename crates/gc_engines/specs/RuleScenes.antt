@@ -7,7 +7,6 @@ use Rattle.gc_instrument.specs.declared.target.Target.{Target}
 use Rattle.gc_scenes.specs.Laws.{still}
 use Rattle.gc_scenes.specs.SceneState.{SceneState}
 use Rattle.gc_scenes.specs.declared.rules.Prism.{Prism}
-use Rattle.gc_scenes.specs.declared.rules.Offset.{Offset}
 use Rattle.gc_scenes.specs.declared.rules.Fault.{Fault}
 use Rattle.gc_scenes.specs.declared.rules.Scripted.{Scripted}
 use Rattle.gc_scenes.specs.declared.rules.Noise.{Noise}
@@ -17,11 +16,11 @@ use Rattle.gc_scenes.specs.declared.ways.Ways.{Ways}
 use Rattle.gc_scenes.specs.declared.ways.Way.{Way}
 use Rattle.gc_scenes.specs.declared.ways.Way.TheVariants as way
 use Rattle.gc_texts.specs.Cuts.{before, behind}
-use Rattle.gc_texts.specs.LineForms.{Form}
-use Rattle.gc_texts.specs.Procedures.{IsNumber}
-use Rattle.gc_texts.specs.Words.{first_word, second_word, third_word, after_two_words, after_three_words}
+use Rattle.gc_texts.specs.LineForms.{ItemForm}
+use Rattle.gc_texts.specs.Procedures.{IsNumber, IsRpc}
+use Rattle.gc_texts.specs.Words.{first_word, second_word, third_word, fourth_word, after_two_words, after_three_words, after_four_words}
 use Rattle.gc_texts.specs.declared.fault.RunFault.{RunFault}
-use Rattle.gc_engines.specs.Scenes.{AreOffsetWords, SceneFaultBy, IsSceneLine, SaysTooMuch, SetsUp, last_value, name_of, serial_of, targets_of}
+use Rattle.gc_engines.specs.Scenes.{AreOffsetWords, IsOffset, SceneFaultBy, IsSceneLine, SaysTooMuch, SetsUp, last_value, name_of, serial_of, targets_of}
 use Rattle.gc_engines.specs.declared.scene_line.SceneLine.{SceneLine}
 use Rattle.gc_engines.specs.declared.rule_line.RuleLine.{RuleLine}
 use Rattle.gc_engines.specs.declared.rule_line.RuleLine.TheVariants as says
@@ -29,8 +28,8 @@ use Rattle.gc_engines.specs.declared.rule_line.Blocked.{Blocked}
 use Rattle.gc_engines.specs.declared.rule_line.Drift.{Drift}
 use Rattle.gc_engines.specs.declared.rule_line.Span.{Span}
 
--- the greatest number of 32 bits, which as a fault's `times` stands for "without end": such a fault meets requests without end,
--- except that one whose `after` is 0 ends once it has met 4294967295 requests
+-- how many requests a fault meets whose line has no `for`: the greatest number of 32 bits, which stands for "without end". Only a
+-- fault whose `after` is 0 ends after so many
 abbrev pub no_end : ℕ
 no_end = 4294967295
 
@@ -57,7 +56,7 @@ IsSpan words span =
 -- line has no `for`, it may end in a space. No request has met the fault yet
 pub record IsFault (line : List ℕ) (f : Fault) : Type 0 where
   pub word : Begins (codes "fault") line
-  pub rpc : IsNumber (second_word line) f.rpc 65535
+  pub rpc : IsRpc (second_word line) f.rpc
   pub rc : IsNumber (third_word line) f.rc 65535
   pub span : IsSpan (after_three_words line) (record { after = f.after; times = f.times })
   pub met : f.met ≡ 0
@@ -71,12 +70,20 @@ pub record Scripts (rpc rc : ℕ) (params : List ℕ) (a : Scripted) : Type 0 wh
   pub number : call.rpc ≡ rpc
   pub params_are : raw_bytes call.params ≡ params
 
+-- the return code of a line `answer`: what stands before the first comma (byte 44) after the procedure
+abbrev pub rc_in_answer : List ℕ → List ℕ
+rc_in_answer line = before 44 (after_two_words line)
+
+-- the parameters of a line `answer`: what follows that comma; empty where there is none
+abbrev pub params_in_answer : List ℕ → List ℕ
+params_in_answer line = behind 44 (after_two_words line)
+
 -- the line is `answer RPC RC[,PARAMS]`: a procedure that isn't in the table, and its reply. The comma may also stand without parameters
-pub record IsAnswer (line : List ℕ) (a : Scripted) : Type 0 where
+pub record IsAnswerLine (line : List ℕ) (a : Scripted) : Type 0 where
   pub word : Begins (codes "answer") line
-  pub rpc : IsNumber (second_word line) a.rpc 65535
-  pub rc : IsNumber (before 44 (after_two_words line)) a.rc 65535
-  pub reply : Scripts a.rpc a.rc (behind 44 (after_two_words line)) a
+  pub rpc : IsRpc (second_word line) a.rpc
+  pub rc : IsNumber (rc_in_answer line) a.rc 65535
+  pub reply : Scripts a.rpc a.rc (params_in_answer line) a
 
 -- the line is `blocked TARGET FROM TO`: a target is hidden from look FROM through look TO, where looks are counted from 1
 pub record IsBlocked (line : List ℕ) (b : Blocked) : Type 0 where
@@ -84,10 +91,6 @@ pub record IsBlocked (line : List ℕ) (b : Blocked) : Type 0 where
   pub target : IsNumber (second_word line) b.target 32
   pub from : IsNumber (third_word line) b.from 4294967295
   pub to : IsNumber (after_three_words line) b.to 4294967295
-
--- the words are `HZ V D`: two angles in radians and a distance in metres, as decimals
-abbrev pub IsOffset : (words : List ℕ) → Offset → Type 0
-IsOffset words o = AreOffsetWords (first_word words) (second_word words) (after_two_words words) o
 
 -- the line is `drift TARGET HZ V D`: a target moves by an offset with each measurement of it
 pub record IsDrift (line : List ℕ) (d : Drift) : Type 0 where
@@ -98,9 +101,9 @@ pub record IsDrift (line : List ℕ) (d : Drift) : Type 0 where
 -- the line is `noise HZ V D SEED`: the most by which measurements deviate, in radians and metres, and the seed of the deviations
 pub record IsNoise (line : List ℕ) (n : Noise) : Type 0 where
   pub word : Begins (codes "noise") line
-  pub most : AreOffsetWords (second_word line) (third_word line) (before 32 (after_three_words line))
+  pub most : AreOffsetWords (second_word line) (third_word line) (fourth_word line)
       (record { hz = n.hz; v = n.v; distance = n.distance })
-  pub seed : IsNumber (behind 32 (after_three_words line)) n.seed 4294967295
+  pub seed : IsNumber (after_four_words line) n.seed 4294967295
 
 -- the line that gives the instrument a way of real instruments, or all of them (`Real`)
 abbrev pub way_line : Way → List ℕ
@@ -115,7 +118,7 @@ way_line way.Real = codes "behave real"
 abbrev pub IsRuleLine : List ℕ → RuleLine → Type 0
 IsRuleLine line (says.Plain plain) = IsSceneLine line plain
 IsRuleLine line (says.Fault f) = IsFault line f
-IsRuleLine line (says.Answer a) = IsAnswer line a
+IsRuleLine line (says.Answer a) = IsAnswerLine line a
 IsRuleLine line (says.Blocked b) = IsBlocked line b
 IsRuleLine line (says.Drift d) = IsDrift line d
 IsRuleLine line (says.Noise n) = IsNoise line n
@@ -240,13 +243,13 @@ OverfillAnInstrument lines = (32 < length (targets_of (plain_lines lines))) ⊎ 
 
 -- the text is a scene of lines in this form, of at most 32 targets, 32 faults and 16 replies, and this is the opening state of its
 -- instrument
-abbrev pub IsSceneOf : Form RuleLine → List ℕ → SceneState → Type 0
+abbrev pub IsSceneOf : ItemForm RuleLine → List ℕ → SceneState → Type 0
 IsSceneOf form text state = SetsUp form FitAnInstrument rules_opening text state
 
 -- the text is a scene of lines in this form, with more targets, faults or replies than an instrument has room for
-abbrev pub IsOverfullOf : Form RuleLine → List ℕ → Type 0
+abbrev pub IsOverfullOf : ItemForm RuleLine → List ℕ → Type 0
 IsOverfullOf form text = SaysTooMuch form OverfillAnInstrument text
 
 -- why a text sets up no instrument, where it should be a scene of lines in this form
-abbrev pub SceneFaultOf : Form RuleLine → List ℕ → RunFault → Type 0
+abbrev pub SceneFaultOf : ItemForm RuleLine → List ℕ → RunFault → Type 0
 SceneFaultOf form text fault = SceneFaultBy form (IsOverfullOf form) text fault

@@ -7,12 +7,12 @@ use Rattle.gc_values.specs.declared.decimal.Decimal.{Decimal}
 use Rattle.gc_catalogue.specs.Raws.{IsRawRefusal}
 use Rattle.gc_catalogue.specs.declared.raw.RawFault.{RawFault}
 use Rattle.gc_catalogue.specs.declared.raw.RawFault.TheVariants.{InTable}
-use Rattle.gc_texts.specs.Cuts.{before, behind}
-use Rattle.gc_texts.specs.Nears.{IsDouble}
-use Rattle.gc_texts.specs.Procedures.{IsNumber}
+use Rattle.gc_texts.specs.Cuts.{behind}
+use Rattle.gc_values.specs.Decimals.{SpellsDecimal}
+use Rattle.gc_texts.specs.Procedures.{IsRpc}
 use Rattle.gc_texts.specs.Troubles.{NoNumber}
-use Rattle.gc_texts.specs.Words.{second_word, third_word, after_two_words, after_three_words}
-use Rattle.gc_engines.specs.RuleScenes.{Begins, GivesClock}
+use Rattle.gc_texts.specs.Words.{second_word, third_word, fourth_word, after_two_words, after_three_words, after_four_words}
+use Rattle.gc_engines.specs.RuleScenes.{Begins, GivesClock, rc_in_answer, params_in_answer}
 use Rattle.gc_engines.specs.declared.scene_trouble.SceneTrouble.{SceneTrouble}
 use Rattle.gc_engines.specs.declared.scene_trouble.SceneTrouble.TheVariants as trouble
 use Rattle.gc_engines.specs.declared.scene_trouble.SceneWord.{SceneWord}
@@ -60,9 +60,9 @@ NeedsClock line = GivesClock line ⊎ (BeginsWith word.Delay line ⊎ BeginsWith
 unfoldable pub NotNumber : (text : List ℕ) → (max : ℕ) → Type 0
 NotNumber text max = NoNumber text max
 
--- the text is no decimal as a scene writes angles and distances (`IsDouble`); opaque to proofs that don't unfold it
+-- the text is no decimal as a scene writes angles and distances (`SpellsDecimal`); opaque to proofs that don't unfold it
 unfoldable pub NoDecimal : List ℕ → Type 0
-NoDecimal text = (d : Decimal) → IsDouble text d → ⊥
+NoDecimal text = (d : Decimal) → SpellsDecimal text d → ⊥
 
 -- what may be at fault in a reply to the procedure with this number, with these parameters. `InTable`: the procedure is in the table.
 -- `Params`: a request for this procedure with these parameters is refused for some reason (`IsRawRefusal`; `InTable` is one,
@@ -77,7 +77,7 @@ IsReplyTrouble rpc params _ = ⊥
 abbrev pub IsAnswerTrouble : List ℕ → SceneTrouble → Type 0
 IsAnswerTrouble line t =
     BeginsWith word.Answer line
-    × ((rpc : ℕ) × IsNumber (second_word line) rpc 65535 × IsReplyTrouble rpc (behind 44 (after_two_words line)) t)
+    × ((rpc : ℕ) × IsRpc (second_word line) rpc × IsReplyTrouble rpc (params_in_answer line) t)
 
 -- in a line that is known to be faulty, this may be at fault; more than one trouble may fit a line. `Form`: the line begins with
 -- that word, and none of its fields is named
@@ -89,17 +89,17 @@ IsSceneTrouble line trouble.Serial = BeginsWith word.Serial line × ((n : ℤ) �
 IsSceneTrouble line trouble.Name = BeginsWith word.Name line × (text.IsText (behind 32 line) → ⊥)
 IsSceneTrouble line trouble.Rpc = (BeginsWith word.Fault line ⊎ (BeginsWith word.Answer line ⊎ BeginsWith word.Delay line)) × NotNumber (second_word line) 65535
 IsSceneTrouble line trouble.Rc = (BeginsWith word.Fault line × NotNumber (third_word line) 65535)
-    ⊎ (BeginsWith word.Answer line × NotNumber (before 44 (after_two_words line)) 65535)
+    ⊎ (BeginsWith word.Answer line × NotNumber (rc_in_answer line) 65535)
 IsSceneTrouble line trouble.Target = (BeginsWith word.Blocked line ⊎ BeginsWith word.Drift line) × NotNumber (second_word line) 32
 IsSceneTrouble line trouble.From = BeginsWith word.Blocked line × NotNumber (third_word line) 4294967295
 IsSceneTrouble line trouble.To = BeginsWith word.Blocked line × NotNumber (after_three_words line) 4294967295
 IsSceneTrouble line trouble.Hz = ((BeginsWith word.Target line ⊎ BeginsWith word.Noise line) × NoDecimal (second_word line))
     ⊎ (BeginsWith word.Drift line × NoDecimal (third_word line))
 IsSceneTrouble line trouble.V = ((BeginsWith word.Target line ⊎ BeginsWith word.Noise line) × NoDecimal (third_word line))
-    ⊎ (BeginsWith word.Drift line × NoDecimal (before 32 (after_three_words line)))
+    ⊎ (BeginsWith word.Drift line × NoDecimal (fourth_word line))
 IsSceneTrouble line trouble.Distance = (BeginsWith word.Target line × NoDecimal (after_three_words line))
-    ⊎ ((BeginsWith word.Noise line × NoDecimal (before 32 (after_three_words line))) ⊎ (BeginsWith word.Drift line × NoDecimal (behind 32 (after_three_words line))))
-IsSceneTrouble line trouble.Seed = BeginsWith word.Noise line × NotNumber (behind 32 (after_three_words line)) 4294967295
+    ⊎ ((BeginsWith word.Noise line × NoDecimal (fourth_word line)) ⊎ (BeginsWith word.Drift line × NoDecimal (after_four_words line)))
+IsSceneTrouble line trouble.Seed = BeginsWith word.Noise line × NotNumber (after_four_words line) 4294967295
 IsSceneTrouble line trouble.Ms = BeginsWith word.Delay line × NotNumber (after_two_words line) 3600000
 IsSceneTrouble line (trouble.InTable n) = IsAnswerTrouble line (trouble.InTable n)
 IsSceneTrouble line trouble.Params = IsAnswerTrouble line trouble.Params

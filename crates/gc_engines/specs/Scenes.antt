@@ -5,12 +5,12 @@ use Rattle.gc_values.specs.Whole.{NamesWhole, FitsLong}
 use Rattle.gc_instrument.specs.State.{State, opening, simulator_opening}
 use Rattle.gc_instrument.specs.declared.target.Target.{Target}
 use Rattle.gc_scenes.specs.declared.rules.Offset.{Offset}
-use Rattle.gc_texts.specs.LineForms.{Form, IsText, TextFault}
-use Rattle.gc_texts.specs.Nears.{IsDouble}
+use Rattle.gc_texts.specs.LineForms.{ItemForm, IsTextOf, TextFault}
+use Rattle.gc_texts.specs.Words.{first_word, second_word, after_two_words}
+use Rattle.gc_values.specs.Decimals.{SpellsDecimal}
 use Rattle.gc_texts.specs.declared.fault.RunFault.{RunFault}
 use Rattle.gc_texts.specs.declared.fault.RunFault.TheVariants.{SceneFull}
 use Rattle.gc_texts.specs.declared.text.TheConstants.{TEXT_LIMIT}
-use Rattle.gc_engines.specs.Schedule.{InThree}
 use Rattle.gc_engines.specs.declared.scene.Base.{Base}
 use Rattle.gc_engines.specs.declared.scene_line.SceneLine.{SceneLine}
 use Rattle.gc_engines.specs.declared.scene_line.SceneLine.TheVariants as says
@@ -29,26 +29,25 @@ pub record IsName (line bytes : List ℕ) : Type 0 where
 
 -- these three words are two angles in radians and a distance in metres, as decimals, and the offset has these
 pub record AreOffsetWords (first second third : List ℕ) (o : Offset) : Type 0 where
-  pub hz : IsDouble first o.hz
-  pub v : IsDouble second o.v
-  pub distance : IsDouble third o.distance
+  pub hz : SpellsDecimal first o.hz
+  pub v : SpellsDecimal second o.v
+  pub distance : SpellsDecimal third o.distance
 
--- the words are `HZ V DISTANCE`: three decimals, with one space between each two
-pub record IsTargetWords (words : List ℕ) (target : Target) : Type 0 where
-  pub parts : InThree words
-  pub are : AreOffsetWords parts.first parts.second parts.third (record { hz = target.hz; v = target.v; distance = target.distance })
+-- the words are `HZ V D`: two angles in radians and a distance in metres, as decimals
+abbrev pub IsOffset : (words : List ℕ) → Offset → Type 0
+IsOffset words o = AreOffsetWords (first_word words) (second_word words) (after_two_words words) o
 
 -- the line is `target HZ V DISTANCE`: a target's angles in radians and its slope distance in metres
-pub record IsTarget (line : List ℕ) (target : Target) : Type 0 where
+pub record IsTargetLine (line : List ℕ) (target : Target) : Type 0 where
   pub words : List ℕ
   pub line_is : line ≡ codes "target " ++ words
-  pub words_say : IsTargetWords words target
+  pub offset : IsOffset words (record { hz = target.hz; v = target.v; distance = target.distance })
 
 -- the line is written in the form of this item of a scene: a serial number, a name or a target
 abbrev pub IsSceneLine : List ℕ → SceneLine → Type 0
 IsSceneLine line (says.Serial n) = IsSerial line n
 IsSceneLine line (says.Name bytes) = IsName line bytes
-IsSceneLine line (says.Target target) = IsTarget line target
+IsSceneLine line (says.Target target) = IsTargetLine line target
 
 -- What lines say together.
 
@@ -96,17 +95,17 @@ abbrev pub scene_opening : List SceneLine → State
 scene_opening lines = opening (serial_of simulator_opening.serial lines) (name_of simulator_opening.name lines) (targets_of lines)
 
 -- the text is lines in this form, of which `Fits` is true, and this is the opening state of the instrument that they set up
-pub record SetsUp {Line Opened : Type 0} (form : Form Line) (Fits : List Line → Type 0) (opens_as : List Line → Opened) (text : List ℕ)
+pub record SetsUp {Line Opened : Type 0} (form : ItemForm Line) (Fits : List Line → Type 0) (opens_as : List Line → Opened) (text : List ℕ)
     (state : Opened) : Type 0 where
   pub lines : List Line
-  pub are : IsText form text lines
+  pub are : IsTextOf form text lines
   pub few : Fits lines
   pub opens : state ≡ opens_as lines
 
 -- the text is lines in this form, of which `Overfill` is true: they have more than an instrument has room for
-pub record SaysTooMuch {Line : Type 0} (form : Form Line) (Overfill : List Line → Type 0) (text : List ℕ) : Type 0 where
+pub record SaysTooMuch {Line : Type 0} (form : ItemForm Line) (Overfill : List Line → Type 0) (text : List ℕ) : Type 0 where
   pub lines : List Line
-  pub are : IsText form text lines
+  pub are : IsTextOf form text lines
   pub many : Overfill lines
 
 -- the lines have no more targets than an instrument has room for
@@ -127,7 +126,7 @@ IsOverfullScene text = SaysTooMuch IsSceneLine HaveManyTargets text
 
 -- why a text sets up no instrument, where its lines should be in this form: it is a scene of more than an instrument has room for
 -- (`IsOverfull`); or it is too long, or one of its lines that aren't skipped hasn't the form, or memory was refused (`TextFault`)
-abbrev pub SceneFaultBy : {Line : Type 0} → Form Line → (IsOverfull : List ℕ → Type 0) → List ℕ → RunFault → Type 0
+abbrev pub SceneFaultBy : {Line : Type 0} → ItemForm Line → (IsOverfull : List ℕ → Type 0) → List ℕ → RunFault → Type 0
 SceneFaultBy form IsOverfull text SceneFull = (length text ≤ TEXT_LIMIT) × IsOverfull text
 SceneFaultBy form IsOverfull text fault = TextFault form text fault
 

@@ -2,8 +2,8 @@
 use Rattle.std.specs.Prelude.{◌≡◌, ℕ, List, ◌∷◌, ◌++◌, codes}
 use Rattle.gc_catalogue.specs.declared.call.Call.{Call}
 use Rattle.gc_texts.specs.Cuts.{Lacks}
-use Rattle.gc_texts.specs.LineForms.{IsText}
-use Rattle.gc_texts.specs.Procedures.{IsNumber, IsProcedure}
+use Rattle.gc_texts.specs.LineForms.{IsTextOf}
+use Rattle.gc_texts.specs.Procedures.{IsNumber, IsProcedureText, IsTarget}
 use Rattle.gc_world.specs.declared.event.Event.{Event}
 use Rattle.gc_world.specs.declared.event.Event.TheVariants.{Send, UpDeliver, UpBytes, UpLose, UpRepeat, DownDeliver, DownBytes, DownLose, DownRepeat, Expire, RestartClient, RestartInstrument}
 
@@ -29,9 +29,9 @@ pub record InThree (text : List ℕ) : Type 0 where
 -- `T D RPC` or `T D RPC PARAMS`: the target T, the deadline D and the procedure of a request. T is a number of 32 bits, and D one of 64
 pub record IsRequested (text : List ℕ) (target : ℕ) (call : Call) (deadline : ℕ) : Type 0 where
   pub parts : InThree text
-  pub target_is : IsNumber parts.first target 4294967295
+  pub target_is : IsTarget parts.first target
   pub deadline_is : IsNumber parts.second deadline 18446744073709551615
-  pub procedure_is : IsProcedure parts.third call
+  pub procedure_is : IsProcedureText parts.third call
 
 -- the event is the send of the request that the text writes (`IsRequested`)
 abbrev pub SendsRequested : List ℕ → Event → Type 0
@@ -72,4 +72,4 @@ IsNumberedEvent _ = ⊥
 
 -- the text is a schedule of these events: one for each line that isn't skipped
 abbrev pub IsSchedule : List ℕ → List Event → Type 0
-IsSchedule text events = IsText IsEvent text events
+IsSchedule text events = IsTextOf IsEvent text events

@@ -3,8 +3,8 @@
 use Rattle.std.specs.Prelude.{◌≡◌, ◌⊎◌, ℕ, ◌<◌, ◌≤◌, Bool, true, false, List, [], length, Option, Some, None, filter_map, codes}
 use Rattle.gc_scenes.specs.Slow.{SlowState}
 use Rattle.gc_scenes.specs.declared.delay.Delay.{Delay}
-use Rattle.gc_texts.specs.LineForms.{IsText, ReachesASoundLine}
-use Rattle.gc_texts.specs.Procedures.{IsNumber}
+use Rattle.gc_texts.specs.LineForms.{IsTextOf, ReachesASoundLine}
+use Rattle.gc_texts.specs.Procedures.{IsNumber, IsRpc}
 use Rattle.gc_texts.specs.Words.{second_word, after_two_words}
 use Rattle.gc_texts.specs.declared.fault.RunFault.{RunFault}
 use Rattle.gc_texts.specs.declared.fault.RunFault.TheVariants.{Memory}
@@ -18,7 +18,7 @@ use Rattle.gc_engines.specs.declared.timed_line.TimedLine.TheVariants as says
 -- the line is `delay RPC MS`: a procedure, and a delay in milliseconds of at most an hour
 pub record IsDelayLine (line : List ℕ) (d : Delay) : Type 0 where
   pub word : Begins (codes "delay") line
-  pub rpc : IsNumber (second_word line) d.rpc 65535
+  pub rpc : IsRpc (second_word line) d.rpc
   pub ms : IsNumber (after_two_words line) d.ms 3600000
 
 -- the line is written in the form of this item of a scene for `serve`
@@ -89,7 +89,7 @@ IsOverfullTimed text = SaysTooMuch IsTimedLine OverfillATimedInstrument text
 -- each line that isn't skipped has a form, and at least one is a line of a scene with rules: so memory is needed for a list of such lines
 pub record GathersRules (text : List ℕ) : Type 0 where
   pub lines : List TimedLine
-  pub are : IsText IsTimedLine text lines
+  pub are : IsTextOf IsTimedLine text lines
   pub some : rules_of lines ≡ [] → ⊥
 
 -- why a text sets up no instrument, where it should be a scene for `serve`: as `SceneFaultBy` says; or it isn't too long, and memory was

@@ -2,7 +2,8 @@
 use Rattle.std.specs.Prelude.{◌≡◌, ℕ, ◌+◌, List, [], ◌∷◌, ◌++◌, codes}
 use Rattle.std.specs.Fmt.{decimal}
 use Rattle.std.specs.List.{AllZip}
-use Rattle.gc_lines.specs.Faults.{fault_number}
+use Rattle.gc_lines.specs.Answering.{numbered_fault}
+use Rattle.gc_lines.specs.Faults.{line_fault_number}
 use Rattle.gc_lines.specs.Frames.{frames}
 use Rattle.gc_lines.specs.Headers.{PastSignature}
 use Rattle.gc_lines.specs.Replies.{ReplyFields, IsReply, FirstBadOfReply, reply_signature}
@@ -57,7 +58,7 @@ verdict_text verdict.Overlong = codes "overlong"
 verdict_text (verdict.Request rpc) = codes "request " ++ decimal rpc ++ codes " ok"
 verdict_text (verdict.RequestFault rpc fault) = codes "request " ++ decimal rpc ++ codes " fault " ++ decimal (refusal_number fault)
 verdict_text (verdict.Reply rc_com rc) = codes "reply " ++ decimal rc_com ++ codes " " ++ decimal rc
-verdict_text (verdict.Fault fault) = codes "fault " ++ decimal (fault_number fault)
+verdict_text (verdict.Fault fault) = numbered_fault (line_fault_number fault)
 
 -- the line of the verdict on frame n
 abbrev pub verdict_line : ℕ → Verdict → List ℕ
@@ -69,11 +70,11 @@ verdict_lines_from n [] = []
 verdict_lines_from n (v ∷ vs) = verdict_line n v ∷ verdict_lines_from (n + 1) vs
 
 -- the lines of the verdicts on frames, counted from 1
-pub record AreLinesOf (seen : List Frame) (lines : List (List ℕ)) : Type 0 where
+pub record AreFrameVerdicts (seen : List Frame) (lines : List (List ℕ)) : Type 0 where
   pub verdicts : List Verdict
   pub are : AreVerdicts seen verdicts
   pub numbered : lines ≡ verdict_lines_from 1 verdicts
 
 -- the lines of the verdicts on a whole stream
 abbrev pub AreVerdictLines : List ℕ → List (List ℕ) → Type 0
-AreVerdictLines stream lines = AreLinesOf (frames stream) lines
+AreVerdictLines stream lines = AreFrameVerdicts (frames stream) lines

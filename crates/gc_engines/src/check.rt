@@ -4,7 +4,7 @@ ghost use Rattle.std.specs.Prelude.{◌≡◌, ◌+◌, ◌≤◌, length};
 ghost use Rattle.gc_engines.specs.Checking.{IsChecking};
 ghost use Rattle.gc_lines.specs.Answering.{ports_of};
 
-use crate::verdict::{push_decimal, push_verdict, verdict_of};
+use crate::verdict::{push_digits, push_verdict, verdict_of};
 use gc_lines::{Answers, Lent, Outgoing, ServeFault, Served, Sink, Source, answer_frames};
 
 // Judges frames, and counts them. The count saturates at 2^64 - 1, but no run gets there: it has fewer than 2^32 reads of at most
@@ -25,7 +25,7 @@ impl Answers for Judge {
             return false;
         };
         self.frames = self.frames.saturating_add(1);
-        push_decimal(text, self.frames);
+        push_digits(text, self.frames);
         text.push(b' ');
         push_verdict(text, verdict);
         text.push(b'\n');

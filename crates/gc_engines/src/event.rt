@@ -7,12 +7,11 @@ ghost use Rattle.gc_catalogue.specs.declared.call.Call.{Call};
 ghost use Rattle.gc_world.specs.declared.event.Event.{Event};
 
 use gc_catalogue::Call;
-use gc_texts::{LineForm, TARGET_MAX, after_word, cut_at, is_word, number_of, read_procedure_into};
+use gc_texts::{LineForm, after_word, cut_at, is_word, number_of, read_procedure_into, target_of};
 use gc_world::Event;
 
-// The greatest number of 32 bits: the greatest count of bytes and place of a line in flight that a schedule may name, and the greatest
-// count, look and seed of a scene.
-pub(crate) const COUNT_MAX: u64 = 4294967295;
+// The greatest count of bytes and place of a line in flight that a schedule may name: the greatest number of 32 bits.
+const COUNT_MAX: u64 = 4294967295;
 
 // The number after `word` in a line, where `word` has the space before the number at its end. `None`: the line isn't `word` and then a
 // number of at most `max`.
@@ -39,13 +38,13 @@ fn read_requested(text: &[u8], event: &mut Event) -> bool
     let Some(procedure) = procedure else {
         return false
     };
-    let Some(target) = number_of(target, TARGET_MAX) else {
+    let Some(target) = target_of(target) else {
         return false
     };
     let Some(deadline) = number_of(deadline, u64::MAX) else {
         return false
     };
-    *event = Event::Send(target as u32, Call::NullProc, deadline);
+    *event = Event::Send(target, Call::NullProc, deadline);
     // `event` is a send now: this always matches, and `call` is the place of its call.
     let Event::Send(_, call, _) = event else {
         return false

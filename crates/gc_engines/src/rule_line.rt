@@ -2,23 +2,20 @@
 
 ghost use Rattle.std.specs.Prelude.{◌≡◌, ◌↔◌, IsTrue};
 ghost use Rattle.gc_texts.specs.LineForms.{IsReadAs};
-ghost use Rattle.gc_texts.specs.Procedures.{IsNumber};
-ghost use Rattle.gc_engines.specs.RuleScenes.{IsRuleLine, IsFault, IsAfter, IsAnswer, IsBlocked, IsOffset, IsDrift, IsNoise, IsSpan, IsTimes, IsStillLine, Scripts, GivesClock, way_line};
+ghost use Rattle.gc_engines.specs.RuleScenes.{IsRuleLine, IsFault, IsAfter, IsAnswerLine, IsBlocked, IsDrift, IsNoise, IsSpan, IsTimes, IsStillLine, Scripts, GivesClock, way_line};
 
-use crate::event::COUNT_MAX;
-use crate::scene_line::{AnySceneLine, SceneLine, offset_of, put_found, read_scene_line};
+use crate::scene_line::{
+    AnySceneLine, SceneLine, offset_of, put_found, read_offset, read_scene_line,
+};
 use gc_catalogue::raw_call;
 use gc_scenes::{Fault, Noise, Offset, Scripted, Way};
-use gc_texts::{LineForm, before, behind, is_word, number_of};
+use gc_texts::{LineForm, before, behind, is_word, u16_of, u32_of};
 
 // How many requests a fault meets whose line has no `for`: if its `after` isn't 0, it then never ends (`Span`).
 const NO_END: u32 = 4294967295;
 
-// The greatest number of a procedure, and the greatest return code.
-pub(crate) const CODE_MAX: u64 = 65535;
-
 // The greatest number of a target: an instrument has at most 32 targets.
-pub(crate) const SCENE_TARGET_MAX: u64 = 32;
+pub(crate) const SCENE_TARGET_MAX: u32 = 32;
 
 /// A line `blocked`: the target with this number is hidden in the looks from number `from` to number `to`. A look is a measurement or a
 /// search of the instrument, of whichever target; looks are counted from 1, and so are targets.
@@ -154,36 +151,6 @@ pub(crate) fn read_rule_line(line: &[u8]) -> Option<RuleLine>
     None
 }
 
-// The number of a procedure or the return code that the digits write. `None`: they write no number up to 65535.
-pub(crate) fn code_of(digits: &[u8]) -> Option<u16>
-    ensures { IsReadAs (λ n. IsNumber digits.now n 65535) result }
-{
-    match number_of(digits, CODE_MAX) {
-        Some(n) => Some(n as u16),
-        None => None,
-    }
-}
-
-// The count, look or seed that the digits write. `None`: they write no number up to 4294967295.
-fn count_of(digits: &[u8]) -> Option<u32>
-    ensures { IsReadAs (λ n. IsNumber digits.now n 4294967295) result }
-{
-    match number_of(digits, COUNT_MAX) {
-        Some(n) => Some(n as u32),
-        None => None,
-    }
-}
-
-// The number of a target that the digits write. `None`: they write no number up to 32.
-fn scene_target_of(digits: &[u8]) -> Option<u32>
-    ensures { IsReadAs (λ n. IsNumber digits.now n 32) result }
-{
-    match number_of(digits, SCENE_TARGET_MAX) {
-        Some(n) => Some(n as u32),
-        None => None,
-    }
-}
-
 // How many requests a fault meets: reads `for COUNT`, or nothing, which gives `NO_END`. `None`: the words have no such form.
 fn read_times(words: &[u8]) -> Option<u32>
     ensures { IsReadAs (IsTimes words.now) result }
@@ -194,14 +161,14 @@ fn read_times(words: &[u8]) -> Option<u32>
     if !is_word(b"for", before(b' ', words)) {
         return None;
     }
-    count_of(behind(b' ', words))
+    u32_of(behind(b' ', words), u32::MAX)
 }
 
 // Reads `COUNT [for COUNT]`, the words that follow `after`. `None`: they have no such form.
 fn read_after(words: &[u8]) -> Option<Span>
     ensures { IsReadAs (IsAfter words.now) result }
 {
-    let Some(after) = count_of(before(b' ', words)) else {
+    let Some(after) = u32_of(before(b' ', words), u32::MAX) else {
         return None
     };
     match read_times(behind(b' ', words)) {
@@ -232,11 +199,11 @@ fn read_fault(line: &[u8]) -> Option<Fault>
         return None;
     }
     let rest = behind(b' ', line);
-    let Some(rpc) = code_of(before(b' ', rest)) else {
+    let Some(rpc) = u16_of(before(b' ', rest)) else {
         return None
     };
     let rest = behind(b' ', rest);
-    let Some(rc) = code_of(before(b' ', rest)) else {
+    let Some(rc) = u16_of(before(b' ', rest)) else {
         return None
     };
     match read_span(behind(b' ', rest)) {
@@ -259,17 +226,17 @@ fn scripted(rpc: u16, rc: u16, params: &[u8]) -> Option<Scripted>
 // Reads `answer RPC RC[,PARAMS]`: a procedure that isn't in the table, and its reply. The comma may also stand without
 // parameters. `None`: the line has no such form, or no such reply can be made (`scripted`).
 fn read_answer(line: &[u8]) -> Option<Scripted>
-    ensures { IsReadAs (IsAnswer line.now) result }
+    ensures { IsReadAs (IsAnswerLine line.now) result }
 {
     if !is_word(b"answer", before(b' ', line)) {
         return None;
     }
     let rest = behind(b' ', line);
-    let Some(rpc) = code_of(before(b' ', rest)) else {
+    let Some(rpc) = u16_of(before(b' ', rest)) else {
         return None
     };
     let rest = behind(b' ', rest);
-    let Some(rc) = code_of(before(b',', rest)) else {
+    let Some(rc) = u16_of(before(b',', rest)) else {
         return None
     };
     scripted(rpc, rc, behind(b',', rest))
@@ -283,26 +250,17 @@ fn read_blocked(line: &[u8]) -> Option<Blocked>
         return None;
     }
     let rest = behind(b' ', line);
-    let Some(target) = scene_target_of(before(b' ', rest)) else {
+    let Some(target) = u32_of(before(b' ', rest), SCENE_TARGET_MAX) else {
         return None
     };
     let rest = behind(b' ', rest);
-    let Some(from) = count_of(before(b' ', rest)) else {
+    let Some(from) = u32_of(before(b' ', rest), u32::MAX) else {
         return None
     };
-    match count_of(behind(b' ', rest)) {
+    match u32_of(behind(b' ', rest), u32::MAX) {
         Some(to) => Some(Blocked { target, from, to }),
         None => None,
     }
-}
-
-// Reads `HZ V D`: two angles in radians and a distance in metres. `None`: the words have no such form, or `offset_of` refuses
-// one of them.
-fn read_offset(words: &[u8]) -> Option<Offset>
-    ensures { IsReadAs (IsOffset words.now) result }
-{
-    let rest = behind(b' ', words);
-    offset_of(before(b' ', words), before(b' ', rest), behind(b' ', rest))
 }
 
 // Reads `drift TARGET HZ V D`: a target, and the offset by which it moves with each measurement of it, in radians and metres.
@@ -314,7 +272,7 @@ fn read_drift(line: &[u8]) -> Option<Drift>
         return None;
     }
     let rest = behind(b' ', line);
-    let Some(target) = scene_target_of(before(b' ', rest)) else {
+    let Some(target) = u32_of(before(b' ', rest), SCENE_TARGET_MAX) else {
         return None
     };
     match read_offset(behind(b' ', rest)) {
@@ -341,7 +299,7 @@ fn read_noise(line: &[u8]) -> Option<Noise>
     ) else {
         return None
     };
-    match count_of(behind(b' ', last)) {
+    match u32_of(behind(b' ', last), u32::MAX) {
         Some(seed) => Some(Noise {
             hz: most.hz,
             v: most.v,

@@ -9,16 +9,13 @@ ghost use Rattle.gc_engines.specs.Scenes.{IsBaseOf, IsScene, IsOverfullScene, Sc
 
 use crate::scene_line::{AnySceneLine, SceneForm, SceneLine};
 use arrayvec::ArrayVec;
-use gc_instrument::{Instrument, SceneFull, Target, simulator_name};
+use gc_instrument::{Instrument, SIMULATOR_SERIAL, SceneFull, Target, simulator_name};
 use gc_texts::{RunFault, read_items};
 use gc_values::Text;
 use std::alloc::Global;
 
 // The most targets of an instrument.
 const MOST_TARGETS: usize = 32;
-
-// The simulator's serial number.
-const SIMULATOR_SERIAL: i32 = 123456;
 
 /// Reads the text of a scene, and returns the instrument that it sets up, in its opening state.
 ///

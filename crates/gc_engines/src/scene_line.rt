@@ -4,12 +4,12 @@ ghost use Rattle.std.specs.Prelude.{◌≡◌, MatchOption, IsTrue, IsFalse};
 ghost use Rattle.gc_values.specs.Text.{IsText};
 ghost use Rattle.gc_values.specs.Whole.{NamesWhole, FitsLong};
 ghost use Rattle.gc_texts.specs.LineForms.{IsReadAs};
-ghost use Rattle.gc_engines.specs.Scenes.{AreOffsetWords, IsSerial, IsName, IsTargetWords, IsTarget, IsSceneLine};
+ghost use Rattle.gc_engines.specs.Scenes.{AreOffsetWords, IsOffset, IsSerial, IsName, IsTargetLine, IsSceneLine};
 ghost use Rattle.gc_engines.specs.declared.scene_line.SceneLine.{SceneLine};
 
 use gc_instrument::Target;
 use gc_scenes::Offset;
-use gc_texts::{LineForm, after_word, cut_at, read_double};
+use gc_texts::{LineForm, after_word, before, behind, read_double};
 use gc_values::{Text, read_long};
 
 /// What a line of a scene says of the instrument.
@@ -106,10 +106,7 @@ fn read_serial(line: &[u8]) -> Option<i32>
 fn long_of(digits: &[u8]) -> Option<i32>
     ensures { IsReadAs (λ n. NamesWhole digits.now n × FitsLong n) result }
 {
-    match read_long(digits) {
-        Ok(n) => Some(n),
-        Err(_) => None,
-    }
+    read_long(digits).ok()
 }
 
 // Reads `name TEXT`: an instrument's name, as `name_from` takes it. `None`: the line has no such form.
@@ -124,21 +121,21 @@ fn read_name(line: &[u8]) -> Option<Text>
 
 // The name that these bytes are. `None`: they are more than 64, or one of them is a double quote, a carriage return or a line feed.
 fn name_from(bytes: &[u8]) -> Option<Text>
-    ensures { MatchOption result (IsText bytes.now → ⊥) (λ name. (name ≡ bytes.now) × IsText bytes.now) }
+    ensures { IsReadAs (λ name. (name ≡ bytes.now) × IsText name) result }
 {
-    match Text::new(bytes) {
-        Ok(name) => Some(name),
-        Err(_) => None,
-    }
+    Text::new(bytes).ok()
 }
 
 // Reads `target HZ V DISTANCE`: a target's angles in radians and its slope distance in metres. `None`: the line has no such form,
-// or `offset_of` refuses a number.
+// or `read_offset` refuses a number.
 fn read_target(line: &[u8]) -> Option<Target>
-    ensures { IsReadAs (IsTarget line.now) result }
+    ensures { IsReadAs (IsTargetLine line.now) result }
 {
-    match after_word(b"target ", line) {
-        Some(words) => read_target_words(words),
+    let Some(words) = after_word(b"target ", line) else {
+        return None
+    };
+    match read_offset(words) {
+        Some(Offset { hz, v, distance }) => Some(Target { hz, v, distance }),
         None => None,
     }
 }
@@ -158,19 +155,11 @@ pub(crate) fn offset_of(hz: &[u8], v: &[u8], distance: &[u8]) -> Option<Offset>
     }
 }
 
-// Reads `HZ V DISTANCE`: where a target stands, by its angles in radians and its slope distance in metres. `None`: they aren't
-// three words, with one space between each two, or `offset_of` refuses them.
-fn read_target_words(words: &[u8]) -> Option<Target>
-    ensures { IsReadAs (IsTargetWords words.now) result }
+// Reads `HZ V D`: two angles in radians and a distance in metres. `None`: the words have no such form, or `offset_of` refuses
+// one of them.
+pub(crate) fn read_offset(words: &[u8]) -> Option<Offset>
+    ensures { IsReadAs (IsOffset words.now) result }
 {
-    let (hz, rest) = cut_at(b' ', words);
-    let Some(rest) = rest else { return None };
-    let (v, distance) = cut_at(b' ', rest);
-    let Some(distance) = distance else {
-        return None
-    };
-    match offset_of(hz, v, distance) {
-        Some(Offset { hz, v, distance }) => Some(Target { hz, v, distance }),
-        None => None,
-    }
+    let rest = behind(b' ', words);
+    offset_of(before(b' ', words), before(b' ', rest), behind(b' ', rest))
 }

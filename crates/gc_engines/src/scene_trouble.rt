@@ -8,13 +8,15 @@ ghost use Rattle.gc_texts.specs.declared.fault.RunFault.{RunFault};
 ghost use Rattle.gc_engines.specs.SceneTroubles.{BeginsWith, IsReplyTrouble, IsSceneTrouble, NeedsClock, NoDecimal, NotNumber, form_text, scene_trouble_text, scene_trouble_line, word_text};
 ghost use Rattle.gc_engines.specs.declared.scene_trouble.SceneWord.{SceneWord};
 
-use crate::event::COUNT_MAX;
-use crate::rule_line::{CODE_MAX, SCENE_TARGET_MAX, gives_clock};
+use crate::rule_line::{SCENE_TARGET_MAX, gives_clock};
 use crate::timed_line::DELAY_MAX;
 use gc_catalogue::{RawFault, raw_call};
-use gc_texts::{RunFault, before, behind, is_word, number_of, read_double};
+use gc_texts::{RunFault, before, behind, is_word, read_double, u16_of, u32_of};
 use gc_values::{Text, read_long};
 use std::io::{self, Write};
+
+// The greatest number of a procedure, and the greatest return code.
+const CODE_MAX: u32 = 65535;
 
 /// A word that a line of a scene begins with.
 #[derive(Clone, Copy)]
@@ -173,10 +175,8 @@ fn tell_form<E: Write>(form: &str, messages: &mut E) -> io::Result<()>
 pub fn scene_trouble_of(line: &[u8], has_clock: bool) -> SceneTrouble
     ensures { IsSceneTrouble line.now result }
 {
-    if !has_clock {
-        if needs_clock(line) {
-            return SceneTrouble::Clock;
-        }
+    if !has_clock && needs_clock(line) {
+        return SceneTrouble::Clock;
     }
     match word_of(before(b' ', line)) {
         Some(word) => trouble_behind(word, line),
@@ -257,25 +257,18 @@ fn trouble_behind(word: SceneWord, line: &[u8]) -> SceneTrouble
 
 // Whether these bytes are no decimal, as a scene writes angles and distances: whether `read_double` refuses them, also a number
 // further than 10^13 from zero.
-#[tactic(auto, unfolding(crate::specs::SceneTroubles::NoDecimal))]
 fn is_no_double(text: &[u8]) -> bool
     ensures { IsTrue result → NoDecimal text.now }
 {
-    match read_double(text) {
-        Some(_) => false,
-        None => true,
-    }
+    read_double(text).is_none()
 }
 
 // Whether these bytes are no whole number of at most `max`, written in digits alone.
 #[tactic(auto, unfolding(crate::specs::SceneTroubles::NotNumber))]
-fn is_no_number(text: &[u8], max: u64) -> bool
+fn is_no_number(text: &[u8], max: u32) -> bool
     ensures { IsTrue result → NotNumber text.now max }
 {
-    match number_of(text, max) {
-        Some(_) => false,
-        None => true,
-    }
+    u32_of(text, max).is_none()
 }
 
 // How many fields a line has after its first word: one for each space.
@@ -288,10 +281,8 @@ fn serial_trouble(line: &[u8]) -> SceneTrouble
     requires { BeginsWith SceneWord.Serial line.now }
     ensures { IsSceneTrouble line.now result }
 {
-    if fields_in(line) == 1 {
-        if read_long(behind(b' ', line)).is_err() {
-            return SceneTrouble::Serial;
-        }
+    if fields_in(line) == 1 && read_long(behind(b' ', line)).is_err() {
+        return SceneTrouble::Serial;
     }
     SceneTrouble::Form(SceneWord::Serial)
 }
@@ -313,15 +304,16 @@ fn target_trouble(line: &[u8]) -> SceneTrouble
     requires { BeginsWith SceneWord.Target line.now }
     ensures { IsSceneTrouble line.now result }
 {
-    let rest = behind(b' ', line);
+    let from_hz = behind(b' ', line);
+    let from_v = behind(b' ', from_hz);
     if fields_in(line) == 3 {
-        if is_no_double(before(b' ', rest)) {
+        if is_no_double(before(b' ', from_hz)) {
             return SceneTrouble::Hz;
         }
-        if is_no_double(before(b' ', behind(b' ', rest))) {
+        if is_no_double(before(b' ', from_v)) {
             return SceneTrouble::V;
         }
-        if is_no_double(behind(b' ', behind(b' ', rest))) {
+        if is_no_double(behind(b' ', from_v)) {
             return SceneTrouble::Distance;
         }
     }
@@ -334,12 +326,12 @@ fn fault_trouble(line: &[u8]) -> SceneTrouble
     requires { BeginsWith SceneWord.Fault line.now }
     ensures { IsSceneTrouble line.now result }
 {
-    let rest = behind(b' ', line);
+    let from_rpc = behind(b' ', line);
     if fields_in(line) >= 2 {
-        if is_no_number(before(b' ', rest), CODE_MAX) {
+        if is_no_number(before(b' ', from_rpc), CODE_MAX) {
             return SceneTrouble::Rpc;
         }
-        if is_no_number(before(b' ', behind(b' ', rest)), CODE_MAX) {
+        if is_no_number(before(b' ', behind(b' ', from_rpc)), CODE_MAX) {
             return SceneTrouble::Rc;
         }
     }
@@ -347,23 +339,20 @@ fn fault_trouble(line: &[u8]) -> SceneTrouble
 }
 
 // What is at fault in a line that begins with `answer`: the first of `Rpc` and `Rc` that doesn't read, or else what `reply_trouble` gives.
+#[tactic(auto, unfolding(crate::specs::SceneTroubles::NotNumber))]
 fn answer_trouble(line: &[u8]) -> SceneTrouble
     requires { BeginsWith SceneWord.Answer line.now }
     ensures { IsSceneTrouble line.now result }
 {
-    let rest = behind(b' ', line);
-    let reply = behind(b' ', rest);
-    if is_no_number(before(b' ', rest), CODE_MAX) {
+    let from_rpc = behind(b' ', line);
+    let Some(rpc) = u16_of(before(b' ', from_rpc)) else {
         return SceneTrouble::Rpc;
-    }
-    if is_no_number(before(b',', reply), CODE_MAX) {
+    };
+    let from_rc = behind(b' ', from_rpc);
+    if is_no_number(before(b',', from_rc), CODE_MAX) {
         return SceneTrouble::Rc;
     }
-    // The procedure's number reads, as was found above.
-    match number_of(before(b' ', rest), CODE_MAX) {
-        Some(rpc) => reply_trouble(rpc as u16, behind(b',', reply)),
-        None => SceneTrouble::Form(SceneWord::Answer),
-    }
+    reply_trouble(rpc, behind(b',', from_rc))
 }
 
 // What is at fault in the parameters of a reply to the procedure with this number: `InTable` if the procedure is in the table; else
@@ -384,15 +373,16 @@ fn blocked_trouble(line: &[u8]) -> SceneTrouble
     requires { BeginsWith SceneWord.Blocked line.now }
     ensures { IsSceneTrouble line.now result }
 {
-    let rest = behind(b' ', line);
+    let from_target = behind(b' ', line);
+    let from_looks = behind(b' ', from_target);
     if fields_in(line) == 3 {
-        if is_no_number(before(b' ', rest), SCENE_TARGET_MAX) {
+        if is_no_number(before(b' ', from_target), SCENE_TARGET_MAX) {
             return SceneTrouble::Target;
         }
-        if is_no_number(before(b' ', behind(b' ', rest)), COUNT_MAX) {
+        if is_no_number(before(b' ', from_looks), u32::MAX) {
             return SceneTrouble::From;
         }
-        if is_no_number(behind(b' ', behind(b' ', rest)), COUNT_MAX) {
+        if is_no_number(behind(b' ', from_looks), u32::MAX) {
             return SceneTrouble::To;
         }
     }
@@ -405,18 +395,20 @@ fn drift_trouble(line: &[u8]) -> SceneTrouble
     requires { BeginsWith SceneWord.Drift line.now }
     ensures { IsSceneTrouble line.now result }
 {
-    let rest = behind(b' ', line);
+    let from_target = behind(b' ', line);
+    let from_hz = behind(b' ', from_target);
+    let from_v = behind(b' ', from_hz);
     if fields_in(line) == 4 {
-        if is_no_number(before(b' ', rest), SCENE_TARGET_MAX) {
+        if is_no_number(before(b' ', from_target), SCENE_TARGET_MAX) {
             return SceneTrouble::Target;
         }
-        if is_no_double(before(b' ', behind(b' ', rest))) {
+        if is_no_double(before(b' ', from_hz)) {
             return SceneTrouble::Hz;
         }
-        if is_no_double(before(b' ', behind(b' ', behind(b' ', rest)))) {
+        if is_no_double(before(b' ', from_v)) {
             return SceneTrouble::V;
         }
-        if is_no_double(behind(b' ', behind(b' ', behind(b' ', rest)))) {
+        if is_no_double(behind(b' ', from_v)) {
             return SceneTrouble::Distance;
         }
     }
@@ -429,18 +421,20 @@ fn noise_trouble(line: &[u8]) -> SceneTrouble
     requires { BeginsWith SceneWord.Noise line.now }
     ensures { IsSceneTrouble line.now result }
 {
-    let rest = behind(b' ', line);
+    let from_hz = behind(b' ', line);
+    let from_v = behind(b' ', from_hz);
+    let from_distance = behind(b' ', from_v);
     if fields_in(line) == 4 {
-        if is_no_double(before(b' ', rest)) {
+        if is_no_double(before(b' ', from_hz)) {
             return SceneTrouble::Hz;
         }
-        if is_no_double(before(b' ', behind(b' ', rest))) {
+        if is_no_double(before(b' ', from_v)) {
             return SceneTrouble::V;
         }
-        if is_no_double(before(b' ', behind(b' ', behind(b' ', rest)))) {
+        if is_no_double(before(b' ', from_distance)) {
             return SceneTrouble::Distance;
         }
-        if is_no_number(behind(b' ', behind(b' ', behind(b' ', rest))), COUNT_MAX) {
+        if is_no_number(behind(b' ', from_distance), u32::MAX) {
             return SceneTrouble::Seed;
         }
     }
@@ -452,12 +446,12 @@ fn delay_trouble(line: &[u8]) -> SceneTrouble
     requires { BeginsWith SceneWord.Delay line.now }
     ensures { IsSceneTrouble line.now result }
 {
-    let rest = behind(b' ', line);
+    let from_rpc = behind(b' ', line);
     if fields_in(line) == 2 {
-        if is_no_number(before(b' ', rest), CODE_MAX) {
+        if is_no_number(before(b' ', from_rpc), CODE_MAX) {
             return SceneTrouble::Rpc;
         }
-        if is_no_number(behind(b' ', rest), DELAY_MAX) {
+        if is_no_number(behind(b' ', from_rpc), DELAY_MAX) {
             return SceneTrouble::Ms;
         }
     }

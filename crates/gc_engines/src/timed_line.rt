@@ -4,13 +4,13 @@
 ghost use Rattle.gc_texts.specs.LineForms.{IsReadAs};
 ghost use Rattle.gc_engines.specs.TimedScenes.{IsTimedLine, IsDelayLine};
 
-use crate::rule_line::{RuleLine, code_of, read_rule_line};
+use crate::rule_line::{RuleLine, read_rule_line};
 use crate::scene_line::put_found;
 use gc_scenes::Delay;
-use gc_texts::{LineForm, before, behind, is_word, number_of};
+use gc_texts::{LineForm, before, behind, is_word, u16_of, u32_of};
 
 // The longest delay in milliseconds: an hour.
-pub(crate) const DELAY_MAX: u64 = 3_600_000;
+pub(crate) const DELAY_MAX: u32 = 3_600_000;
 
 /// What a line of a scene for `serve` says.
 #[derive(Clone, Copy)]
@@ -69,11 +69,11 @@ fn read_delay(line: &[u8]) -> Option<Delay>
         return None;
     }
     let rest = behind(b' ', line);
-    let Some(rpc) = code_of(before(b' ', rest)) else {
+    let Some(rpc) = u16_of(before(b' ', rest)) else {
         return None
     };
-    match number_of(behind(b' ', rest), DELAY_MAX) {
-        Some(ms) => Some(Delay { rpc, ms: ms as u32 }),
+    match u32_of(behind(b' ', rest), DELAY_MAX) {
+        Some(ms) => Some(Delay { rpc, ms }),
         None => None,
     }
 }

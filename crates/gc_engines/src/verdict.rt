@@ -128,12 +128,12 @@ fn push_number<I: Integer>(text: &mut Outgoing, word: &[u8], number: I)
     ensures bound { length text.new.items ≤ length text.old.items + length word.now + 40 }
 {
     append(text, word);
-    push_decimal(text, number);
+    push_digits(text, number);
 }
 
-// Appends a number in decimal. There is room for it.
+// Appends the decimal digits of a number. There is room for them.
 #[inline]
-pub(crate) fn push_decimal<I: Integer>(text: &mut Outgoing, number: I)
+pub(crate) fn push_digits<I: Integer>(text: &mut Outgoing, number: I)
     requires { length text.old.items + 40 ≤ 8192 }
     ensures items { text.new.items ≡ text.old.items ++ I.text number }
     ensures bound { length text.new.items ≤ length text.old.items + 40 }

@@ -1,25 +1,25 @@
 //! The client's parts, once: a window on the heap, and a client that takes no memory.
 
-use crate::outcome::Outcome;
+use crate::outcome::OnceOutcome;
 use arrayvec::ArrayVec;
 use gc_catalogue::Call;
-use gc_client::{Client, Heard, Hearing, Outcome as End, Ring, Settlement, Slots, Window};
+use gc_client::{Client, Heard, Hearing, Outcome, Ring, Settlement, Slots, Window};
 use gc_lines::{Line, LineFault, append};
 use std::alloc::Global;
 
 /// Makes a ring: `Exact` if it is an empty window, `NoMemory` if memory ran out for it, and else `Other`.
-pub fn make_ring(alloc: Global) -> Outcome {
+pub fn make_ring(alloc: Global) -> OnceOutcome {
     match Ring::new(alloc) {
-        Ok(ring) => Outcome::of_answer(ring.len() == 0),
-        Err(_) => Outcome::NoMemory,
+        Ok(ring) => OnceOutcome::of_answer(ring.len() == 0),
+        Err(_) => OnceOutcome::NoMemory,
     }
 }
 
 /// Has a client with `Slots`, which takes no memory, send two requests, of which the first times out and gets its reply late, and the
 /// second is lost with a restart. Returns `Exact` if each call gave what it should, and else `Other`.
-pub fn call_client() -> Outcome {
+pub fn call_client() -> OnceOutcome {
     let mut client = Client::new(Slots::new());
-    Outcome::of_answer(
+    OnceOutcome::of_answer(
         send_two(&mut client) && hear_lines(&mut client) && restart_client(&mut client),
     )
 }
@@ -48,7 +48,7 @@ fn hear_lines(client: &mut Client<Slots>) -> bool {
         return false;
     };
     let mut settled = ArrayVec::new();
-    is_only_settlement(late.as_slice(), 1, Call::NullProc, End::Late)
+    is_only_settlement(late.as_slice(), 1, Call::NullProc, Outcome::Late)
         && client.hear(reply.as_slice(), &mut settled) == Hearing::Stray
         && client.hear(b"hello", &mut settled) == Hearing::Unread(LineFault::Signature)
 }
@@ -58,12 +58,17 @@ fn restart_client(client: &mut Client<Slots>) -> bool {
     let waiting = (client.waiting(), client.next_id());
     let lost = client.restart();
     waiting == (1, 2)
-        && is_only_settlement(lost.as_slice(), 2, Call::InstrumentNo, End::Lost)
+        && is_only_settlement(lost.as_slice(), 2, Call::InstrumentNo, Outcome::Lost)
         && (client.waiting(), client.next_id()) == (0, 0)
 }
 
 // Whether `settled` is exactly one settlement, with this target, call and outcome.
-fn is_only_settlement(settled: &[Settlement<Call>], target: u32, call: Call, outcome: End) -> bool {
+fn is_only_settlement(
+    settled: &[Settlement<Call>],
+    target: u32,
+    call: Call,
+    outcome: Outcome,
+) -> bool {
     let wanted = Settlement {
         target,
         call,

@@ -1,7 +1,6 @@
 //! One example: what goes in, and what must come out.
 
 use crate::cases::{Engine, Setup, first_differing_recut};
-use std::alloc::Global;
 use std::{fs, io};
 
 /// The files of an example.
@@ -18,7 +17,7 @@ impl Example {
     /// memory ran out.
     pub fn find(rt: &HostRuntime, name: &str) -> io::Result<Option<Example>> {
         match parts_of(name) {
-            Some(parts) => Ok(Some(read(rt, name, parts)?)),
+            Some(parts) => Ok(Some(read_example(rt, name, parts)?)),
             None => Ok(None),
         }
     }
@@ -26,12 +25,12 @@ impl Example {
     /// Gives the input whole, in single bytes, and cut in two at each place, and returns the first of these ways in which the run goes
     /// wrong, in words that begin with a comma; empty if there is none. Given whole, it has to come to a good end and the
     /// expected output; given otherwise, to the same as whole. A run for which memory runs out goes wrong.
-    pub fn fault(&self, alloc: Global) -> &'static str {
-        let whole = self.setup.run(alloc, &[]);
+    pub fn fault(&self) -> &'static str {
+        let whole = self.setup.run(&[]);
         if !whole.wrote(self.expected.as_slice()) {
             return ", whole";
         }
-        match first_differing_recut(alloc, &self.setup, &whole, true) {
+        match first_differing_recut(&self.setup, &whole, true) {
             Some(way) => way.words(),
             None => "",
         }
@@ -74,7 +73,7 @@ fn engine_and_output(ending: &str) -> Option<(Engine, &'static str)> {
 // Reads the example whose input is the file of this name, which says `parts`: the input, the expected output, and, if the engine
 // has a scene's instrument, the scene in the file whose name is the stem and then `.scene`. `Err`: one of these can't be read, or
 // memory ran out.
-fn read(rt: &HostRuntime, name: &str, parts: Parts<'_>) -> io::Result<Example> {
+fn read_example(rt: &HostRuntime, name: &str, parts: Parts<'_>) -> io::Result<Example> {
     let Parts {
         engine,
         stem,

@@ -1,6 +1,6 @@
 //! Commands asked over a link of the tests, once.
 
-use crate::outcome::Outcome;
+use crate::outcome::OnceOutcome;
 use gc_ask::{run_ask, run_loop};
 use gc_lines::{Sink, Source};
 use gc_probes::{PieceSink, PieceSource, Pipe};
@@ -16,10 +16,10 @@ const ASK_READS: u32 = 9;
 // How many reads `loop` may make.
 const LOOP_READS: u32 = 100;
 
-/// Asks two commands over a link that gives a stray and then the two answers. The outcome is that of `Outcome::of`, with these
+/// Asks two commands over a link that gives a stray and then the two answers. The outcome is that of `OnceOutcome::of`, with these
 /// exceptions: `PortLacksMemory` if memory ran out for what was sent, and `Other` if a run that ended well sent anything but the
 /// two requests, or one for which memory ran out sent anything.
-pub fn ask(alloc: Global) -> Outcome {
+pub fn ask(alloc: Global) -> OnceOutcome {
     let sent = b"%R1Q,5003,0:\r\n%R1Q,0,1:\r\n";
     let told = b"0 7 answered %R1P,0,0:0,123456\n1 8 answered %R1P,0,1:0\n";
     let gives = b"%R1P,0,3:0\r\n%R1P,0,0:0,123456\r\n%R1P,0,1:0\r\n";
@@ -35,17 +35,17 @@ pub fn ask(alloc: Global) -> Outcome {
         ASK_READS,
     );
     match end {
-        Err(RunFault::Write { .. }) if link_out.lacks_memory() => Outcome::PortLacksMemory,
-        Ok(()) if link_out.taken() != sent.as_slice() => Outcome::Other,
-        Err(RunFault::Memory) if !link_out.taken().is_empty() => Outcome::Other,
-        _ => Outcome::of(end, &sink, told),
+        Err(RunFault::Write { .. }) if link_out.lacks_memory() => OnceOutcome::PortLacksMemory,
+        Ok(()) if link_out.taken() != sent.as_slice() => OnceOutcome::Other,
+        Err(RunFault::Memory) if !link_out.taken().is_empty() => OnceOutcome::Other,
+        _ => OnceOutcome::of(end, &sink, told),
     }
 }
 
-/// Asks three commands of the simulator over two pipes. The outcome is that of `Outcome::of`, with these exceptions:
+/// Asks three commands of the simulator over two pipes. The outcome is that of `OnceOutcome::of`, with these exceptions:
 /// `PortLacksMemory` if memory ran out for what was sent over a pipe, and `Other` if memory ran out for the run and a byte is in
 /// a pipe.
-pub fn loop_commands(alloc: Global) -> Outcome {
+pub fn loop_commands(alloc: Global) -> OnceOutcome {
     let told =
         b"0 7 answered %R1P,0,0:0,123456\n1 8 answered %R1P,0,1:0\n2 9 answered %R1P,0,2:0,1\n";
     let (up, down) = (Pipe::new(alloc), Pipe::new(alloc));
@@ -64,9 +64,9 @@ pub fn loop_commands(alloc: Global) -> Outcome {
     );
     let has_failed = client_out.has_failed() || instrument_out.has_failed();
     match end {
-        Err(RunFault::Write { .. }) if has_failed => Outcome::PortLacksMemory,
-        Err(RunFault::Memory) if !gives_nothing(&up) || !gives_nothing(&down) => Outcome::Other,
-        _ => Outcome::of(end, &sink, told),
+        Err(RunFault::Write { .. }) if has_failed => OnceOutcome::PortLacksMemory,
+        Err(RunFault::Memory) if !gives_nothing(&up) || !gives_nothing(&down) => OnceOutcome::Other,
+        _ => OnceOutcome::of(end, &sink, told),
     }
 }
 

@@ -27,7 +27,7 @@ fn play_cuts(rt: &HostRuntime, names: &[String]) -> io::Result<bool> {
     let mut is_right = true;
     for name in names {
         if let Some(example) = Example::find(rt, name.as_str())? {
-            is_right &= print_cuts(rt, name.as_str(), example.fault(rt.alloc()))?;
+            is_right &= print_cuts(rt, name.as_str(), example.fault())?;
         }
     }
     Ok(is_right)

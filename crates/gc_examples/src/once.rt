@@ -4,7 +4,7 @@ use crate::cases::Engine;
 use crate::client::{call_client, make_ring};
 use crate::example::Example;
 use crate::links::{ask, loop_commands};
-use crate::outcome::Outcome;
+use crate::outcome::OnceOutcome;
 use gc_catalogue::Call;
 use gc_client::{Ring, Slots, Window};
 use gc_engines::{
@@ -12,7 +12,7 @@ use gc_engines::{
     run_exec,
 };
 use gc_instrument::Instrument;
-use gc_lines::ToWriter;
+use gc_lines::{ServeFault, Served, ToWriter};
 use gc_probes::{PieceSink, PieceSource};
 use gc_scenes::{SceneInstrument, serve_scene};
 use gc_world::{Event, Report, play};
@@ -20,7 +20,7 @@ use std::alloc::{AllocError, Global};
 use std::io;
 
 /// Plays each example once, those without files first, and prints a line for each, and two for a schedule without a scene.
-/// Returns whether none gave a wrong answer (`Outcome::Other`): one that gave no answer, because memory ran out for its run or a
+/// Returns whether none gave a wrong answer (`OnceOutcome::Other`): one that gave no answer, because memory ran out for its run or a
 /// port (`NoMemory`, `PortLacksMemory`), counts as right. `Err`: a line can't be printed, a file can't be read, or memory ran out
 /// for a file or its name. Then no further example is played.
 pub fn play_once(rt: &HostRuntime, names: &[String]) -> io::Result<bool> {
@@ -43,8 +43,8 @@ fn play_without_files(rt: &HostRuntime) -> io::Result<bool> {
     Ok(is_right)
 }
 
-// Plays an example of the folder with its engine, and prints a line; a schedule without a scene goes to `play_schedule`, which prints two. Returns
-// whether no run gave a wrong answer.
+// Plays an example of the folder with its engine, and prints a line; a schedule without a scene goes to `play_schedule`, which
+// prints two. Returns whether no run gave a wrong answer.
 fn play_example(rt: &HostRuntime, name: &str, example: &Example) -> io::Result<bool> {
     let alloc = rt.alloc();
     match example.setup.engine {
@@ -66,28 +66,33 @@ fn play_schedule(rt: &HostRuntime, name: &str, example: &Example) -> io::Result<
 
 // Prints an example's name, what was done with it (`done`), and its outcome. Returns whether the outcome isn't `Other`, a wrong
 // answer.
-fn print_outcome(rt: &HostRuntime, name: &str, done: &str, outcome: Outcome) -> io::Result<bool> {
+fn print_outcome(
+    rt: &HostRuntime,
+    name: &str,
+    done: &str,
+    outcome: OnceOutcome,
+) -> io::Result<bool> {
     println!(rt; "{name}, {done}: {outcome}")?;
-    Ok(outcome != Outcome::Other)
+    Ok(outcome != OnceOutcome::Other)
 }
 
 // Room for the output of each stream of the folder, in bytes, with at least one byte to spare.
 const ROOM: usize = 4096;
 
 // Runs `exec` on the example's input: `Exact` if the run ended well and wrote the expected output, and else `Other`.
-fn serve_requests(example: &Example) -> Outcome {
+fn serve_requests(example: &Example) -> OnceOutcome {
     let mut taken = [0; ROOM];
     let mut sink = ToWriter::new(&mut taken[..]);
-    let is_done = run_exec(&mut source_of(example), &mut sink, u32::MAX).is_ok();
-    outcome_of(is_done, &taken, example)
+    let end = run_exec(&mut source_of(example), &mut sink, u32::MAX);
+    outcome_of_serving(end, &taken, example)
 }
 
 // Runs `check` on the example's input: `Exact` if the run ended well and wrote the expected output, and else `Other`.
-fn check_recording(example: &Example) -> Outcome {
+fn check_recording(example: &Example) -> OnceOutcome {
     let mut taken = [0; ROOM];
     let mut sink = ToWriter::new(&mut taken[..]);
-    let is_done = run_check(&mut source_of(example), &mut sink, u32::MAX).is_ok();
-    outcome_of(is_done, &taken, example)
+    let end = run_check(&mut source_of(example), &mut sink, u32::MAX);
+    outcome_of_serving(end, &taken, example)
 }
 
 // The example's input, given whole.
@@ -95,27 +100,31 @@ fn source_of(example: &Example) -> PieceSource<'_> {
     PieceSource::new(example.setup.input.as_slice(), &[], u64::MAX)
 }
 
-// The outcome of a run that wrote into `taken`, an array of zeros before: `Exact` if it ended well (`is_done`) and `taken` holds the
+// The outcome of a run that ended so and wrote into `taken`, an array of zeros before: `Exact` if it ended well and `taken` holds the
 // expected output, and else `Other`.
-fn outcome_of(is_done: bool, taken: &[u8; ROOM], example: &Example) -> Outcome {
-    Outcome::of_answer(is_done && holds(taken, example.expected.as_slice()))
+fn outcome_of_serving(
+    end: Result<Served, ServeFault>,
+    taken: &[u8; ROOM],
+    example: &Example,
+) -> OnceOutcome {
+    OnceOutcome::of_answer(end.is_ok() && holds(taken, example.expected.as_slice()))
 }
 
 // Has the instrument of the example's scene answer its requests: `Exact` if it ended well with the expected replies, `NoMemory` if memory
 // ran out for the scene, and else `Other`, also where the scene can't be read.
-fn answer_on_scene(alloc: Global, example: &Example) -> Outcome {
+fn answer_on_scene(alloc: Global, example: &Example) -> OnceOutcome {
     match read_rule_scene::<RuleForm>(alloc, example.setup.scene.as_slice()) {
         Ok(mut instrument) => answer_on_instrument(&mut instrument, example),
-        Err(fault) => Outcome::of_unread(fault),
+        Err(fault) => OnceOutcome::of_unread(fault),
     }
 }
 
 // Has this instrument answer the example's requests: `Exact` if it ended well with the expected replies, and else `Other`.
-fn answer_on_instrument(instrument: &mut SceneInstrument, example: &Example) -> Outcome {
+fn answer_on_instrument(instrument: &mut SceneInstrument, example: &Example) -> OnceOutcome {
     let mut taken = [0; ROOM];
     let mut sink = ToWriter::new(&mut taken[..]);
-    let is_done = serve_scene(instrument, &mut source_of(example), &mut sink, u32::MAX).is_ok();
-    outcome_of(is_done, &taken, example)
+    let end = serve_scene(instrument, &mut source_of(example), &mut sink, u32::MAX);
+    outcome_of_serving(end, &taken, example)
 }
 
 // Whether `expected`, which has no zero, is all that was written into `taken`, an array of zeros before: `taken` begins with it and has a
@@ -125,25 +134,29 @@ fn holds(taken: &[u8; ROOM], expected: &[u8]) -> bool {
 }
 
 // Drills the example's schedule on the simulator, as `drill --totals` does, into a sink that takes at most 5 bytes of a write.
-// The outcome is that of `Outcome::of`: `Exact` if the drill ended well with the expected output.
-fn drill_schedule(alloc: Global, example: &Example) -> Outcome {
+// The outcome is that of `OnceOutcome::of`: `Exact` if the drill ended well with the expected output.
+fn drill_schedule(alloc: Global, example: &Example) -> OnceOutcome {
     let mut sink = PieceSink::new(alloc, 5, u64::MAX);
     let end = run_drill(alloc, &mut source_of(example), &mut sink, true);
-    Outcome::of(end, &sink, example.expected.as_slice())
+    OnceOutcome::of(end, &sink, example.expected.as_slice())
 }
 
 // Drills the example's schedule on the instrument of its scene, as `drill --totals` does: `NoMemory` if memory ran out for the scene,
 // `Other` if the scene can't be read, and else the outcome of `drill_on_instrument`.
-fn drill_on_scene(alloc: Global, example: &Example) -> Outcome {
+fn drill_on_scene(alloc: Global, example: &Example) -> OnceOutcome {
     match read_rule_scene::<StillForm>(alloc, example.setup.scene.as_slice()) {
         Ok(instrument) => drill_on_instrument(alloc, instrument, example),
-        Err(fault) => Outcome::of_unread(fault),
+        Err(fault) => OnceOutcome::of_unread(fault),
     }
 }
 
 // Drills the example's schedule on this instrument, with totals and a window of 7 requests, into a sink that takes at most 5
-// bytes of a write. The outcome is that of `Outcome::of`: `Exact` if the drill ended well with the expected output.
-fn drill_on_instrument(alloc: Global, instrument: SceneInstrument, example: &Example) -> Outcome {
+// bytes of a write. The outcome is that of `OnceOutcome::of`: `Exact` if the drill ended well with the expected output.
+fn drill_on_instrument(
+    alloc: Global,
+    instrument: SceneInstrument,
+    example: &Example,
+) -> OnceOutcome {
     let mut sink = PieceSink::new(alloc, 5, u64::MAX);
     let end = run_drill_on(
         alloc,
@@ -153,33 +166,33 @@ fn drill_on_instrument(alloc: Global, instrument: SceneInstrument, example: &Exa
         true,
         7,
     );
-    Outcome::of(end, &sink, example.expected.as_slice())
+    OnceOutcome::of(end, &sink, example.expected.as_slice())
 }
 
 // Plays the example's schedule over a ring and over places: `Exact` if the two reports are the same, `NoMemory` if memory ran out
 // for the schedule, the ring or a report, and `Other` if the reports differ, or the schedule is refused for another reason.
-fn play_over_both(alloc: Global, example: &Example) -> Outcome {
+fn play_over_both(alloc: Global, example: &Example) -> OnceOutcome {
     match read_schedule(alloc, example.setup.input.as_slice()) {
         Ok(events) => compare_windows(alloc, events.as_slice()),
-        Err(fault) => Outcome::of_unread(fault),
+        Err(fault) => OnceOutcome::of_unread(fault),
     }
 }
 
 // Plays events over a ring and over places: `Exact` if they lead to the same, `NoMemory` if memory ran out for the ring or a
 // report, and else `Other`.
-fn compare_windows(alloc: Global, events: &[Event]) -> Outcome {
+fn compare_windows(alloc: Global, events: &[Event]) -> OnceOutcome {
     match (
         play_over_ring(alloc, events),
         play_over(alloc, Slots::new(), events),
     ) {
-        (Ok(ring), Ok(places)) => Outcome::of_answer(are_same(&ring, &places)),
-        _ => Outcome::NoMemory,
+        (Ok(ring), Ok(places)) => OnceOutcome::of_answer(are_same(&ring, &places)),
+        _ => OnceOutcome::NoMemory,
     }
 }
 
 // What events lead to.
 #[derive(Drop)]
-struct End {
+struct Played {
     report: Report,
     // How many requests the client has outstanding.
     waiting: usize,
@@ -188,7 +201,7 @@ struct End {
 }
 
 // What events lead to over a ring. `Err`: memory ran out for the ring or the report.
-fn play_over_ring(alloc: Global, events: &[Event]) -> Result<End, AllocError> {
+fn play_over_ring(alloc: Global, events: &[Event]) -> Result<Played, AllocError> {
     play_over(alloc, Ring::new(alloc)?, events)
 }
 
@@ -197,17 +210,17 @@ fn play_over<W: Window<Asked = Call>>(
     alloc: Global,
     window: W,
     events: &[Event],
-) -> Result<End, AllocError> {
+) -> Result<Played, AllocError> {
     let (report, client) = play(alloc, Instrument::simulator(), window, events)?;
-    Ok(End {
+    Ok(Played {
         report,
         waiting: client.waiting(),
         next_id: client.next_id(),
     })
 }
 
-// Whether two ends are the same: the reports, but for the instruments in them, and the clients' numbers.
-fn are_same(one: &End, other: &End) -> bool {
+// Whether two runs came to the same: the reports, but for the instruments in them, and the clients' numbers.
+fn are_same(one: &Played, other: &Played) -> bool {
     have_same_lists(&one.report, &other.report)
         && have_same_counts(&one.report, &other.report)
         && one.waiting == other.waiting

@@ -6,7 +6,7 @@ use std::fmt;
 
 /// What an example gave.
 #[derive(Clone, Copy, PartialEq, Eq)]
-pub enum Outcome {
+pub enum OnceOutcome {
     /// Exactly its answer.
     Exact,
     /// Memory ran out, and nothing was sent or written.
@@ -17,48 +17,48 @@ pub enum Outcome {
     Other,
 }
 
-impl fmt::Display for Outcome {
+impl fmt::Display for OnceOutcome {
     // Writes the outcome in words.
     fn fmt<W: fmt::Write>(&self, f: &mut fmt::Formatter<W>) -> fmt::Result {
         f.write_str(match self {
-            Outcome::Exact => "its answer",
-            Outcome::NoMemory => "no memory",
-            Outcome::PortLacksMemory => "a port could not store",
-            Outcome::Other => "another answer",
+            OnceOutcome::Exact => "its answer",
+            OnceOutcome::NoMemory => "no memory",
+            OnceOutcome::PortLacksMemory => "a port could not store",
+            OnceOutcome::Other => "another answer",
         })
     }
 }
 
-impl Outcome {
+impl OnceOutcome {
     /// The outcome of a run that should have written `expected`, by how it ended and what the sink took: `Exact` if it ended well with
     /// `expected`; `NoMemory` if memory ran out for the run and the sink took nothing; `PortLacksMemory` if memory ran out for the sink,
     /// which took a first part of `expected`, or nothing; and else `Other`.
-    pub fn of(end: Result<(), RunFault>, sink: &PieceSink, expected: &[u8]) -> Outcome {
+    pub fn of(end: Result<(), RunFault>, sink: &PieceSink, expected: &[u8]) -> OnceOutcome {
         match end {
-            Ok(()) if sink.taken() == expected => Outcome::Exact,
-            Err(RunFault::Memory) if sink.taken().is_empty() => Outcome::NoMemory,
+            Ok(()) if sink.taken() == expected => OnceOutcome::Exact,
+            Err(RunFault::Memory) if sink.taken().is_empty() => OnceOutcome::NoMemory,
             Err(RunFault::Output) if sink.lacks_memory() && expected.starts_with(sink.taken()) => {
-                Outcome::PortLacksMemory
+                OnceOutcome::PortLacksMemory
             }
-            _ => Outcome::Other,
+            _ => OnceOutcome::Other,
         }
     }
 
     /// The outcome of an example whose scene or schedule was refused with this fault: `NoMemory` if memory ran out for it, and else
     /// `Other`.
-    pub fn of_unread(fault: RunFault) -> Outcome {
+    pub fn of_unread(fault: RunFault) -> OnceOutcome {
         match fault {
-            RunFault::Memory => Outcome::NoMemory,
-            _ => Outcome::Other,
+            RunFault::Memory => OnceOutcome::NoMemory,
+            _ => OnceOutcome::Other,
         }
     }
 
     /// The outcome of a call that gave an answer: `Exact` if it is right, and otherwise `Other`.
-    pub fn of_answer(is_right: bool) -> Outcome {
+    pub fn of_answer(is_right: bool) -> OnceOutcome {
         if is_right {
-            Outcome::Exact
+            OnceOutcome::Exact
         } else {
-            Outcome::Other
+            OnceOutcome::Other
         }
     }
 }

@@ -2,8 +2,7 @@
 use Rattle.std.proofs.Common.{◌≡◌, ℕ, ◌+◌, ◌≤◌, List, [], ◌∷◌, ◌++◌, length, Option, Some, refl, ap, sym, subst, ◌∙◌, arith, append_assoc, length-append}
 use Rattle.gc_texts.specs.LineForms.{CutsLine, text_lines}
 use Rattle.gc_texts.proofs.TextLines.{lines_left, much_left, lines-cut, left_falls}
-use Rattle.gc_fates.specs.Rules.{no_rules, without_comment, Leads, LeadAll, IsFirstFaultyRule, IsRuleFault}
-use Rattle.gc_fates.specs.Spaced.{IsBlank}
+use Rattle.gc_fates.specs.Rules.{no_rules, Leads, LeadAll, IsFaultyRule, IsFirstFaultyRule}
 use Rattle.gc_fates.specs.declared.rule.RuleFault.{RuleFault}
 use Rattle.gc_fates.specs.declared.rules.Rules.{Rules}
 
@@ -36,11 +35,11 @@ comes_on text now line rest number rules new c cut leads =
       lead = lead_more no_rules rules new c.read line c.lead leads;
     }
 
--- where the reading has come to `now` (`Comes`), and the first line of `now` isn't blank and has this fault after the rules so far, it is
--- the text's first faulty line
+-- where the reading has come to `now` (`Comes`), and the first line of `now` is faulty after the rules so far, it is the text's
+-- first faulty line
 pub faulty_here : (text now line : List ℕ) (rest : Option (List ℕ)) (number : ℕ) (rules : Rules) (fault : RuleFault)
     → Comes text (Some now) number rules → CutsLine now line rest
-    → IsRuleFault rules line fault × (IsBlank (without_comment line) → ⊥) → IsFirstFaultyRule text (number + 1) fault
+    → IsFaultyRule rules line fault → IsFirstFaultyRule text (number + 1) fault
 faulty_here text now line rest number rules fault c cut is = record {
   front = c.read;
   line = line;
@@ -49,6 +48,5 @@ faulty_here text now line rest number rules fault c cut is = record {
   place = omega (arith, c.count);
   rules = rules;
   before = c.lead;
-  worded = is.1;
-  fault_is = is.0;
+  faulty = is;
 }

@@ -7,17 +7,17 @@ use Rattle.gc_texts.proofs.Cutting.{one_front, has_mark}
 use Rattle.gc_texts.proofs.Procedures.{one_number}
 
 -- a word is cut at its first point in one way
-one_cut : (word f g : List ℕ) (r s : Option (List ℕ)) → Cuts 46 word f r → Cuts 46 word g s → (f ≡ g) × (r ≡ s)
-one_cut word f g None None x y = (sym x.0 ∙ y.0, refl)
-one_cut word f g None (Some s) x y = absurd (has_mark 46 g s f (sym y.0 ∙ x.0) x.1)
-one_cut word f g (Some r) None x y = absurd (has_mark 46 f r g (sym x.0 ∙ y.0) y.1)
-one_cut word f g (Some r) (Some s) x y = let both = one_front 46 f g r s (sym x.0 ∙ y.0) x.1 y.1 in (both.0, ap Some both.1)
+cut_once : (word f g : List ℕ) (r s : Option (List ℕ)) → Cuts 46 word f r → Cuts 46 word g s → (f ≡ g) × (r ≡ s)
+cut_once word f g None None x y = (sym x.0 ∙ y.0, refl)
+cut_once word f g None (Some s) x y = absurd (has_mark 46 g s f (sym y.0 ∙ x.0) x.1)
+cut_once word f g (Some r) None x y = absurd (has_mark 46 f r g (sym x.0 ∙ y.0) y.1)
+cut_once word f g (Some r) (Some s) x y = let both = one_front 46 f g r s (sym x.0 ∙ y.0) x.1 y.1 in (both.0, ap Some both.1)
 
 -- where a word that is a percentage is cut at its first point (`Cuts`), what the cut gives are the parts of that percentage
 -- (`IsParts`)
 pub parts_at : (word whole : List ℕ) (places : Option (List ℕ)) (n : ℕ) → Cuts 46 word whole places → IsShare word n → IsParts whole places n
 parts_at word whole places n cut is =
-    let both = one_cut word is.0 whole is.1 places is.2 cut in
+    let both = cut_once word is.0 whole is.1 places is.2 cut in
     subst (λ w. IsParts w places n) both.0 (subst (λ p. IsParts is.0 p n) both.1 is.3)
 
 -- where what is before a word's point, or all of a word without one (`whole`), is no number of at most 100, it and what follows

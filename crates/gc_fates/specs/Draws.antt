@@ -2,8 +2,6 @@
 -- nothing but the seed, the direction and the line's number. This project's own.
 use Rattle.std.specs.Prelude.{ℕ, ◌+◌, ◌*◌, ◌-◌, ◌/◌, ◌%◌, ◌^◌, Bool, nat_lt}
 use Rattle.rand_xoshiro.specs.SplitMix64.{mix_u64}
-use Rattle.gc_fates.specs.declared.draw.Direction.{Direction}
-use Rattle.gc_fates.specs.declared.draw.Direction.TheVariants.{Up, Down}
 
 -- what splitmix64 adds to its state at each step
 abbrev pub golden : ℕ
@@ -17,12 +15,15 @@ output_at state = (mix_u64 state).0
 abbrev pub steps_on : (state steps : ℕ) → ℕ
 steps_on state steps = (state + golden * steps % 2 ^ 64) % 2 ^ 64
 
--- the state from which a seed's lines in one direction draw: the seed's first output for lines up, and its second for lines down
-abbrev pub start_of : ℕ → Direction → ℕ
-start_of seed Up = output_at seed
-start_of seed Down = output_at ((seed + golden) % 2 ^ 64)
+-- the state from which a seed's lines towards the instrument draw: the seed's first output
+abbrev pub start_of_ups : ℕ → ℕ
+start_of_ups seed = output_at seed
 
--- the state from which kills of the station are drawn: the seed's third output
+-- the state from which a seed's lines towards the station draw: its second output
+abbrev pub start_of_downs : ℕ → ℕ
+start_of_downs seed = output_at ((seed + golden) % 2 ^ 64)
+
+-- the state from which a seed's kills of the station draw: its third output
 abbrev pub start_of_kills : ℕ → ℕ
 start_of_kills seed = output_at (steps_on seed 2)
 

@@ -1,6 +1,6 @@
 -- What happens to a line by the rules of a text and the draws of a seed: this project's own. `start` is the state from which the
 -- draws begin, and `line` the number of the line, counted from 1.
-use Rattle.std.specs.Prelude.{ℕ, ◌%◌, Bool, true, false, not, ◌&&◌, nat_le, Option, None, Some, if◌then◌else◌}
+use Rattle.std.specs.Prelude.{ℕ, ◌%◌, Bool, false, not, ◌&&◌, nat_le, Option, None, Some, if◌then◌else◌}
 use Rattle.gc_fates.specs.Draws.{draw_at, happens, among}
 use Rattle.gc_fates.specs.Rules.{chance_of}
 use Rattle.gc_fates.specs.declared.chance.Chance.{Chance}

@@ -6,6 +6,6 @@ use Rattle.gc_fates.specs.declared.reading.Refusal.{Refusal}
 use Rattle.gc_fates.specs.declared.reading.Refusal.TheVariants.{TooLong, Line}
 
 -- why a text has no rules: it is too long; or it isn't, and this line is its first faulty one
-abbrev pub RefusesText : List ℕ → Refusal → Type 0
-RefusesText text TooLong = TEXT_LIMIT < length text
-RefusesText text (Line n fault) = (length text ≤ TEXT_LIMIT) × IsFirstFaultyRule text n fault
+abbrev pub RefusesRules : List ℕ → Refusal → Type 0
+RefusesRules text TooLong = TEXT_LIMIT < length text
+RefusesRules text (Line n fault) = (length text ≤ TEXT_LIMIT) × IsFirstFaultyRule text n fault

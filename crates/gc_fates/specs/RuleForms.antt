@@ -2,7 +2,7 @@
 use Rattle.std.specs.Prelude.{◌≡◌, ℕ, ◌≤◌, List, codes}
 use Rattle.gc_texts.specs.Procedures.{IsNumber}
 use Rattle.gc_fates.specs.Shares.{IsShare}
-use Rattle.gc_fates.specs.Spaced.{first_word, other_words, IsBlank}
+use Rattle.gc_fates.specs.Spaced.{front_word, other_words, IsBlank}
 use Rattle.gc_fates.specs.declared.chance.Chance.{Chance}
 use Rattle.gc_fates.specs.declared.rule.RuleFault.{RuleFault}
 use Rattle.gc_fates.specs.declared.rule.RuleFault.TheVariants.{NoWord, Form, Again}
@@ -47,30 +47,30 @@ place_of Kill = 7
 
 -- `P`: a percentage; no number is drawn
 pub record IsPercentage (text : List ℕ) (chance : Chance) : Type 0 where
-  pub share : IsShare (first_word text) chance.share
+  pub share : IsShare (front_word text) chance.share
   pub least : chance.least ≡ 0
   pub most : chance.most ≡ 0
   pub nothing_more : IsBlank (other_words text)
 
 -- `P MS`: a percentage, and a time of at most a day, which is the only number to draw
 pub record IsLasting (text : List ℕ) (chance : Chance) : Type 0 where
-  pub share : IsShare (first_word text) chance.share
-  pub millis : IsNumber (first_word (other_words text)) chance.least 86400000
+  pub share : IsShare (front_word text) chance.share
+  pub millis : IsNumber (front_word (other_words text)) chance.least 86400000
   pub same : chance.most ≡ chance.least
   pub nothing_more : IsBlank (other_words (other_words text))
 
 -- `FROM TO`: the range of times to draw from, each at most a day, the first at most the second; it applies to each line
 pub record IsSpan (text : List ℕ) (chance : Chance) : Type 0 where
   pub always : chance.share ≡ 100000
-  pub least : IsNumber (first_word text) chance.least 86400000
-  pub most : IsNumber (first_word (other_words text)) chance.most 86400000
+  pub least : IsNumber (front_word text) chance.least 86400000
+  pub most : IsNumber (front_word (other_words text)) chance.most 86400000
   pub ordered : chance.least ≤ chance.most
   pub nothing_more : IsBlank (other_words (other_words text))
 
 -- `N`: how many times, at most 1000, which is the only number to draw
 pub record AreTimes (text : List ℕ) (chance : Chance) : Type 0 where
   pub always : chance.share ≡ 100000
-  pub times : IsNumber (first_word text) chance.least 1000
+  pub times : IsNumber (front_word text) chance.least 1000
   pub same : chance.most ≡ chance.least
   pub nothing_more : IsBlank (other_words text)
 
@@ -83,12 +83,12 @@ IsChance Times text chance = AreTimes text chance
 
 -- the text is this rule: a word, and the chance after it
 pub record IsRule (text : List ℕ) (rule : Rule) : Type 0 where
-  pub word : name_of rule.word ≡ first_word text
+  pub word : name_of rule.word ≡ front_word text
   pub chance : IsChance (shape_of rule.word) (other_words text) rule.chance
 
 -- why a text is no rule: its first word is none of the words, or what follows the word hasn't the word's form. `Again` is no such
 -- reason, as it depends on the lines before
 abbrev pub IsNoRule : List ℕ → RuleFault → Type 0
-IsNoRule text NoWord = (word : Word) → name_of word ≡ first_word text → ⊥
-IsNoRule text (Form word) = (name_of word ≡ first_word text) × ((chance : Chance) → IsChance (shape_of word) (other_words text) chance → ⊥)
+IsNoRule text NoWord = (word : Word) → name_of word ≡ front_word text → ⊥
+IsNoRule text (Form word) = (name_of word ≡ front_word text) × ((chance : Chance) → IsChance (shape_of word) (other_words text) chance → ⊥)
 IsNoRule text (Again word) = ⊥

@@ -47,8 +47,13 @@ abbrev pub IsRuleFault : Rules → List ℕ → RuleFault → Type 0
 IsRuleFault rules line (Again word) = (rule : Rule) × IsRule (without_comment line) rule × (rule.word ≡ word) × (chance_of rules word ≡ None → ⊥)
 IsRuleFault rules line fault = IsNoRule (without_comment line) fault
 
--- line number n of a text, counted from 1, is its first faulty line, and has this fault: the lines before it lead to rules, and without its
--- comment it is neither blank nor a rule whose word is new
+-- a line is faulty, with this fault, after lines that have these rules: without its comment it is neither blank nor a rule whose
+-- word is new
+abbrev pub IsFaultyRule : Rules → List ℕ → RuleFault → Type 0
+IsFaultyRule rules line fault = (IsBlank (without_comment line) → ⊥) × IsRuleFault rules line fault
+
+-- line number n of a text, counted from 1, is its first faulty line, and has this fault: the lines before it lead to rules, and
+-- it is faulty after these (`IsFaultyRule`)
 pub record IsFirstFaultyRule (text : List ℕ) (n : ℕ) (fault : RuleFault) : Type 0 where
   pub front : List (List ℕ)
   pub line : List ℕ
@@ -57,5 +62,4 @@ pub record IsFirstFaultyRule (text : List ℕ) (n : ℕ) (fault : RuleFault) : T
   pub place : n ≡ length front + 1
   pub rules : Rules
   pub before : LeadAll no_rules front rules
-  pub worded : IsBlank (without_comment line) → ⊥
-  pub fault_is : IsRuleFault rules line fault
+  pub faulty : IsFaultyRule rules line fault

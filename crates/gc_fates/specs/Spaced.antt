@@ -2,11 +2,11 @@
 use Rattle.std.specs.Prelude.{◌≡◌, ℕ, List, []}
 use Rattle.gc_values.specs.Pieces.{without_front_spaces}
 use Rattle.gc_texts.specs.Cuts.{behind}
-use Rattle.gc_texts.specs.Words as words
+use Rattle.gc_texts.specs.Words.{first_word}
 
 -- the first word of a text, after any spaces; empty where it has none
-abbrev pub first_word : List ℕ → List ℕ
-first_word text = words.first_word (without_front_spaces text)
+abbrev pub front_word : List ℕ → List ℕ
+front_word text = first_word (without_front_spaces text)
 
 -- what comes after the first word of a text, the spaces before that word, and one space after it; empty if nothing does
 abbrev pub other_words : List ℕ → List ℕ

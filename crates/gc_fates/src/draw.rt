@@ -2,7 +2,7 @@
 //! direction and its number alone, whatever came before it. All arithmetic on seeds is here.
 
 ghost use Rattle.std.specs.Prelude.{◌≡◌, ◌<◌, ◌≤◌, ◌^◌};
-ghost use Rattle.gc_fates.specs.Draws.{output_at, start_of, start_of_kills, draw_at, happens, among};
+ghost use Rattle.gc_fates.specs.Draws.{output_at, start_of_ups, start_of_downs, start_of_kills, draw_at, happens, among};
 
 use crate::share::WHOLE;
 use rand_core::{Rng, SeedableRng};
@@ -13,15 +13,6 @@ const GOLDEN: u64 = 0x9e37_79b9_7f4a_7c15;
 
 // How many draws a line has.
 const DRAWS: u64 = 16;
-
-/// A direction of the line.
-#[derive(Clone, Copy, PartialEq, Eq)]
-pub enum Direction {
-    /// Towards the instrument.
-    Up,
-    /// Towards the station.
-    Down,
-}
 
 // The next output of splitmix64 in this state.
 fn output_of_state(state: u64) -> u64
@@ -39,16 +30,21 @@ pub struct Draws {
 }
 
 impl Draws {
-    /// The draws of this seed for this direction.
-    pub fn new(seed: u64, direction: Direction) -> Draws
-        ensures { result.start ≡ start_of seed direction }
+    /// The draws of this seed for lines towards the instrument.
+    pub fn of_ups(seed: u64) -> Draws
+        ensures { result.start ≡ start_of_ups seed }
     {
-        let state = match direction {
-            Direction::Up => seed,
-            Direction::Down => seed.wrapping_add(GOLDEN),
-        };
         Draws {
-            start: output_of_state(state),
+            start: output_of_state(seed),
+        }
+    }
+
+    /// The draws of this seed for lines towards the station.
+    pub fn of_downs(seed: u64) -> Draws
+        ensures { result.start ≡ start_of_downs seed }
+    {
+        Draws {
+            start: output_of_state(seed.wrapping_add(GOLDEN)),
         }
     }
 

@@ -13,7 +13,7 @@ mod share;
 mod spaced;
 
 pub use chance::Chance;
-pub use draw::{Direction, Draws, among};
+pub use draw::{Draws, among};
 pub use fate::{Fate, fate_of, restarts_at};
 pub use reading::{Refusal, read_rules};
 pub use rule::{RuleFault, Word};

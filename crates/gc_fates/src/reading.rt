@@ -1,9 +1,8 @@
 //! Reads a text: its rules, or why it has none.
 
 ghost use Rattle.std.specs.Prelude.{◌≡◌, ◌+◌, ◌<◌, ◌≤◌, ◌↔◌, ℕ, length, Err, IfOk, IfErr, OnOk, ◌++◌, codes};
-ghost use Rattle.gc_fates.specs.Rules.{AreRules, Leads, IsFirstFaultyRule, IsRuleFault, without_comment};
-ghost use Rattle.gc_fates.specs.Spaced.{IsBlank};
-ghost use Rattle.gc_fates.specs.Refusals.{RefusesText};
+ghost use Rattle.gc_fates.specs.Rules.{AreRules, Leads, IsFaultyRule};
+ghost use Rattle.gc_fates.specs.Refusals.{RefusesRules};
 ghost use Rattle.gc_fates.specs.declared.reading.Refusal.{Refusal};
 ghost use Rattle.gc_texts.specs.declared.text.TheConstants.{TEXT_LIMIT};
 
@@ -25,21 +24,17 @@ pub enum Refusal {
 // line has nothing but spaces before its first `#` or, without one, its end. `Err`: what is wrong with the line.
 fn read_line(rules: &Rules, line: &[u8]) -> Result<Rules, RuleFault>
     ensures found { IfOk result (λ new. Leads rules.now line.now new) }
-    ensures fault { IfErr result (λ fault. IsRuleFault rules.now line.now fault × (IsBlank (without_comment line.now) → ⊥)) }
+    ensures fault { IfErr result (λ fault. IsFaultyRule rules.now line.now fault) }
 {
     let text = before(b'#', line);
     if is_blank(text) {
         return Ok(*rules);
     }
-    match read_rule(text) {
-        Ok(rule) => {
-            if rules.chance(rule.word).is_some() {
-                return Err(RuleFault::Again(rule.word));
-            }
-            Ok(rules.with(rule))
-        }
-        Err(fault) => Err(fault),
+    let rule = read_rule(text)?;
+    if rules.chance(rule.word).is_some() {
+        return Err(RuleFault::Again(rule.word));
     }
+    Ok(rules.with(rule))
 }
 
 /// Reads a text, and returns its rules: a line for each of its words, in any order, with comments after `#`. A word has one line at most.
@@ -48,7 +43,7 @@ fn read_line(rules: &Rules, line: &[u8]) -> Result<Rules, RuleFault>
 pub fn read_rules(text: &[u8]) -> Result<Rules, Refusal>
     ensures found { IfOk result (λ rules. AreRules text.now rules) }
     ensures too_long { (result ≡ Err Refusal.TooLong) ↔ (TEXT_LIMIT < length text.now) }
-    ensures fault { IfErr result (λ refusal. RefusesText text.now refusal) }
+    ensures fault { IfErr result (λ refusal. RefusesRules text.now refusal) }
 {
     if text.len() > TEXT_LIMIT {
         return Err(Refusal::TooLong);
@@ -60,7 +55,7 @@ pub fn read_rules(text: &[u8]) -> Result<Rules, Refusal>
 fn read_lines(text: &[u8]) -> Result<Rules, Refusal>
     requires { length text.now ≤ TEXT_LIMIT }
     ensures found { IfOk result (λ rules. AreRules text.now rules) }
-    ensures fault { IfErr result (λ refusal. RefusesText text.now refusal) }
+    ensures fault { IfErr result (λ refusal. RefusesRules text.now refusal) }
 {
     let mut rules = Rules::none();
     let mut left = Some(text);

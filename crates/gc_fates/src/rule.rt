@@ -2,13 +2,12 @@
 
 ghost use Rattle.std.specs.Prelude.{◌≡◌, ◌<◌, IsTrue, ◌↔◌, IfOk, IfErr};
 ghost use Rattle.gc_texts.specs.LineForms.{IsReadAs};
-ghost use Rattle.gc_texts.specs.Procedures.{IsNumber};
 ghost use Rattle.gc_fates.specs.RuleForms.{name_of, shape_of, place_of, IsPercentage, IsLasting, IsSpan, AreTimes, IsChance, IsRule, IsNoRule};
 
 use crate::chance::Chance;
 use crate::share::{WHOLE, read_share};
-use crate::spaced::{first_word, is_blank, other_words};
-use gc_texts::number_of;
+use crate::spaced::{front_word, is_blank, other_words};
+use gc_texts::u32_of;
 
 // The longest time that a rule may name, in milliseconds: a day.
 const MILLIS_MAX: u32 = 86_400_000;
@@ -157,21 +156,11 @@ pub enum RuleFault {
     Again(Word),
 }
 
-// Reads a whole number of at most `most`. `None`: the word is no such number.
-fn read_number(word: &[u8], most: u32) -> Option<u32>
-    ensures { IsReadAs (λ n. IsNumber word.now n most) result }
-{
-    match number_of(word, u64::from(most)) {
-        Some(number) => Some(number as u32),
-        None => None,
-    }
-}
-
 // Reads `P`: a percentage, with no number to draw. `None`: the text has another form, or P is above 100.
 fn read_percentage(text: &[u8]) -> Option<Chance>
     ensures { IsReadAs (IsPercentage text.now) result }
 {
-    let Some(share) = read_share(first_word(text)) else {
+    let Some(share) = read_share(front_word(text)) else {
         return None
     };
     if !is_blank(other_words(text)) {
@@ -189,11 +178,11 @@ fn read_percentage(text: &[u8]) -> Option<Chance>
 fn read_lasting(text: &[u8]) -> Option<Chance>
     ensures { IsReadAs (IsLasting text.now) result }
 {
-    let Some(share) = read_share(first_word(text)) else {
+    let Some(share) = read_share(front_word(text)) else {
         return None
     };
     let others = other_words(text);
-    let Some(millis) = read_number(first_word(others), MILLIS_MAX) else {
+    let Some(millis) = u32_of(front_word(others), MILLIS_MAX) else {
         return None
     };
     if !is_blank(other_words(others)) {
@@ -211,11 +200,11 @@ fn read_lasting(text: &[u8]) -> Option<Chance>
 fn read_span(text: &[u8]) -> Option<Chance>
     ensures { IsReadAs (IsSpan text.now) result }
 {
-    let Some(least) = read_number(first_word(text), MILLIS_MAX) else {
+    let Some(least) = u32_of(front_word(text), MILLIS_MAX) else {
         return None
     };
     let others = other_words(text);
-    let Some(most) = read_number(first_word(others), MILLIS_MAX) else {
+    let Some(most) = u32_of(front_word(others), MILLIS_MAX) else {
         return None
     };
     if least > most {
@@ -235,7 +224,7 @@ fn read_span(text: &[u8]) -> Option<Chance>
 fn read_times(text: &[u8]) -> Option<Chance>
     ensures { IsReadAs (AreTimes text.now) result }
 {
-    let Some(times) = read_number(first_word(text), TIMES_MAX) else {
+    let Some(times) = u32_of(front_word(text), TIMES_MAX) else {
         return None
     };
     if !is_blank(other_words(text)) {
@@ -265,7 +254,7 @@ pub(crate) fn read_rule(text: &[u8]) -> Result<Rule, RuleFault>
     ensures found { IfOk result (λ rule. IsRule text.now rule) }
     ensures fault { IfErr result (λ fault. IsNoRule text.now fault) }
 {
-    let Some(word) = Word::read(first_word(text)) else {
+    let Some(word) = Word::read(front_word(text)) else {
         return Err(RuleFault::NoWord);
     };
     match read_chance(word.shape(), other_words(text)) {

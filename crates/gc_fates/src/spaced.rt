@@ -1,13 +1,13 @@
 //! Words of a line, before each of which any number of spaces may be. A space is byte 32.
 
 ghost use Rattle.std.specs.Prelude.{◌≡◌, [], length, ◌≤◌, IsTrue, ◌↔◌};
-ghost use Rattle.gc_fates.specs.Spaced.{first_word, other_words, IsBlank};
+ghost use Rattle.gc_fates.specs.Spaced.{front_word, other_words, IsBlank};
 ghost use Rattle.gc_values.specs.Pieces.{without_front_spaces};
 
 use gc_texts::{before, behind};
 
 // The text without the spaces at its beginning.
-fn without_leading_spaces(text: &[u8]) -> &[u8]
+fn without_front_spaces(text: &[u8]) -> &[u8]
     ensures { result.now ≡ without_front_spaces text.now }
 {
     let mut left = text;
@@ -18,22 +18,22 @@ fn without_leading_spaces(text: &[u8]) -> &[u8]
 }
 
 // The first word of a text; empty if it has none.
-pub(crate) fn first_word(text: &[u8]) -> &[u8]
-    ensures { result.now ≡ first_word text.now }
+pub(crate) fn front_word(text: &[u8]) -> &[u8]
+    ensures { result.now ≡ front_word text.now }
 {
-    before(b' ', without_leading_spaces(text))
+    before(b' ', without_front_spaces(text))
 }
 
 // What comes after the first word of a text and one space; empty if nothing does.
 pub(crate) fn other_words(text: &[u8]) -> &[u8]
     ensures { result.now ≡ other_words text.now }
 {
-    behind(b' ', without_leading_spaces(text))
+    behind(b' ', without_front_spaces(text))
 }
 
 // Whether a text has nothing but spaces.
 pub(crate) fn is_blank(text: &[u8]) -> bool
     ensures { IsTrue result ↔ IsBlank text.now }
 {
-    without_leading_spaces(text).is_empty()
+    without_front_spaces(text).is_empty()
 }

@@ -17,11 +17,11 @@ use Rattle.gc_instrument.specs.State.{KeptReply}
 use Rattle.gc_field.specs.World.{Ends, Request, without, doubled}
 use Rattle.std.proofs.lemmas.Option.{same_Some, none-some}
 use Rattle.gc_world.proofs.Rows.{each_without, each_doubled}
-use Rattle.gc_field.specs.Begin.{InFlight, IsWellFormed, LacksTheWord, AreTurns, Model, Turn, Asks, Comes, Foreign, Reaches, Up_lose, Up_repeat, Down_lose, Down_repeat, Anew, Changes, UnderWay, begins, leaves, ids_under_way, asks, comes, reaches, turns, turned}
+use Rattle.gc_field.specs.Begin.{InFlight, IsWellFormed, LacksTheWord, AreTurns, SyncModel, SyncTurn, Asks, Comes, Foreign, Reaches, Up_lose, Up_repeat, Down_lose, Down_repeat, Anew, Changes, UnderWay, begins, leaves, ids_under_way, asks, comes, reaches, turns, turned}
 use Rattle.gc_field.specs.Begun.{HasSynchronizedCleanly, NoneIsOld, eighth}
-use Rattle.gc_field.specs.Instrument.{IsAnInstrument, IsOwnOrNone}
+use Rattle.gc_field.specs.Instrument.{IsAnInstrument, IsOwnOrNone, MayForget, own_reply}
 use Rattle.gc_field.proofs.BeginIds as ids
-use Rattle.gc_field.proofs.BeginIds.{IdSent, IsClean, aged, begun_anew, ids_in_flight, ids_of, moved}
+use Rattle.gc_field.proofs.BeginIds.{IdSent, IsCleanByIds, aged, begun_anew, ids_in_flight, ids_of, moved}
 use Rattle.gc_field.proofs.BeginKilled.{SplitWord, absent_behind, begins_anew, ids_before, ids_upto}
 use Rattle.gc_field.proofs.BeginLists.{each_map}
 use Rattle.gc_lines.proofs.Lists.{all_append}
@@ -66,7 +66,7 @@ small_left (asked ∷ rest) o h = small_if (is_answered (asked ∷ rest) o) aske
 
 -- where the ids left are below 8, a line leaves the same ids by the client's rule (`left_by`) as in the synchronization over ids,
 -- in which a line without an id counts as one with the id 8
-same_left : (left : List ℕ) (o : Option ℕ) → IsSmall left → ids.heard left (id_or o) ≡ left_by left o
+same_left : (left : List ℕ) (o : Option ℕ) → IsSmall left → left_by left (Some (id_or o)) ≡ left_by left o
 same_left [] o h = refl
 same_left (asked ∷ rest) (Some id) h = refl
 same_left (asked ∷ rest) None h = ap (λ b. left_by_one b asked rest) (ne_eqb 8 asked (λ e. omega (arith, e, h.0)))
@@ -85,7 +85,7 @@ IsNullIfOwn x = (x.line.id < 8) × (x.old ≡ false → x.line.call ≡ (Table N
 module _ {State : Type 0} (ends : Ends State) (Good : State → Type 0) (kept : State → Option KeptReply) (is : IsAnInstrument ends Good kept) where
   -- the state p of a synchronization over ids is that of the synchronization over lines, s, with the ids of its lines; and in s
   -- the instrument is in a good state, the requests in flight are `IsNullIfOwn`, and the ids that are left are below 8
-  pub record Shows (s : Model State) (p : ids.Model) : Type 0 where
+  pub record Shows (s : SyncModel State) (p : ids.IdModel) : Type 0 where
     pub up : p.up ≡ map mark_up s.up
     pub down : p.down ≡ map mark_down s.down
     pub left : p.left ≡ s.left
@@ -95,7 +95,7 @@ module _ {State : Type 0} (ends : Ends State) (Good : State → Type 0) (kept : 
     pub small : IsSmall s.left
 
   -- `Shows` is preserved if the client asks
-  shows_asks : (s : Model State) (p : ids.Model) (left : List ℕ) → s.left ≡ left → Shows s p → Shows (asks s left) (ids.asks p left)
+  shows_asks : (s : SyncModel State) (p : ids.IdModel) (left : List ℕ) → s.left ≡ left → Shows s p → Shows (asks s left) (ids.asks p left)
   shows_asks s p [] e g = g
   shows_asks s p (asked ∷ rest) e g =
       let new : InFlight Request = record { old = false; line = record { id = asked; call = Table NullProc } } in
@@ -110,12 +110,12 @@ module _ {State : Type 0} (ends : Ends State) (Good : State → Type 0) (kept : 
       }
 
   -- `Shows` is preserved if the front one of the replies q comes, if there is one, and those after it are in flight then
-  shows_comes : (s : Model State) (p : ids.Model) (q : List (InFlight (List ℕ))) → Shows s p → Shows (comes s q) (ids.comes p (map mark_down q))
+  shows_comes : (s : SyncModel State) (p : ids.IdModel) (q : List (InFlight (List ℕ))) → Shows s p → Shows (comes s q) (ids.comes p (map mark_down q))
   shows_comes s p [] g = g
   shows_comes s p (x ∷ rest) g = record {
     up = g.up;
     down = refl;
-    left = ap (λ l. ids.heard l (id_or (rule.heard x.line))) g.left ∙ same_left s.left (rule.heard x.line) g.small;
+    left = ap (λ l. left_by l (Some (id_or (rule.heard x.line)))) g.left ∙ same_left s.left (rule.heard x.line) g.small;
     keeps = g.keeps;
     good = g.good;
     known = g.known;
@@ -123,7 +123,7 @@ module _ {State : Type 0} (ends : Ends State) (Good : State → Type 0) (kept : 
   }
 
   -- `Shows` is preserved if a line without an id comes
-  shows_foreign : (s : Model State) (p : ids.Model) (line : List ℕ) → rule.heard line ≡ None → Shows s p → Shows (record s { left = left_by s.left (rule.heard line) }) p
+  shows_foreign : (s : SyncModel State) (p : ids.IdModel) (line : List ℕ) → rule.heard line ≡ None → Shows s p → Shows (record s { left = left_by s.left (rule.heard line) }) p
   shows_foreign s p line e g = record {
     up = g.up;
     down = g.down;
@@ -134,11 +134,11 @@ module _ {State : Type 0} (ends : Ends State) (Good : State → Type 0) (kept : 
     small = small_left s.left (rule.heard line) g.small;
   }
 
-  -- if an instrument retains after a request (`k`) its reply to that request, or nothing, what it retains, if anything, has the
-  -- request's id
-  kept_behind : (k : Option KeptReply) (id : ℕ) (line : List ℕ) (r : KeptReply) → IsOwnOrNone id line k → k ≡ Some r → Some id ≡ Some r.id
-  kept_behind k id line r (inl none) e = absurd (none-some r (sym none ∙ e))
-  kept_behind k id line r (inr some) e = ap (λ (x : KeptReply). Some x.id) (same_Some (record { id = id; line = line }) r (sym some ∙ e))
+  -- if what an instrument keeps after a request (`k`) is its reply to that request (`own`), or nothing, what it keeps, if
+  -- anything, has the id of `own`
+  kept_behind : (k : Option KeptReply) (own r : KeptReply) → IsOwnOrNone own k → k ≡ Some r → Some own.id ≡ Some r.id
+  kept_behind k own r (inl none) e = absurd (none-some r (sym none ∙ e))
+  kept_behind k own r (inr some) e = ap (λ (x : KeptReply). Some x.id) (same_Some own r (sym some ∙ e))
 
   -- a request that is `IsNullIfOwn`, and no call of the table, is old
   old_raw : (x : InFlight Request) → IsNullIfOwn x → is_of_table x.line.call ≡ false → x.old ≡ true
@@ -149,9 +149,9 @@ module _ {State : Type 0} (ends : Ends State) (Good : State → Type 0) (kept : 
     by_case false e = absurd (true≢false (sym (ap is_of_table (known.1 e)) ∙ raw))
 
   -- if x, the front request, reaches the instrument, `Shows` is preserved by each state q over ids in which x isn't in flight any
-  -- more, its reply is in flight after the others, the ids that are left are the same, and the retained id, if the instrument
-  -- retains anything, is that of what it retains
-  shows_reached : (s : Model State) (p q : ids.Model) (x : InFlight Request) (rest : List (InFlight Request)) → s.up ≡ x ∷ rest → Shows s p → q.up ≡ map mark_up rest
+  -- more, its reply is in flight after the others, the ids that are left are the same, and the kept id, if the instrument
+  -- keeps anything, is that of what it keeps
+  shows_reached : (s : SyncModel State) (p q : ids.IdModel) (x : InFlight Request) (rest : List (InFlight Request)) → s.up ≡ x ∷ rest → Shows s p → q.up ≡ map mark_up rest
       → q.down ≡ p.down ++ mark_up x ∷ [] → q.left ≡ p.left
       → ((k : KeptReply) → kept (ends.handed s.state x.line.id x.line.call).state ≡ Some k → q.kept ≡ Some k.id) → Shows (reaches ends s (x ∷ rest)) q
   shows_reached s p q x rest e g up down left keeps =
@@ -173,31 +173,31 @@ module _ {State : Type 0} (ends : Ends State) (Good : State → Type 0) (kept : 
       }
 
   -- `Shows` is preserved if the front request reaches the instrument: over ids it reaches it, too (`reaches`); or, if the
-  -- instrument goes on retaining what it retained, the move is `Pass` (`passes`)
-  shows_reaches : (s : Model State) (p : ids.Model) (q : List (InFlight Request)) → s.up ≡ q → Shows s p
+  -- instrument goes on keeping what it kept, the move is `Pass` (`passes`)
+  shows_reaches : (s : SyncModel State) (p : ids.IdModel) (q : List (InFlight Request)) → s.up ≡ q → Shows s p
       → Shows (reaches ends s q) (ids.reaches p (map mark_up q)) ⊎ Shows (reaches ends s q) (ids.passes p (map mark_up q))
   shows_reaches s p [] e g = inl g
   shows_reaches s p (x ∷ rest) e g =
       let known = subst (AllByRecursion IsNullIfOwn) e g.known in
       let hd : Handed State = ends.handed s.state x.line.id x.line.call in
       elim (is.keeps s.state x.line.id x.line.call g.good known.0.0) [
-        | inl own ↦ inl (shows_reached s p (ids.reaches p (map mark_up (x ∷ rest))) x rest e g refl refl refl (λ k f. kept_behind (kept hd.state) x.line.id hd.reply k own f))
+        | inl own ↦ inl (shows_reached s p (ids.reaches p (map mark_up (x ∷ rest))) x rest e g refl refl refl (λ k f. kept_behind (kept hd.state) (own_reply x.line.id hd) k own f))
         | inr third ↦ inr (shows_reached s p (ids.passes p (map mark_up (x ∷ rest))) x rest e g refl refl refl
             (λ k f. ap (λ b. ids.kept_past b x.line.id p.kept) (old_raw x known.0 third.0) ∙ g.keeps k (sym third.1 ∙ f)))
       ]
 
   -- `Shows` is preserved if the requests in flight change alike in both, to some that are `IsNullIfOwn`
-  shows_up : (s : Model State) (p : ids.Model) (up : List (InFlight Request)) (ups : List IdSent) → ups ≡ map mark_up up → AllByRecursion IsNullIfOwn up → Shows s p
+  shows_up : (s : SyncModel State) (p : ids.IdModel) (up : List (InFlight Request)) (ups : List IdSent) → ups ≡ map mark_up up → AllByRecursion IsNullIfOwn up → Shows s p
       → Shows (record s { up = up }) (record p { up = ups })
   shows_up s p up ups e known g = record { up = e; down = g.down; left = g.left; keeps = g.keeps; good = g.good; known = known; small = g.small }
 
   -- `Shows` is preserved if the replies in flight change alike in both
-  shows_down : (s : Model State) (p : ids.Model) (down : List (InFlight (List ℕ))) (downs : List IdSent) → downs ≡ map mark_down down → Shows s p
+  shows_down : (s : SyncModel State) (p : ids.IdModel) (down : List (InFlight (List ℕ))) (downs : List IdSent) → downs ≡ map mark_down down → Shows s p
       → Shows (record s { down = down }) (record p { down = downs })
   shows_down s p down downs e g = record { up = g.up; down = e; left = g.left; keeps = g.keeps; good = g.good; known = g.known; small = g.small }
 
-  -- `Shows` is preserved if the instrument's state changes to a good one, in which it retains the same, or nothing
-  shows_state : (s : Model State) (p : ids.Model) (state : State) → Good state → (kept state ≡ None) ⊎ (kept state ≡ kept s.state) → Shows s p → Shows (record s { state = state }) p
+  -- `Shows` is preserved if the instrument's state changes to a good one, in which it keeps the same, or nothing
+  shows_state : (s : SyncModel State) (p : ids.IdModel) (state : State) → Good state → MayForget (kept s.state) (kept state) → Shows s p → Shows (record s { state = state }) p
   shows_state s p state good same g =
       record {
         up = g.up;
@@ -210,11 +210,11 @@ module _ {State : Type 0} (ends : Ends State) (Good : State → Type 0) (kept : 
       }
 
   -- from p on, some moves over ids lead to a state that shows s
-  abbrev IsShown : Model State → ids.Model → Type 0
-  IsShown s p = (ms : List ids.Move) × Shows s (moved ms p)
+  abbrev IsShown : SyncModel State → ids.IdModel → Type 0
+  IsShown s p = (ms : List ids.IdMove) × Shows s (moved ms p)
 
   -- where `Shows` holds of s and p, any possible turns from s on come to some moves over ids from p on (`IsShown`)
-  pub shown : (ts : List (Turn State)) (s : Model State) (p : ids.Model) → AreTurns ends Good kept ts s → Shows s p → IsShown (turned ends ts s) p
+  pub shown : (ts : List (SyncTurn State)) (s : SyncModel State) (p : ids.IdModel) → AreTurns ends Good kept ts s → Shows s p → IsShown (turned ends ts s) p
   shown [] s p h g = ([], g)
   shown (Asks ∷ ts) s p h g =
       let r = shown ts (turns ends s Asks) (ids.moves p ids.Ask) h.1 (subst (λ l. Shows (asks s s.left) (ids.asks p l)) (sym g.left) (shows_asks s p s.left refl g)) in
@@ -251,8 +251,8 @@ module _ {State : Type 0} (ends : Ends State) (Good : State → Type 0) (kept : 
 
   -- Its start.
 
-  -- what is in flight, as ids, all old, and the id of what is retained; the whole word is left
-  abbrev marks : UnderWay State → ids.Model
+  -- what is in flight, as ids, all old, and the id of what is kept; the whole word is left
+  abbrev marks : UnderWay State → ids.IdModel
   marks u = record {
     up = map (λ x. record { id = x.id; old = true }) u.up;
     down = map (λ x. record { id = id_or (rule.heard x); old = true }) u.down;
@@ -349,7 +349,7 @@ module _ {State : Type 0} (ends : Ends State) (Good : State → Type 0) (kept : 
   up_left xs = map-map _ _ xs ∙ sym (map-map _ mark_up xs)
 
   -- where `Shows` holds of s and p, a word that is in the ids of what s leaves in flight is in the ids in flight in p
-  left_marks : (s : Model State) (p : ids.Model) (word : List ℕ) → Shows s p → IsSubsequence word (ids_under_way (leaves s)) → IsSubsequence word (ids_in_flight p)
+  left_marks : (s : SyncModel State) (p : ids.IdModel) (word : List ℕ) → Shows s p → IsSubsequence word (ids_under_way (leaves s)) → IsSubsequence word (ids_in_flight p)
   left_marks s p word g h =
       subst (λ l. IsSubsequence word (ids_of l ++ ids_of p.up)) (sym g.down)
       (subst (λ l. IsSubsequence word (ids_of (map mark_down s.down) ++ ids_of l)) (sym g.up)
@@ -380,7 +380,7 @@ module _ {State : Type 0} (ends : Ends State) (Good : State → Type 0) (kept : 
   down_is_clean (x ∷ xs) h = let others = down_is_clean xs h.1 in ((h.0.0, others.0), (heard_seven (rule.heard x.line) h.0.1, others.1))
 
   -- where `Shows` holds of s and p, and the synchronization over ids ended cleanly in p, that over lines was clean in s
-  clean : (s : Model State) (p : ids.Model) → Shows s p → IsClean 7 p → HasSynchronizedCleanly Good kept s
+  clean : (s : SyncModel State) (p : ids.IdModel) → Shows s p → IsCleanByIds 7 p → HasSynchronizedCleanly Good kept s
   clean s p g c =
       let up = up_is_clean s.up g.known (subst (AllByRecursion (λ x. (x.old ≡ false) × (x.id ≡ 7))) g.up c.up) in
       let down = down_is_clean s.down (subst (AllByRecursion (λ x. (x.old ≡ false) × (x.id ≡ 7))) g.down c.down) in
@@ -392,7 +392,7 @@ module _ {State : Type 0} (ends : Ends State) (Good : State → Type 0) (kept : 
 
   -- if what is in flight at the start of a synchronization is well formed, its turns are possible, the ids in flight at its start
   -- don't contain the word, and no id is left after its turns, it has synchronized cleanly
-  pub begins_cleanly : (u : UnderWay State) (ts : List (Turn State)) → IsWellFormed Good u → AreTurns ends Good kept ts (begins u)
+  pub begins_cleanly : (u : UnderWay State) (ts : List (SyncTurn State)) → IsWellFormed Good u → AreTurns ends Good kept ts (begins u)
       → LacksTheWord u → (turned ends ts (begins u)).left ≡ []
       → HasSynchronizedCleanly Good kept (turned ends ts (begins u))
   begins_cleanly u ts lines possible none done =
@@ -402,7 +402,7 @@ module _ {State : Type 0} (ends : Ends State) (Good : State → Type 0) (kept : 
 
   -- where what is in flight at the start of a synchronization is `IsWellFormed`, and its turns are possible, what it leaves,
   -- killed or not, is `IsWellFormed`, too: requests with ids below 8, and an instrument in a good state
-  pub left_lines : (u : UnderWay State) (ts : List (Turn State)) → IsWellFormed Good u → AreTurns ends Good kept ts (begins u) → IsWellFormed Good (leaves (turned ends ts (begins u)))
+  pub left_lines : (u : UnderWay State) (ts : List (SyncTurn State)) → IsWellFormed Good u → AreTurns ends Good kept ts (begins u) → IsWellFormed Good (leaves (turned ends ts (begins u)))
   left_lines u ts lines possible =
       let r = shown ts (begins u) (begun_anew the_word (marks u)) possible (shows_begins u lines) in
       record {
@@ -413,7 +413,7 @@ module _ {State : Type 0} (ends : Ends State) (Good : State → Type 0) (kept : 
   -- where the word is split at its id c, what is in flight at the start of a synchronization is `IsWellFormed`, its ids don't
   -- contain those of the word before c (`ids_before`), and the turns are possible: the ids that the synchronization leaves,
   -- killed or not, don't contain them with c after them (`ids_upto`)
-  pub left_absent : (u : UnderWay State) (ts : List (Turn State)) (w : SplitWord the_word) → IsWellFormed Good u → AreTurns ends Good kept ts (begins u)
+  pub left_absent : (u : UnderWay State) (ts : List (SyncTurn State)) (w : SplitWord the_word) → IsWellFormed Good u → AreTurns ends Good kept ts (begins u)
       → (IsSubsequence (ids_before w) (ids_under_way u) → ⊥) → IsSubsequence (ids_upto w) (ids_under_way (leaves (turned ends ts (begins u)))) → ⊥
   left_absent u ts w lines possible none h =
       let r = shown ts (begins u) (begun_anew the_word (marks u)) possible (shows_begins u lines) in

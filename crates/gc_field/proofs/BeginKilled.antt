@@ -2,13 +2,13 @@
 -- (The word has the ids of a synchronization's null procedures.) `first` has the ids in flight at the start of a
 -- synchronization, and `left` those of the word that aren't answered yet; old lines are from before it, own ones are its own.
 -- `IsTrying` is the invariant.
-use Rattle.std.proofs.Common.{◌≡◌, ℕ, zero, ◌⊎◌, inl, inr, Bool, true, false, List, [], ◌∷◌, ◌++◌, nat_eq, refl, sym, ◌∙◌, ap, subst, append-nil, append_assoc}
+use Rattle.std.proofs.Common.{◌≡◌, ℕ, zero, ◌⊎◌, inl, inr, Bool, true, false, List, [], ◌∷◌, ◌++◌, nat_eq, refl, sym, ◌∙◌, ap, subst, append-nil, append_assoc, Some}
 use Rattle.std.specs.List.{AllByRecursion}
 use mathlib.Core.List.{map-map}
 use Rattle.std.proofs.lemmas.Bool.{eqb-true, false≢true}
 use Rattle.std.proofs.lemmas.List.{append_cancel_left, map-append}
-use Rattle.gc_client.specs.Beginning.{left_by_one, IsSubsequence, the_word}
-use Rattle.gc_field.proofs.BeginIds.{IdSent, Model, Move, heard, moved, aged, begun_anew, Pairs, AllDiffer, Begins, ids_in_flight, ids_of}
+use Rattle.gc_client.specs.Beginning.{left_by, left_by_one, IsSubsequence, the_word}
+use Rattle.gc_field.proofs.BeginIds.{IdSent, IdModel, IdMove, moved, aged, begun_anew, Pairs, AllDiffer, Begins, ids_in_flight, ids_of}
 use Rattle.gc_field.specs.World.{without, doubled}
 use Rattle.gc_lines.proofs.Lists.{all_append}
 use Rattle.gc_values.proofs.Every.{every_behind as all_behind, every_weaker as all_on}
@@ -127,7 +127,7 @@ module _ (z : ℕ) (word first : List ℕ) where
   phase_answered id later done x rest true o h e (inr g) = absurd (false≢true (sym g.1.0.0 ∙ o))
 
   -- `IsTrying` is preserved if a reply comes
-  trying_came : (left : List ℕ) (x : IdSent) (rest : List IdSent) → IsTrying z word first left (x ∷ rest) → IsTrying z word first (heard left x.id) rest
+  trying_came : (left : List ℕ) (x : IdSent) (rest : List IdSent) → IsTrying z word first left (x ∷ rest) → IsTrying z word first (left_by left (Some x.id)) rest
   trying_came [] x rest h = trying_lost [] zero (x ∷ rest) h
   trying_came (id ∷ later) x rest h = chosen (nat_eq x.id id) refl (line_came z (id ∷ later) x rest h.sound) where
     -- the lemma above, by whether the reply has the id that is asked for (`b`)
@@ -275,15 +275,15 @@ all_aged : (xs : List IdSent) → AllByRecursion IsOld (aged xs)
 all_aged xs = each_to_map IsOld (λ (x : IdSent). record { id = x.id; old = true }) xs (each_all (λ (x : IdSent). true ≡ true) (λ x. refl) xs)
 
 -- if a synchronization starts again, the ids in flight stay the same
-ids_anew : (s : Model) → ids_in_flight (begun_anew the_word s) ≡ ids_in_flight s
+ids_anew : (s : IdModel) → ids_in_flight (begun_anew the_word s) ≡ ids_in_flight s
 ids_anew s = ap (λ l. l ++ ids_of (aged s.up)) (ids_aged s.down) ∙ ap (λ l. ids_of s.down ++ l) (ids_aged s.up)
 
 -- `Begins` holds of a synchronization that starts over what is in flight, if the ids in flight don't contain the word
-pub begins_anew : (s : Model) → (IsSubsequence the_word (ids_in_flight s) → ⊥) → Begins the_word (begun_anew the_word s)
+pub begins_anew : (s : IdModel) → (IsSubsequence the_word (ids_in_flight s) → ⊥) → Begins the_word (begun_anew the_word s)
 begins_anew s none = record { left = refl; up = all_aged s.up; down = all_aged s.down; absent = λ h. none (subst (λ ids. IsSubsequence the_word ids) (ids_anew s) h) }
 
 -- `IsTrying` holds at the start of a synchronization (`Begins`)
-trying_at_start : (s : Model) → Begins the_word s → IsTrying 7 the_word (ids_in_flight s) s.left (s.down ++ s.up)
+trying_at_start : (s : IdModel) → Begins the_word s → IsTrying 7 the_word (ids_in_flight s) s.left (s.down ++ s.up)
 trying_at_start s h =
     let same = olds_all s.down s.up h.down h.up in
     record {
@@ -295,11 +295,11 @@ trying_at_start s h =
 
 -- where the word is split at its id c, and the ids in flight don't contain those of the word before c (`ids_before`): the ids in
 -- flight after any moves of a synchronization, wherever it is killed, don't contain them with c after them (`ids_upto`)
-pub absent_behind : (s : Model) (ms : List Move) (w : SplitWord the_word) → (IsSubsequence (ids_before w) (ids_in_flight s) → ⊥)
+pub absent_behind : (s : IdModel) (ms : List IdMove) (w : SplitWord the_word) → (IsSubsequence (ids_before w) (ids_in_flight s) → ⊥)
     → IsSubsequence (ids_upto w) (ids_in_flight (moved ms (begun_anew the_word s))) → ⊥
 absent_behind s ms w none h =
-    let anew : Model = begun_anew the_word s in
-    let end : Model = moved ms anew in
+    let anew : IdModel = begun_anew the_word s in
+    let end : IdModel = moved ms anew in
     let begins : Begins the_word anew = begins_anew s (λ g. none (subword_front (ids_before w) (w.c ∷ w.tail) (ids_in_flight s) (subst (λ l. IsSubsequence l (ids_in_flight s)) w.is g))) in
     let trying = holds_moved (IsTrying 7 the_word (ids_in_flight anew)) (trying_lasts 7 the_word (ids_in_flight anew)) ms anew (trying_at_start anew begins) in
     next_absent 7 the_word (ids_in_flight anew) end.left (end.down ++ end.up) w word_differs

@@ -1,13 +1,13 @@
 -- The whole line, replies first: what holds of it from the synchronization on, whatever it loses or repeats, and whatever
 -- comes. A line, be it a request or a reply, is old if it is from before this synchronization, and else own. `left` has the ids
 -- of the word that aren't answered yet, and z is the word's last id. `IsLine` is the invariant.
-use Rattle.std.proofs.Common.{◌≡◌, ℕ, zero, suc, inl, Bool, true, false, List, [], ◌∷◌, ◌++◌, nat_eq, refl, sym, ◌∙◌, ap, subst}
+use Rattle.std.proofs.Common.{◌≡◌, ℕ, zero, suc, inl, Bool, true, false, List, [], ◌∷◌, ◌++◌, nat_eq, refl, sym, ◌∙◌, ap, subst, Some}
 use Rattle.std.specs.List.{AllByRecursion}
 use Rattle.std.proofs.lemmas.Bool.{eqb-true, true≢false, false≢true}
 use Rattle.gc_lines.proofs.Lists.{all_append}
 use Rattle.gc_values.proofs.Every.{every_weaker as all_on}
-use Rattle.gc_client.specs.Beginning.{left_by_one, IsSubsequence}
-use Rattle.gc_field.proofs.BeginIds.{IdSent, heard, Pairs, AllDiffer, ids_of, last}
+use Rattle.gc_client.specs.Beginning.{left_by, left_by_one, IsSubsequence}
+use Rattle.gc_field.proofs.BeginIds.{IdSent, Pairs, AllDiffer, ids_of, last}
 use Rattle.gc_field.specs.World.{without, doubled}
 use Rattle.gc_field.proofs.BeginLists.{pairs_without, pairs_doubled, pairs_push, pairs_of_each}
 use Rattle.gc_field.proofs.BeginWords.{HasNoMoreWords, has_behind, has_twice, subword_more, cons_not_nil}
@@ -227,7 +227,7 @@ line_answered z asked later x rest h e =
     clear false o s = olds_none rest (all_on (KeepsOwn x) IsOwn rest (λ y f. f o) h.ordered.0)
 
 -- `IsLine` is preserved if a reply comes
-pub line_came : (z : ℕ) (left : List ℕ) (x : IdSent) (rest : List IdSent) → IsLine z left (x ∷ rest) → IsLine z (heard left x.id) rest
+pub line_came : (z : ℕ) (left : List ℕ) (x : IdSent) (rest : List IdSent) → IsLine z left (x ∷ rest) → IsLine z (left_by left (Some x.id)) rest
 line_came z [] x rest h = line_without z [] zero (x ∷ rest) h
 line_came z (asked ∷ later) x rest h = chosen (nat_eq x.id asked) refl where
   -- the lemma above, by whether the reply has the id that is asked for (`b`)

@@ -8,10 +8,10 @@ use Rattle.gc_catalogue.specs.declared.call.Call.TheVariants.{InstrumentNo}
 use Rattle.gc_client.specs.declared.window.TheConstants.{WINDOW}
 use Rattle.gc_instrument.specs.Execution.{exec}
 use Rattle.gc_instrument.specs.Replying.{handed}
-use Rattle.gc_field.specs.Simulator.{ends}
+use Rattle.gc_field.specs.Simulator.{simulator_ends}
 use Rattle.gc_field.specs.World.{Numbered}
 use Rattle.gc_field.specs.Begun.{WasMadeOn}
-use Rattle.gc_field.specs.BeginWitness.{AreSomeRuns, IsBookedFromBefore, from, next}
+use Rattle.gc_field.specs.BeginWitness.{AreSomeRuns, IsBookedFromBefore, from, next_run}
 use Rattle.gc_field.proofs.Witness.{fits, units}
 
 -- the reply to the first command
@@ -23,12 +23,12 @@ abbrev other_reply : Numbered (List ℕ)
 other_reply = record { number = 9; line = codes "%R1P,0,1:0,123456" }
 
 -- the first command's answer was made on executing its request
-was_made : WasMadeOn WINDOW ends from next.moves 8 (Table InstrumentNo) (codes "%R1P,0,0:0,123456")
+was_made : WasMadeOn WINDOW simulator_ends from next_run.moves 8 (Table InstrumentNo) (codes "%R1P,0,0:0,123456")
 unfolding header_at reply_at handed exec digits
 was_made =
     record {
-      front = take 3 next.moves;
-      later = drop 4 next.moves;
+      front = take 3 next_run.moves;
+      later = drop 4 next_run.moves;
       split = refl;
       id = 0;
       rest = record { number = 9; line = record { id = 1; call = Table InstrumentNo } } ∷ [];

@@ -1,11 +1,11 @@
 -- When a list of ids contains a word as a subsequence ("the word is in the ids"). If it doesn't, it doesn't either once ids are
 -- lost; nor once an id is repeated directly after itself, if no id is in the word twice.
-use Rattle.std.proofs.Common.{◌≡◌, ℕ, zero, suc, ◌+◌, ◌-◌, ◌%◌, ◌<◌, ◌≤◌, inl, inr, Bool, true, false, not, ◌&&◌, List, [], ◌∷◌, ◌++◌, nat_eq, refl, sym, ◌∙◌, subst, arith, map}
+use Rattle.std.proofs.Common.{◌≡◌, ℕ, zero, suc, ◌+◌, ◌-◌, ◌%◌, ◌<◌, ◌≤◌, inl, inr, Bool, true, false, not, ◌&&◌, List, [], ◌∷◌, ◌++◌, nat_eq, refl, sym, ◌∙◌, subst, arith, map, Some}
 use Rattle.std.specs.List.{AllByRecursion}
 use mathlib.Core.Path.{ap₂}
 use Rattle.std.proofs.lemmas.Bool.{eq-eqb, eqb-true, eqb-false, false≢true, and_parts, not-true}
-use Rattle.gc_client.specs.Beginning.{left_by_one, IsSubsequence, the_word}
-use Rattle.gc_field.proofs.BeginIds.{heard, AllDiffer, upward}
+use Rattle.gc_client.specs.Beginning.{left_by, left_by_one, IsSubsequence, the_word}
+use Rattle.gc_field.proofs.BeginIds.{AllDiffer, upward}
 use Rattle.gc_world.specs.Order.{Rising}
 use Rattle.gc_world.proofs.Rows.{rising_lower}
 
@@ -92,21 +92,21 @@ word_differs = all_differ the_word refl
 -- The greedy way: replies with these ids, heard one after the other, answer the whole word, if it is in them.
 
 -- what is left of a word after replies with these ids, of which each answers the first id that is left, or is discarded
-abbrev pub hears : (word ids : List ℕ) → List ℕ
-hears word [] = word
-hears word (i ∷ ids) = hears (heard word i) ids
+abbrev pub left_by_replies : (word ids : List ℕ) → List ℕ
+left_by_replies word [] = word
+left_by_replies word (i ∷ ids) = left_by_replies (left_by word (Some i)) ids
 
 -- the step of the next lemma: where replies with these ids answer each word that the ids contain, a reply with id i before
 -- them, followed by them, answers the word `w ∷ word` if `i ∷ ids` contain it, whether i is w (`b`) or not
-hears_next : (i w : ℕ) (ids word : List ℕ) (b : Bool) → nat_eq i w ≡ b → ((v : List ℕ) → IsSubsequence v ids → hears v ids ≡ [])
-    → IsSubsequence (w ∷ word) (i ∷ ids) → hears (left_by_one b w word) ids ≡ []
+hears_next : (i w : ℕ) (ids word : List ℕ) (b : Bool) → nat_eq i w ≡ b → ((v : List ℕ) → IsSubsequence v ids → left_by_replies v ids ≡ [])
+    → IsSubsequence (w ∷ word) (i ∷ ids) → left_by_replies (left_by_one b w word) ids ≡ []
 hears_next i w ids word true e f (inl h) = f word h.1
 hears_next i w ids word true e f (inr h) = f word (subword_tail w word ids h)
 hears_next i w ids word false e f (inl h) = absurd (false≢true (sym e ∙ eq-eqb i w (sym h.0)))
 hears_next i w ids word false e f (inr h) = f (w ∷ word) h
 
 -- replies with these ids answer all of a word that the ids contain
-pub comes_to_end : (ids word : List ℕ) → IsSubsequence word ids → hears word ids ≡ []
+pub comes_to_end : (ids word : List ℕ) → IsSubsequence word ids → left_by_replies word ids ≡ []
 comes_to_end [] [] h = refl
 comes_to_end [] (w ∷ word) h = absurd h
 comes_to_end (i ∷ ids) [] h = comes_to_end ids [] tt

@@ -10,7 +10,7 @@ use Rattle.gc_catalogue.specs.declared.call.Call.TheVariants.{NullProc}
 use Rattle.gc_catalogue.specs.Asked.{asked_line, is_of_table}
 use Rattle.gc_client.specs.OneForOne.{Wanted, Course, Step, Send, Hear, Expire, Restart, begun, course, course_after, of_settled, of_pending, sent_on, settled_on}
 use Rattle.gc_client.specs.Rule.{ById, Sending, Settled, Settlement, expires, fresh, heard, hears, restarts, sends}
-use Rattle.gc_client.proofs.OneForOne.{one_for_one}
+use Rattle.gc_client.proofs.OneForOne.{accounts_for_sends}
 use Rattle.gc_instrument.specs.State.{KeptReply}
 use Rattle.gc_world.specs.Clients.{ByNumber, by_ids, by_numbers}
 use Rattle.gc_world.specs.Exchange.{IsExchange}
@@ -18,15 +18,15 @@ use Rattle.gc_world.specs.Order.{Rising, numbers}
 use Rattle.gc_world.specs.Record.{IsReplyTo}
 use Rattle.gc_field.specs.World.{Ends, Numbered, Request, Wire, World, written}
 use Rattle.gc_world.proofs.Booked.{has_at}
-use Rattle.gc_world.proofs.Replay.{IsOf}
+use Rattle.gc_world.proofs.Replay.{IsAsSent}
 use Rattle.gc_world.specs.Worlds.{of_sent}
 use Rattle.gc_world.proofs.Settled as settled
 use Rattle.gc_world.proofs.Sound.{IsGoing, IsComing, Sound}
 use Rattle.gc_field.specs.Begin.{UnderWay}
-use Rattle.gc_field.specs.Begun.{IsBehindTheTable, IsClean, IsFaithful, IsSafe, WasMadeOn, WentOutBehindTheTable, behind, eighth, ids_begun, numbers_begun, nulls, nulls_settled}
-use Rattle.gc_field.specs.Field.{Move, Sends, ArePossible, AsksOnly, moved, seen}
+use Rattle.gc_field.specs.Begun.{IsBehindTheTable, IsClean, IsFaithful, IsSafe, WasMadeOn, WentOutBehindTheTable, behind, eighth, ids_begun, numbers_begun, nulls, nulls_settled, ArePossibleOnceBegun}
+use Rattle.gc_field.specs.Field.{Move, Sends, AsksOnly, moved, seen}
 use Rattle.gc_field.specs.Instrument.{IsAnInstrument, IsAnInstrumentFor, all_known}
-use Rattle.gc_field.specs.Once.{ActsOnce, IsInOrder}
+use Rattle.gc_field.specs.Once.{ExecutesOnce, IsInOrder}
 use Rattle.gc_field.proofs.BeginLists.{each_map}
 use Rattle.gc_field.proofs.Fresh.{AllBut, AnyLine, EachOne, AllExcepted, asks_all, near_the_table, renewed}
 use Rattle.gc_field.proofs.Instruments.{alike_is, exchange_of}
@@ -111,7 +111,7 @@ module _ {State : Type 0} (ends : Ends State) (Good : State → Type 0) (kept : 
   exchange = exchange_of ends Good kept keeper
 
   -- what was sent: the null procedures, and then what the client sent
-  pub sent_is : (u : UnderWay State) (ms : List (Move State)) → ArePossible ends Good kept (by_ids width ends) ms (ids_begun u)
+  pub sent_is : (u : UnderWay State) (ms : List (Move State)) → ArePossibleOnceBegun width ends u Good kept ms
       → map of_sent (behind width ends u ms).wire.sent ≡ map of_sent nulls ++ (course width begun (seen ms)).sent
   sent_is u ms p =
       let one = same_all width ends keeper.hears Good kept ms course_after_nulls (ids_begun u) p (record { sent = refl; settled = refl; client = refl }) in
@@ -141,7 +141,7 @@ module _ {State : Type 0} (ends : Ends State) (Good : State → Type 0) (kept : 
     both_begun = record { agree = record { wire = refl; client = record { window = refl; next = refl } }; sound = sound_begun }
 
     -- the eighth null procedure is among the requests of a synchronization, with the number 7
-    line_is : (x : Request) → x ≡ eighth → IsOf written nulls (record { number = 7; line = x })
+    line_is : (x : Request) → x ≡ eighth → IsAsSent written nulls (record { number = 7; line = x })
     line_is x e = record {
       request = record { target = 0; call = Table NullProc; line = asked_line (Some 7) (Table NullProc) };
       found = refl;
@@ -159,7 +159,7 @@ module _ {State : Type 0} (ends : Ends State) (Good : State → Type 0) (kept : 
       last_null_vouched : (line : List ℕ) → IsVouchedAtStart 7 line
       last_null_vouched line = (inl (omega arith), inl (early 7 (omega arith)))
 
-      -- after a clean synchronization, what the instrument retains, if anything, is the reply to the eighth null procedure
+      -- after a clean synchronization, what the instrument keeps, if anything, is the reply to the eighth null procedure
       kept_begun : (k : Option KeptReply) → kept u.state ≡ k → KeptIs IsVouchedAtStart 0 8 7 k
       kept_begun None e = tt
       kept_begun (Some k) e = record { number = 7; recent = omega arith; before = omega arith; behind = omega arith; id = clean.keeps k e; line = last_null_vouched k.line }
@@ -179,7 +179,7 @@ module _ {State : Type 0} (ends : Ends State) (Good : State → Type 0) (kept : 
             above = each_last (λ x. 8 ≤ x.number + 1) (λ x. x ≡ eighth) (λ x e. omega arith) u.up clean.up;
             below = each_last (λ x. x.number < 8) (λ line. heard line ≡ Some 7) (λ x e. omega arith) u.down clean.down;
             holds = kept_begun (kept u.state) refl;
-            lines = each_last (IsOf written nulls) (λ x. x ≡ eighth) line_is u.up clean.up;
+            lines = each_last (IsAsSent written nulls) (λ x. x ≡ eighth) line_is u.up clean.up;
             near = near;
             coming = each_last (λ x. IsVouchedAtStart x.number x.line) (λ line. heard line ≡ Some 7) (λ x e. last_null_vouched x) u.down clean.down;
             answers = (tt, (tt, (tt, (tt, (tt, (tt, (tt, (tt, tt))))))));
@@ -198,7 +198,7 @@ module _ {State : Type 0} (ends : Ends State) (Good : State → Type 0) (kept : 
     -- if the instrument knows the null procedures, and all that these possible moves ask, `IsVouchedFor` holds after them, with
     -- the requests below number 8 excepted
     own_if_all_known : (knows : Asked → Bool) → IsAnInstrumentFor ends Good kept knows → knows (Table NullProc) ≡ true → (ms : List (Move State))
-        → ArePossible ends Good kept (by_ids width ends) ms (ids_begun u) → AsksOnly knows ms
+        → ArePossibleOnceBegun width ends u Good kept ms → AsksOnly knows ms
         → IsVouchedFor ends Good kept (λ n. n < 8) (λ n call line. WasMadeOn width ends u ms n call line) (moved ends (by_numbers width) ms (numbers_begun u)).wire
     own_if_all_known knows is null ms p asks =
         let M : ℕ → Asked → List ℕ → Type 0 = λ n call line. WasMadeOn width ends u ms n call line in
@@ -209,7 +209,7 @@ module _ {State : Type 0} (ends : Ends State) (Good : State → Type 0) (kept : 
         (trusted_all width narrow knows ends Good exchange kept is 8 E (Unit {0}) M ms (ids_begun u) (numbers_begun u) both_begun p (λ all. asks) on start)
 
     -- `AllExcepted` holds of the world of the client that is given numbers after possible moves
-    all_excepted : (ms : List (Move State)) → ArePossible ends Good kept (by_ids width ends) ms (ids_begun u)
+    all_excepted : (ms : List (Move State)) → ArePossibleOnceBegun width ends u Good kept ms
         → AllExcepted width narrow ends Good kept keeper 8 (moved ends (by_numbers width) ms (numbers_begun u))
     all_excepted ms p =
         trusted_all width narrow is_of_table ends Good exchange kept keeper 8 EachOne ⊥ AnyLine ms (ids_begun u) (numbers_begun u) both_begun p (λ never. absurd never)
@@ -217,7 +217,7 @@ module _ {State : Type 0} (ends : Ends State) (Good : State → Type 0) (kept : 
 
     -- `IsVouchedFor` holds after possible moves with all requests excepted but one, m, that was sent after the table
     -- (`WentOutBehindTheTable`)
-    behind_own : (ms : List (Move State)) → ArePossible ends Good kept (by_ids width ends) ms (ids_begun u) → (m : ℕ) → WentOutBehindTheTable width ends u ms m
+    behind_own : (ms : List (Move State)) → ArePossibleOnceBegun width ends u Good kept ms → (m : ℕ) → WentOutBehindTheTable width ends u ms m
         → IsVouchedFor ends Good kept (AllBut m) (λ n call line. WasMadeOn width ends u ms n call line) (moved ends (by_numbers width) ms (numbers_begun u)).wire
     behind_own ms p m h =
         let M : ℕ → Asked → List ℕ → Type 0 = λ n call line. WasMadeOn width ends u ms n call line in
@@ -241,7 +241,7 @@ module _ {State : Type 0} (ends : Ends State) (Good : State → Type 0) (kept : 
         (vouched_for width narrow is_of_table ends Good exchange kept keeper 8 (AllBut m) ⊥ M (moved ends (by_numbers width) rest b) last)
 
     -- after possible moves the settlement of a request from number 8 on that is `IsSafe` is its own
-    safe_own : (ms : List (Move State)) → ArePossible ends Good kept (by_ids width ends) ms (ids_begun u) → (m : ℕ) (s : Settlement Asked) → 8 ≤ m → IsSafe width ends u Good kept ms m
+    safe_own : (ms : List (Move State)) → ArePossibleOnceBegun width ends u Good kept ms → (m : ℕ) (s : Settlement Asked) → 8 ≤ m → IsSafe width ends u Good kept ms m
         → slice_get (moved ends (by_numbers width) ms (numbers_begun u)).wire.settled m ≡ Some s
         → IsOwnSettlement ends Good (λ n call line. WasMadeOn width ends u ms n call line) (moved ends (by_numbers width) ms (numbers_begun u)).wire m s
     safe_own ms p m s ge (inl table) e = (own_if_all_known is_of_table keeper refl ms p table).own m s (λ l. omega (arith, l, ge)) e
@@ -249,7 +249,7 @@ module _ {State : Type 0} (ends : Ends State) (Good : State → Type 0) (kept : 
     safe_own ms p m s ge (inr (inr went)) e = (behind_own ms p m went).own m s (λ other. other refl) e
 
     -- possible moves after a clean synchronization are faithful (`IsFaithful`)
-    pub faithful : (ms : List (Move State)) → ArePossible ends Good kept (by_ids width ends) ms (ids_begun u) → IsFaithful width ends u ms Good kept
+    pub faithful : (ms : List (Move State)) → ArePossibleOnceBegun width ends u Good kept ms → IsFaithful width ends u ms Good kept
     faithful ms p =
         let a = moved ends (by_ids width ends) ms (ids_begun u) in
         let b = moved ends (by_numbers width) ms (numbers_begun u) in
@@ -264,7 +264,7 @@ module _ {State : Type 0} (ends : Ends State) (Good : State → Type 0) (kept : 
         let parts : map of_settled a.wire.settled ++ map of_pending a.client.waiting ≡ map of_sent a.wire.sent =
         ap (λ l. map of_settled l ++ map of_pending a.client.waiting) settlements
         ∙ ap (λ (c : ById Asked). map of_settled (nulls_settled ++ y.settlements) ++ map of_pending c.waiting) (sym stands)
-        ∙ ap (λ l. map of_sent nulls ++ l) (one_for_one width (seen ms)) ∙ sym from.sent ∙ one.sent in
+        ∙ ap (λ l. map of_sent nulls ++ l) (accounts_for_sends width (seen ms)) ∙ sym from.sent ∙ one.sent in
         let pairs = settled.one_for_one a.wire.settled a.client.waiting a.wire.sent parts in
         let M : ℕ → Asked → List ℕ → Type 0 = λ n call line. WasMadeOn width ends u ms n call line in
         let all = vouched_for width narrow is_of_table ends Good exchange kept keeper 8 EachOne ⊥ AnyLine b (all_excepted ms p) in
@@ -288,7 +288,7 @@ module _ {State : Type 0} (ends : Ends State) (Good : State → Type 0) (kept : 
           late = λ m s sure e late.
               let v = (own m s sure.0 sure.1 e).late late in
               (v.0, subst (λ call. M m call v.0) (sym (pairs.same m s v.1.request e v.1.found).1) v.1.on);
-          once = λ keeps k. subst (λ (w : Wire State). ActsOnce keeps w.sent w.executed w.starts) (sym same) (all.once keeps k);
+          once = λ keeps k. subst (λ (w : Wire State). ExecutesOnce keeps w.sent w.executed w.starts) (sym same) (all.once keeps k);
           agrees = same;
           first_reply = λ n line rest e le. first_reply width narrow ends Good exchange kept a b n line rest both e le;
         }

@@ -18,7 +18,7 @@ use Rattle.gc_field.specs.World.{Ends, Numbered, Request, Step, Wire, World, hap
 use Rattle.gc_world.proofs.Sound.{IsComing, IsGoing, Sound, all_sent}
 use Rattle.gc_field.specs.Begin.{LacksTheWord, UnderWay, ids_under_way}
 use Rattle.gc_field.specs.Beginnings.{HasRisingIds, on_line}
-use Rattle.gc_field.specs.Begun.{IsClean, behind, ids_begun, numbers_begun}
+use Rattle.gc_field.specs.Begun.{IsClean, behind, ids_begun, numbers_begun, ArePossibleOnceBegun}
 use Rattle.gc_field.specs.Field.{Move, Sends, Tells, Comes, Foreign, OnLine, Anew, Changes, Joins, IsLineStep, ArePossible, moved}
 use Rattle.gc_field.specs.Instrument.{IsAnInstrument}
 use Rattle.gc_field.proofs.BeginWords.{subword_front, three_within, ids_at}
@@ -119,7 +119,7 @@ module _ {State : Type 0} (width : ℕ) (ends : Ends State) (Good : State → Ty
 module _ {State : Type 0} (ends : Ends State) (Good : State → Type 0) (kept : State → Option KeptReply) (is : IsAnInstrument ends Good kept) (width : ℕ) (narrow : width ≤ 7) where
   -- `HasRisingIds` holds of what is in flight after possible moves that follow a clean synchronization
   pub runs_leave_rising_ids : (u : UnderWay State) → IsClean Good kept u → (ms : List (Move State))
-      → ArePossible ends Good kept (by_ids width ends) ms (ids_begun u) → HasRisingIds (on_line (behind width ends u ms).wire)
+      → ArePossibleOnceBegun width ends u Good kept ms → HasRisingIds (on_line (behind width ends u ms).wire)
   runs_leave_rising_ids u clean ms p =
       let b = moved ends (by_numbers width) ms (numbers_begun u) in
       let both = both_all width narrow ends Good (exchange ends Good kept is width narrow) kept ms (ids_begun u) (numbers_begun u) p (both_begun ends Good kept is width narrow u clean) in
@@ -128,7 +128,7 @@ module _ {State : Type 0} (ends : Ends State) (Good : State → Type 0) (kept : 
 
   -- possible moves that follow a clean synchronization leave a good state, and requests with ids below 8
   pub runs_leave_good : (u : UnderWay State) → IsClean Good kept u → (ms : List (Move State))
-      → ArePossible ends Good kept (by_ids width ends) ms (ids_begun u)
+      → ArePossibleOnceBegun width ends u Good kept ms
       → Good (behind width ends u ms).wire.state × AllByRecursion (λ x. x.id < 8) (map (λ x. x.line) (behind width ends u ms).wire.up)
   runs_leave_good u clean ms p =
       let both = both_all width narrow ends Good (exchange ends Good kept is width narrow) kept ms (ids_begun u) (numbers_begun u) p (both_begun ends Good kept is width narrow u clean) in

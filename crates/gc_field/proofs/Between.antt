@@ -20,7 +20,7 @@ use Rattle.gc_field.specs.World.{Ends, Request, Sent, Numbered, Step, Send, Up_d
 use Rattle.gc_world.proofs.Places.{get_more, get_push}
 use Rattle.gc_world.proofs.Rows.{each_without, each_doubled}
 use Rattle.gc_field.specs.Begin.{UnderWay}
-use Rattle.gc_field.specs.Begun.{IsClean, eighth, ids_begun, nulls}
+use Rattle.gc_field.specs.Begun.{IsClean, eighth, ids_begun, nulls, ArePossibleOnceBegun}
 use Rattle.gc_field.specs.Field.{Move, Sends, Tells, Comes, Foreign, OnLine, Anew, Changes, Joins, IsLineStep, moves, moved, ArePossible}
 use Rattle.gc_field.specs.Chains.{HasNoStartAmong, IsUndisturbed, HasEffect, AreCalls}
 use Rattle.gc_field.proofs.BegunFaithful.{each_last}
@@ -28,14 +28,14 @@ use Rattle.gc_field.proofs.BegunFaithful.{each_last}
 -- What the instrument becomes.
 
 module _ {State : Type 0} (ends : Ends State) where
-  -- where executing has the effect `effect` (`HasEffect`), two states that are alike apart from what is retained are still so
+  -- where executing has the effect `effect` (`HasEffect`), two states that are alike apart from what is kept are still so
   -- after the same calls
   effects_alike : (apart : State → State) (effect : State → Asked → State) → HasEffect ends apart effect → (calls : List Asked) (s t : State)
       → apart s ≡ apart t → apart (fold effect s calls) ≡ apart (fold effect t calls)
   effects_alike apart effect has [] s t e = e
   effects_alike apart effect has (call ∷ calls) s t e = effects_alike apart effect has calls (effect s call) (effect t call) (has.alike s t call e)
 
-  -- executing these calls makes the second state of the first, apart from what is retained, for each effect that executing has
+  -- executing these calls makes the second state of the first, apart from what is kept, for each effect that executing has
   abbrev pub IsMadeBy : (s : State) (calls : List Asked) (t : State) → Type 0
   IsMadeBy s calls t = (apart : State → State) (effect : State → Asked → State) → HasEffect ends apart effect → apart t ≡ apart (fold effect s calls)
 
@@ -52,7 +52,7 @@ module _ {State : Type 0} (ends : Ends State) where
   made_one : (s : State) (id : ℕ) (call : Asked) → (ends.handed s id call).executed ≡ true → IsMadeBy s (call ∷ []) (ends.handed s id call).state
   made_one s id call e apart effect has = has.executes s id call e
 
-  -- a line that is sent again changes nothing but what is retained
+  -- a line that is sent again changes nothing but what is kept
   made_again : (s : State) (id : ℕ) (call : Asked) → (ends.handed s id call).executed ≡ false → IsMadeBy s [] (ends.handed s id call).state
   made_again s id call e apart effect has = has.repeats s id call e
 
@@ -316,7 +316,7 @@ module _ {State : Type 0} (ends : Ends State) where
     consistent_begun u clean = record { known = each_last (WasSent nulls) (λ x. x ≡ eighth) last_was_sent u.up clean.up; begun = tt }
 
     -- after a clean synchronization, and possible moves, the wire is `IsConsistent`
-    pub consistent_all : (ms : List (Move State)) (u : UnderWay State) → IsClean Good kept u → ArePossible ends Good kept (by_ids 7 ends) ms (ids_begun u)
+    pub consistent_all : (ms : List (Move State)) (u : UnderWay State) → IsClean Good kept u → ArePossibleOnceBegun 7 ends u Good kept ms
         → IsConsistent (moved ends (by_ids 7 ends) ms (ids_begun u)).wire
     consistent_all ms u clean p = (goes_all ms (ids_begun u) p (consistent_begun u clean)).stands
 

@@ -19,7 +19,7 @@ use Rattle.gc_station.proofs.Going.{runs-append}
 use Rattle.gc_station.specs.Model.{opening}
 use Rattle.gc_field.specs.Field.{seen}
 use Rattle.gc_field.specs.Shown.{AreShownAs, shown}
-use Rattle.gc_field.specs.Simulator.{ends}
+use Rattle.gc_field.specs.Simulator.{simulator_ends}
 use Rattle.gc_field.specs.Begin.{begins}
 use Rattle.gc_field.specs.Witness.{eight_answered, plan, replies}
 
@@ -45,7 +45,7 @@ unfolding is_elsewhere header_at reply_at digits rounded
 parts_are = refl
 
 -- what happens while the station synchronizes shows the null procedures and these replies
-pub shown_are : shown ends eight_answered (begins at_start) ≡ asked_each replies
+pub shown_are : shown simulator_ends eight_answered (begins at_start) ≡ asked_each replies
 unfolding is_elsewhere header_at reply_at handed exec digits rounded
 shown_are = refl
 
@@ -61,7 +61,7 @@ chain =
                 (tt, (refl, (tt, (tt, (refl, (tt, (tt, (refl, (tt, (tt, (refl, tt)))))))))));
             lines = record { ids = tt; good = fits };
             none = λ h. h;
-            shown = subst (AreShownAs ends at_start runs) (sym parts_are) (shown_are, refl, (refl, refl, tt));
+            shown = subst (AreShownAs simulator_ends at_start runs) (sym parts_are) (shown_are, refl, (refl, refl, tt));
             possible = ((units 24, (tt, (tt, (tt, (tt, (tt, ((8, [], refl), (tt, (tt, (tt, (tt, ((9, [], refl), (tt, (tt, (tt, (tt, ((10, [], refl), tt))))))))))))))))), ((tt, refl), tt));
           };
       records = refl;

@@ -28,7 +28,7 @@ use Rattle.gc_station.proofs.Going.{runs_front}
 use Rattle.gc_field.specs.World.{Ends, Up_deliver}
 use Rattle.std.proofs.lemmas.Option.{same_Some, slice_get_within}
 use Rattle.gc_field.specs.Begin.{AreTurns, UnderWay, begins, leaves, left_by_turns}
-use Rattle.gc_field.specs.Begin.{Model as SyncModel}
+use Rattle.gc_field.specs.Begin.{SyncModel}
 use Rattle.gc_field.specs.Beginnings.{ArePossibleIf, AreRuns, Run, after_turns, left_by_run}
 use Rattle.gc_field.specs.Begun.{IsSafe, WasMadeOn, behind, ids_begun}
 use Rattle.gc_field.specs.Chains.{AreExecutedInChain, IsChainedTo, IsExecutedInChain}
@@ -36,7 +36,7 @@ use Rattle.gc_field.specs.Field.{Move, Sends, Tells, Comes, Foreign, OnLine, Ane
 use Rattle.gc_field.specs.Instrument.{IsAnInstrument}
 use Rattle.gc_field.specs.Laws.{asked}
 use Rattle.gc_station.specs.Links.{AreChained, IsBefore, IsAnsweredEarlier, ChainsStay, MarksGoOn, RecordsStay, parts}
-use Rattle.gc_field.specs.Runs.{IsInField, IsItsOwn, IsOwnAnswer, own_sent, own_settled, world}
+use Rattle.gc_field.specs.Runs.{IsInField, IsItsOwn, IsOwnAnswer, Program, own_sent, own_settled, world}
 use Rattle.gc_field.specs.Shown.{AreShownAs, Stretch, shown, stretches}
 use Rattle.gc_field.proofs.InTime.{clean_of, front_nil}
 use Rattle.gc_field.proofs.Possible.{front_possible}
@@ -209,6 +209,10 @@ within c p d q e r (inr a) (inr b) same = (b.0, a.1, b.1)
 
 module _ {State : Type 0} (ends : Ends State) (Good : State → Type 0) (kept : State → Option KeptReply) (is : IsAnInstrument ends Good kept)
     (stay : ChainsStay) (go_on : MarksGoOn) (records_stay : RecordsStay) (plan : Plan) (commands : List Task) (scope : Scope) where
+  -- the run that makes these acts, and on whose line this happens
+  abbrev run_of : List Act → List (Run State) → Program State
+  run_of acts rs = record { plan = plan; commands = commands; scope = scope; acts = acts; runs = rs }
+
   -- where request m of part i of a run is for the command of record r, which is of a cycle, and r has an answer that is its own
   -- (`IsItsOwn`), that answer is to request m of part i
   own_place : (acts : List Act) → Runs plan commands (opening plan scope) acts
@@ -224,8 +228,8 @@ module _ {State : Type 0} (ends : Ends State) (Good : State → Type 0) (kept : 
   -- if the last part of the first acts (`before`) of a run in the field has a request, these acts are a run in the field, too,
   -- with its last stretch cut short (`CutRuns`)
   in_front_of : (acts before rest : List Act) (u : UnderWay State) (rs : List (Run State)) → acts ≡ before ++ rest
-      → LastIsMarked (parts plan commands scope before) → IsInField ends Good kept plan commands scope acts u rs
-      → (c : CutRuns ends Good kept (parts plan commands scope before) u rs) × IsInField ends Good kept plan commands scope before u c.runs
+      → LastIsMarked (parts plan commands scope before) → IsInField ends Good kept u (run_of acts rs)
+      → (c : CutRuns ends Good kept (parts plan commands scope before) u rs) × IsInField ends Good kept u (run_of before c.runs)
   in_front_of acts before rest u rs e marked h =
       let front : IsFront (parts plan commands scope before) (parts plan commands scope acts) =
       subst (λ l. IsFront (parts plan commands scope before) (parts plan commands scope l)) (sym e) (front_parts plan commands (opening plan scope) before rest) in
@@ -237,13 +241,13 @@ module _ {State : Type 0} (ends : Ends State) (Good : State → Type 0) (kept : 
 
   -- when the client is about to send request n of stretch i, a command of a cycle, the command at place a, which was answered
   -- well in the same part (`back`), is settled in that stretch, with the answer that its record has
-  settled_there : (before : List Act) (u : UnderWay State) (rs : List (Run State)) → IsInField ends Good kept plan commands scope before u rs
+  settled_there : (before : List Act) (u : UnderWay State) (rs : List (Run State)) → IsInField ends Good kept u (run_of before rs)
       → (i n cycle a : ℕ) (first : Part) → slice_get (parts plan commands scope before) i ≡ Some first → length first.marks ≡ n
       → (back : IsAnsweredEarlier plan commands scope before first cycle a) → 0 < cycle → (t : Stretch State) × (slice_get (stretches ends u rs) i ≡ Some t) × (length (own_sent ends t) ≡ n)
       × (slice_get (own_settled ends t) back.m ≡ Some (record { target = back.its.answer.command.target; call = back.its.answer.command.call; outcome = Answered back.its.good.line }))
   settled_there before u rs h i n cycle a first of_first count back many =
       let ss = stretches ends u rs in
-      let f = run_faithful ends Good kept is plan commands scope before u rs h in
+      let f = run_faithful ends Good kept is u (run_of before rs) h in
       let o = all_at (IsOwnAnswer ends Good kept commands (parts plan commands scope before) ss)
       (state_after plan commands scope before).records back.its.k back.its.answer f.own back.its.among back.its.good.line (ap line_of back.its.good.answered) in
       let at = own_place before h.runs i back.m first back.expected back.its.answer ss back.its.good.line of_first back.mark (subst (λ c. 0 < c) (sym back.its.own_cycle) many) o in
@@ -270,7 +274,7 @@ module _ {State : Type 0} (ends : Ends State) (Good : State → Type 0) (kept : 
 
   -- if the answer of record b, of a cycle, is its own, `IsChainedTo` holds for each place a that isn't of the setup and from
   -- which the commands up to that of b are chained: the command at place a was executed before that of b
-  chained_to : (acts : List Act) (v : UnderWay State) (rs : List (Run State)) → IsInField ends Good kept plan commands scope acts v rs
+  chained_to : (acts : List Act) (v : UnderWay State) (rs : List (Run State)) → IsInField ends Good kept v (run_of acts rs)
       → (b : Record) (line : List ℕ) (u : IsItsOwn ends Good kept commands (parts plan commands scope acts) (stretches ends v rs) b line) (a : ℕ)
       → 0 < b.cycle → plan.setup ≤ a → a < b.place → AreChained commands a b.place
       → IsChainedTo ends Good kept scope.reads commands (parts plan commands scope acts) (stretches ends v rs) (state_after plan commands scope acts).records a b line
@@ -283,7 +287,7 @@ module _ {State : Type 0} (ends : Ends State) (Good : State → Type 0) (kept : 
       let cut = in_front_of acts sent.before sent.rest v rs sent.order marked h in
       let there = settled_there sent.before v cut.0.runs cut.1 q.k q.m b.cycle a sent.so_far sent.of_parts sent.count back many in
       let c = cut.0.last q.k there.0 q.stretch sent.last there.1 q.of_stretches in
-      let fit = zip_at (Fits ends Good kept is) (parts plan commands scope acts) ss q.k q.part q.stretch (all_fitting ends Good kept is plan commands scope acts v rs h).0 q.of_parts q.of_stretches in
+      let fit = zip_at (Fits ends Good kept is) (parts plan commands scope acts) ss q.k q.part q.stretch (all_fitting ends Good kept is v (run_of acts rs) h).0 q.of_parts q.of_stretches in
       let x : Settlement Asked = record { target = back.its.answer.command.target; call = back.its.answer.command.call; outcome = Answered back.its.good.line } in
       let w = (behind 7 ends q.stretch.from c.front).wire in
       let settled : slice_get (drop 8 w.settled) back.m ≡ Some x = subst (λ (t : Stretch State). slice_get (own_settled ends t) back.m ≡ Some x) c.is there.3 in
@@ -303,7 +307,7 @@ module _ {State : Type 0} (ends : Ends State) (Good : State → Type 0) (kept : 
       let safe : IsSafe 7 ends q.stretch.from Good kept c.front (8 + back.m) =
       subst (λ (t : Stretch State). IsSafe 7 ends t.from Good kept t.moves (8 + back.m)) c.is
       (zip_at (IsSafePart ends Good kept is) (parts plan commands scope sent.before) (stretches ends v cut.0.runs) q.k sent.so_far there.0
-      (safe_in ends Good kept is plan commands scope sent.before v cut.0.runs cut.1) sent.of_parts there.1 back.m (mark_of back.expected back.its.answer) back.mark) in
+      (safe_in ends Good kept is v (run_of sent.before cut.0.runs) cut.1) sent.of_parts there.1 back.m (mark_of back.expected back.its.answer) back.mark) in
       record {
         earlier = record {
           k = back.its.k;
@@ -342,9 +346,9 @@ module _ {State : Type 0} (ends : Ends State) (Good : State → Type 0) (kept : 
       }
 
   -- each record of a run in the field is `IsExecutedInChain`
-  pub chains_executed : (acts : List Act) (u : UnderWay State) (rs : List (Run State)) → IsInField ends Good kept plan commands scope acts u rs
-      → AreExecutedInChain ends Good kept plan commands scope acts u rs
+  pub chains_executed : (acts : List Act) (u : UnderWay State) (rs : List (Run State)) → IsInField ends Good kept u (run_of acts rs)
+      → AreExecutedInChain ends Good kept u (run_of acts rs)
   chains_executed acts u rs h =
-      all_on (IsOwnAnswer ends Good kept commands (parts plan commands scope acts) (stretches ends u rs)) (IsExecutedInChain ends Good kept plan commands scope acts u rs)
+      all_on (IsOwnAnswer ends Good kept commands (parts plan commands scope acts) (stretches ends u rs)) (IsExecutedInChain ends Good kept u (run_of acts rs))
       (state_after plan commands scope acts).records
-      (λ b own line a answered many low less chained. chained_to acts u rs h b line (own line answered) a many low less chained) (run_faithful ends Good kept is plan commands scope acts u rs h).own
+      (λ b own line a answered many low less chained. chained_to acts u rs h b line (own line answered) a many low less chained) (run_faithful ends Good kept is u (run_of acts rs) h).own

@@ -11,10 +11,10 @@ use Rattle.gc_texts.specs.Nears.{is_elsewhere}
 use Rattle.std.proofs.lemmas.Option.{same_Some}
 use Rattle.gc_field.specs.ChainWitness.{commands, points, reads_all, scope}
 use Rattle.gc_field.specs.Chains.{HasEffect}
-use Rattle.gc_field.specs.CountingChain.{Counter, IsCountedInField, acts, bare, at_start, null_replies, counted_or, counting, counts, first_reply, kept_by, moves, once_counted, runs, stretch, third_reply}
-use Rattle.gc_field.specs.Instrument.{IsAnInstrument, KeepsItsReply, AnyState, all_known}
+use Rattle.gc_field.specs.CountingChain.{Counter, IsCountedInField, acts, bare, at_start, null_replies, counter_handed, counting, counts, first_reply, kept_by, moves, once_counted, runs, stretch, third_reply}
+use Rattle.gc_field.specs.Instrument.{IsAnInstrument, KeepsItsReply, AnyState, all_known, own_reply}
 use Rattle.gc_field.specs.Begun.{WasMadeOn}
-use Rattle.gc_field.specs.Needed.{Keeper, held, kept, giving}
+use Rattle.gc_field.specs.Needed.{Keeper, held, keeper_kept, giving}
 use Rattle.gc_field.proofs.ChainWitness.{all_chained}
 use Rattle.gc_field.proofs.Needed.{else_keeps, else_reads, else_repeats}
 use Rattle.gc_station.specs.Parts.{parts_of}
@@ -27,7 +27,7 @@ use Rattle.gc_field.specs.Witness.{eight_answered, plan}
 use Rattle.gc_field.proofs.Witness.{OpensWith, asked_each, one_part, units}
 
 -- the reply to a request is kept after it, with the request's id
-reply_is_kept : (s : Counter) (id : ℕ) (o : Option ℕ) → held s.keeps id ≡ o → kept_by (counted_or s id o).state ≡ Some (record { id = id; line = (counted_or s id o).reply })
+reply_is_kept : (s : Counter) (id : ℕ) (o : Option ℕ) → held s.keeps id ≡ o → kept_by (counter_handed s id o).state ≡ Some (own_reply id (counter_handed s id o))
 reply_is_kept s id o e = else_keeps (once_counted s id) (suc s.count) id (λ (c : Counter). c.keeps) s o e refl
 
 -- if a number is kept with this id, it can't be that none is held for the id
@@ -35,18 +35,18 @@ none_held : (x : ℕ × ℕ) (id : ℕ) → x.0 ≡ id → held (Some x) id ≡ 
 none_held x id same e = let e' : Some x.1 ≡ None = sym (ap (λ b. cond b (Some x.1) None) (eq-eqb x.0 id same)) ∙ e in cc
 
 -- a request with the kept id isn't executed
-held_for : (k : Keeper) (id : ℕ) (o : Option ℕ) (line : List ℕ) → held k id ≡ o → kept k ≡ Some (record { id = id; line = line }) → (s : Counter) → (counted_or s id o).executed ≡ false
+held_for : (k : Keeper) (id : ℕ) (o : Option ℕ) (line : List ℕ) → held k id ≡ o → keeper_kept k ≡ Some (record { id = id; line = line }) → (s : Counter) → (counter_handed s id o).executed ≡ false
 held_for k id (Some n) line h e s = refl
 held_for None id None line h e s = let never : ⊥ = cc in absurd never
 held_for (Some x) id None line h e s = absurd (none_held x id (ap (λ (r : KeptReply). r.id) (same_Some (record { id = x.0; line = giving x.0 x.1 }) (record { id = id; line = line }) e)) h)
 
 -- an execution makes the count one higher
-executes_by_count : (s : Counter) (id : ℕ) (call : Asked) (o : Option ℕ) → (counted_or s id o).executed ≡ true → bare (counted_or s id o).state ≡ bare (counts s call)
+executes_by_count : (s : Counter) (id : ℕ) (call : Asked) (o : Option ℕ) → (counter_handed s id o).executed ≡ true → bare (counter_handed s id o).state ≡ bare (counts s call)
 executes_by_count s id call (Some n) e = absurd (true≢false (sym e))
 executes_by_count s id call None e = refl
 
 -- a line that is sent again leaves the count as it was
-unchanged : (s : Counter) (id : ℕ) (o : Option ℕ) → (counted_or s id o).executed ≡ false → bare (counted_or s id o).state ≡ bare s
+unchanged : (s : Counter) (id : ℕ) (o : Option ℕ) → (counter_handed s id o).executed ≡ false → bare (counter_handed s id o).state ≡ bare s
 unchanged s id (Some n) e = refl
 unchanged s id None e = absurd (true≢false e)
 
@@ -63,7 +63,7 @@ counting_is =
       starts_good = λ s good. tt;
     }
 
--- `counting` retains its reply to each request, and sends it again for a request with the id of that reply (`KeepsItsReply`)
+-- `counting` keeps its reply to each request, and sends it again for a request with the id of that reply (`KeepsItsReply`)
 keeps_its : KeepsItsReply counting AnyState kept_by all_known
 keeps_its =
     record {

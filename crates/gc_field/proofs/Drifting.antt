@@ -1,4 +1,4 @@
--- A run over an instrument that retains no reply, computed.
+-- A run over an instrument that keeps no reply, computed.
 use Rattle.std.proofs.Common.{◌≡◌, [], ◌∷◌, refl, sym, subst, lit<, ℕ}
 use Rattle.std.specs.Prelude.{take, drop}
 use Rattle.std.specs.Fmt.{decimal, digits}
@@ -7,7 +7,7 @@ use Rattle.gc_world.proofs.Handing.{reply_heard}
 use Rattle.gc_catalogue.specs.declared.asked.Asked.TheVariants.{Raw}
 use Rattle.gc_catalogue.specs.declared.raw.RawCall.{RawCall}
 use Rattle.gc_client.specs.declared.window.TheConstants.{WINDOW}
-use Rattle.gc_field.specs.Instrument.{IsAnInstrument, AnyState, nothing}
+use Rattle.gc_field.specs.Instrument.{IsAnInstrument, AnyState, never_kept}
 use Rattle.gc_field.specs.Begin.{begins, left_by_turns, none_under_way}
 use Rattle.gc_field.specs.Begun.{WasMadeOn}
 use Rattle.gc_field.specs.Drifting.{IsAnsweredByDrifting, acts, answer, null_replies, commands, drifting, moves, plan, runs, scope, turns}
@@ -22,7 +22,7 @@ use Rattle.gc_field.proofs.Witness.{asked_each, one_part, units}
 use Rattle.gc_field.proofs.Instruments.{keeps_none}
 
 -- `drifting` is an instrument
-drifting_is : IsAnInstrument drifting AnyState nothing
+drifting_is : IsAnInstrument drifting AnyState never_kept
 drifting_is = keeps_none ℕ drifting (λ line. refl) (λ s id call good small. reply_heard 0 id 0 (decimal s) (lit< tt) small (lit< tt)) (λ s id call. refl)
 
 module _ (raw : RawCall) where

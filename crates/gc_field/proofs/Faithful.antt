@@ -5,7 +5,7 @@ use Rattle.std.proofs.Common.{◌≡◌, ℕ, ◌<◌, ◌≤◌, Some, false, L
 use Rattle.gc_catalogue.specs.declared.asked.Asked.{Asked}
 use Rattle.gc_client.specs.OneForOne.{begun, course, of_settled, of_pending}
 use Rattle.gc_client.specs.Rule.{Settlement}
-use Rattle.gc_client.proofs.OneForOne.{one_for_one}
+use Rattle.gc_client.proofs.OneForOne.{accounts_for_sends}
 use Rattle.gc_world.specs.Clients.{by_ids, by_numbers, ids_open, numbers_open}
 use Rattle.gc_instrument.specs.State.{KeptReply}
 use Rattle.gc_world.specs.Record.{IsReplyTo}
@@ -15,7 +15,7 @@ use Rattle.gc_world.specs.Worlds.{of_sent}
 use Rattle.gc_world.proofs.Settled as settled
 use Rattle.gc_field.specs.Field.{Move, moved, ArePossible, AsksTheTable, IsFirstAlone, seen}
 use Rattle.gc_field.specs.Laws.{IsFaithfulUnsynchronized}
-use Rattle.gc_field.specs.Made.{WasMadeOn}
+use Rattle.gc_field.specs.Made.{WasMadeFrom}
 use Rattle.gc_field.specs.Instrument.{IsAnInstrument}
 use Rattle.gc_field.proofs.Moving.{both_all, both_open, first_reply, IsOwnSettlement, IsVouchedFor, vouched_at, made_here}
 use Rattle.gc_field.proofs.Instruments.{exchange_of}
@@ -36,10 +36,10 @@ module _ {State : Type 0} (ends : Ends State) (Good : State → Type 0) (kept : 
       let parts : map of_settled a.wire.settled ++ map of_pending a.client.waiting ≡ map of_sent a.wire.sent =
       ap (λ l. map of_settled l ++ map of_pending a.client.waiting) (sym one.settled)
       ∙ ap (λ (c : _). map of_settled x.settlements ++ map of_pending c.waiting) (sym one.client)
-      ∙ one_for_one width (seen ms)
+      ∙ accounts_for_sends width (seen ms)
       ∙ one.sent in
       let pairs = settled.one_for_one a.wire.settled a.client.waiting a.wire.sent parts in
-      let M : ℕ → Asked → List ℕ → Type 0 = λ n call line. WasMadeOn width ends (ids_open state) ms n call line in
+      let M : ℕ → Asked → List ℕ → Type 0 = λ n call line. WasMadeFrom width ends (ids_open state) ms n call line in
       let on = made_here width narrow ends Good ex kept (ids_open state) (numbers_open state) (both_open width narrow ends Good ex kept state good) ms p in
       let all = subst (λ (w : Wire State). IsVouchedFor ends Good kept (λ n. n < 1) M w) (sym same)
       (vouched_at width narrow is_of_table ends Good ex kept keeper (λ n. n < 1) (omega arith) M ms state good p table l on) in

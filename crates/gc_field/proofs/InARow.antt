@@ -9,10 +9,11 @@ use Rattle.gc_client.specs.Rule.{heard}
 use Rattle.gc_client.specs.declared.window.TheConstants.{WINDOW}
 use Rattle.gc_instrument.specs.State.{KeptReply}
 use Rattle.gc_field.specs.World.{Ends, Request}
-use Rattle.gc_field.specs.Begin.{InFlight, IsWellFormed, AreTurns, Turn, UnderWay, begins, ids_under_way, leaves}
+use Rattle.gc_field.specs.Begin.{InFlight, IsWellFormed, AreTurns, SyncTurn, UnderWay, begins, ids_under_way, leaves}
 use Rattle.gc_field.specs.Beginnings.{ArePossibleIf, AreRuns, Run, left_by_run, left_by_runs, after_turns}
 use Rattle.gc_field.specs.Field.{Move}
-use Rattle.gc_field.specs.InARow.{AreFaithful, AreFewKilledWithTurns, AreInARow, Program, ProgramsInARowAreFaithful, killed_by, killed_over}
+use Rattle.gc_field.specs.Runs.{Program}
+use Rattle.gc_field.specs.InARow.{AreFaithful, AreFewKilledWithTurns, AreInARow, ProgramsInARowAreFaithful, killed_by, killed_over}
 use Rattle.gc_field.specs.Instrument.{IsAnInstrument}
 use Rattle.gc_field.proofs.BeginJoin.{left_lines}
 use Rattle.gc_field.proofs.BegunRuns.{IsShort, run_result, short_rising, short_word}
@@ -27,13 +28,13 @@ same_ids : {State : Type 0} (u : UnderWay State) → ids_under_way (leaves (begi
 same_ids u = ap₂ (λ (d : List (List ℕ)) (q : List Request). filter_map heard d ++ map (λ x. x.id) q) (same_lines u.down) (same_lines u.up)
 
 -- a run with these turns and moves
-abbrev pub run : {State : Type 0} → List (Turn State) → List (Move State) → Run State
+abbrev pub run : {State : Type 0} → List (SyncTurn State) → List (Move State) → Run State
 run ts ms = record { turns = ts; moves = ms }
 
 module _ {State : Type 0} (ends : Ends State) (Good : State → Type 0) (kept : State → Option KeptReply) (is : IsAnInstrument ends Good kept) where
   -- if what is in flight is `IsWellFormed`, and `IsShort` by the number of runs in a row that were killed while they
   -- synchronized, so is what one possible run of a station leaves, as long as that number is at most five
-  after_run : (ts : List (Turn State)) (ms : List (Move State)) (n : ℕ) (u : UnderWay State) → IsWellFormed Good u → IsShort n u → AreTurns ends Good kept ts (begins u)
+  after_run : (ts : List (SyncTurn State)) (ms : List (Move State)) (n : ℕ) (u : UnderWay State) → IsWellFormed Good u → IsShort n u → AreTurns ends Good kept ts (begins u)
       → ArePossibleIf 7 ends Good kept (after_turns ends u (run ts ms)).left (after_turns ends u (run ts ms)) ms → killed_by ends n u (run ts ms) ts ≤ 5
       → IsWellFormed Good (left_by_run 7 ends u (run ts ms)) × IsShort (killed_by ends n u (run ts ms) ts) (left_by_run 7 ends u (run ts ms))
   after_run [] ms n u lines short turns p few = (
@@ -60,7 +61,7 @@ module _ {State : Type 0} (ends : Ends State) (Good : State → Type 0) (kept : 
   all_faithful [] n u lines short h = tt
   all_faithful (x ∷ xs) n u lines short h =
       let next = after_runs x.runs n u lines short h.0.possible h.0.few in (
-        run_faithful ends Good kept is x.plan x.commands x.scope x.acts u x.runs (record { runs = h.0.runs; lines = lines; none = short_word n u short; shown = h.0.shown; possible = h.0.possible }),
+        run_faithful ends Good kept is u x (record { runs = h.0.runs; lines = lines; none = short_word n u short; shown = h.0.shown; possible = h.0.possible }),
         all_faithful xs (killed_over ends n u x.runs) (left_by_runs WINDOW ends u x.runs) next.0 next.1 h.1,
       )
 

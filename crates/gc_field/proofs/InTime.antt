@@ -9,7 +9,7 @@ use Rattle.gc_catalogue.specs.declared.asked.Asked.{Asked}
 use Rattle.gc_client.specs.OneForOne as step
 use Rattle.gc_client.specs.OneForOne.{of_pending, of_settled, begun, course}
 use Rattle.gc_client.specs.declared.pending.Pending.{Pending}
-use Rattle.gc_client.specs.Rule.{ById, Settlement, id_send, settled_by_line, pending_of, settle}
+use Rattle.gc_client.specs.Rule.{ById, Settlement, send_unless_full, settled_by_line, pending_of, settle}
 use Rattle.gc_instrument.specs.State.{KeptReply}
 use Rattle.gc_station.specs.Parts.{client_after}
 use Rattle.gc_station.proofs.Booking.{settled_by, settled_append, course_settled}
@@ -17,8 +17,8 @@ use Rattle.gc_world.specs.Clients.{by_ids, by_numbers}
 use Rattle.gc_field.specs.World.{Ends, Numbered, Wire, World, requested}
 use Rattle.gc_world.proofs.Sound.{IsComing}
 use Rattle.gc_field.specs.Begin.{UnderWay}
-use Rattle.gc_field.specs.Begun.{IsClean, IsFaithful, behind, ids_begun, nulls_settled, numbers_begun}
-use Rattle.gc_field.specs.Field.{Move, Sends, Tells, Comes, Foreign, OnLine, Anew, Changes, Joins, moves, moved, ArePossible, seen}
+use Rattle.gc_field.specs.Begun.{IsClean, IsFaithful, behind, ids_begun, nulls_settled, numbers_begun, ArePossibleOnceBegun}
+use Rattle.gc_field.specs.Field.{Move, Sends, Tells, Comes, Foreign, OnLine, Anew, Changes, Joins, moves, moved, seen}
 use Rattle.gc_field.specs.Instrument.{IsAnInstrument}
 use Rattle.gc_field.specs.Laws.{asked}
 use Rattle.gc_field.specs.Runs.{IsFaithfulThroughout, IsInTime, times_out, world}
@@ -64,12 +64,12 @@ front_nil (x ∷ front) later e = cc
 
 module _ {State : Type 0} (ends : Ends State) (Good : State → Type 0) (kept : State → Option KeptReply) (is : IsAnInstrument ends Good kept) where
   -- possible moves after a clean synchronization are faithful
-  pub clean_faithful : (u : UnderWay State) → IsClean Good kept u → (ms : List (Move State)) → ArePossible ends Good kept (by_ids 7 ends) ms (ids_begun u) → IsFaithful 7 ends u ms Good kept
+  pub clean_faithful : (u : UnderWay State) → IsClean Good kept u → (ms : List (Move State)) → ArePossibleOnceBegun 7 ends u Good kept ms → IsFaithful 7 ends u ms Good kept
   clean_faithful u clean ms p = faithful ends Good kept is 7 (omega arith) u clean ms p
 
   -- a stretch has synchronized cleanly, or nothing happens in it; and its moves are possible
   pub record IsSoundStretch (s : Stretch State) : Type 0 where
-    pub possible : ArePossible ends Good kept (by_ids 7 ends) s.moves (ids_begun s.from)
+    pub possible : ArePossibleOnceBegun 7 ends s.from Good kept s.moves
     pub clean : IsClean Good kept s.from ⊎ (s.moves ≡ [])
 
   -- a sound stretch in which something happens has synchronized cleanly
@@ -90,7 +90,7 @@ module _ {State : Type 0} (ends : Ends State) (Good : State → Type 0) (kept : 
 
   -- after a clean synchronization, what is settled after the first ones of possible moves stays in front of what is settled by
   -- all
-  settled_more : (u : UnderWay State) → IsClean Good kept u → (ms front later : List (Move State)) → ms ≡ front ++ later → ArePossible ends Good kept (by_ids 7 ends) ms (ids_begun u)
+  settled_more : (u : UnderWay State) → IsClean Good kept u → (ms front later : List (Move State)) → ms ≡ front ++ later → ArePossibleOnceBegun 7 ends u Good kept ms
       → (more : List (Settlement Asked)) × ((behind 7 ends u ms).wire.settled ≡ (behind 7 ends u front).wire.settled ++ more)
   settled_more u clean ms front later e p =
       let whole = clean_faithful u clean ms p in
@@ -107,7 +107,7 @@ module _ {State : Type 0} (ends : Ends State) (Good : State → Type 0) (kept : 
 
   -- after a clean synchronization and possible moves, if the front reply is to a request that isn't settled, that request is one
   -- of those that wait
-  below_sent : (u : UnderWay State) → IsClean Good kept u → (front : List (Move State)) → ArePossible ends Good kept (by_ids 7 ends) front (ids_begun u)
+  below_sent : (u : UnderWay State) → IsClean Good kept u → (front : List (Move State)) → ArePossibleOnceBegun 7 ends u Good kept front
       → (line : List ℕ) (n : ℕ) (rest : List (Numbered (List ℕ))) → (behind 7 ends u front).wire.down ≡ record { number = n; line = line } ∷ rest
       → length (behind 7 ends u front).wire.settled ≤ n → n - length (behind 7 ends u front).wire.settled < length (behind 7 ends u front).client.waiting
   below_sent u clean front possible line n rest e le =
@@ -131,7 +131,7 @@ module _ {State : Type 0} (ends : Ends State) (Good : State → Type 0) (kept : 
       × (slice_get (world ends s).wire.settled n ≡ Some (settled_by_line p line))
 
   -- after a clean synchronization `MetAt` holds of a stretch with possible moves
-  meets : (s : Stretch State) → IsClean Good kept s.from → ArePossible ends Good kept (by_ids 7 ends) s.moves (ids_begun s.from) → MetAt s
+  meets : (s : Stretch State) → IsClean Good kept s.from → ArePossibleOnceBegun 7 ends s.from Good kept s.moves → MetAt s
   meets s clean possible = λ front later line n rest e down le.
       let w = behind 7 ends s.from front in
       let k = n - length w.wire.settled in
@@ -164,7 +164,7 @@ module _ {State : Type 0} (ends : Ends State) (Good : State → Type 0) (kept : 
   -- if there are as many requests settled and waiting together as were sent, a request that the client doesn't refuse (`b` says
   -- whether it does) waits after the others once it is sent
   sent_by_test : (w : World (ById Asked) State) (target : ℕ) (call : Asked) (deadline : ℕ) (b : Bool) → b ≡ false → length w.wire.settled + length w.client.waiting ≡ length w.wire.sent
-      → Waits (requested w target call (id_send w.client target call deadline b)) (length w.wire.sent) (pending_of target call deadline)
+      → Waits (requested w target call (send_unless_full w.client target call deadline b)) (length w.wire.sent) (pending_of target call deadline)
   sent_by_test w target call deadline true e counts = cc
   sent_by_test w target call deadline false e counts = λ le. get_behind w.client.waiting (pending_of target call deadline ∷ []) (length w.wire.sent - length w.wire.settled) 0 (omega (arith, counts))
 
@@ -177,7 +177,7 @@ module _ {State : Type 0} (ends : Ends State) (Good : State → Type 0) (kept : 
       sent_by_test w target call deadline (nat_eq (length w.client.waiting) 7) (ne_eqb (length w.client.waiting) 7 (λ e. omega (arith, e, room))) (sent_counts w f.accounted)
 
   -- after a clean synchronization a stretch with possible moves is in time
-  in_time_clean : (s : Stretch State) → IsClean Good kept s.from → ArePossible ends Good kept (by_ids 7 ends) s.moves (ids_begun s.from) → IsInTime ends s
+  in_time_clean : (s : Stretch State) → IsClean Good kept s.from → ArePossibleOnceBegun 7 ends s.from Good kept s.moves → IsInTime ends s
   in_time_clean s clean all_possible = λ before between later target call deadline line rest e room down le.
       let front = before ++ Sends target call deadline ∷ between in
       let w = behind 7 ends s.from before in

@@ -1,4 +1,4 @@
--- Instruments: each meets what the proofs of the world ask of an instrument; the simulator is one; and so is any that retains
+-- Instruments: each meets what the proofs of the world ask of an instrument; the simulator is one; and so is any that keeps
 -- no reply.
 use Rattle.std.proofs.Common.{◌≡◌, ℕ, ◌<◌, inl, inr, true, false, List, [], Option, Some, None, cond, refl, sym, ◌∙◌, ap, subst, lit<}
 use Rattle.std.proofs.lemmas.Bool.{eq-eqb, true≢false}
@@ -15,11 +15,11 @@ use Rattle.gc_instrument.specs.Replying as calls
 use Rattle.gc_instrument.specs.Replying.{Handed, IsReplied, answers, kept_line, refusal_line, refuses}
 use Rattle.gc_instrument.specs.State.{State, KeptReply, IsFittingState}
 use Rattle.gc_instrument.proofs.Answering.{handed_again, handed_new}
-use Rattle.gc_field.specs.Simulator.{ends, handed}
+use Rattle.gc_field.specs.Simulator.{simulator_handed}
 use Rattle.gc_world.specs.Exchange.{IsExchange}
 use Rattle.gc_field.specs.World.{Ends}
 use Rattle.gc_world.proofs.Handing.{exchange, kept_own, reply_heard}
-use Rattle.gc_field.specs.Instrument.{IsAnInstrument, IsAnInstrumentFor, KeepingNothingSuffices, IsKeptAfter, TreatsRawsAlike, all_known}
+use Rattle.gc_field.specs.Instrument.{IsAnInstrument, IsAnInstrumentFor, KeepingNothingSuffices, MayBeKept, TreatsRawsAlike, all_known, own_reply}
 use Rattle.gc_field.specs.Laws.{SimulatorIsAnInstrument}
 
 -- an instrument meets what the proofs of the world ask of one, `IsExchange`
@@ -31,7 +31,7 @@ exchange_of e Good kept is =
       restart_good = is.starts_good;
     }
 
--- an instrument that retains its own reply, or none, after every request (`TreatsRawsAlike`) is one that knows all requests
+-- an instrument that keeps its own reply, or none, after every request (`TreatsRawsAlike`) is one that knows all requests
 pub alike_is : {State : Type 0} (ends : Ends State) (Good : State → Type 0) (kept : State → Option KeptReply) → IsAnInstrument ends Good kept → TreatsRawsAlike ends Good kept
     → IsAnInstrumentFor ends Good kept all_known
 alike_is e Good kept is alike =
@@ -51,48 +51,48 @@ alike_is e Good kept is alike =
 kept_for : (k : Option KeptReply) (id : ℕ) (line : List ℕ) → k ≡ Some (record { id = id; line = line }) → kept_line k (Some id) ≡ Some line
 kept_for k id line e = ap (λ k. kept_line k (Some id)) e ∙ ap (λ b. cond b (Some line) None) (eq-eqb id id refl)
 
--- if the simulator doesn't execute a request, its reply is the line that it retains for the request's id
+-- if the simulator doesn't execute a request, its reply is the line that it keeps for the request's id
 repeated : (s : State) (id : ℕ) (call : Call) (o : Option (List ℕ)) → kept_line s.kept (Some id) ≡ o → (calls.handed s id call).executed ≡ false
-    → s.kept ≡ Some (record { id = id; line = (calls.handed s id call).reply })
+    → s.kept ≡ Some (own_reply id (calls.handed s id call))
 repeated s id call None e not = absurd (true≢false (sym (ap (λ (h : Handed State). h.executed) (handed_new s id call e)) ∙ not))
 repeated s id call (Some line) e not =
     kept_own s.kept id line e ∙ sym (ap (λ (h : Handed State). Some (record { id = id; line = h.reply })) (handed_again s id call line e))
 
--- after a call of the table the simulator retains its reply to that call
+-- after a call of the table the simulator keeps its reply to that call
 retains_reply : (s : State) (id : ℕ) (call : Call) (o : Option (List ℕ)) → kept_line s.kept (Some id) ≡ o
-    → (calls.handed s id call).state.kept ≡ Some (record { id = id; line = (calls.handed s id call).reply })
+    → (calls.handed s id call).state.kept ≡ Some (own_reply id (calls.handed s id call))
 retains_reply s id call None e = subst (λ (x : Handed State). x.state.kept ≡ Some (record { id = id; line = x.reply })) (sym (handed_new s id call e)) refl
 retains_reply s id call (Some line) e =
     subst (λ (x : Handed State). x.state.kept ≡ Some (record { id = id; line = x.reply })) (sym (handed_again s id call line e)) (kept_own s.kept id line e)
 
 -- in a state that fits, the simulator's reply to a request with an id below 8 reads as one with that id
-asked_reads : (s : State) (id : ℕ) (asked : Asked) → IsFittingState s → id < 8 → heard (handed s id asked).reply ≡ Some id
+asked_reads : (s : State) (id : ℕ) (asked : Asked) → IsFittingState s → id < 8 → heard (simulator_handed s id asked).reply ≡ Some id
 asked_reads s id (Table call) good small = exchange.reads s id call good small
 asked_reads s id (Raw raw) good small = reply_heard 3081 id 0 [] (lit< tt) small (lit< tt)
 
--- a line that the simulator sends without executing the request is the one that it retains, for the request's id
-asked_repeats : (s : State) (id : ℕ) (asked : Asked) → (handed s id asked).executed ≡ false → s.kept ≡ Some (record { id = id; line = (handed s id asked).reply })
+-- a line that the simulator sends without executing the request is the one that it keeps, for the request's id
+asked_repeats : (s : State) (id : ℕ) (asked : Asked) → (simulator_handed s id asked).executed ≡ false → s.kept ≡ Some (own_reply id (simulator_handed s id asked))
 asked_repeats s id (Table call) not = repeated s id call (kept_line s.kept (Some id)) refl not
 asked_repeats s id (Raw raw) not = absurd (true≢false not)
 
--- after a request the simulator retains its reply to that request, or nothing; or the request is no call of the table, and the
--- simulator retains what it retained before
-asked_keeps : (s : State) (id : ℕ) (asked : Asked) → IsKeptAfter (is_of_table asked) id (handed s id asked).reply s.kept (handed s id asked).state.kept
+-- after a request the simulator keeps its reply to that request, or nothing; or the request is no call of the table, and the
+-- simulator keeps what it kept before
+asked_keeps : (s : State) (id : ℕ) (asked : Asked) → MayBeKept (is_of_table asked) (own_reply id (simulator_handed s id asked)) s.kept (simulator_handed s id asked).state.kept
 asked_keeps s id (Table call) = inl (inr (retains_reply s id call (kept_line s.kept (Some id)) refl))
 asked_keeps s id (Raw raw) = inr (refl, refl)
 
 -- the simulator's state fits after a request with an id below 8 if it did before
-asked_good : (s : State) (id : ℕ) (asked : Asked) → IsFittingState s → id < 8 → IsFittingState (handed s id asked).state
+asked_good : (s : State) (id : ℕ) (asked : Asked) → IsFittingState s → id < 8 → IsFittingState (simulator_handed s id asked).state
 asked_good s id (Table call) good small = exchange.stays_good s id call good small
 asked_good s id (Raw raw) good small = good
 
--- the simulator doesn't execute a call of the table with the id of the line that it retains
-not_again : (s : State) (id : ℕ) (asked : Asked) (line : List ℕ) → is_of_table asked ≡ true → s.kept ≡ Some (record { id = id; line = line }) → (handed s id asked).executed ≡ false
+-- the simulator doesn't execute a call of the table with the id of the line that it keeps
+not_again : (s : State) (id : ℕ) (asked : Asked) (line : List ℕ) → is_of_table asked ≡ true → s.kept ≡ Some (record { id = id; line = line }) → (simulator_handed s id asked).executed ≡ false
 not_again s id (Table call) line of e = ap (λ (h : Handed State). h.executed) (handed_again s id call line (kept_for s.kept id line e))
 not_again s id (Raw raw) line of e = absurd (true≢false (sym of))
 
--- after a call of the table the simulator retains its reply
-asked_always : (s : State) (id : ℕ) (asked : Asked) → is_of_table asked ≡ true → (handed s id asked).state.kept ≡ Some (record { id = id; line = (handed s id asked).reply })
+-- after a call of the table the simulator keeps its reply
+asked_always : (s : State) (id : ℕ) (asked : Asked) → is_of_table asked ≡ true → (simulator_handed s id asked).state.kept ≡ Some (own_reply id (simulator_handed s id asked))
 asked_always s id (Table call) of = retains_reply s id call (kept_line s.kept (Some id)) refl
 asked_always s id (Raw raw) of = absurd (true≢false (sym of))
 
@@ -103,7 +103,7 @@ raw_refused s id raw small =
     let back = asked_again (Some id) (Raw raw) small raw.is in
     answers q (request_found (asked_line (Some id) (Raw raw)) q back.line) (refusal_line id Unknown) (refuses Unknown raw.is.no_procedure refl refl) refl
 
--- the simulator is an instrument, and one that retains its reply to each call of the table
+-- the simulator is an instrument, and one that keeps its reply to each call of the table
 pub simulator : SimulatorIsAnInstrument
 simulator =
     record {
@@ -125,9 +125,9 @@ simulator =
       refuses = raw_refused;
     }
 
--- An instrument that executes each request and retains no reply.
+-- An instrument that executes each request and keeps no reply.
 
--- what retains no reply and executes each request is an instrument, on the terms of `KeepingNothingSuffices`
+-- what keeps no reply and executes each request is an instrument, on the terms of `KeepingNothingSuffices`
 pub keeps_none : (State : Type 0) → KeepingNothingSuffices State
 keeps_none State e hears replies anew =
     record {

@@ -15,13 +15,10 @@ use Rattle.gc_texts.specs.Tasks.{call_at}
 use Rattle.gc_texts.specs.declared.tasks.Task.{Task}
 use Rattle.gc_texts.specs.Endings.{End, line_of}
 use Rattle.gc_texts.specs.Endings as end
-use Rattle.gc_station.specs.declared.plan.Plan.{Plan}
 use Rattle.gc_station.specs.Behind.{IsNearTheTable}
-use Rattle.gc_links.specs.Acts.{Act}
 use Rattle.gc_station.specs.Beginnings.{unanswered_after}
 use Rattle.gc_station.specs.Begun.{AreBegun, heard_in}
 use Rattle.gc_station.specs.Marks.{record_of, records_of}
-use Rattle.gc_station.specs.Links.{parts}
 use Rattle.gc_station.specs.Parts.{Part, joined, MarksAsk, parts_of, went_out, sent_of, timeless, client_after}
 use Rattle.gc_station.specs.Records.{Record}
 use Rattle.gc_station.specs.Runs.{state_after}
@@ -33,18 +30,16 @@ use Rattle.gc_station.proofs.EachRun.{invariant_opening, each_once}
 use Rattle.gc_station.proofs.Following.{BooksInParts, follows}
 use Rattle.gc_station.proofs.Meets.{was_answered, was_late}
 use Rattle.gc_station.proofs.Lists.{all_append, all_on}
-use Rattle.gc_station.specs.Scopes.{Scope}
-use Rattle.gc_world.specs.Clients.{by_ids}
 use Rattle.gc_world.specs.Record.{IsReplyTo}
 use Rattle.std.proofs.lemmas.Option.{slice_get_within}
 use Rattle.gc_field.specs.World.{Ends}
 use Rattle.gc_field.specs.Begin.{IsWellFormed, LacksTheWord, AreTurns, UnderWay, begins, leaves, left_by_turns}
 use Rattle.gc_field.specs.Beginnings.{AreOwn, ArePossibleIf, AreRuns, IsOwnIf, Run, after_turns, left_by_run, left_if, on_line}
-use Rattle.gc_field.specs.Begun.{IsFaithful, IsSafe, WasMadeOn, behind, ids_begun}
-use Rattle.gc_field.specs.Field.{ArePossible, seen}
+use Rattle.gc_field.specs.Begun.{IsFaithful, IsSafe, WasMadeOn, behind, ArePossibleOnceBegun}
+use Rattle.gc_field.specs.Field.{seen}
 use Rattle.gc_field.specs.Instrument.{IsAnInstrument}
 use Rattle.gc_field.specs.Laws.{asked}
-use Rattle.gc_field.specs.Runs.{IsInField, IsOwnAnswer, LateHasExecution, RunsInFieldAreFaithful, IsFaithfulThroughout, IsInTime, AreSentAs, own_sent, own_settled, world, written_over}
+use Rattle.gc_field.specs.Runs.{IsInField, IsOwnAnswer, Program, program_parts, LateHasExecution, RunsInFieldAreFaithful, IsFaithfulThroughout, IsInTime, AreSentAs, own_sent, own_settled, world, written_over}
 use Rattle.gc_field.specs.Shown.{AreShownAs, Stretch, shown, stretches}
 use Rattle.gc_field.proofs.BeginJoin.{begins_cleanly}
 use Rattle.gc_field.proofs.BegunFaithful.{sent_is}
@@ -83,7 +78,7 @@ module _ {State : Type 0} (ends : Ends State) (Good : State → Type 0) (kept : 
       let from = leaves (after_turns ends u r) in
       record {
         own = tt;
-        sound = record { possible = subst (λ ms. ArePossible ends Good kept (by_ids 7 ends) ms (ids_begun from)) (sym p) tt; clean = inr p };
+        sound = record { possible = subst (λ ms. ArePossibleOnceBegun 7 ends from Good kept ms) (sym p) tt; clean = inr p };
         faithful = subst (λ ms. IsFaithful 7 ends from ms Good kept) (sym p) (faithful_none ends Good kept from);
       }
 
@@ -368,47 +363,45 @@ module _ {State : Type 0} (ends : Ends State) (Good : State → Type 0) (kept : 
   -- The whole.
 
   -- the parts and the stretches of a run in the field fit, and what happens on the line is `AreOwn`
-  pub all_fitting : (plan : Plan) (commands : List Task) (scope : Scope) (acts : List Act) (u : UnderWay State) (rs : List (Run State)) → IsInField ends Good kept plan commands scope acts u rs
-      → AllFit (parts plan commands scope acts) (stretches ends u rs) × AreOwn 7 ends Good kept u rs
-  all_fitting plan commands scope acts u rs h =
-      all_fit (parts plan commands scope acts) rs u h.lines h.none h.shown h.possible (parts_begun plan commands (opening plan scope) acts h.runs)
+  pub all_fitting : (u : UnderWay State) (x : Program State) → IsInField ends Good kept u x → AllFit (program_parts x) (stretches ends u x.runs) × AreOwn 7 ends Good kept u x.runs
+  all_fitting u x h = all_fit (program_parts x) x.runs u h.lines h.none h.shown h.possible (parts_begun x.plan x.commands (opening x.plan x.scope) x.acts h.runs)
 
   -- each request of a run in the field that is a command is safe in its stretch
-  pub safe_in : (plan : Plan) (commands : List Task) (scope : Scope) (acts : List Act) (u : UnderWay State) (rs : List (Run State)) → IsInField ends Good kept plan commands scope acts u rs
-      → AllSafe (parts plan commands scope acts) (stretches ends u rs)
-  safe_in plan commands scope acts u rs h =
-      let start = opening plan scope in
-      let ps = parts_of plan commands start acts in
-      let ss = stretches ends u rs in
-      let fit = all_fitting plan commands scope acts u rs h in
-      let on = follows plan commands scope.reads start acts refl (invariant_opening plan commands scope) h.runs in
-      all_safe commands ps ss (λ i p e front later target call deadline mark. behind_the_table plan commands scope acts h.runs i p e front later target call deadline mark) fit.0
-      (sent_all scope.reads commands ps ss [] (state_after plan commands scope acts) fit.0 on)
+  pub safe_in : (u : UnderWay State) (x : Program State) → IsInField ends Good kept u x → AllSafe (program_parts x) (stretches ends u x.runs)
+  safe_in u x h =
+      let start = opening x.plan x.scope in
+      let ps = parts_of x.plan x.commands start x.acts in
+      let ss = stretches ends u x.runs in
+      let fit = all_fitting u x h in
+      let on = follows x.plan x.commands x.scope.reads start x.acts refl (invariant_opening x.plan x.commands x.scope) h.runs in
+      all_safe x.commands ps ss
+      (λ i p e front later target call deadline mark. behind_the_table x.plan x.commands x.scope x.acts h.runs i p e front later target call deadline mark) fit.0
+      (sent_all x.scope.reads x.commands ps ss [] (state_after x.plan x.commands x.scope x.acts) fit.0 on)
 
   -- a run in the field is faithful
   pub run_faithful : RunsInFieldAreFaithful ends Good kept
-  run_faithful plan commands scope acts u rs h =
-      let start = opening plan scope in
-      let ps = parts_of plan commands start acts in
-      let ss = stretches ends u rs in
-      let end = state_after plan commands scope acts in
-      let fine = invariant_opening plan commands scope in
-      let fit = all_fitting plan commands scope acts u rs h in
-      let on = follows plan commands scope.reads start acts refl fine h.runs in
-      let sent = sent_all scope.reads commands ps ss [] end fit.0 on in
-      let written = written_all scope.reads commands ps ss [] end fit.0 on in
-      let safe = safe_in plan commands scope acts u rs h in
+  run_faithful u x h =
+      let start = opening x.plan x.scope in
+      let ps = parts_of x.plan x.commands start x.acts in
+      let ss = stretches ends u x.runs in
+      let end = state_after x.plan x.commands x.scope x.acts in
+      let fine = invariant_opening x.plan x.commands x.scope in
+      let fit = all_fitting u x h in
+      let on = follows x.plan x.commands x.scope.reads start x.acts refl fine h.runs in
+      let sent = sent_all x.scope.reads x.commands ps ss [] end fit.0 on in
+      let written = written_all x.scope.reads x.commands ps ss [] end fit.0 on in
+      let safe = safe_in u x h in
       record {
-        begun = parts_begun plan commands start acts h.runs;
+        begun = parts_begun x.plan x.commands start x.acts h.runs;
         clean = fit.1;
-        own = all_recorded (IsOwnAnswer ends Good kept commands) (own_lasts ends Good kept commands) scope.reads commands (own_first scope.reads commands) ps ss
-            (unsent_own commands ps ss) end.records fit.0 safe sent written;
-        late = all_recorded (LateHasExecution ends Good kept commands) (late_lasts ends Good kept commands) scope.reads commands (late_first scope.reads commands) ps ss
-            (unsent_late commands ps ss) end.records fit.0 safe sent written;
-        one_for_one = each_once plan commands scope acts;
+        own = all_recorded (IsOwnAnswer ends Good kept x.commands) (own_lasts ends Good kept x.commands) x.scope.reads x.commands (own_first x.scope.reads x.commands) ps ss
+            (unsent_own x.commands ps ss) end.records fit.0 safe sent written;
+        late = all_recorded (LateHasExecution ends Good kept x.commands) (late_lasts ends Good kept x.commands) x.scope.reads x.commands (late_first x.scope.reads x.commands) ps ss
+            (unsent_late x.commands ps ss) end.records fit.0 safe sent written;
+        one_for_one = each_once x.plan x.commands x.scope x.acts;
         sent = sent;
         written = written;
-        meant = are_meant plan commands start acts fine h.runs;
+        meant = are_meant x.plan x.commands start x.acts fine h.runs;
         in_time = each_fits (IsInTime ends) (λ p s f. in_time ends Good kept is s f.sound) ps ss fit.0;
         each = each_fits (IsFaithfulThroughout ends Good kept) (λ p s f. throughout ends Good kept is s f.sound) ps ss fit.0;
       }

@@ -1,4 +1,4 @@
--- The request to which an instrument's retained reply is: the last one that it was handed and knows (`table`), or a later one.
+-- The request to which an instrument's kept reply is: the last one that it was handed and knows (`table`), or a later one.
 -- And what it means that a line is vouched for: it was made for its request, as that request's call was executed. The id of
 -- request n is the difference of n and `since`, modulo 8.
 use Rattle.std.proofs.Common.{◌≡◌, ℕ, ◌+◌, ◌-◌, ◌%◌, ◌<◌, ◌≤◌, ◌⊎◌, inl, inr, Bool, true, false, List, Option, Some, None, refl, sym, ◌∙◌, ap, subst, arith}
@@ -11,8 +11,8 @@ use Rattle.gc_world.specs.Clients.{ByNumber}
 use Rattle.gc_world.specs.Record.{IsReplyTo}
 use Rattle.gc_field.specs.World.{Request, Sent, Numbered, Ends, World, written}
 use Rattle.gc_world.proofs.Booked.{Has}
-use Rattle.gc_world.proofs.Replay.{IsOf}
-use Rattle.gc_field.specs.Instrument.{IsKeptAfter, IsOwnOrNone, KeepsItsReply}
+use Rattle.gc_world.proofs.Replay.{IsAsSent}
+use Rattle.gc_field.specs.Instrument.{IsOwnOrNone, KeepsItsReply, MayBeKept, MayForget}
 use Rattle.gc_field.proofs.Once.{IsUnknown, IsUnknownOrRetained, Log}
 
 -- The newest known request.
@@ -45,7 +45,7 @@ newest_dealt knows sent false n table f = inr (f refl)
 -- What is kept.
 
 module _ (P : ℕ → List ℕ → Type 0) (since : ℕ) where
-  -- the retained reply `k` is to request `number`, which is `table` or a later one, from `since` on and before `top`: it has that
+  -- the kept reply `k` is to request `number`, which is `table` or a later one, from `since` on and before `top`: it has that
   -- request's id, and the property P
   pub record IsKept (top table : ℕ) (k : KeptReply) : Type 0 where
     pub number : ℕ
@@ -55,23 +55,22 @@ module _ (P : ℕ → List ℕ → Type 0) (since : ℕ) where
     pub id : k.id ≡ (number - since) % 8
     pub line : P number k.line
 
-  -- if anything is retained, `IsKept` holds of it
+  -- if anything is kept, `IsKept` holds of it
   abbrev pub KeptIs : (top table : ℕ) → Option KeptReply → Type 0
   KeptIs top table None = Unit {0}
   KeptIs top table (Some k) = IsKept top table k
 
-  -- if nothing is retained, `KeptIs` holds
+  -- if nothing is kept, `KeptIs` holds
   pub kept_none : (top table : ℕ) (k : Option KeptReply) → k ≡ None → KeptIs top table k
   kept_none top table k e = subst (λ k. KeptIs top table k) (sym e) tt
 
-  -- if `IsKept` holds of a line with an id, and what is retained is that line with that id, or nothing, `KeptIs` holds
-  pub kept_one : (top table id : ℕ) (line : List ℕ) (k : Option KeptReply)
-      → IsKept top table (record { id = id; line = line }) → IsOwnOrNone id line k → KeptIs top table k
-  kept_one top table id line k is (inl none) = kept_none top table k none
-  kept_one top table id line k is (inr e) = subst (λ k. KeptIs top table k) (sym e) is
+  -- if `IsKept` holds of a reply, and what is kept is that reply, or nothing, `KeptIs` holds
+  pub kept_one : (top table : ℕ) (own : KeptReply) (k : Option KeptReply) → IsKept top table own → IsOwnOrNone own k → KeptIs top table k
+  kept_one top table own k is (inl none) = kept_none top table k none
+  kept_one top table own k is (inr e) = subst (λ k. KeptIs top table k) (sym e) is
 
-  -- `KeptIs` is preserved if what is retained stays, or nothing is retained any more
-  pub kept_still : (top table : ℕ) (k after : Option KeptReply) → (after ≡ None) ⊎ (after ≡ k) → KeptIs top table k → KeptIs top table after
+  -- `KeptIs` is preserved if what is kept stays, or nothing is kept any more
+  pub kept_still : (top table : ℕ) (k after : Option KeptReply) → MayForget k after → KeptIs top table k → KeptIs top table after
   kept_still top table k after (inl none) h = kept_none top table after none
   kept_still top table k after (inr same) h = subst (λ k. KeptIs top table k) (sym same) h
 
@@ -81,13 +80,12 @@ module _ (P : ℕ → List ℕ → Type 0) (since : ℕ) where
   kept_longer top next table (Some k) le h = record { number = h.number; recent = h.recent; before = omega (arith, h.before, le); behind = h.behind; id = h.id; line = h.line }
 
   -- where request n is handed to the instrument, and no later one was handed before (`top`), `KeptIs` is preserved, with n + 1
-  -- for `top`, and the newest known request for `table`: by what is retained afterwards (`IsKeptAfter`), if `IsKept` holds of
-  -- the reply to n, `line` with its id
-  pub kept_handed : (top table n id : ℕ) (known : Bool) (line : List ℕ) (k after : Option KeptReply) → top ≤ n + 1
-      → IsKept (n + 1) (newest known n table) (record { id = id; line = line })
-      → IsKeptAfter known id line k after → KeptIs top table k → KeptIs (n + 1) (newest known n table) after
-  kept_handed top table n id known line k after le is (inl now) h = kept_one (n + 1) (newest known n table) id line after is now
-  kept_handed top table n id known line k after le is (inr same) h =
+  -- for `top`, and the newest known request for `table`: by what is kept afterwards (`MayBeKept`), if `IsKept` holds of the
+  -- reply to n (`own`)
+  pub kept_handed : (top table n : ℕ) (own : KeptReply) (known : Bool) (k after : Option KeptReply) → top ≤ n + 1
+      → IsKept (n + 1) (newest known n table) own → MayBeKept known own k after → KeptIs top table k → KeptIs (n + 1) (newest known n table) after
+  kept_handed top table n own known k after le is (inl now) h = kept_one (n + 1) (newest known n table) own after is now
+  kept_handed top table n own known k after le is (inr same) h =
       subst (λ t. KeptIs (n + 1) t after) (sym (ap (λ b. newest b n table) same.0))
       (kept_longer top (n + 1) table after le (kept_still top table k after (inr same.1) h))
 
@@ -106,7 +104,7 @@ kept_more P Q f since top table k h = kept_below P Q since top table (λ n line 
 -- What is vouched for.
 
 -- what the invariant of `Vouched` speaks of: of the client, the number that its ids are counted from (`since`) and how many of
--- its requests are settled (`count`); the fields of the wire; and the reply that the instrument retains
+-- its requests are settled (`count`); the fields of the wire; and the reply that the instrument keeps
 pub record VouchedFields : Type 0 where
   pub since : ℕ
   pub count : ℕ
@@ -119,7 +117,7 @@ pub record VouchedFields : Type 0 where
   pub down : List (Numbered (List ℕ))
   pub retained : Option KeptReply
 
--- the `VouchedFields` of a world, where `kept` gives the reply that an instrument retains
+-- the `VouchedFields` of a world, where `kept` gives the reply that an instrument keeps
 abbrev pub fields_of : {State : Type 0} → (State → Option KeptReply) → World (ByNumber Asked) State → VouchedFields
 fields_of kept w =
     record {
@@ -140,11 +138,11 @@ abbrev pub log_of : VouchedFields → Log
 log_of v = record { sent = v.sent; executed = v.executed; starts = v.starts; retained = v.retained }
 
 module _ {State : Type 0} (ends : Ends State) (Good : State → Type 0) (kept : State → Option KeptReply) where
-  -- in a good state, if the instrument retains its reply to each request that `keeps` names: `keeps` doesn't name request x,
-  -- which it is handed; or the reply to x is retained, with its id
+  -- in a good state, if the instrument keeps its reply to each request that `keeps` names: `keeps` doesn't name request x,
+  -- which it is handed; or the reply to x is kept, with its id
   pub unknown_or_retained : (w : World (ByNumber Asked) State) (x : Numbered Request) (hd : Handed State) (keeps : Asked → Bool) (b : Bool) → keeps x.line.call ≡ b
       → KeepsItsReply ends Good kept keeps → ends.handed w.wire.state x.line.id x.line.call ≡ hd → Good w.wire.state → (since : ℕ) → x.line.id ≡ (x.number - since) % 8
-      → IsOf written w.wire.sent x
+      → IsAsSent written w.wire.sent x
       → IsUnknownOrRetained keeps w.wire.sent since x.number (kept hd.state)
   unknown_or_retained w x hd keeps true e is handed good since own o =
       let back : x.number ≡ x.number + 1 - 1 = omega arith in

@@ -8,7 +8,7 @@ use Rattle.gc_catalogue.specs.declared.call.Call.TheVariants.{InstrumentNo}
 use Rattle.gc_client.specs.declared.window.TheConstants.{WINDOW}
 use Rattle.gc_instrument.specs.Execution.{exec}
 use Rattle.gc_instrument.specs.Replying.{handed}
-use Rattle.gc_field.specs.Simulator.{ends}
+use Rattle.gc_field.specs.Simulator.{simulator_ends}
 use Rattle.gc_field.specs.ChainWitness.{at_start}
 use Rattle.gc_field.specs.LateAnswer.{IsLateInField, acts, answer, commands, from, late, moves, runs}
 use Rattle.gc_field.specs.Begun.{WasMadeOn}
@@ -23,12 +23,12 @@ use Rattle.gc_field.specs.Shown.{AreShownAs}
 use Rattle.gc_field.specs.Witness.{plan, replies, scope}
 
 -- the late reply was made on executing the first command's request
-late_made : WasMadeOn WINDOW ends from moves 8 (Table InstrumentNo) late
+late_made : WasMadeOn WINDOW simulator_ends from moves 8 (Table InstrumentNo) late
 unfolding is_elsewhere header_at reply_at handed exec digits
 late_made = record { front = take 3 moves; later = drop 4 moves; split = refl; id = 0; rest = []; reaches = refl; executed = refl; reply = refl }
 
 -- the answer was made on executing the second command's request
-answer_made : WasMadeOn WINDOW ends from moves 9 (Table InstrumentNo) answer
+answer_made : WasMadeOn WINDOW simulator_ends from moves 9 (Table InstrumentNo) answer
 unfolding is_elsewhere header_at reply_at handed exec digits
 answer_made = record { front = take 9 moves; later = drop 10 moves; split = refl; id = 1; rest = []; reaches = refl; executed = refl; reply = refl }
 
@@ -50,7 +50,7 @@ come_late =
                 (tt, (refl, (tt, (tt, (refl, (tt, (tt, (tt, (refl, tt)))))))));
             lines = record { ids = tt; good = fits };
             none = λ h. h;
-            shown = subst (AreShownAs ends at_start runs) (sym parts_are) (shown_are, refl, (refl, refl, tt));
+            shown = subst (AreShownAs simulator_ends at_start runs) (sym parts_are) (shown_are, refl, (refl, refl, tt));
             possible = ((units 24, (tt, (tt, (tt, (tt, (tt, (tt, (tt, (tt, ((8, [], refl), (tt, (tt, ((9, [], refl), tt))))))))))))), ((tt, refl), tt));
           };
       over = refl;

@@ -13,14 +13,14 @@ use Rattle.gc_catalogue.specs.declared.fault.CallFault.TheVariants.{Parameters}
 use Rattle.gc_instrument.specs.Execution.{exec}
 use Rattle.gc_instrument.specs.Replying.{IsReplied, answers, refuses, handed}
 use Rattle.gc_instrument.specs.State.{State}
-use Rattle.gc_field.specs.LostLineFeed.{IsBookedJoined, joint, refusal}
+use Rattle.gc_field.specs.LostLineFeed.{IsBookedJoined, joint_line, joint_refusal}
 
 -- the joint line as a request: it has three parameters, and its procedure takes none
 abbrev fields : RequestFields
 fields = record { rpc = 5003; id = Some 1; params = codes "%R1Q,0,2:" }
 
 -- the joint line reads as this request
-is_request : IsRequest joint fields
+is_request : IsRequest joint_line fields
 is_request =
     record {
       number = codes "5003";
@@ -49,14 +49,14 @@ too_many =
     (wrong_count refl (omega arith) (λ e. omega (arith, e)))
 
 -- the joint line is refused in any state
-joint_refused : (s : State) → IsReplied s joint s (Some refusal)
+joint_refused : (s : State) → IsReplied s joint_line s (Some joint_refusal)
 unfolding digits
-joint_refused s = answers fields is_request refusal (refuses (Parameters Count) (InstrumentNo, refl, too_many) refl refl) refl
+joint_refused s = answers fields is_request joint_refusal (refuses (Parameters Count) (InstrumentNo, refl, too_many) refl refl) refl
 
 -- the reply to the joint line is booked for the request that was cut
-pub joined : IsBookedJoined
+pub joint_booked : IsBookedJoined
 unfolding header_at request_at reply_at handed exec digits
-joined =
+joint_booked =
     record {
       line = refl;
       reads = refl;

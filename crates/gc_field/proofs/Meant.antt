@@ -18,7 +18,7 @@ use Rattle.gc_station.proofs.Givens.{after_rest, rest_with}
 use Rattle.gc_station.proofs.Invariant.{Invariant}
 use Rattle.gc_station.proofs.Meant as meant
 use Rattle.gc_station.proofs.Meant.{asked_is, put_is}
-use Rattle.gc_field.specs.Asking.{IsAskedFor, IsTaken, MeansSyncSteps}
+use Rattle.gc_field.specs.Asking.{IsAskedFor, IsHeardOrDiscarded, MeansSyncSteps}
 use Rattle.gc_field.specs.Meaning.{IsPut, Means}
 use Rattle.gc_field.specs.Runs.{AreMeant, IsMeant}
 
@@ -45,7 +45,7 @@ gave_means client false rest behind piece m e = inr (record { lines = refl; rest
 
 -- what a piece of bytes that came means while a station synchronizes: its lines if it is heard (`h`); nothing if it is
 -- discarded. `rest` and `behind` are as in `gave_means`
-taken : (h : Bool) (rest behind piece : List ℕ) (m : Moment) → behind ≡ rest_with h (Gave piece m) rest → IsTaken rest piece (if h then map Hears (lines_completed rest piece) else []) behind
+taken : (h : Bool) (rest behind piece : List ℕ) (m : Moment) → behind ≡ rest_with h (Gave piece m) rest → IsHeardOrDiscarded rest piece (if h then map Hears (lines_completed rest piece) else []) behind
 taken true rest behind piece m e = inl (refl, e)
 taken false rest behind piece m e = inr (refl, e)
 
@@ -112,7 +112,7 @@ module _ (plan : Plan) (commands : List Task) where
   sync_steps_mean : (s : Model) (act : Act) → has_begun s.progress ≡ false → Performs commands s (action_at plan s) act
       → MeansSyncSteps s.progress.word s.rest act (sync_part s (action_at plan s) act).sync_steps (after plan commands s act).rest
   sync_steps_mean s (Gave piece m) begins obeys =
-      subst (λ steps. IsTaken s.rest piece steps (after plan commands s (Gave piece m)).rest) (sym (sync_steps_gave commands s (action_at plan s) piece m obeys))
+      subst (λ steps. IsHeardOrDiscarded s.rest piece steps (after plan commands s (Gave piece m)).rest) (sym (sync_steps_gave commands s (action_at plan s) piece m obeys))
       (taken (is_heard s.progress.phase) s.rest (after plan commands s (Gave piece m)).rest piece m (after_rest plan commands s (Gave piece m) obeys))
   sync_steps_mean s (Put bytes) begins obeys = (
     asked_for s bytes (sync_part s (action_at plan s) (Put bytes))

@@ -18,17 +18,17 @@ use Rattle.gc_field.specs.World.{Request, Sent, Numbered, Ends, Step, Send, Up_d
 use Rattle.gc_world.proofs.Agree.{Agree, agrees}
 use Rattle.std.proofs.lemmas.Option.{none-some}
 use Rattle.gc_world.proofs.Places.{all_at, get_push}
-use Rattle.gc_world.proofs.Replay.{IsOf, of_more}
+use Rattle.gc_world.proofs.Replay.{IsAsSent, of_more}
 use Rattle.gc_world.proofs.Rows.{each_without, each_doubled}
 use Rattle.gc_world.proofs.Sound.{IsGoing, Sound, sound_step, sound_open}
 use Rattle.gc_field.specs.Field.{Move, Sends, Tells, Comes, Foreign, OnLine, Anew, Changes, Joins, IsLineStep, moves, moved, IsPossible, ArePossible, AsksOnly, IsFirstAlone}
-use Rattle.gc_field.specs.Instrument.{IsAnInstrumentFor, IsKeptAfter, KeepsItsOwn, KeepsItsReply}
+use Rattle.gc_field.specs.Instrument.{IsAnInstrumentFor, KeepsItsOwn, KeepsItsReply, MayBeKept, own_reply}
 use Rattle.gc_field.proofs.Answered.{HoldsOfAll, HoldsOfOutcome, holds_get}
-use Rattle.gc_field.specs.Once.{ActsOnce, IsInOrder}
+use Rattle.gc_field.specs.Once.{ExecutesOnce, IsInOrder}
 use Rattle.gc_field.proofs.Once.{acts_once, once_few, climbing_first, order_few, ordered_first}
 use Rattle.gc_field.proofs.KeptReplies.{IsVouched, fields_of, kept_one, log_of, unknown_or_retained, ReplyHas}
 use Rattle.gc_field.proofs.Vouched.{Vouched, AllVouched, vouched_requested, vouched_down, vouched_line, vouched_started, vouched_changed}
-use Rattle.gc_field.specs.Made.{WasMadeOn}
+use Rattle.gc_field.specs.Made.{WasMadeFrom}
 use Rattle.gc_field.proofs.BeginLists.{each_all}
 use Rattle.gc_field.proofs.Possible.{front_possible}
 use Rattle.gc_values.specs.Boolean.{number_of}
@@ -117,13 +117,13 @@ pub record IsOwnSettlement {State : Type 0} (ends : Ends State) (Good : State �
   pub answered : (line : List ℕ) → s.outcome ≡ Answered line → IsVouched ends Good M w.sent w.executed w.made m line
   pub late : s.outcome ≡ Late → (line : List ℕ) × IsVouched ends Good M w.sent w.executed w.made m line
 
--- each settlement that isn't excepted (`E`) is its own; executions are in order; and each request to which the instrument retains
--- its reply is executed at most once between two starts (`ActsOnce`)
+-- each settlement that isn't excepted (`E`) is its own; executions are in order; and each request to which the instrument keeps
+-- its reply is executed at most once between two starts (`ExecutesOnce`)
 pub record IsVouchedFor {State : Type 0} (ends : Ends State) (Good : State → Type 0) (kept : State → Option KeptReply) (E : ℕ → Type 0) (M : ℕ → Asked → List ℕ → Type 0)
     (w : Wire State) : Type 0 where
   pub own : (m : ℕ) (s : Settlement Asked) → (E m → ⊥) → slice_get w.settled m ≡ Some s → IsOwnSettlement ends Good M w m s
   pub order : IsInOrder w.executed
-  pub once : (keeps : Asked → Bool) → KeepsItsReply ends Good kept keeps → ActsOnce keeps w.sent w.executed w.starts
+  pub once : (keeps : Asked → Bool) → KeepsItsReply ends Good kept keeps → ExecutesOnce keeps w.sent w.executed w.starts
 
 module _ {State : Type 0} (width : ℕ) (ends : Ends State) (M : ℕ → Asked → List ℕ → Type 0) where
   -- each request that reaches the instrument at one of these moves, and is executed, has a reply with the property M
@@ -143,9 +143,9 @@ module _ {State : Type 0} (width : ℕ) (ends : Ends State) (M : ℕ → Asked �
 
 module _ {State : Type 0} (width : ℕ) (narrow : width ≤ 7) (ends : Ends State) (Good : State → Type 0) (ex : IsExchange ends Good) (kept : State → Option KeptReply) where
   -- where `Both` holds of two worlds, the reply to each request that is executed at one of these moves, which are possible, was
-  -- made on executing it, by `WasMadeOn`
+  -- made on executing it, by `WasMadeFrom`
   pub made_here : (a : World (ById Asked) State) (b : World (ByNumber Asked) State) → Both width narrow ends Good ex kept a b → (ms : List (Move State))
-      → ArePossible ends Good kept (by_ids width ends) ms a → RepliesHave width ends (λ n call line. WasMadeOn width ends a ms n call line) ms b
+      → ArePossible ends Good kept (by_ids width ends) ms a → RepliesHave width ends (λ n call line. WasMadeFrom width ends a ms n call line) ms b
   made_here a b both ms p front later e x rest q exe =
       let p' = front_possible width ends Good kept ms front (OnLine Up_deliver ∷ later) a e p in
       let same : (moved ends (by_ids width ends) front a).wire ≡ (moved ends (by_numbers width) front b).wire = (both_all width narrow ends Good ex kept front a b p' both).agree.wire in
@@ -250,7 +250,7 @@ module _ {State : Type 0} (width : ℕ) (narrow : width ≤ 7) (knows : Asked �
     pub executed : b.wire.executed ≡ []
     pub settled : b.wire.settled ≡ []
     pub sent : length b.wire.sent ≤ number_of out
-    pub lines : AllByRecursion (IsOf written b.wire.sent) b.wire.up
+    pub lines : AllByRecursion (IsAsSent written b.wire.sent) b.wire.up
     pub known : AllByRecursion (λ (r : Sent). knows r.call ≡ true) b.wire.sent
 
   -- what a step of the line makes of the fresh world b, which is sound
@@ -262,7 +262,7 @@ module _ {State : Type 0} (width : ℕ) (narrow : width ≤ 7) (knows : Asked �
         let v = b.wire in
         let hd = ends.handed v.state x.line.id x.line.call in
         let g = subst (λ l. AllByRecursion (IsGoing b.client.since (length b.client.requests)) l) q s.going in
-        let o = subst (λ l. AllByRecursion (IsOf written v.sent) l) q f.lines in
+        let o = subst (λ l. AllByRecursion (IsAsSent written v.sent) l) q f.lines in
         let few : length v.sent ≤ 1 = below_two out f.sent in
         let nought : x.number ≡ 0 = omega (arith, g.0.sent, s.counted, few) in
         let m : Numbered (List ℕ) = record { number = x.number; line = hd.reply } in
@@ -281,7 +281,7 @@ module _ {State : Type 0} (width : ℕ) (narrow : width ≤ 7) (knows : Asked �
           above = each_all (λ (y : Numbered Request). 1 ≤ y.number + 1) (λ y. omega arith) rest;
           below = subst (λ l. AllByRecursion (λ (y : Numbered (List ℕ)). y.number < 1) (l ++ m ∷ [])) (sym f.down) (omega (arith, nought), tt);
           holds =
-              kept_one P b.client.since 1 0 x.line.id hd.reply (kept hd.state)
+              kept_one P b.client.since 1 0 (own_reply x.line.id hd) (kept hd.state)
               (record { number = 0; recent = omega (arith, f.since); before = omega arith; behind = omega arith; id = id; line = subst (λ n. P n hd.reply) nought early })
               (own_kept known (keeper.keeps v.state x.line.id x.line.call s.good o.0.small));
           lines = o.1;
@@ -299,9 +299,9 @@ module _ {State : Type 0} (width : ℕ) (narrow : width ≤ 7) (knows : Asked �
         below_two true l = l
         below_two false l = omega (arith, l)
 
-        -- after a request that is known its reply is retained, or nothing
+        -- after a request that is known its reply is kept, or nothing
         own_kept : knows x.line.call ≡ true
-            → IsKeptAfter (knows x.line.call) x.line.id (ends.handed b.wire.state x.line.id x.line.call).reply (kept b.wire.state)
+            → MayBeKept (knows x.line.call) (own_reply x.line.id (ends.handed b.wire.state x.line.id x.line.call)) (kept b.wire.state)
             (kept (ends.handed b.wire.state x.line.id x.line.call).state)
             → KeepsItsOwn ends Good kept b.wire.state x.line.id x.line.call
         own_kept known (inl own) = own
@@ -314,7 +314,7 @@ module _ {State : Type 0} (width : ℕ) (narrow : width ≤ 7) (knows : Asked �
     fresh_up (x ∷ rest) q = inr (fresh_reached x rest q)
 
     -- a fresh world stays fresh if the requests in flight change to others that were sent, or (`t` is false) don't
-    fresh_with_up : (up : List (Numbered Request)) (t : Bool) → AllByRecursion (IsOf written b.wire.sent) up → IsFresh (on_wire b (with_up b.wire up t)) out
+    fresh_with_up : (up : List (Numbered Request)) (t : Bool) → AllByRecursion (IsAsSent written b.wire.sent) up → IsFresh (on_wire b (with_up b.wire up t)) out
     fresh_with_up up true l = record { since = f.since; count = f.count; down = f.down; executed = f.executed; settled = f.settled; sent = f.sent; lines = l; known = f.known }
     fresh_with_up up false l = record { since = f.since; count = f.count; down = f.down; executed = f.executed; settled = f.settled; sent = f.sent; lines = f.lines; known = f.known }
 
@@ -368,7 +368,7 @@ module _ {State : Type 0} (width : ℕ) (narrow : width ≤ 7) (knows : Asked �
       cc
 
   -- where `Both` holds of two worlds, and the world of numbers is fresh: `IsVouchedFor` holds after possible moves of which
-  -- `RepliesHave` holds, and which ask only what is known, the first request alone; whatever the instrument retained before
+  -- `RepliesHave` holds, and which ask only what is known, the first request alone; whatever the instrument kept before
   pub early_all : (ms : List (Move State)) (out : Bool) (a : World (ById Asked) State) (b : World (ByNumber Asked) State) → Both width narrow ends Good ex kept a b
       → ArePossible ends Good kept (by_ids width ends) ms a → AsksOnly knows ms → IsFirstAlone out ms → RepliesHave width ends M ms b → IsFresh b out
       → IsVouchedFor ends Good kept E M (moved ends (by_numbers width) ms b).wire

@@ -13,7 +13,7 @@ module _ (knows : Asked → Bool) (E : ℕ → Type 0) (MustKnow : Type 0) where
   abbrev pub IsNear : (sent : List Sent) (top table : ℕ) → Type 0
   IsNear sent top table = (MustKnow × (top ≤ table + 1) × AllByRecursion (λ (r : Sent). knows r.call ≡ true) sent) ⊎ ((n : ℕ) → E n ⊎ (n ≤ table + 7))
 
-  -- where `IsKept` holds of the retained reply `k`, and request n, which is neither before `since` nor before the last one handed
+  -- where `IsKept` holds of the kept reply `k`, and request n, which is neither before `since` nor before the last one handed
   -- (`top` - 1), has the id of `k`, and is excepted or at most seven after the newest known one: n is excepted, or P holds of n
   -- and the line of `k`
   pub near_same : (since top table n : ℕ) (k : KeptReply) (P : ℕ → List ℕ → Type 0) → IsKept P since top table k → since ≤ n → top ≤ n + 1 → k.id ≡ (n - since) % 8

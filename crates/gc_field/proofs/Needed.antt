@@ -5,7 +5,7 @@ use Rattle.std.proofs.lemmas.Bool.{eqb-true, true≢false}
 use Rattle.std.specs.Prelude.{nat_eq, slice_get}
 use Rattle.std.specs.Fmt.{decimal, digits}
 use Rattle.gc_lines.specs.Readers.{header_at, reply_at}
-use Rattle.gc_catalogue.specs.Asked.{asked_line, asked_request, is_of_table}
+use Rattle.gc_catalogue.specs.Asked.{asked_line, procedure_of, is_of_table}
 use Rattle.gc_catalogue.specs.declared.asked.Asked.TheVariants.{Table}
 use Rattle.gc_catalogue.specs.declared.call.Call.TheVariants.{InstrumentNo}
 use Rattle.gc_client.specs.Rule.{heard}
@@ -15,19 +15,19 @@ use Rattle.gc_world.proofs.Handing.{reply_heard}
 use Rattle.gc_world.proofs.Places.{all_at}
 use Rattle.gc_field.specs.Begin.{none_under_way}
 use Rattle.gc_field.specs.Begun.{IsClean, wire_over_empty_line}
-use Rattle.gc_field.specs.Instrument.{IsAnInstrument, IsKeptAfter, AnyState, nothing}
+use Rattle.gc_field.specs.Instrument.{IsAnInstrument, MayBeKept, AnyState, never_kept, own_reply}
 use Rattle.gc_field.specs.Laws.{WasExecuted}
-use Rattle.gc_field.specs.Needed.{Keeper, IsAllNeeded, IsUnbroken, giving, refusal, kept, keeper, held, again_else, again_or, refuses_or, answers_in, executes_again, refuses_raws, sound, forgets, repeated_request}
-use Rattle.gc_field.specs.Once.{ActsOnce}
+use Rattle.gc_field.specs.Needed.{Keeper, IsAllNeeded, IsUnbroken, giving, refusal, keeper_kept, keeper, held, repeats_or_executes, keeper_handed, handed_if_known, breakable_handed, executes_again, refuses_raws, sound, forgets, repeated_request}
+use Rattle.gc_field.specs.Once.{ExecutesOnce}
 use Rattle.gc_field.specs.World.{Sent}
 use Rattle.gc_field.proofs.Instruments.{keeps_none}
 
 -- where n is held for an id, the reply with that id and n is kept
-kept_own : (k : Keeper) (id n : ℕ) → held k id ≡ Some n → kept k ≡ Some (record { id = id; line = giving id n })
+kept_own : (k : Keeper) (id n : ℕ) → held k id ≡ Some n → keeper_kept k ≡ Some (record { id = id; line = giving id n })
 kept_own None id n e = let never : ⊥ = cc in absurd never
 kept_own (Some x) id n e = chosen (nat_eq x.0 id) refl e where
   -- the lemma above, by whether the number is kept with this id (`b`)
-  chosen : (b : Bool) → nat_eq x.0 id ≡ b → cond b (Some x.1) None ≡ Some n → kept (Some x) ≡ Some (record { id = id; line = giving id n })
+  chosen : (b : Bool) → nat_eq x.0 id ≡ b → cond b (Some x.1) None ≡ Some n → keeper_kept (Some x) ≡ Some (record { id = id; line = giving id n })
   chosen true t e = ap (λ i. Some (record { id = i; line = giving i x.1 })) (eqb-true x.0 id t) ∙ ap (λ m. Some (record { id = id; line = giving id m })) (same_Some x.1 n e)
   chosen false t e = let never : ⊥ = cc in absurd never
 
@@ -40,43 +40,43 @@ reads_refusal : (id : ℕ) → id < 8 → heard (refusal id) ≡ Some id
 reads_refusal id small = reply_heard 3081 id 0 [] (lit< tt) small (lit< tt)
 
 module _ {State : Type 0} (next : State) (new id : ℕ) where
-  -- the reply of `again_else` to a request with an id below 8 reads as one with that id
-  pub else_reads : (s : State) (o : Option ℕ) → id < 8 → heard (again_else next new id s o).reply ≡ Some id
+  -- the reply of `repeats_or_executes` to a request with an id below 8 reads as one with that id
+  pub else_reads : (s : State) (o : Option ℕ) → id < 8 → heard (repeats_or_executes next new id s o).reply ≡ Some id
   else_reads s (Some n) small = reads_giving id n small
   else_reads s None small = reads_giving id new small
 
   module _ (keeps : State → Keeper) where
-    -- a line that `again_else` sends without executing the request is the one that it retains, for this id
-    pub else_repeats : (s : State) (o : Option ℕ) → held (keeps s) id ≡ o → (again_else next new id s o).executed ≡ false
-        → kept (keeps s) ≡ Some (record { id = id; line = (again_else next new id s o).reply })
+    -- a line that `repeats_or_executes` sends without executing the request is the one that it keeps, for this id
+    pub else_repeats : (s : State) (o : Option ℕ) → held (keeps s) id ≡ o → (repeats_or_executes next new id s o).executed ≡ false
+        → keeper_kept (keeps s) ≡ Some (own_reply id (repeats_or_executes next new id s o))
     else_repeats s (Some n) e not = kept_own (keeps s) id n e
     else_repeats s None e not = absurd (true≢false not)
 
-    -- after a request `again_else` retains its reply to that request, if the state `next` retains the number `new` for its id
+    -- after a request `repeats_or_executes` keeps its reply to that request, if the state `next` keeps the number `new` for its id
     pub else_keeps : (s : State) (o : Option ℕ) → held (keeps s) id ≡ o → keeps next ≡ Some (id, new)
-        → kept (keeps (again_else next new id s o).state) ≡ Some (record { id = id; line = (again_else next new id s o).reply })
+        → keeper_kept (keeps (repeats_or_executes next new id s o).state) ≡ Some (own_reply id (repeats_or_executes next new id s o))
     else_keeps s (Some n) e own = kept_own (keeps s) id n e
-    else_keeps s None e own = ap kept own
+    else_keeps s None e own = ap keeper_kept own
 
--- the reply of `again_or` to a request with an id below 8 reads as one with that id
-again_reads : (k : Keeper) (id : ℕ) (o : Option ℕ) → id < 8 → heard (again_or id k o).reply ≡ Some id
+-- the reply of `keeper_handed` to a request with an id below 8 reads as one with that id
+again_reads : (k : Keeper) (id : ℕ) (o : Option ℕ) → id < 8 → heard (keeper_handed id k o).reply ≡ Some id
 again_reads k id o small = else_reads {State = Keeper} (Some (id, 0)) 0 id k o small
 
--- a line that `again_or` sends without executing the request is the one that it retains, for this id
-again_repeats : (k : Keeper) (id : ℕ) (o : Option ℕ) → held k id ≡ o → (again_or id k o).executed ≡ false → kept k ≡ Some (record { id = id; line = (again_or id k o).reply })
+-- a line that `keeper_handed` sends without executing the request is the one that it keeps, for this id
+again_repeats : (k : Keeper) (id : ℕ) (o : Option ℕ) → held k id ≡ o → (keeper_handed id k o).executed ≡ false → keeper_kept k ≡ Some (own_reply id (keeper_handed id k o))
 again_repeats k id o e not = else_repeats {State = Keeper} (Some (id, 0)) 0 id (λ (x : Keeper). x) k o e not
 
--- after a request `again_or` retains its reply to that request
-again_keeps : (k : Keeper) (id : ℕ) (o : Option ℕ) → held k id ≡ o → kept (again_or id k o).state ≡ Some (record { id = id; line = (again_or id k o).reply })
+-- after a request `keeper_handed` keeps its reply to that request
+again_keeps : (k : Keeper) (id : ℕ) (o : Option ℕ) → held k id ≡ o → keeper_kept (keeper_handed id k o).state ≡ Some (own_reply id (keeper_handed id k o))
 again_keeps k id o e = else_keeps {State = Keeper} (Some (id, 0)) 0 id (λ (x : Keeper). x) k o e refl
 
--- the reply of `refuses_or` to a request with an id below 8 reads as one with that id
-refuses_reads : (b : Bool) (k : Keeper) (id : ℕ) → id < 8 → heard (refuses_or b k id).reply ≡ Some id
+-- the reply of `handed_if_known` to a request with an id below 8 reads as one with that id
+refuses_reads : (b : Bool) (k : Keeper) (id : ℕ) → id < 8 → heard (handed_if_known b k id).reply ≡ Some id
 refuses_reads true k id small = again_reads k id (held k id) small
 refuses_reads false k id small = reads_refusal id small
 
--- a line that `refuses_or` sends without executing the request is the one that it retains, for this id
-refuses_repeats : (b : Bool) (k : Keeper) (id : ℕ) → (refuses_or b k id).executed ≡ false → kept k ≡ Some (record { id = id; line = (refuses_or b k id).reply })
+-- a line that `handed_if_known` sends without executing the request is the one that it keeps, for this id
+refuses_repeats : (b : Bool) (k : Keeper) (id : ℕ) → (handed_if_known b k id).executed ≡ false → keeper_kept k ≡ Some (own_reply id (handed_if_known b k id))
 refuses_repeats true k id not = again_repeats k id (held k id) refl not
 refuses_repeats false k id not = absurd (true≢false not)
 
@@ -100,8 +100,8 @@ not_9 h = unexecuted_above 9 (8 ∷ []) (lit< tt, tt) h
 not_10 : WasExecuted (8 ∷ 9 ∷ []) 10 → ⊥
 not_10 h = unexecuted_above 10 (8 ∷ 9 ∷ []) (lit< tt, (lit< tt, tt)) h
 
--- executions of requests 8, 9 and 9, with no start between, aren't `ActsOnce` if request 9 is a call of the table
-not_once : (sent : List Sent) (r : Sent) → slice_get sent 9 ≡ Some r → is_of_table r.call ≡ true → ActsOnce is_of_table sent (8 ∷ 9 ∷ 9 ∷ []) [] → ⊥
+-- executions of requests 8, 9 and 9, with no start between, aren't `ExecutesOnce` if request 9 is a call of the table
+not_once : (sent : List Sent) (r : Sent) → slice_get sent 9 ≡ Some r → is_of_table r.call ≡ true → ExecutesOnce is_of_table sent (8 ∷ 9 ∷ 9 ∷ []) [] → ⊥
 not_once sent r found known h = omega (arith, h 1 2 9 9 r (lit< tt) tt refl refl found known)
 
 -- the request that comes twice
@@ -109,7 +109,7 @@ abbrev twice_sent : Sent
 twice_sent = record { target = 7; call = Table InstrumentNo; line = asked_line (Some 1) (Table InstrumentNo) }
 
 -- `keeper` is an instrument
-keeper_is : IsAnInstrument keeper AnyState kept
+keeper_is : IsAnInstrument keeper AnyState keeper_kept
 keeper_is =
     record {
       hears = λ line. refl;
@@ -122,8 +122,8 @@ keeper_is =
     }
 
 -- `refuses_raws` is an instrument
-raws_is : IsAnInstrument refuses_raws AnyState kept
-raws_is =
+refuses_raws_is : IsAnInstrument refuses_raws AnyState keeper_kept
+refuses_raws_is =
     record {
       hears = λ line. refl;
       replies = λ k id call good small. refuses_reads (is_of_table call) k id small;
@@ -134,13 +134,13 @@ raws_is =
       starts_good = λ k good. tt;
     }
   where
-    -- what `refuses_raws` retains after a request is as `IsKeptAfter` says, whether it knows the request (`b`) or not
-    after : (k : Keeper) (id : ℕ) (b : Bool) → IsKeptAfter b id (refuses_or b k id).reply (kept k) (kept (refuses_or b k id).state)
+    -- what `refuses_raws` keeps after a request is as `MayBeKept` says, whether it knows the request (`b`) or not
+    after : (k : Keeper) (id : ℕ) (b : Bool) → MayBeKept b (own_reply id (handed_if_known b k id)) (keeper_kept k) (keeper_kept (handed_if_known b k id).state)
     after k id true = inl (inr (again_keeps k id (held k id) refl))
     after k id false = inr (refl, refl)
 
 -- `executes_again` is an instrument
-again_is : IsAnInstrument executes_again AnyState kept
+again_is : IsAnInstrument executes_again AnyState keeper_kept
 again_is =
     record {
       hears = λ line. refl;
@@ -153,16 +153,16 @@ again_is =
     }
 
 -- `forgets` is an instrument
-forgets_is : IsAnInstrument forgets AnyState nothing
+forgets_is : IsAnInstrument forgets AnyState never_kept
 forgets_is = keeps_none Bool forgets (λ line. refl) (λ b id call good small. reads_giving id 0 small) (λ b id call. refl)
 
 -- an instrument in order replies to a request with an id below 8 with that id
-in_order : (b : Bool) (id : ℕ) → IsUnbroken b → id < 8 → heard (answers_in b id b).reply ≡ Some id
+in_order : (b : Bool) (id : ℕ) → IsUnbroken b → id < 8 → heard (breakable_handed b id b).reply ≡ Some id
 in_order false id good small = reads_giving id 0 small
 in_order true id good small = absurd (true≢false good)
 
 -- `sound` is an instrument in its good states
-sound_is : IsAnInstrument sound IsUnbroken nothing
+sound_is : IsAnInstrument sound IsUnbroken never_kept
 sound_is =
     record {
       hears = λ line. refl;
@@ -174,21 +174,21 @@ sound_is =
       starts_good = λ b good. good;
     }
 
--- with nothing in flight, and a good state in which nothing is retained, a synchronization is clean
+-- with nothing in flight, and a good state in which nothing is kept, a synchronization is clean
 clean_none : {State : Type 0} (Good : State → Type 0) (retains : State → Option KeptReply) (state : State) → Good state → retains state ≡ None → IsClean Good retains (none_under_way state)
 clean_none Good retains state good none = record { good = good; up = tt; down = tt; keeps = λ k e. absurd (none-some k (sym none ∙ e)) }
 
--- `clean_none` of the state `false`, where nothing is retained, and each state is a good one
-clean_any : IsClean AnyState nothing (none_under_way false)
-clean_any = clean_none AnyState nothing false tt refl
+-- `clean_none` of the state `false`, where nothing is kept, and each state is a good one
+clean_any : IsClean AnyState never_kept (none_under_way false)
+clean_any = clean_none AnyState never_kept false tt refl
 
--- `clean_none` of the state `false`, where nothing is retained, and the good states are those in order
-clean_order : IsClean IsUnbroken nothing (none_under_way false)
-clean_order = clean_none IsUnbroken nothing false refl refl
+-- `clean_none` of the state `false`, where nothing is kept, and the good states are those in order
+clean_order : IsClean IsUnbroken never_kept (none_under_way false)
+clean_order = clean_none IsUnbroken never_kept false refl refl
 
 -- `clean_none` of a `Keeper` that has nothing
-clean_kept : IsClean AnyState kept (none_under_way None)
-clean_kept = clean_none AnyState kept None tt refl
+clean_kept : IsClean AnyState keeper_kept (none_under_way None)
+clean_kept = clean_none AnyState keeper_kept None tt refl
 
 -- each clause on instruments is needed
 pub all_needed : IsAllNeeded
@@ -245,8 +245,8 @@ all_needed =
             all_but =
                 record {
                   hears = inr (λ line. refl);
-                  replies = inr (λ k id call good small. refuses_reads (nat_eq (asked_request None call).rpc 0) k id small);
-                  repeats = inr (λ k id call good small not. refuses_repeats (nat_eq (asked_request None call).rpc 0) k id not);
+                  replies = inr (λ k id call good small. refuses_reads (nat_eq (procedure_of call) 0) k id small);
+                  repeats = inr (λ k id call good small not. refuses_repeats (nat_eq (procedure_of call) 0) k id not);
                   keeps = inl refl;
                   starts = inr (λ k good. inl refl);
                   stays_good = inr (λ k id call good small. tt);
@@ -349,7 +349,7 @@ all_needed =
             good = refl;
             booked = record { beyond = omega arith; clean = clean_order; field = (tt, (tt, ((8, [], refl), (tt, (tt, (tt, (tt, ((9, [], refl), tt)))))))); settled = refl; executed = not_10 };
           };
-      rule_is = raws_is;
+      refuses_raws_is = refuses_raws_is;
       rule = λ raw. record {
         beyond = omega arith;
         clean = clean_kept;
@@ -399,10 +399,10 @@ all_needed =
         settled = refl;
         executed = not_16;
       };
-      shared_is = keeper_is;
+      keeper_is = keeper_is;
       changes_kept = record {
         beyond = omega arith;
-        clean = clean_none {State = Keeper} AnyState nothing None tt refl;
+        clean = clean_none {State = Keeper} AnyState never_kept None tt refl;
         field = (tt, (tt, ((8, [], refl), ((tt, refl), (tt, (tt, ((9, [], refl), tt)))))));
         settled = refl;
         executed = not_9;

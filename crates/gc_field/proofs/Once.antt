@@ -1,5 +1,5 @@
 -- The numbers of the requests that an instrument executes never fall (`IsOrdered`), and between two of its starts they rise for
--- the requests to which it retains its reply (`IsClimbing`): it is handed the last request again, which it doesn't execute
+-- the requests to which it keeps its reply (`IsClimbing`): it is handed the last request again, which it doesn't execute
 -- then, or a later one.
 use Rattle.std.proofs.Common.{◌≡◌, ℕ, zero, suc, ◌+◌, ◌-◌, ◌%◌, ◌<◌, ◌≤◌, ◌⊎◌, inl, inr, Bool, true, false, List, [], ◌∷◌, ◌++◌, length, Option, Some, None, cond, refl, sym, ◌∙◌, ap, subst, arith, ltb}
 use Rattle.std.specs.List.{AllByRecursion}
@@ -11,7 +11,8 @@ use Rattle.gc_instrument.specs.State.{KeptReply}
 use Rattle.std.proofs.lemmas.Option.{same_Some, none-some, slice_get_within}
 use Rattle.gc_field.specs.World.{Sent}
 use Rattle.gc_world.proofs.Places.{all_at, get_more}
-use Rattle.gc_field.specs.Once.{HasNoStart, ActsOnce, IsInOrder}
+use Rattle.gc_field.specs.Once.{HasNoStart, ExecutesOnce, IsInOrder}
+use Rattle.gc_field.specs.Instrument.{MayForget}
 use Rattle.gc_lines.proofs.Lists.{all_append}
 use Rattle.gc_values.proofs.Every.{every_front as all_front, every_behind as all_behind, every_weaker as all_on}
 use Rattle.gc_station.proofs.SentAt.{get_split}
@@ -64,7 +65,7 @@ pub known_not : (knows : Asked → Bool) (sent : List Sent) (n : ℕ) (r : Sent)
 known_not knows sent n r found known h =
     true≢false (sym known ∙ ap (λ (x : Sent). knows x.call) (same_Some r h.0 (sym found ∙ h.1)) ∙ h.2)
 
--- what an instrument did so far, and the reply that it retains, if any: the requests that were sent, those that it executed, in
+-- what an instrument did so far, and the reply that it keeps, if any: the requests that were sent, those that it executed, in
 -- order, and for each of its starts how many executions came before it
 pub record Log : Type 0 where
   pub sent : List Sent
@@ -72,7 +73,7 @@ pub record Log : Type 0 where
   pub starts : List ℕ
   pub retained : Option KeptReply
 
--- if nothing is retained, nothing was executed since the last start; and what is retained, if anything, has this id
+-- if nothing is kept, nothing was executed since the last start; and what is kept, if anything, has this id
 pub record IsHeld (id : ℕ) (l : Log) : Type 0 where
   pub idle : l.retained ≡ None → IsIdle l.executed l.starts
   pub same : (r : KeptReply) → l.retained ≡ Some r → r.id ≡ id
@@ -147,8 +148,8 @@ ordered_first n executed acted none nought = subst (λ l. IsOrdered 1 (cond acte
 pub once_few : (knows : Asked → Bool) (sent : List Sent) (executed starts : List ℕ) → length executed ≤ 1 → RiseUnlessUnknown knows sent executed starts
 once_few knows sent executed starts few i j m n lt run a b = absurd (never_two executed i j n few lt b)
 
--- where `RiseUnlessUnknown` holds, `ActsOnce` holds
-pub acts_once : (knows : Asked → Bool) (sent : List Sent) (executed starts : List ℕ) → RiseUnlessUnknown knows sent executed starts → ActsOnce knows sent executed starts
+-- where `RiseUnlessUnknown` holds, `ExecutesOnce` holds
+pub acts_once : (knows : Asked → Bool) (sent : List Sent) (executed starts : List ℕ) → RiseUnlessUnknown knows sent executed starts → ExecutesOnce knows sent executed starts
 acts_once knows sent executed starts once i j m n r lt run a b found known =
     elim (once i j m n lt run a b) [
       | inl l ↦ l
@@ -170,15 +171,15 @@ climbing_sent knows since top l more h =
       ];
     }
 
--- where the instrument retains what it retained (`k`), or nothing, what holds of the retained reply, if there was one, holds of
--- the one that it retains then (`after`), if any
-pub still_retained : (Q : KeptReply → Type 0) (k after : Option KeptReply) → (after ≡ None) ⊎ (after ≡ k) → ((r : KeptReply) → k ≡ Some r → Q r)
+-- where the instrument keeps what it kept (`k`), or nothing, what holds of the kept reply, if there was one, holds of
+-- the one that it keeps then (`after`), if any
+pub still_retained : (Q : KeptReply → Type 0) (k after : Option KeptReply) → MayForget k after → ((r : KeptReply) → k ≡ Some r → Q r)
     → (r : KeptReply) → after ≡ Some r → Q r
 still_retained Q k after (inl none) f r e = absurd (none-some r (sym none ∙ e))
 still_retained Q k after (inr same) f r e = f r (sym same ∙ e)
 
--- `IsClimbing` is preserved by a start of the instrument, which then retains what it retained, or nothing (`after`)
-pub climbing_started : (knows : Asked → Bool) (since top : ℕ) (l : Log) (after : Option KeptReply) → (after ≡ None) ⊎ (after ≡ l.retained)
+-- `IsClimbing` is preserved by a start of the instrument, which then keeps what it kept, or nothing (`after`)
+pub climbing_started : (knows : Asked → Bool) (since top : ℕ) (l : Log) (after : Option KeptReply) → MayForget l.retained after
     → IsClimbing knows since top l → IsClimbing knows since top (record l { starts = l.starts ++ length l.executed ∷ []; retained = after })
 climbing_started knows since top l after now h =
     record {
@@ -190,7 +191,7 @@ climbing_started knows since top l after now h =
       ];
     }
 
--- request n isn't known; or a reply with its id, which is counted from `since`, is retained
+-- request n isn't known; or a reply with its id, which is counted from `since`, is kept
 abbrev pub IsUnknownOrRetained : (knows : Asked → Bool) (sent : List Sent) (since n : ℕ) → Option KeptReply → Type 0
 IsUnknownOrRetained knows sent since n after = IsUnknown knows sent n ⊎ ((r : KeptReply) × (after ≡ Some r) × (r.id ≡ (n + 1 - 1 - since) % 8))
 
@@ -206,7 +207,7 @@ last_of knows since n l (inr kept) =
     })
 
 -- where request n is handed to the instrument and isn't executed, and no later one was handed before (`top`), `IsClimbing` is
--- preserved, with n + 1 for `top`, if n isn't known, or a reply with its id is retained then (`after`)
+-- preserved, with n + 1 for `top`, if n isn't known, or a reply with its id is kept then (`after`)
 pub climbing_handed : (knows : Asked → Bool) (since top n : ℕ) (l : Log) (after : Option KeptReply) → top ≤ n + 1 → IsUnknownOrRetained knows l.sent since n after
     → IsClimbing knows since top l → IsClimbing knows since (n + 1) (record l { retained = after })
 climbing_handed knows since top n l after le why h =
@@ -229,7 +230,7 @@ never_idle executed starts j k m (inr h) run a e =
 
 -- where request n is executed, and no later one was handed before (`top`), `IsClimbing` is preserved, with n + 1 for `top`, if
 -- two things hold: n isn't known, or nothing was executed since the last start, or n is later than all that were handed before;
--- and n isn't known, or a reply with its id is retained then (`after`)
+-- and n isn't known, or a reply with its id is kept then (`after`)
 pub climbing_acted : (knows : Asked → Bool) (since top n : ℕ) (l : Log) (after : Option KeptReply) → top ≤ n + 1
     → IsUnknown knows l.sent n ⊎ (IsIdle l.executed l.starts ⊎ (top ≤ n)) → IsUnknownOrRetained knows l.sent since n after
     → IsClimbing knows since top l → IsClimbing knows since (n + 1) (record l { executed = l.executed ++ n ∷ []; retained = after })
@@ -254,12 +255,12 @@ climbing_acted knows since top n l after le why retained h =
     later i j x run first e (inr (inr above)) = let low : x < top = all_at (λ m. m < top) l.executed i x h.below first in inl (omega (arith, low, above))
 
 -- where `IsClimbing` holds, request n is known and has the id n - `since` modulo 8, no later one was handed before, and the
--- instrument retains no reply with that id: nothing was executed since the last start, or n is later than all that the instrument
+-- instrument keeps no reply with that id: nothing was executed since the last start, or n is later than all that the instrument
 -- was handed
 pub why_acted : (knows : Asked → Bool) (since top n id : ℕ) (l : Log) → (IsUnknown knows l.sent n → ⊥) → id ≡ (n - since) % 8 → top ≤ n + 1
     → ((line : List ℕ) → l.retained ≡ Some (record { id = id; line = line }) → ⊥) → IsClimbing knows since top l → IsIdle l.executed l.starts ⊎ (top ≤ n)
 why_acted knows since top n id l known mine le other h = chosen (ltb n top) refl where
-  -- where `IsHeld` holds with the id of the request handed last, and that is request n, nothing is retained, so nothing was
+  -- where `IsHeld` holds with the id of the request handed last, and that is request n, nothing is kept, so nothing was
   -- executed since the last start
   again : top - 1 ≡ n → (o : Option KeptReply) → l.retained ≡ o → IsHeld ((top - 1 - since) % 8) l → IsIdle l.executed l.starts
   again last None e g = g.idle e
@@ -279,7 +280,7 @@ why_acted knows since top n id l known mine le other h = chosen (ltb n top) refl
       ]
 
 -- `IsClimbing` holds, with 1 for `top`, once request 0 (`n`) reached the instrument, executed or not (`acted`), if nothing was
--- executed before, and that request isn't known, or a reply with its id is retained then (`after`)
+-- executed before, and that request isn't known, or a reply with its id is kept then (`after`)
 pub climbing_first : (knows : Asked → Bool) (since n : ℕ) (l : Log) (acted : Bool) (after : Option KeptReply) → l.executed ≡ [] → n ≡ 0
     → IsUnknownOrRetained knows l.sent since n after
     → IsClimbing knows since 1 (record l { executed = cond acted (l.executed ++ n ∷ []) l.executed; retained = after })

@@ -12,11 +12,11 @@ use Rattle.gc_client.specs.Rule.{ById, Settlement, Answered}
 use Rattle.gc_instrument.specs.State.{KeptReply}
 use Rattle.gc_world.specs.Clients.{by_ids}
 use Rattle.gc_field.specs.World.{Ends, Numbered, Request, Sent, Up_deliver, World}
-use Rattle.gc_field.specs.Begun.{IsClean, IsSafe, WasMadeOn, behind, ids_begun}
+use Rattle.gc_field.specs.Begun.{IsClean, IsSafe, WasMadeOn, behind, ids_begun, ArePossibleOnceBegun}
 use Rattle.gc_field.specs.Chains.{AreCalls, IsExecutedAfter}
 use Rattle.gc_field.specs.Field.{Move, OnLine, moves, moved, ArePossible}
 use Rattle.gc_field.specs.Instrument.{IsAnInstrument}
-use Rattle.gc_field.specs.Once.{ActsOnce, HasNoStart, IsInOrder}
+use Rattle.gc_field.specs.Once.{ExecutesOnce, HasNoStart, IsInOrder}
 use Rattle.gc_field.specs.Shown.{Stretch}
 use Rattle.gc_field.proofs.Among.{each_at}
 use Rattle.gc_field.proofs.BeginLists.{each_both}
@@ -73,7 +73,7 @@ module _ (e : List ℕ) (m n : ℕ) (numbers : List ℕ) where
 
   -- if no start came after the execution of m, all executions are in order, and the instrument acts once for the requests that
   -- `knows` names, the executions between of such requests are of requests sent after m and before n
-  pub inside : (knows : Asked → Bool) (sent : List Sent) (starts : List ℕ) → AllByRecursion (λ s. s ≤ length e) starts → IsInOrder all → ActsOnce knows sent all starts
+  pub inside : (knows : Asked → Bool) (sent : List Sent) (starts : List ℕ) → AllByRecursion (λ s. s ≤ length e) starts → IsInOrder all → ExecutesOnce knows sent all starts
       → AllByRecursion (λ x. (r : Sent) → slice_get sent x ≡ Some r → knows r.call ≡ true → (m < x) × (x < n)) numbers
   inside knows sent starts early rises once =
       each_at (λ (x : ℕ). (r : Sent) → slice_get sent x ≡ Some r → knows r.call ≡ true → (m < x) × (x < n)) numbers
@@ -107,7 +107,7 @@ module _ (e : List ℕ) (m n : ℕ) (numbers : List ℕ) where
 -- The law.
 
 module _ {State : Type 0} (ends : Ends State) (Good : State → Type 0) (kept : State → Option KeptReply) (is : IsAnInstrument ends Good kept)
-    (s : Stretch State) (clean : IsClean Good kept s.from) (field : ArePossible ends Good kept (by_ids 7 ends) s.moves (ids_begun s.from)) where
+    (s : Stretch State) (clean : IsClean Good kept s.from) (field : ArePossibleOnceBegun 7 ends s.from Good kept s.moves) where
   -- the world after these moves of the stretch
   abbrev at : List (Move State) → World (ById Asked) State
   at ms = behind 7 ends s.from ms
@@ -146,7 +146,7 @@ module _ {State : Type 0} (ends : Ends State) (Good : State → Type 0) (kept : 
   -- where request n was executed after request m, `IsExecutedAfter` holds of them: it says what was executed between the two
   both_made : (m n : ℕ) (call_m call_n : Asked) (line_m line_n : List ℕ) (f : WasMadeOn 7 ends s.from s.moves m call_m line_m)
       (h : WasMadeOn 7 ends s.from s.moves n call_n line_n) (between : List (Move State)) → h.front ≡ f.front ++ OnLine Up_deliver ∷ between
-      → IsExecutedAfter ends Good kept s m n call_m call_n line_m line_n
+      → IsExecutedAfter ends Good kept s (record { number = m; call = call_m; line = line_m }) (record { number = n; call = call_n; line = line_n })
   both_made m n call_m call_n line_m line_n f h between order =
       let split : s.moves ≡ (f.front ++ OnLine Up_deliver ∷ between) ++ OnLine Up_deliver ∷ h.later = h.split ∙ ap (λ l. l ++ OnLine Up_deliver ∷ h.later) order in
       let split_f : s.moves ≡ f.front ++ (OnLine Up_deliver ∷ (between ++ OnLine Up_deliver ∷ h.later)) = split ∙ append_assoc f.front (OnLine Up_deliver ∷ between) (OnLine Up_deliver ∷ h.later) in
@@ -196,9 +196,9 @@ module _ {State : Type 0} (ends : Ends State) (Good : State → Type 0) (kept : 
             let there : List Sent = (at (h.front ++ OnLine Up_deliver ∷ [])).wire.sent in
             let size : n < length (at h.front).wire.sent = was_sent n call_n line_n h in
             let in_order = subst IsInOrder whole law_there.in_order in
-            let once : ActsOnce knows there ((e ++ m ∷ did.numbers) ++ n ∷ []) v.wire.starts =
-            subst (λ l. ActsOnce knows there l v.wire.starts) whole
-            (subst (λ l. ActsOnce knows there (at (h.front ++ OnLine Up_deliver ∷ [])).wire.executed l) starts (law_there.once knows keeps)) in
+            let once : ExecutesOnce knows there ((e ++ m ∷ did.numbers) ++ n ∷ []) v.wire.starts =
+            subst (λ l. ExecutesOnce knows there l v.wire.starts) whole
+            (subst (λ l. ExecutesOnce knows there (at (h.front ++ OnLine Up_deliver ∷ [])).wire.executed l) starts (law_there.once knows keeps)) in
             each_both (λ x. (m ≤ x) × (x ≤ n)) (λ x. (r : Sent) → slice_get there x ≡ Some r → knows r.call ≡ true → (m < x) × (x < n))
             (λ x. (r : Sent) → slice_get (at s.moves).wire.sent x ≡ Some r → knows r.call ≡ true → (m < x) × (x < n))
             (λ x in_it strict r found known.
@@ -219,7 +219,8 @@ module _ {State : Type 0} (ends : Ends State) (Good : State → Type 0) (kept : 
   -- by then, is executed: n is executed after m, by `IsExecutedAfter`
   pub executed_behind : (before later : List (Move State)) → s.moves ≡ before ++ later → (m n : ℕ) (x : Settlement Asked) (line_m : List ℕ) → 8 ≤ m
       → IsSafe 7 ends s.from Good kept before m → slice_get (at before).wire.settled m ≡ Some x → x.outcome ≡ Answered line_m
-      → length (at before).wire.sent ≤ n → (call : Asked) (line_n : List ℕ) → WasMadeOn 7 ends s.from s.moves n call line_n → IsExecutedAfter ends Good kept s m n x.call call line_m line_n
+      → length (at before).wire.sent ≤ n → (call : Asked) (line_n : List ℕ) → WasMadeOn 7 ends s.from s.moves n call line_n
+      → IsExecutedAfter ends Good kept s (record { number = m; call = x.call; line = line_m }) (record { number = n; call = call; line = line_n })
   executed_behind before later e m n x line_m beyond safe settled answered unsent call line_n h =
       let possible = front_possible 7 ends Good kept s.moves before later (ids_begun s.from) e field in
       let f = (clean_faithful ends Good kept is s.from clean before possible).made_on m x line_m (beyond, safe) settled answered in

@@ -17,29 +17,24 @@ use Rattle.gc_instrument.specs.Replying.{Handed, kept_line, without_kept}
 use Rattle.gc_instrument.specs.State.{State, IsFittingState}
 use Rattle.gc_instrument.proofs.Answering.{handed_again, handed_new}
 use Rattle.gc_instrument.proofs.Keeping.{commanded_by_tests, executes_apart}
-use Rattle.gc_links.specs.Acts.{Act}
 use Rattle.gc_texts.specs.Stamps.{date_time}
 use Rattle.gc_texts.specs.Tasks.{call_at}
 use Rattle.gc_texts.specs.declared.tasks.Task.{Task}
-use Rattle.gc_station.specs.Links.{ChainsStay, MarksGoOn, RecordsStay, parts}
+use Rattle.gc_station.specs.Links.{ChainsStay, MarksGoOn, RecordsStay}
 use Rattle.gc_station.specs.Parts.{MarkAsks}
 use Rattle.gc_station.specs.Records.{Record}
-use Rattle.gc_station.specs.Runs.{state_after}
-use Rattle.gc_station.specs.Scopes.{Scope}
-use Rattle.gc_station.specs.declared.plan.Plan.{Plan}
 use Rattle.gc_station.proofs.Booking.{marks_ask_at}
-use Rattle.gc_field.specs.Simulator.{ends, handed}
+use Rattle.gc_field.specs.Simulator.{simulator_ends, simulator_handed}
 use Rattle.gc_field.specs.World.{Sent}
 use Rattle.gc_world.proofs.Handing.{bare_after}
 use Rattle.std.proofs.lemmas.Option.{same_Some, slice_get_within}
 use Rattle.gc_world.proofs.Places.{get_map, element_at}
 use Rattle.gc_field.specs.Begin.{UnderWay}
-use Rattle.gc_field.specs.Beginnings.{Run}
 use Rattle.gc_field.specs.Chains.{AreCalls, HasNoStartAmong, IsUndisturbed, IsChainedTo, IsExecutedInChain, stretch_wire}
 use Rattle.gc_field.specs.Field.{Move, Sends, Tells, Comes, Foreign, OnLine, Anew, Changes, Joins}
 use Rattle.gc_field.specs.Laws.{asked, kept_of}
-use Rattle.gc_field.specs.Pointing.{AreStill, IsMeasuredWhereItPointed, IsPointedInChain, SimulatorHasItsEffect, after_call, turns_telescope, PointsAs}
-use Rattle.gc_field.specs.Runs.{IsInField, own_sent, world}
+use Rattle.gc_field.specs.Pointing.{AreStill, IsMeasuredWhereItPointed, IsPointedInChain, SimulatorHasItsEffect, state_after_call, turns_telescope, PointsAs}
+use Rattle.gc_field.specs.Runs.{IsInField, Program, own_sent, program_parts, program_records, world}
 use Rattle.gc_field.specs.Shown.{Stretch, stretches}
 use Rattle.gc_field.proofs.Among.{zip_at}
 use Rattle.gc_field.proofs.Chained.{chains_executed}
@@ -50,8 +45,8 @@ use Rattle.std.proofs.lemmas.Bool.{true≢false}
 
 -- What executing a call makes of the simulator.
 
--- the retained reply may be left out before the effect of a request (`after_call`) or after it: that makes the same state
-call_without_kept : (s : State) (asked : Asked) → after_call (without_kept s) asked ≡ without_kept (after_call s asked)
+-- the kept reply may be left out before the effect of a request (`state_after_call`) or after it: that makes the same state
+call_without_kept : (s : State) (asked : Asked) → state_after_call (without_kept s) asked ≡ without_kept (state_after_call s asked)
 call_without_kept s (Table c) = ap (λ (x : Executed). x.state) (executes_apart s None c)
 call_without_kept s (Raw raw) = refl
 
@@ -60,23 +55,23 @@ handed_same : (s : State) (id : ℕ) (c : Call) (o : Option (List ℕ)) → kept
 handed_same s id c (Some line) e not = ap (λ (x : Handed State). x.state) (handed_again s id c line e)
 handed_same s id c None e not = absurd (true≢false (sym (ap (λ (x : Handed State). x.executed) (handed_new s id c e)) ∙ not))
 
--- if the simulator executes a request, that has the effect `after_call` on its state, but for the retained reply
-executes : (s : State) (id : ℕ) (asked : Asked) → (handed s id asked).executed ≡ true → without_kept (handed s id asked).state ≡ without_kept (after_call s asked)
+-- if the simulator executes a request, that has the effect `state_after_call` on its state, but for the kept reply
+executes : (s : State) (id : ℕ) (asked : Asked) → (simulator_handed s id asked).executed ≡ true → without_kept (simulator_handed s id asked).state ≡ without_kept (state_after_call s asked)
 executes s id (Table c) e = bare_after s id c e ∙ call_without_kept s (Table c)
 executes s id (Raw raw) e = refl
 
--- if the simulator doesn't execute a request, its state stays, but for the retained reply
-repeats : (s : State) (id : ℕ) (asked : Asked) → (handed s id asked).executed ≡ false → without_kept (handed s id asked).state ≡ without_kept s
+-- if the simulator doesn't execute a request, its state stays, but for the kept reply
+repeats : (s : State) (id : ℕ) (asked : Asked) → (simulator_handed s id asked).executed ≡ false → without_kept (simulator_handed s id asked).state ≡ without_kept s
 repeats s id (Table c) not = ap without_kept (handed_same s id c (kept_line s.kept (Some id)) refl not)
 repeats s id (Raw raw) not = refl
 
--- executing a request has the effect `after_call` on the simulator
+-- executing a request has the effect `state_after_call` on the simulator
 pub has_effect : SimulatorHasItsEffect
 has_effect =
     record {
       executes = executes;
       repeats = repeats;
-      alike = λ s t asked e. sym (call_without_kept s asked) ∙ ap (λ x. after_call x asked) e ∙ call_without_kept t asked;
+      alike = λ s t asked e. sym (call_without_kept s asked) ∙ ap (λ x. state_after_call x asked) e ∙ call_without_kept t asked;
     }
 
 -- if nothing disturbs the instrument, it doesn't start
@@ -129,7 +124,7 @@ call_same s (call.FineAdjust area_hz area_v dummy) e = cc
 call_same s c e = record { pointing = refl; face = refl }
 
 -- a request that turns no telescope leaves the telescope's direction and face as they were
-asked_same : (s : State) (asked : Asked) → turns_telescope asked ≡ false → PointsAs (after_call s asked) s
+asked_same : (s : State) (asked : Asked) → turns_telescope asked ≡ false → PointsAs (state_after_call s asked) s
 asked_same s (Table c) e = call_same s c e
 asked_same s (Raw raw) e = record { pointing = refl; face = refl }
 
@@ -145,11 +140,11 @@ unfolding exec
 position_points s hz v pos_mode atr_mode dummy = (refl, refl)
 
 -- calls that turn no telescope leave the telescope's direction and face as they were
-calls_same : (calls : List Asked) (s : State) → AllByRecursion (λ x. turns_telescope x ≡ false) calls → PointsAs (fold after_call s calls) s
+calls_same : (calls : List Asked) (s : State) → AllByRecursion (λ x. turns_telescope x ≡ false) calls → PointsAs (fold state_after_call s calls) s
 calls_same [] s h = record { pointing = refl; face = refl }
 calls_same (x ∷ calls) s h =
     let one = asked_same s x h.0 in
-    let others = calls_same calls (after_call s x) h.1 in
+    let others = calls_same calls (state_after_call s x) h.1 in
     record { pointing = others.pointing ∙ one.pointing; face = others.face ∙ one.face }
 
 -- What was executed between.
@@ -180,18 +175,17 @@ turns_none task utc still = by_clock task.now where
   by_clock true = refl
   by_clock false = still
 
-module _ (plan : Plan) (commands : List Task) (scope : Scope) (acts : List Act) (u : UnderWay State) (rs : List (Run State))
-    (field : IsInField ends IsFittingState kept_of plan commands scope acts u rs) where
+module _ (u : UnderWay State) (run : Program State) (field : IsInField simulator_ends IsFittingState kept_of u run) where
   -- the stretches of the run
   abbrev ss : List (Stretch State)
-  ss = stretches ends u rs
+  ss = stretches simulator_ends u run.runs
 
-  module _ (b : Record) (line : List ℕ) (a : ℕ) (h : IsChainedTo ends IsFittingState kept_of scope.reads commands (parts plan commands scope acts) ss
-      (state_after plan commands scope acts).records a b line) (still : AreStill commands a b.place) where
+  module _ (b : Record) (line : List ℕ) (a : ℕ) (h : IsChainedTo simulator_ends IsFittingState kept_of run.scope.reads run.commands (program_parts run) ss (program_records run) a b line)
+      (still : AreStill run.commands a b.place) where
     -- a request between those of the chain's two commands turns no telescope, by its mark: it is a null procedure, or for a
     -- command between them
     still_by : (x : ℕ) (r : Sent) (o : Option _) (above : h.m < x) (under : x < h.n) → slice_get h.part.marks x ≡ Some o
-        → (y : Wanted Asked) → asked r ≡ y → MarkAsks commands o y → turns_telescope r.call ≡ false
+        → (y : Wanted Asked) → asked r ≡ y → MarkAsks run.commands o y → turns_telescope r.call ≡ false
     still_by x r None above under at y e is = null_still y r e is
     still_by x r (Some mark) above under at y e is =
         let there = h.between x mark above under at in
@@ -199,47 +193,46 @@ module _ (plan : Plan) (commands : List Task) (scope : Scope) (acts : List Act) 
         ap (λ (o : Wanted Asked). turns_telescope o.call) (e ∙ is.2) ∙ quiet
 
     -- a request of the client between those of the chain's two commands turns no telescope
-    still_at : (x : ℕ) (r : Sent) → h.m < x → x < h.n → slice_get (own_sent ends h.stretch) x ≡ Some r → turns_telescope r.call ≡ false
+    still_at : (x : ℕ) (r : Sent) → h.m < x → x < h.n → slice_get (own_sent simulator_ends h.stretch) x ≡ Some r → turns_telescope r.call ≡ false
     still_at x r above under got =
-        let f = run_faithful ends IsFittingState kept_of simulator.instrument plan commands scope acts u rs field in
-        let of = zip_at _ (parts plan commands scope acts) ss h.i h.part h.stretch f.sent h.of_parts h.of_stretches in
+        let f = run_faithful simulator_ends IsFittingState kept_of simulator.instrument u run field in
+        let of = zip_at _ (program_parts run) ss h.i h.part h.stretch f.sent h.of_parts h.of_stretches in
         let size : h.n < length h.part.marks = slice_get_within h.part.marks h.n _ h.mark_b in
         let mark = element_at h.part.marks x (omega (arith, under, size)) in
-        let y = marks_ask_at commands h.part.marks (map asked (own_sent ends h.stretch)) x mark.0 of mark.1 in
-        let same : asked r ≡ y.0 = same_Some (asked r) y.0 (sym (get_map asked (own_sent ends h.stretch) x r got) ∙ y.1) in
+        let y = marks_ask_at run.commands h.part.marks (map asked (own_sent simulator_ends h.stretch)) x mark.0 of mark.1 in
+        let same : asked r ≡ y.0 = same_Some (asked r) y.0 (sym (get_map asked (own_sent simulator_ends h.stretch) x r got) ∙ y.1) in
         still_by x r mark.0 above under mark.1 y.0 same y.2
 
     -- request k of the stretch, between those of the chain's two commands, turns no telescope; the first eight requests of the
     -- stretch are the null procedures
-    still_number : (k : ℕ) (r : Sent) → 8 + h.m < k → k < 8 + h.n → slice_get (world ends h.stretch).wire.sent k ≡ Some r → turns_telescope r.call ≡ false
+    still_number : (k : ℕ) (r : Sent) → 8 + h.m < k → k < 8 + h.n → slice_get (world simulator_ends h.stretch).wire.sent k ≡ Some r → turns_telescope r.call ≡ false
     still_number k r above under got =
-        still_at (k - 8) r (omega (arith, above)) (omega (arith, above, under)) (get_dropped 8 (k - 8) k (world ends h.stretch).wire.sent r (omega (arith, above)) got)
+        still_at (k - 8) r (omega (arith, above)) (omega (arith, above, under)) (get_dropped 8 (k - 8) k (world simulator_ends h.stretch).wire.sent r (omega (arith, above)) got)
 
     -- if nothing disturbs the simulator between the two executions, the telescope points at the later one as the earlier one left
     -- it, by `IsMeasuredWhereItPointed`
     pointed_there : IsUndisturbed h.executed.between → IsMeasuredWhereItPointed h
     pointed_there quiet =
         let x = h.executed in
-        let s = (stretch_wire ends h.stretch x.first.front).state in
-        let calls = all_still (world ends h.stretch).wire.sent (8 + h.m) (8 + h.n) x.numbers x.calls x.asked
+        let s = (stretch_wire simulator_ends h.stretch x.first.front).state in
+        let calls = all_still (world simulator_ends h.stretch).wire.sent (8 + h.m) (8 + h.n) x.numbers x.calls x.asked
         (x.strictly is_of_table simulator.keeps (no_start x.between quiet)) (λ k r above under got. still_number k r above under got) in
-        let there = x.state without_kept after_call has_effect quiet in
-        let t = after_call s h.earlier.answer.command.call in
+        let there = x.state without_kept state_after_call has_effect quiet in
+        let t = state_after_call s h.earlier.answer.command.call in
         let same = calls_same x.calls t calls in
         let pointing = ap (λ (z : State). z.pointing) there ∙ same.pointing in
         let face = ap (λ (z : State). z.face) there ∙ same.face in
         record {
           as_left = record { pointing = pointing; face = face };
           as_commanded = λ hz v pos_mode atr_mode dummy e.
-              let at = subst (λ c. ((after_call s c).pointing ≡ record { hz = hz; v = v }) × ((after_call s c).face ≡ s.face)) (sym e) (position_points s hz v pos_mode atr_mode dummy) in
+              let at = subst (λ c. ((state_after_call s c).pointing ≡ record { hz = hz; v = v }) × ((state_after_call s c).face ≡ s.face)) (sym e) (position_points s hz v pos_mode atr_mode dummy) in
               (pointing ∙ at.0, face ∙ at.1);
         }
 
   -- if the laws of stations `ChainsStay`, `MarksGoOn` and `RecordsStay` hold, each record of a run over the simulator is
   -- `IsPointedInChain`
-  pub pointed : ChainsStay → MarksGoOn → RecordsStay → AllByRecursion (IsPointedInChain plan commands scope acts u rs) (state_after plan commands scope acts).records
+  pub pointed : ChainsStay → MarksGoOn → RecordsStay → AllByRecursion (IsPointedInChain u run) (program_records run)
   pointed stay go_on records_stay =
-      all_on (IsExecutedInChain ends IsFittingState kept_of plan commands scope acts u rs) (IsPointedInChain plan commands scope acts u rs)
-      (state_after plan commands scope acts).records
+      all_on (IsExecutedInChain simulator_ends IsFittingState kept_of u run) (IsPointedInChain u run) (program_records run)
       (λ b h line a answered many low less chained. let c = h line a answered many low less chained in (c, λ still quiet. pointed_there b line a c still quiet))
-      (chains_executed ends IsFittingState kept_of simulator.instrument stay go_on records_stay plan commands scope acts u rs field)
+      (chains_executed simulator_ends IsFittingState kept_of simulator.instrument stay go_on records_stay run.plan run.commands run.scope run.acts u run.runs field)

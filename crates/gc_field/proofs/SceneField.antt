@@ -20,7 +20,7 @@ use Rattle.gc_scenes.specs.SceneExecution.{Played, played_call, played_raw, unle
 use Rattle.gc_scenes.specs.SceneReplying.{IsPlayed, answers, names_call, names_none, resent_line, again_or_played, handed_call, handed_raw, played_or_refused, played_line}
 use Rattle.gc_scenes.specs.SceneState.{SceneState}
 use Rattle.gc_scenes.specs.declared.rules.Scripted.{Scripted}
-use Rattle.gc_field.specs.Instrument.{IsKeptAfter, IsOwnOrNone}
+use Rattle.gc_field.specs.Instrument.{IsOwnOrNone, MayBeKept, own_reply}
 use Rattle.gc_field.specs.SceneField.{scene_handed, SceneIsAnInstrument}
 use Rattle.gc_world.specs.Exchange.{ReadsWithItsId}
 use Rattle.gc_world.proofs.Handing.{again_kept, kept_reads, reply_heard}
@@ -31,16 +31,16 @@ use Rattle.std.proofs.lemmas.Bool.{true≢false}
 -- `IsAnInstrument`
 record MeetsClauses (s : SceneState) (id : ℕ) (known : Bool) (h : Handed SceneState) : Type 0 where
   reads : ReadsWithItsId s.base.kept → heard h.reply ≡ Some id
-  repeats : h.executed ≡ false → s.base.kept ≡ Some (record { id = id; line = h.reply })
-  keeps : IsKeptAfter known id h.reply s.base.kept h.state.base.kept
+  repeats : h.executed ≡ false → s.base.kept ≡ Some (own_reply id h)
+  keeps : MayBeKept known (own_reply id h) s.base.kept h.state.base.kept
   good : ReadsWithItsId s.base.kept → ReadsWithItsId h.state.base.kept
 
--- what is retained after a request: its own reply, or nothing
-own_or_none : (b : Bool) (id : ℕ) (line : List ℕ) (k : Option KeptReply) → IsOwnOrNone id line (cond b (kept_after k (Some id) line) None)
+-- what is kept after a request: its own reply, or nothing
+own_or_none : (b : Bool) (id : ℕ) (line : List ℕ) (k : Option KeptReply) → IsOwnOrNone (record { id = id; line = line }) (cond b (kept_after k (Some id) line) None)
 own_or_none true id line k = inr refl
 own_or_none false id line k = inl refl
 
--- what the instrument does with a request with an id below 8 that it answers again by what it retains, or plays with a return
+-- what the instrument does with a request with an id below 8 that it answers again by what it keeps, or plays with a return
 -- code below 65536, meets the clauses
 played_does : (s : SceneState) (id : ℕ) (known : Bool) (p : Played) (o : Option (List ℕ)) → resent_line s (Some id) ≡ o → id < 8 → p.rc < 65536
     → MeetsClauses s id known (again_or_played s (Some id) p o)

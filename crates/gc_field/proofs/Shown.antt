@@ -5,27 +5,27 @@ use Rattle.gc_station.specs.Beginnings.{unanswered_after}
 use Rattle.gc_station.specs.Begun.{heard_in}
 use Rattle.gc_station.proofs.Asked.{heard_append, left_append}
 use Rattle.gc_field.specs.World.{Ends}
-use Rattle.gc_field.specs.Begin.{InFlight, Model, Turn, Asks, Comes, Foreign, Reaches, Up_lose, Up_repeat, Down_lose, Down_repeat, Anew, Changes, comes, reaches, asks, turned, turns}
+use Rattle.gc_field.specs.Begin.{InFlight, SyncModel, SyncTurn, Asks, Comes, Foreign, Reaches, Up_lose, Up_repeat, Down_lose, Down_repeat, Anew, Changes, comes, reaches, asks, turned, turns}
 use Rattle.gc_field.specs.Shown.{first_heard, shown, shows}
 
 module _ {State : Type 0} (ends : Ends State) where
   -- a null procedure that is sent changes nothing in what is left of the word
-  left_asks : (s : Model State) (word : List ℕ) → (asks s word).left ≡ s.left
+  left_asks : (s : SyncModel State) (word : List ℕ) → (asks s word).left ≡ s.left
   left_asks s [] = refl
   left_asks s (asked ∷ rest) = refl
 
   -- the front reply that comes, if there is one, leaves of the word what its line leaves
-  left_comes : (s : Model State) (q : List (InFlight (List ℕ))) → (comes s q).left ≡ unanswered_after s.left (heard_in (first_heard q))
+  left_comes : (s : SyncModel State) (q : List (InFlight (List ℕ))) → (comes s q).left ≡ unanswered_after s.left (heard_in (first_heard q))
   left_comes s [] = refl
   left_comes s (x ∷ rest) = refl
 
   -- a request that reaches the instrument changes nothing in what is left of the word
-  pub left_reaches : (s : Model State) (q : List _) → (reaches ends s q).left ≡ s.left
+  pub left_reaches : (s : SyncModel State) (q : List _) → (reaches ends s q).left ≡ s.left
   left_reaches s [] = refl
   left_reaches s (x ∷ rest) = refl
 
   -- a turn leaves of the word what the line that it shows to the station, if it shows one, leaves of it
-  left_turn : (s : Model State) (t : Turn State) → (turns ends s t).left ≡ unanswered_after s.left (heard_in (shows s t))
+  left_turn : (s : SyncModel State) (t : SyncTurn State) → (turns ends s t).left ≡ unanswered_after s.left (heard_in (shows s t))
   left_turn s Asks = left_asks s s.left
   left_turn s Comes = left_comes s s.down
   left_turn s (Foreign line) = refl
@@ -38,7 +38,7 @@ module _ {State : Type 0} (ends : Ends State) where
   left_turn s (Changes state) = refl
 
   -- turns leave of the word what the lines that they show to the station leave of it
-  pub left_is : (ts : List (Turn State)) (s : Model State) → (turned ends ts s).left ≡ unanswered_after s.left (heard_in (shown ends ts s))
+  pub left_is : (ts : List (SyncTurn State)) (s : SyncModel State) → (turned ends ts s).left ≡ unanswered_after s.left (heard_in (shown ends ts s))
   left_is [] s = refl
   left_is (t ∷ ts) s =
       left_is ts (turns ends s t)

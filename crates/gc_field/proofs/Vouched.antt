@@ -1,7 +1,7 @@
 -- Each line that comes was made for its request as its call was executed, whatever is repeated or lost, and however often the
 -- instrument starts again; requests that `E` names are excepted. M n call line is any property that the reply to each executed
 -- request has. The client is given the number of each reply's request: `count` of its requests are settled, and request n has the
--- id n - `since` modulo 8. What the instrument retains is a reply to `table`, the last request that it was handed and that
+-- id n - `since` modulo 8. What the instrument keeps is a reply to `table`, the last request that it was handed and that
 -- `knows` names, or to a later one; `low` is at most `table` + 1. Where `MustKnow` holds, each request that is sent is known.
 use Rattle.std.proofs.Common.{◌≡◌, ℕ, ◌+◌, ◌-◌, ◌%◌, ◌<◌, ◌≤◌, ◌⊎◌, inl, inr, Bool, true, false, List, [], ◌∷◌, ◌++◌, length, drop, Option, Some, None, refl, sym, ◌∙◌, ap, subst, arith, ltb, eqb}
 use Rattle.std.specs.List.{AllByRecursion}
@@ -20,11 +20,11 @@ use Rattle.gc_field.specs.World.{Request, Sent, Numbered, Ends, Step, Send, Up_d
 use Rattle.gc_world.proofs.Booked.{Has, has_more, has_push}
 use Rattle.std.proofs.lemmas.Option.{same_Some, none-some}
 use Rattle.gc_world.proofs.Places.{get_more, get_push, all_at}
-use Rattle.gc_world.proofs.Replay.{IsOf, of_more}
+use Rattle.gc_world.proofs.Replay.{IsAsSent, of_more}
 use Rattle.gc_world.proofs.Rows.{each_without, each_doubled, rising_each, rising_tail}
 use Rattle.gc_world.proofs.Sound.{IsGoing, Sound}
 use Rattle.gc_field.specs.Field.{IsLineStep}
-use Rattle.gc_field.specs.Instrument.{IsAnInstrumentFor, IsKeptAfter, KeepsItsReply}
+use Rattle.gc_field.specs.Instrument.{IsAnInstrumentFor, KeepsItsReply, MayBeKept, MayForget, own_reply}
 use Rattle.gc_field.proofs.Answered.{HoldsOfAll, holds_more, holds_append, holds_settled}
 use Rattle.gc_field.proofs.Once.{IsClimbing, IsIdle, IsOrdered, IsUnknown, climbing_started, climbing_acted, climbing_handed, climbing_sent, known_not, ordered_acted, ordered_handed, unknown_more, why_acted}
 use Rattle.gc_field.proofs.KeptReplies.{VouchedFields, fields_of, log_of, unknown_or_retained, KeptIs, kept_more, kept_still, newest, newest_up, newest_low, IsDealt, newest_dealt, kept_handed, IsVouched, ReplyHas}
@@ -65,8 +65,8 @@ module _ {State : Type 0} (width : ℕ) (narrow : width ≤ 7) (knows : Asked �
     own (inl e) = inl e
     own (inr v) = inr (record { among = has_more _ made more v.among; acted = lasts n v.acted; request = v.request; found = v.found; reply = v.reply; on = v.on })
 
-  -- the invariant, over the fields of a world: each reply in flight, the retained reply, and each answer is vouched for; each
-  -- request in flight is one that was sent; executions are in order, and each request acts once to which the instrument retains
+  -- the invariant, over the fields of a world: each reply in flight, the kept reply, and each answer is vouched for; each
+  -- request in flight is one that was sent; executions are in order, and each request acts once to which the instrument keeps
   -- its reply; and the numbers fit as said below
   pub record AllVouchedIn (v : VouchedFields) : Type 0 where
     -- the number of the last request that the instrument was handed is one less than this
@@ -83,7 +83,7 @@ module _ {State : Type 0} (width : ℕ) (narrow : width ≤ 7) (knows : Asked �
     pub above : AllByRecursion (λ x. top ≤ x.number + 1) v.up
     pub below : AllByRecursion (λ x. x.number < top) v.down
     pub holds : KeptIs (Vouched v.sent v.executed v.made table) v.since top table v.retained
-    pub lines : AllByRecursion (IsOf written v.sent) v.up
+    pub lines : AllByRecursion (IsAsSent written v.sent) v.up
     pub near : IsNear knows E MustKnow v.sent top table
     pub coming : AllByRecursion (λ x. Vouched v.sent v.executed v.made table x.number x.line) v.down
     pub answers : HoldsOfAll (Vouched v.sent v.executed v.made table) 0 v.settled
@@ -148,7 +148,7 @@ module _ {State : Type 0} (width : ℕ) (narrow : width ≤ 7) (knows : Asked �
     top : h.top ≤ x.number + 1
     least : h.table ≤ x.number
     near : E x.number ⊎ (x.number ≤ h.table + 7)
-    of : IsOf written w.wire.sent x
+    of : IsAsSent written w.wire.sent x
     unknown : (known ≡ false) → IsUnknown knows w.wire.sent x.number
     all : AllByRecursion (λ (r : Sent). knows r.call ≡ true) w.wire.sent → known ≡ true
 
@@ -159,7 +159,7 @@ module _ {State : Type 0} (width : ℕ) (narrow : width ≤ 7) (knows : Asked �
       let c = w.client in
       let g = (subst (λ l. AllByRecursion (IsGoing c.since (length c.requests)) l) q s.going).0 in
       let a = (subst (λ l. AllByRecursion (λ y. h.top ≤ y.number + 1) l) q h.above).0 in
-      let o = (subst (λ l. AllByRecursion (IsOf written w.wire.sent) l) q h.lines).0 in
+      let o = (subst (λ l. AllByRecursion (IsAsSent written w.wire.sent) l) q h.lines).0 in
       record {
         recent = g.recent;
         sent = omega (arith, g.sent, s.counted);
@@ -174,11 +174,11 @@ module _ {State : Type 0} (width : ℕ) (narrow : width ≤ 7) (knows : Asked �
       }
 
   -- the front request, x, was handed to the instrument, which sent this line for it: `executed` are all executions then, and
-  -- `after` is what is retained. What was executed before is among them (`lasts`), what is retained is as `IsKeptAfter` says
+  -- `after` is what is kept. What was executed before is among them (`lasts`), what is kept is as `MayBeKept` says
   -- (`now`), the line is vouched for, or x excepted (`new`), and the executions are in order and act once
   record WasHanded (w : World (ByNumber Asked) State) (x : Numbered Request) (known : Bool) (line executed : List ℕ) (after : Option KeptReply) : Type 0 where
     lasts : (i : ℕ) → Has i w.wire.executed → Has i executed
-    now : IsKeptAfter known x.line.id line (kept w.wire.state) after
+    now : MayBeKept known (record { id = x.line.id; line = line }) (kept w.wire.state) after
     new : E x.number ⊎ IsVouched ends Good M w.wire.sent executed (w.wire.made ++ record { number = x.number; line = line } ∷ []) x.number line
     order : IsOrdered (x.number + 1) executed
     once : (keeps : Asked → Bool) → KeepsItsReply ends Good kept keeps
@@ -206,7 +206,7 @@ module _ {State : Type 0} (width : ℕ) (narrow : width ≤ 7) (knows : Asked �
       let f : (i : ℕ) (line : List ℕ) → P i line → Q i line = λ i line p. stays_on v.sent v.executed executed v.made (m ∷ []) h.table next i line was.lasts up p in
       let own : Q n line = (newest_dealt knows v.sent known n h.table front.unknown, was.new) in
       let rising = rising_tail c.count n (numbers v.down) (numbers rest) (subst (λ l. Rising c.count (numbers v.down ++ numbers l)) q s.order) in
-      let o = subst (λ l. AllByRecursion (IsOf written v.sent) l) q h.lines in
+      let o = subst (λ l. AllByRecursion (IsAsSent written v.sent) l) q h.lines in
       let low : next ≤ n = newest_low known n h.table front.least in
       record {
         top = n + 1;
@@ -220,7 +220,7 @@ module _ {State : Type 0} (width : ℕ) (narrow : width ≤ 7) (knows : Asked �
             all_append _ v.down _ (all_on (λ (y : Numbered (List ℕ)). y.number < h.top) (λ y. y.number < n + 1) v.down (λ y l. omega (arith, l, front.top)) h.below)
             (omega arith, tt);
         holds =
-            kept_handed Q c.since h.top h.table n x.line.id known line (kept v.state) after front.top
+            kept_handed Q c.since h.top h.table n (record { id = x.line.id; line = line }) known (kept v.state) after front.top
             (record { number = n; recent = front.recent; before = omega arith; behind = low; id = front.id; line = own }) was.now
             (kept_more P Q f c.since h.top h.table (kept v.state) h.holds);
         lines = o.1;
@@ -231,7 +231,7 @@ module _ {State : Type 0} (width : ℕ) (narrow : width ≤ 7) (knows : Asked �
         once = was.once;
       }
 
-  -- if what is retained has the id of the front request, x, then x is excepted, or the retained line is vouched for as its reply
+  -- if what is kept has the id of the front request, x, then x is excepted, or the kept line is vouched for as its reply
   again_own : (w : World (ByNumber Asked) State) (x : Numbered Request) (known : Bool) (line : List ℕ) (k : Option KeptReply) → (h : AllVouched w) → FrontIs w h x known → kept w.wire.state ≡ k
       → k ≡ Some (record { id = x.line.id; line = line })
       → E x.number ⊎ IsVouched ends Good M w.wire.sent w.wire.executed (w.wire.made ++ record { number = x.number; line = line } ∷ []) x.number line
@@ -246,11 +246,11 @@ module _ {State : Type 0} (width : ℕ) (narrow : width ≤ 7) (knows : Asked �
         | inr p ↦ (stays_on v.sent v.executed v.executed v.made (m ∷ []) h.table h.table x.number line (λ i has. has) (omega arith) p).1
       ]
 
-  -- what the instrument retains after the front request is as `IsKeptAfter` says
+  -- what the instrument keeps after the front request is as `MayBeKept` says
   abbrev AfterIs : World (ByNumber Asked) State → Numbered Request → Handed State → Bool → Type 0
-  AfterIs w x hd known = IsKeptAfter known x.line.id hd.reply (kept w.wire.state) (kept hd.state)
+  AfterIs w x hd known = MayBeKept known (own_reply x.line.id hd) (kept w.wire.state) (kept hd.state)
 
-  -- in a sound world `AllVouched` is preserved if the front request isn't executed, and the retained line is sent again for it
+  -- in a sound world `AllVouched` is preserved if the front request isn't executed, and the kept line is sent again for it
   vouched_again : (w : World (ByNumber Asked) State) (x : Numbered Request) (rest : List (Numbered Request)) (hd : Handed State) (known : Bool) → w.wire.up ≡ x ∷ rest
       → ends.handed w.wire.state x.line.id x.line.call ≡ hd → knows x.line.call ≡ known → kept w.wire.state ≡ Some (record { id = x.line.id; line = hd.reply }) → AfterIs w x hd known
       → Sound width ends Good w → AllVouched w → AllVouched (on_wire w (replied w.wire x.number rest (record hd { executed = false })))
@@ -268,7 +268,7 @@ module _ {State : Type 0} (width : ℕ) (narrow : width ≤ 7) (knows : Asked �
             (unknown_or_retained ends Good kept w x hd keeps (keeps x.line.call) refl k is s.good c.since front.id front.of) (h.once keeps k);
       })
 
-  -- in a good state, if the front request, x, is executed, and the instrument retains its reply to each request that `keeps`
+  -- in a good state, if the front request, x, is executed, and the instrument keeps its reply to each request that `keeps`
   -- names: `keeps` doesn't name x, or nothing was executed since the last start, or x is later than all that were handed before
   acted_by : (w : World (ByNumber Asked) State) (x : Numbered Request) (hd : Handed State) (known : Bool) (keeps : Asked → Bool) (b : Bool) → keeps x.line.call ≡ b
       → KeepsItsReply ends Good kept keeps → ends.handed w.wire.state x.line.id x.line.call ≡ hd → hd.executed ≡ true → Good w.wire.state → (h : AllVouched w) → FrontIs w h x known
@@ -323,15 +323,15 @@ module _ {State : Type 0} (width : ℕ) (narrow : width ≤ 7) (knows : Asked �
   vouched_handed w x rest hd b q is exe on s h = chosen b exe where
     -- the request's id is below 8
     small : x.line.id < 8
-    small = (subst (λ l. AllByRecursion (IsOf written w.wire.sent) l) q h.lines).0.small
+    small = (subst (λ l. AllByRecursion (IsAsSent written w.wire.sent) l) q h.lines).0.small
 
-    -- what the instrument retains after the request is as `AfterIs` says
+    -- what the instrument keeps after the request is as `AfterIs` says
     now : AfterIs w x hd (knows x.line.call)
     now =
-        subst (λ (k : Handed State). IsKeptAfter (knows x.line.call) x.line.id k.reply (kept w.wire.state) (kept k.state))
+        subst (λ (k : Handed State). MayBeKept (knows x.line.call) (own_reply x.line.id k) (kept w.wire.state) (kept k.state))
         is (keeper.keeps w.wire.state x.line.id x.line.call s.good small)
 
-    -- if the request isn't executed, the line that is sent for it is the retained one
+    -- if the request isn't executed, the line that is sent for it is the kept one
     same : hd.executed ≡ false → kept w.wire.state ≡ Some (record { id = x.line.id; line = hd.reply })
     same not =
         subst (λ (k : Handed State). k.executed ≡ false → kept w.wire.state ≡ Some (record { id = x.line.id; line = k.reply })) is
@@ -386,9 +386,9 @@ module _ {State : Type 0} (width : ℕ) (narrow : width ≤ 7) (knows : Asked �
       (holds_append P 0 w.client.count v.settled _ (omega (arith, s)) h.answers
       (holds_settled P w.client.count x.number (x.number - w.client.count) x.line (drop w.client.count w.client.requests) (omega (arith, ge)) m.0))
 
-  -- `AllVouchedIn` is preserved if what is retained stays, or nothing is retained any more, and executions still act once, also
+  -- `AllVouchedIn` is preserved if what is kept stays, or nothing is kept any more, and executions still act once, also
   -- with these starts
-  still_kept : (w : World (ByNumber Asked) State) (starts : List ℕ) (state : State) → (kept state ≡ None) ⊎ (kept state ≡ kept w.wire.state) → (h : AllVouched w)
+  still_kept : (w : World (ByNumber Asked) State) (starts : List ℕ) (state : State) → MayForget (kept w.wire.state) (kept state) → (h : AllVouched w)
       → ((keeps : Asked → Bool) → KeepsItsReply ends Good kept keeps → IsClimbing keeps w.client.since h.top
       (record { sent = w.wire.sent; executed = w.wire.executed; starts = starts; retained = kept state }))
       → AllVouchedIn (record (fields_of kept w) { starts = starts; retained = kept state })
@@ -421,7 +421,7 @@ module _ {State : Type 0} (width : ℕ) (narrow : width ≤ 7) (knows : Asked �
       still_kept w (v.starts ++ length v.executed ∷ []) (ends.restarted v.state) now h
       (λ keeps k. climbing_started keeps w.client.since h.top (log_of (fields_of kept w)) (kept (ends.restarted v.state)) now (h.once keeps k))
 
-  -- `AllVouched` is preserved if the instrument's state changes, and it retains the same
+  -- `AllVouched` is preserved if the instrument's state changes, and it keeps the same
   pub vouched_changed : (w : World (ByNumber Asked) State) (state : State) → kept state ≡ kept w.wire.state → AllVouched w → AllVouched (on_wire w (record w.wire { state = state }))
   vouched_changed w state same h =
       let v = w.wire in
@@ -430,7 +430,7 @@ module _ {State : Type 0} (width : ℕ) (narrow : width ≤ 7) (knows : Asked �
 
   -- `AllVouched` is preserved if the lines in flight change to others that meet its clauses on lines in flight
   vouched_queues : (w : World (ByNumber Asked) State) (up : List (Numbered Request)) (down : List (Numbered (List ℕ))) (h : AllVouched w)
-      → AllByRecursion (λ x. h.top ≤ x.number + 1) up → AllByRecursion (IsOf written w.wire.sent) up → AllByRecursion (λ x. x.number < h.top) down
+      → AllByRecursion (λ x. h.top ≤ x.number + 1) up → AllByRecursion (IsAsSent written w.wire.sent) up → AllByRecursion (λ x. x.number < h.top) down
       → AllByRecursion (λ x. Vouched w.wire.sent w.wire.executed w.wire.made h.table x.number x.line) down → AllVouched (on_wire w (record w.wire { up = up; down = down }))
   vouched_queues w up down h a l b c = record {
     top = h.top;
@@ -465,7 +465,7 @@ module _ {State : Type 0} (width : ℕ) (narrow : width ≤ 7) (knows : Asked �
 
   -- `AllVouched` is preserved if the requests in flight stay (`b` is false), or change to some that meet its clauses
   vouched_with_up : (w : World (ByNumber Asked) State) (up : List (Numbered Request)) (b : Bool) (h : AllVouched w)
-      → AllByRecursion (λ x. h.top ≤ x.number + 1) up → AllByRecursion (IsOf written w.wire.sent) up → AllVouched (on_wire w (with_up w.wire up b))
+      → AllByRecursion (λ x. h.top ≤ x.number + 1) up → AllByRecursion (IsAsSent written w.wire.sent) up → AllVouched (on_wire w (with_up w.wire up b))
   vouched_with_up w up false h a l = h
   vouched_with_up w up true h a l = vouched_queues w up w.wire.down h a l h.below h.coming
 

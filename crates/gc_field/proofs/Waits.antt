@@ -4,7 +4,7 @@ use Rattle.std.specs.Prelude.{slice_get}
 use Rattle.std.proofs.lemmas.Bool.{ltb-true}
 use Rattle.gc_catalogue.specs.declared.asked.Asked.{Asked}
 use Rattle.gc_client.specs.declared.pending.Pending.{Pending}
-use Rattle.gc_client.specs.Rule.{ById, Settlement, expired, hears, id_send, id_settled, pending_of, place_in, settle}
+use Rattle.gc_client.specs.Rule.{ById, Settlement, expired, hears, send_unless_full, settles_at, pending_of, place_in, settle}
 use Rattle.gc_instrument.specs.State.{KeptReply}
 use Rattle.gc_world.specs.Clients.{by_ids}
 use Rattle.gc_field.specs.World.{Ends, Numbered, Step, World, requested, down_delivered}
@@ -46,7 +46,7 @@ Waits w n p = WaitsAt (length w.wire.settled) w.client.waiting n p
 -- a request that a reply leaves unsettled waits on, whether a request waits at the place k of the reply's id (`b`) or none does
 waits_settled : (c : ById Asked) (line : List ℕ) (k : ℕ) (b : Bool) (before : List (Settlement Asked)) (n : ℕ) (p : Pending Asked) → nat_lt k (length c.waiting) ≡ b
     → WaitsAt (length before) c.waiting n p
-    → WaitsAt (length (before ++ (id_settled c line k b).settlements)) (id_settled c line k b).client.waiting n p
+    → WaitsAt (length (before ++ (settles_at c line k b).settlements)) (settles_at c line k b).client.waiting n p
 waits_settled c line k true before n p fits h = λ le.
     let low = ltb-true k (length c.waiting) fits in
     let many = length-settle k line c.waiting low in
@@ -74,7 +74,7 @@ module _ {State : Type 0} (ends : Ends State) (Good : State → Type 0) (kept : 
 
   -- `Waits` is preserved if another request is sent, or is refused because the window is full (`b`)
   waits_sent : (w : World (ById Asked) State) (target : ℕ) (call : Asked) (deadline : ℕ) (b : Bool) (n : ℕ) (p : Pending Asked) → Waits w n p
-      → Waits (requested w target call (id_send w.client target call deadline b)) n p
+      → Waits (requested w target call (send_unless_full w.client target call deadline b)) n p
   waits_sent w target call deadline true n p h = h
   waits_sent w target call deadline false n p h = λ le. get_more w.client.waiting (pending_of target call deadline ∷ []) (n - length w.wire.settled) p (h le)
 

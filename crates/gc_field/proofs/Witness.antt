@@ -22,12 +22,12 @@ use Rattle.gc_station.specs.Parts.{Part, nothing, parts_of}
 use Rattle.gc_station.proofs.Going.{runs-append}
 use Rattle.gc_station.specs.Model.{Runs, opening}
 use Rattle.gc_field.specs.Plain.{plain_expected}
-use Rattle.gc_field.specs.Simulator.{ends}
+use Rattle.gc_field.specs.Simulator.{simulator_ends}
 use Rattle.gc_field.specs.Begin.{begins, left_by_turns}
 use Rattle.gc_field.specs.Begun.{WasMadeOn}
 use Rattle.gc_field.specs.Field.{seen}
 use Rattle.gc_field.specs.Shown.{AreShownAs, shown}
-use Rattle.gc_field.specs.Witness.{SomeRunIsInField, acts, answer, at_start, begun_with, commands, moves, plan, plan_of, replies, runs, scope, turns}
+use Rattle.gc_field.specs.Witness.{SomeRunIsInField, acts, answer, at_start, begun_with, commands, moves, plan, plan_of_width, replies, runs, scope, turns}
 
 -- What the runs share.
 
@@ -46,7 +46,7 @@ units (suc n) = (tt, units n)
 abbrev pub OpensWith : List (List ℕ) → Type 0
 OpensWith answers =
     (width : ℕ) (tasks : List Task) (reads : Asked → List ℕ → Reading)
-    → Runs (plan_of width) tasks (opening (plan_of width) (record { turns = 100; reads = reads })) (begun_with answers [])
+    → Runs (plan_of_width width) tasks (opening (plan_of_width width) (record { turns = 100; reads = reads })) (begun_with answers [])
 
 -- with the simulator's replies to all eight null procedures these acts are a run
 pub opens : OpensWith replies
@@ -113,7 +113,7 @@ none_here (inr (inl h)) = not_six_and_zero 6 0 h.0 refl refl
 none_here (inr (inr h)) = h
 
 -- the answer was made on executing the command's request, the client's first one
-was_made : WasMadeOn WINDOW ends (left_by_turns ends turns at_start) moves 8 (Table InstrumentNo) answer
+was_made : WasMadeOn WINDOW simulator_ends (left_by_turns simulator_ends turns at_start) moves 8 (Table InstrumentNo) answer
 unfolding is_elsewhere header_at reply_at handed exec digits
 was_made = record { front = take 3 moves; later = drop 4 moves; split = refl; id = 0; rest = []; reaches = refl; executed = refl; reply = refl }
 
@@ -134,7 +134,7 @@ unfolding is_elsewhere header_at reply_at digits
 parts_are = refl
 
 -- what happens while the station synchronizes shows these steps
-shown_are : shown ends turns (begins at_start) ≡ all_sync_steps
+shown_are : shown simulator_ends turns (begins at_start) ≡ all_sync_steps
 unfolding is_elsewhere header_at reply_at handed exec digits
 shown_are = refl
 
@@ -151,7 +151,7 @@ answered =
                 (refl, (tt, (tt, (refl, (tt, (tt, (refl, (tt, (tt, (tt, (refl, (tt, (tt, (refl, tt))))))))))))));
             lines = record { ids = (lit< tt, tt); good = fits };
             none = none_here;
-            shown = subst (AreShownAs ends at_start runs) (sym parts_are) (shown_are, refl, (refl, refl, tt));
+            shown = subst (AreShownAs simulator_ends at_start runs) (sym parts_are) (shown_are, refl, (refl, refl, tt));
             possible = ((units 27, (tt, (tt, (tt, (tt, (tt, ((8, [], refl), tt))))))), ((tt, refl), tt));
           };
       over = refl;

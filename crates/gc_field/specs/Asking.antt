@@ -15,14 +15,14 @@ IsAskedFor word bytes steps = ((bytes ≡ 10 ∷ []) × (steps ≡ [])) ⊎ ((by
 
 -- what becomes of a piece that comes while a station synchronizes: it is heard line by line; or it is discarded, as if its
 -- lines had been lost. `before` and `behind` are the bytes since the last line feed, before the piece and after it
-abbrev pub IsTaken : (before piece : List ℕ) → List SyncStep → List ℕ → Type 0
-IsTaken before piece steps behind = ((steps ≡ map Hears (lines_completed before piece)) × (behind ≡ rest_behind before piece)) ⊎ ((steps ≡ []) × (behind ≡ before))
+abbrev pub IsHeardOrDiscarded : (before piece : List ℕ) → List SyncStep → List ℕ → Type 0
+IsHeardOrDiscarded before piece steps behind = ((steps ≡ map Hears (lines_completed before piece)) × (behind ≡ rest_behind before piece)) ⊎ ((steps ≡ []) × (behind ≡ before))
 
 -- what an act means while these ids of the word aren't answered: its steps. `before` and `behind` are the bytes since the last
 -- line feed, before and after the act; a close forgets them
 abbrev pub MeansSyncSteps : (word before : List ℕ) → Act → List SyncStep → List ℕ → Type 0
 MeansSyncSteps word before (Put bytes) steps behind = IsAskedFor word bytes steps × (behind ≡ before)
 MeansSyncSteps word before (Cut bytes count) steps behind = IsAskedFor word bytes steps × (behind ≡ before)
-MeansSyncSteps word before (Gave piece m) steps behind = IsTaken before piece steps behind
+MeansSyncSteps word before (Gave piece m) steps behind = IsHeardOrDiscarded before piece steps behind
 MeansSyncSteps word before Closed steps behind = (steps ≡ []) × (behind ≡ [])
 MeansSyncSteps word before _ steps behind = (steps ≡ []) × (behind ≡ before)

@@ -6,13 +6,12 @@ use Rattle.std.specs.Prelude.{◌≡◌, ℕ, ◌+◌, ◌%◌, ◌<◌, ◌≤�
 use Rattle.std.specs.List.{AllByRecursion}
 use Rattle.gc_client.specs.declared.window.TheConstants.{WINDOW}
 use Rattle.gc_instrument.specs.State.{KeptReply, IsFittingState}
-use Rattle.gc_world.specs.Clients.{by_ids}
-use Rattle.gc_field.specs.Simulator.{ends}
+use Rattle.gc_field.specs.Simulator.{simulator_ends}
 use Rattle.gc_world.specs.Order.{Rising}
 use Rattle.gc_field.specs.World.{Ends, Wire}
-use Rattle.gc_field.specs.Begin.{IsWellFormed, LacksTheWord, AreTurns, Model, Turn, UnderWay, begins, ids_under_way, leaves, turned}
-use Rattle.gc_field.specs.Begun.{HasSynchronizedCleanly, IsClean, IsFaithful, behind, ids_begun}
-use Rattle.gc_field.specs.Field.{Move, ArePossible}
+use Rattle.gc_field.specs.Begin.{IsWellFormed, LacksTheWord, AreTurns, SyncModel, SyncTurn, UnderWay, begins, ids_under_way, leaves, turned}
+use Rattle.gc_field.specs.Begun.{HasSynchronizedCleanly, IsClean, IsFaithful, behind, ArePossibleOnceBegun}
+use Rattle.gc_field.specs.Field.{Move}
 use Rattle.gc_field.specs.Instrument.{OfAnyInstrument}
 use Rattle.gc_field.specs.Laws.{kept_of}
 
@@ -39,17 +38,17 @@ RisingIdsLackTheWord State = (u : UnderWay State) → HasRisingIds u → LacksTh
 abbrev pub RunsLeaveRisingIds : Type 0 → Type 0
 RunsLeaveRisingIds State = OfAnyInstrument {State = State} (λ ends Good kept.
     (width : ℕ) → width ≤ WINDOW → (u : UnderWay State) → IsClean Good kept u →
-    (ms : List (Move State)) → ArePossible ends Good kept (by_ids width ends) ms (ids_begun u) → HasRisingIds (on_line (behind width ends u ms).wire))
+    (ms : List (Move State)) → ArePossibleOnceBegun width ends u Good kept ms → HasRisingIds (on_line (behind width ends u ms).wire))
 
 -- Runs.
 
 -- a run: what happens while it synchronizes, and once it has synchronized. A run that resynchronizes within itself is two
 pub record Run (State : Type 0) : Type 0 where
-  pub turns : List (Turn State)
+  pub turns : List (SyncTurn State)
   pub moves : List (Move State)
 
 -- the state of a run's synchronization at the end of its turns: the run has synchronized then, or is killed
-abbrev pub after_turns : {State : Type 0} → Ends State → UnderWay State → Run State → Model State
+abbrev pub after_turns : {State : Type 0} → Ends State → UnderWay State → Run State → SyncModel State
 after_turns ends u r = turned ends r.turns (begins u)
 
 -- how many runs in a row were killed while they synchronized, counted at the end of a run, by the ids of its word that are left,
@@ -61,7 +60,7 @@ killed_if (asked ∷ rest) n = n + 1
 module _ {State : Type 0} (width : ℕ) (ends : Ends State) where
   -- what is in flight after a run, by the ids of its word that are left. If none is left, the run had synchronized, and its moves
   -- followed; else it was killed while it synchronized
-  abbrev pub left_if : List ℕ → Model State → List (Move State) → UnderWay State
+  abbrev pub left_if : List ℕ → SyncModel State → List (Move State) → UnderWay State
   left_if [] s ms = on_line (behind width ends (leaves s) ms).wire
   left_if (asked ∷ rest) s ms = leaves s
 
@@ -83,8 +82,8 @@ module _ {State : Type 0} (width : ℕ) (ends : Ends State) where
   module _ (Good : State → Type 0) (kept : State → Option KeptReply) where
     -- the moves of a run are possible, by the ids of its word that are left. If none is left, they are possible moves of a client
     -- that has synchronized; else there are no moves
-    abbrev pub ArePossibleIf : List ℕ → Model State → List (Move State) → Type 0
-    ArePossibleIf [] s ms = ArePossible ends Good kept (by_ids width ends) ms (ids_begun (leaves s))
+    abbrev pub ArePossibleIf : List ℕ → SyncModel State → List (Move State) → Type 0
+    ArePossibleIf [] s ms = ArePossibleOnceBegun width ends (leaves s) Good kept ms
     ArePossibleIf (asked ∷ rest) s ms = ms ≡ []
 
     -- each run is possible, over what the one before it left
@@ -94,7 +93,7 @@ module _ {State : Type 0} (width : ℕ) (ends : Ends State) where
         (AreTurns ends Good kept r.turns (begins u) × ArePossibleIf (after_turns ends u r).left (after_turns ends u r) r.moves) × AreRuns (left_by_run u r) rs
 
     -- if a run has synchronized (no id of its word is left), it has synchronized cleanly, and its moves are faithful
-    abbrev pub IsOwnIf : List ℕ → Model State → List (Move State) → Type 0
+    abbrev pub IsOwnIf : List ℕ → SyncModel State → List (Move State) → Type 0
     IsOwnIf [] s ms = HasSynchronizedCleanly Good kept s × IsFaithful width ends (leaves s) ms Good kept
     IsOwnIf (asked ∷ rest) s ms = Unit {0}
 
@@ -106,7 +105,7 @@ module _ {State : Type 0} (width : ℕ) (ends : Ends State) where
 -- for clients with a window of at most `WINDOW` requests, after a run that had synchronized, or over a line with nothing in
 -- flight (`HasRisingIds`, `IsWellFormed`): as long as fewer than six runs in a row end while they synchronize, each run that has
 -- synchronized has done so cleanly, and `IsFaithful` holds of its moves: each of its answers to a request that is `IsSafe` is its
--- own. `Good` says which states of the instrument are good, and `kept` what reply each of them retains
+-- own. `Good` says which states of the instrument are good, and `kept` what reply each of them keeps
 abbrev pub RunsInARowAreOwn : {State : Type 0} → (ends : Ends State) → (Good : State → Type 0) → (kept : State → Option KeptReply) → Type 0
 RunsInARowAreOwn {State = State} ends Good kept =
     (width : ℕ) → width ≤ WINDOW → (u : UnderWay State) → IsWellFormed Good u → HasRisingIds u →
@@ -118,4 +117,4 @@ RunsAreTheirOwn State = OfAnyInstrument {State = State} (λ ends Good kept. Runs
 
 -- `RunsInARowAreOwn`, for the simulator, in any state that fits
 abbrev pub SimulatorsRunsAreTheirOwn : Type 0
-SimulatorsRunsAreTheirOwn = RunsInARowAreOwn ends IsFittingState kept_of
+SimulatorsRunsAreTheirOwn = RunsInARowAreOwn simulator_ends IsFittingState kept_of

@@ -21,18 +21,18 @@ use Rattle.gc_station.specs.Scopes.{Scope}
 use Rattle.gc_field.specs.Plain.{plain_task, plain_turn}
 use Rattle.gc_field.specs.World.{Up_deliver, Up_lose}
 use Rattle.gc_field.specs.Begin as turn
-use Rattle.gc_field.specs.Begin.{Turn, Asks, Reaches, UnderWay, left_by_turns}
+use Rattle.gc_field.specs.Begin.{SyncTurn, Asks, Reaches, UnderWay, left_by_turns}
 use Rattle.gc_field.specs.Beginnings.{Run, left_by_run}
 use Rattle.gc_field.specs.Begun.{WasMadeOn}
 use Rattle.gc_field.specs.CountingChain.{Counter, at_start, null_replies, counting, first_reply, kept_by}
 use Rattle.gc_field.specs.Field.{Move, Sends, Tells, Comes, OnLine}
 use Rattle.gc_field.specs.Instrument.{IsAnInstrument, AnyState}
 use Rattle.gc_field.specs.Runs.{IsInField}
-use Rattle.gc_field.specs.Witness.{null_lines, at, begun_with, eight_answered, exchanged, plan_of, run_and_end, scope_saying}
+use Rattle.gc_field.specs.Witness.{null_lines, at, begun_with, eight_answered, exchanged, plan_of_width, run_and_end, scope_saying}
 
 -- the plan of this run: seven requests at a time
 abbrev pub plan : Plan
-plan = plan_of 7
+plan = plan_of_width 7
 
 -- what a command for this target asks: the instrument's number
 abbrev pub command : ℕ → Wish
@@ -132,7 +132,7 @@ moves =
 -- what happens while the station resynchronizes: the reply to the first command comes, and the seventh request reaches the
 -- instrument, whose reply is sent again for the first null procedure, which has that request's id; the other null procedures are
 -- answered
-abbrev pub turns : List (Turn Counter)
+abbrev pub turns : List (SyncTurn Counter)
 turns = Asks ∷ turn.Comes ∷ Reaches ∷ turn.Comes ∷ Asks ∷ Reaches ∷ turn.Comes ∷ Reaches ∷ turn.Comes ∷ drop 6 eight_answered
 
 -- what happens once the station has resynchronized: the eighth command is answered
@@ -177,7 +177,7 @@ records =
 -- its request
 pub record IsAnsweredAnew : Type 0 where
   pub instrument : IsAnInstrument counting AnyState kept_by
-  pub field : IsInField counting AnyState kept_by plan commands scope acts at_start runs
+  pub field : IsInField counting AnyState kept_by at_start (record { plan = plan; commands = commands; scope = scope; acts = acts; runs = runs })
   pub over : is_over (state_after plan commands scope acts).progress ≡ true
   pub begins_anew : IsResynchronizing plan commands scope given_up (Told (at 115))
   pub up : left_by_first.up ≡ record { id = 6; call = Table InstrumentNo } ∷ []

@@ -13,13 +13,13 @@ use Rattle.gc_client.specs.declared.window.TheConstants.{WINDOW}
 use Rattle.gc_client.specs.Rule.{ById, Outcome, Settlement, Answered, Late, Lost, fresh, heard}
 use Rattle.gc_instrument.specs.State.{KeptReply, IsFittingState}
 use Rattle.gc_world.specs.Clients.{ByNumber, by_ids}
-use Rattle.gc_field.specs.Simulator.{ends}
+use Rattle.gc_field.specs.Simulator.{simulator_ends}
 use Rattle.gc_field.specs.World.{Ends, Request, Sent, Wire, World}
-use Rattle.gc_field.specs.Begin.{InFlight, IsWellFormed, LacksTheWord, AreTurns, Model, Turn, UnderWay, begins, leaves, none_under_way, turned}
+use Rattle.gc_field.specs.Begin.{InFlight, IsWellFormed, LacksTheWord, AreTurns, SyncModel, SyncTurn, UnderWay, begins, leaves, none_under_way, turned}
 use Rattle.gc_field.specs.Field.{Move, Sends, ArePossible, AsksTheTable, moved}
 use Rattle.gc_field.specs.Instrument.{OfAnyInstrument, TreatsRawsAlike}
 use Rattle.gc_field.specs.Laws.{IsFaithfulFrom, kept_of}
-use Rattle.gc_field.specs.Made as making
+use Rattle.gc_field.specs.Made.{WasMadeFrom}
 use Rattle.gc_catalogue.specs.Asked.{is_of_table}
 
 -- Clean.
@@ -28,12 +28,12 @@ use Rattle.gc_catalogue.specs.Asked.{is_of_table}
 abbrev pub eighth : Request
 eighth = record { id = 7; call = Table NullProc }
 
--- what the instrument retains in this state, if it retains anything, has the id of the eighth null procedure (7)
+-- what the instrument keeps in this state, if it keeps anything, has the id of the eighth null procedure (7)
 abbrev pub IsOfEighth : {State : Type 0} → (State → Option KeptReply) → State → Type 0
 IsOfEighth kept state = (k : KeptReply) → kept state ≡ Some k → k.id ≡ 7
 
 -- what a synchronization leaves once it has synchronized cleanly: the instrument in a good state, copies of the eighth null
--- procedure, replies with its id (7), and a retained reply with that id, or none
+-- procedure, replies with its id (7), and a kept reply with that id, or none
 pub record IsClean {State : Type 0} (Good : State → Type 0) (kept : State → Option KeptReply) (u : UnderWay State) : Type 0 where
   pub good : Good u.state
   pub up : AllByRecursion (λ x. x ≡ eighth) u.up
@@ -46,7 +46,7 @@ NoneIsOld xs = AllByRecursion (λ x. x.old ≡ false) xs
 
 -- the synchronization that led to `s` was clean: no request from before it is in flight, nor a reply to one, and what it leaves
 -- is `IsClean`
-pub record HasSynchronizedCleanly {State : Type 0} (Good : State → Type 0) (kept : State → Option KeptReply) (s : Model State) : Type 0 where
+pub record HasSynchronizedCleanly {State : Type 0} (Good : State → Type 0) (kept : State → Option KeptReply) (s : SyncModel State) : Type 0 where
   pub up : NoneIsOld s.up
   pub down : NoneIsOld s.down
   pub clean : IsClean Good kept (leaves s)
@@ -56,7 +56,7 @@ pub record HasSynchronizedCleanly {State : Type 0} (Good : State → Type 0) (ke
 -- cleanly
 abbrev pub BeginsCleanly : Type 0 → Type 0
 BeginsCleanly State = OfAnyInstrument {State = State} (λ ends Good kept.
-    (u : UnderWay State) (ts : List (Turn State)) → IsWellFormed Good u → AreTurns ends Good kept ts (begins u) →
+    (u : UnderWay State) (ts : List (SyncTurn State)) → IsWellFormed Good u → AreTurns ends Good kept ts (begins u) →
     LacksTheWord u → (turned ends ts (begins u)).left ≡ [] → HasSynchronizedCleanly Good kept (turned ends ts (begins u)))
 
 -- The client after a synchronization.
@@ -122,10 +122,14 @@ module _ {State : Type 0} (width : ℕ) (ends : Ends State) (u : UnderWay State)
   abbrev pub behind : List (Move State) → World (ById Asked) State
   behind ms = moved ends (by_ids width ends) ms (ids_begun u)
 
+  -- these moves are possible after the synchronization, in the order in which they stand
+  abbrev pub ArePossibleOnceBegun : (State → Type 0) → (State → Option KeptReply) → List (Move State) → Type 0
+  ArePossibleOnceBegun Good kept ms = ArePossible ends Good kept (by_ids width ends) ms (ids_begun u)
+
   -- at one of these moves, after the synchronization, request m, with this call, reaches the instrument, which executes the call;
   -- and this line is the instrument's reply
   abbrev pub WasMadeOn : List (Move State) → ℕ → Asked → List ℕ → Type 0
-  WasMadeOn ms m call line = making.WasMadeOn width ends (ids_begun u) ms m call line
+  WasMadeOn ms m call line = WasMadeFrom width ends (ids_begun u) ms m call line
 
   -- among these moves is a send before which m requests were sent, the null procedures of the synchronization counted, and at
   -- which the next request, number m, is sent after the table (`IsBehindTheTable`). The client may refuse that send; request m is
@@ -141,7 +145,7 @@ module _ {State : Type 0} (width : ℕ) (ends : Ends State) (u : UnderWay State)
     pub behind_table : IsBehindTheTable (behind front).wire
 
   -- one of the three conditions holds under which the answer to request m is its own: each request of these moves is a call of
-  -- the table; or the instrument retains its own reply, or none, after every request (`TreatsRawsAlike`); or request m was sent
+  -- the table; or the instrument keeps its own reply, or none, after every request (`TreatsRawsAlike`); or request m was sent
   -- after the table
   abbrev pub IsSafe : (State → Type 0) → (State → Option KeptReply) → List (Move State) → ℕ → Type 0
   IsSafe Good kept ms m = AsksTheTable ms ⊎ (TreatsRawsAlike ends Good kept ⊎ WentOutBehindTheTable ms m)
@@ -157,16 +161,16 @@ wire_over_empty_line ends state ms = (behind WINDOW ends (none_under_way state) 
 
 -- possible moves after a clean synchronization (`IsClean`) are faithful, for a client with a window of at most `WINDOW` requests,
 -- whenever it sends; no request has to be sent alone. `Good` says which states of the instrument are good, and `kept` what reply
--- each of them retains
+-- each of them keeps
 abbrev pub MovesOnceBegunAreFaithful : {State : Type 0} → (ends : Ends State) → (Good : State → Type 0) → (kept : State → Option KeptReply) → Type 0
 MovesOnceBegunAreFaithful {State = State} ends Good kept =
     (width : ℕ) → width ≤ WINDOW → (u : UnderWay State) → IsClean Good kept u →
-    (ms : List (Move State)) → ArePossible ends Good kept (by_ids width ends) ms (ids_begun u) → IsFaithful width ends u ms Good kept
+    (ms : List (Move State)) → ArePossibleOnceBegun width ends u Good kept ms → IsFaithful width ends u ms Good kept
 
 -- `MovesOnceBegunAreFaithful`, for any instrument, in any state
 abbrev pub AnswersAreTheirOwnOnceBegun : Type 0 → Type 0
 AnswersAreTheirOwnOnceBegun State = OfAnyInstrument {State = State} (λ ends Good kept. MovesOnceBegunAreFaithful ends Good kept)
 
--- `MovesOnceBegunAreFaithful`, for the simulated instrument: its `ends` and its retained reply, in any state that fits
+-- `MovesOnceBegunAreFaithful`, for the simulator, in any state that fits
 abbrev pub SimulatorsAnswersAreTheirOwnOnceBegun : Type 0
-SimulatorsAnswersAreTheirOwnOnceBegun = MovesOnceBegunAreFaithful ends IsFittingState kept_of
+SimulatorsAnswersAreTheirOwnOnceBegun = MovesOnceBegunAreFaithful simulator_ends IsFittingState kept_of

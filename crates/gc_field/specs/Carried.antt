@@ -4,12 +4,11 @@ use Rattle.gc_client.specs.declared.window.TheConstants.{WINDOW}
 use Rattle.gc_client.specs.Rule.{fresh}
 use Rattle.gc_instrument.specs.State.{KeptReply, IsFittingState}
 use Rattle.gc_links.specs.Acts.{Act}
-use Rattle.gc_world.specs.Clients.{by_ids}
-use Rattle.gc_field.specs.Simulator.{ends}
+use Rattle.gc_field.specs.Simulator.{simulator_ends}
 use Rattle.gc_field.specs.World.{Ends}
 use Rattle.gc_field.specs.Begin.{UnderWay}
-use Rattle.gc_field.specs.Begun.{IsClean, IsFaithful, behind, ids_begun}
-use Rattle.gc_field.specs.Field.{Move, ArePossible, seen}
+use Rattle.gc_field.specs.Begun.{IsClean, IsFaithful, behind, ArePossibleOnceBegun}
+use Rattle.gc_field.specs.Field.{Move, seen}
 use Rattle.gc_field.specs.Instrument.{OfAnyInstrument}
 use Rattle.gc_field.specs.Laws.{kept_of}
 use Rattle.gc_field.specs.Meaning.{AllMean}
@@ -22,7 +21,7 @@ pub record IsCarried {State : Type 0} (ends : Ends State) (Good : State → Type
     (acts : List Act) (ms : List (Move State)) : Type 0 where
   pub clean : IsClean Good kept u
   pub steps : AllMean fresh rest acts (seen ms)
-  pub possible : ArePossible ends Good kept (by_ids WINDOW ends) ms (ids_begun u)
+  pub possible : ArePossibleOnceBegun WINDOW ends u Good kept ms
 
 -- `IsFaithful` holds of these moves, and the station's client ends in the same state as the world's client
 pub record IsStationFaithful {State : Type 0} (ends : Ends State) (Good : State → Type 0) (kept : State → Option KeptReply) (u : UnderWay State) (ms : List (Move State)) : Type 0 where
@@ -30,7 +29,7 @@ pub record IsStationFaithful {State : Type 0} (ends : Ends State) (Good : State 
   pub client : client_after fresh (seen ms) ≡ (behind WINDOW ends u ms).client
 
 -- acts of a station that has synchronized cleanly (`IsCarried`) are faithful (`IsStationFaithful`), whenever the station sends.
--- `Good` says which states of the instrument are good, and `kept` what reply each of them retains
+-- `Good` says which states of the instrument are good, and `kept` what reply each of them keeps
 abbrev pub CarriedActsAreFaithful : {State : Type 0} → (ends : Ends State) → (Good : State → Type 0) → (kept : State → Option KeptReply) → Type 0
 CarriedActsAreFaithful {State = State} ends Good kept =
     (u : UnderWay State) (rest : List ℕ) (acts : List Act) (ms : List (Move State)) → IsCarried ends Good kept u rest acts ms → IsStationFaithful ends Good kept u ms
@@ -41,4 +40,4 @@ StationsAnswersAreTheirOwn State = OfAnyInstrument {State = State} (λ ends Good
 
 -- `CarriedActsAreFaithful`, for the simulator, in any state that fits
 abbrev pub SimulatorsStationsAnswersAreTheirOwn : Type 0
-SimulatorsStationsAnswersAreTheirOwn = CarriedActsAreFaithful ends IsFittingState kept_of
+SimulatorsStationsAnswersAreTheirOwn = CarriedActsAreFaithful simulator_ends IsFittingState kept_of

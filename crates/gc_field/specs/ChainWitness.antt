@@ -18,7 +18,7 @@ use Rattle.gc_station.specs.Records.{Record}
 use Rattle.gc_station.specs.Runs.{state_after}
 use Rattle.gc_station.specs.Scopes.{Scope}
 use Rattle.gc_field.specs.Plain.{plain_task, plain_turn}
-use Rattle.gc_field.specs.Simulator.{ends}
+use Rattle.gc_field.specs.Simulator.{simulator_ends}
 use Rattle.gc_field.specs.World.{Up_deliver}
 use Rattle.gc_field.specs.Begin.{UnderWay, left_by_turns, none_under_way}
 use Rattle.gc_field.specs.Beginnings.{Run}
@@ -138,7 +138,7 @@ at_start = none_under_way simulator_opening
 
 -- the run as one stretch
 abbrev pub stretch : Stretch State
-stretch = record { from = left_by_turns ends eight_answered at_start; moves = moves }
+stretch = record { from = left_by_turns simulator_ends eight_answered at_start; moves = moves }
 
 -- what happens on the line: in this run, and after its end in one more, in which nothing happens
 abbrev pub runs : List (Run State)
@@ -148,10 +148,10 @@ runs = run_and_end eight_answered moves
 -- the two turns the telescope, and nothing disturbs the instrument. So when the third is executed, after both others, the
 -- telescope points where the first pointed it
 pub record IsPointedInField : Type 0 where
-  pub field : IsInField ends IsFittingState kept_of plan commands scope acts at_start runs
+  pub field : IsInField simulator_ends IsFittingState kept_of at_start (record { plan = plan; commands = commands; scope = scope; acts = acts; runs = runs })
   pub records : (state_after plan commands scope acts).records ≡ records_with first_reply second_reply third_reply
   pub chained : AreChained commands 0 2
   pub still : AreStill commands 0 2
   pub undisturbed : IsUndisturbed moves
-  pub executed : (stretch_wire ends stretch (take 13 moves)).executed ≡ 8 ∷ 9 ∷ []
-  pub pointing : (stretch_wire ends stretch (take 13 moves)).state.pointing ≡ record { hz = hz; v = v }
+  pub executed : (stretch_wire simulator_ends stretch (take 13 moves)).executed ≡ 8 ∷ 9 ∷ []
+  pub pointing : (stretch_wire simulator_ends stretch (take 13 moves)).state.pointing ≡ record { hz = hz; v = v }

@@ -1,6 +1,6 @@
 -- Chains in the field, this project's own: what the instrument had executed when it executed a command of a chain. Each earlier
 -- command of the chain had been executed before, with the reply that was booked for it; between the two only what was sent
--- between them was executed; and the instrument's state was what these executions had made of it, apart from what it retains. A
+-- between them was executed; and the instrument's state was what these executions had made of it, apart from what it keeps. A
 -- part is what a station sees of its run from one synchronization to the next, and a stretch what happens on the line meanwhile,
 -- once it has synchronized.
 use Rattle.std.specs.Prelude.{◌≡◌, ℕ, Bool, ◌+◌, ◌<◌, ◌≤◌, true, false, List, [], ◌∷◌, ◌++◌, Option, Some, fold, slice_get}
@@ -9,24 +9,20 @@ use Rattle.gc_catalogue.specs.declared.answer.Reading.{Reading}
 use Rattle.gc_catalogue.specs.declared.asked.Asked.{Asked}
 use Rattle.gc_client.specs.declared.window.TheConstants.{WINDOW}
 use Rattle.gc_instrument.specs.State.{KeptReply}
-use Rattle.gc_links.specs.Acts.{Act}
 use Rattle.gc_texts.specs.Endings.{line_of}
 use Rattle.gc_texts.specs.declared.near.Expected.{Expected}
 use Rattle.gc_texts.specs.declared.tasks.Task.{Task}
-use Rattle.gc_station.specs.Links.{AreChained, WasAnsweredWell, parts}
+use Rattle.gc_station.specs.Links.{AreChained, WasAnsweredWell}
 use Rattle.gc_station.specs.Parts.{Part, mark_of}
 use Rattle.gc_station.specs.Records.{Record}
-use Rattle.gc_station.specs.Runs.{state_after}
-use Rattle.gc_station.specs.Scopes.{Scope}
 use Rattle.gc_station.specs.declared.plan.Plan.{Plan}
 use Rattle.gc_field.specs.World.{Ends, Sent, Up_deliver, Wire}
 use Rattle.gc_field.specs.Begin.{UnderWay}
-use Rattle.gc_field.specs.Beginnings.{Run}
 use Rattle.gc_field.specs.Begun.{WasMadeOn}
 use Rattle.gc_field.specs.Field.{Move, OnLine, Anew, Changes, Joins}
 use Rattle.gc_field.specs.Instrument.{KeepsItsReply, OfAnyInstrument}
 use Rattle.gc_field.specs.Once.{IsInOrder}
-use Rattle.gc_field.specs.Runs.{IsInField, world_at}
+use Rattle.gc_field.specs.Runs.{IsInField, Program, program_parts, program_records, world_at}
 use Rattle.gc_field.specs.Shown.{Stretch, stretches}
 
 -- What happens between two executions.
@@ -50,12 +46,18 @@ abbrev pub AreCalls : List Sent → List ℕ → List Asked → Type 0
 AreCalls sent ns calls = AllZip (λ n call. (r : Sent) × (slice_get sent n ≡ Some r) × (r.call ≡ call)) ns calls
 
 -- executing a call changes an instrument's state by `effect`, whatever id the request has, and a reply that is sent again
--- changes nothing. Both are said of the state without what the instrument retains, which `apart` gives; and by `alike` the
--- effect doesn't depend on what is retained
+-- changes nothing. Both are said of the state without what the instrument keeps, which `apart` gives; and by `alike` the
+-- effect doesn't depend on what is kept
 pub record HasEffect {State : Type 0} (ends : Ends State) (apart : State → State) (effect : State → Asked → State) : Type 0 where
   pub executes : (state : State) (id : ℕ) (call : Asked) → (ends.handed state id call).executed ≡ true → apart (ends.handed state id call).state ≡ apart (effect state call)
   pub repeats : (state : State) (id : ℕ) (call : Asked) → (ends.handed state id call).executed ≡ false → apart (ends.handed state id call).state ≡ apart state
   pub alike : (s t : State) (call : Asked) → apart s ≡ apart t → apart (effect s call) ≡ apart (effect t call)
+
+-- a request that was executed: its number and its call, and the line that was made on executing it
+pub record ExecutedRequest : Type 0 where
+  pub number : ℕ
+  pub call : Asked
+  pub line : List ℕ
 
 -- the wire after these moves of a stretch
 abbrev pub stretch_wire : {State : Type 0} → Ends State → Stretch State → List (Move State) → Wire State
@@ -70,31 +72,30 @@ OfEachBeforeInChain plan commands b P =
 module _ {State : Type 0} (ends : Ends State) (Good : State → Type 0) (kept : State → Option KeptReply) where
   -- Two executions of a stretch.
 
-  -- in a stretch request m, which asks for `call_m`, was executed with `line_m` as its reply, and later request n, which asks for
-  -- `call_n`, with `line_n`
-  pub record IsExecutedAfter (s : Stretch State) (m n : ℕ) (call_m call_n : Asked) (line_m line_n : List ℕ) : Type 0 where
-    pub first : WasMadeOn WINDOW ends s.from s.moves m call_m line_m
-    pub second : WasMadeOn WINDOW ends s.from s.moves n call_n line_n
+  -- in a stretch request m was executed, and later request n
+  pub record IsExecutedAfter (s : Stretch State) (m n : ExecutedRequest) : Type 0 where
+    pub first : WasMadeOn WINDOW ends s.from s.moves m.number m.call m.line
+    pub second : WasMadeOn WINDOW ends s.from s.moves n.number n.call n.line
     pub between : List (Move State)
     pub order : second.front ≡ first.front ++ OnLine Up_deliver ∷ between
     -- the requests that were executed between them, by their numbers: in the order of sending, none sent before m, and none
     -- after n
     pub numbers : List ℕ
-    pub executed : (stretch_wire ends s second.front).executed ≡ (stretch_wire ends s first.front).executed ++ m ∷ numbers
+    pub executed : (stretch_wire ends s second.front).executed ≡ (stretch_wire ends s first.front).executed ++ m.number ∷ numbers
     pub in_order : IsInOrder numbers
-    pub within : AllByRecursion (λ x. (m ≤ x) × (x ≤ n)) numbers
-    -- if the instrument retains its reply to each request that it knows, and didn't start between, each of these was sent after
+    pub within : AllByRecursion (λ x. (m.number ≤ x) × (x ≤ n.number)) numbers
+    -- if the instrument keeps its reply to each request that it knows, and didn't start between, each of these was sent after
     -- m and before n
     pub strictly :
         (knows : Asked → Bool) → KeepsItsReply ends Good kept knows → HasNoStartAmong between →
-        AllByRecursion (λ x. (r : Sent) → slice_get (stretch_wire ends s s.moves).sent x ≡ Some r → knows r.call ≡ true → (m < x) × (x < n)) numbers
+        AllByRecursion (λ x. (r : Sent) → slice_get (stretch_wire ends s s.moves).sent x ≡ Some r → knows r.call ≡ true → (m.number < x) × (x < n.number)) numbers
     -- if the instrument neither started nor changed by itself between, its state when n reached it is, apart from what it
-    -- retains, the state in which m reached it, changed by executing m and then the requests between (`HasEffect`)
+    -- keeps, the state in which m reached it, changed by executing m and then the requests between (`HasEffect`)
     pub calls : List Asked
     pub asked : AreCalls (stretch_wire ends s s.moves).sent numbers calls
     pub state :
         (apart : State → State) (effect : State → Asked → State) → HasEffect ends apart effect → IsUndisturbed between →
-        apart (stretch_wire ends s second.front).state ≡ apart (fold effect (stretch_wire ends s first.front).state (call_m ∷ calls))
+        apart (stretch_wire ends s second.front).state ≡ apart (fold effect (stretch_wire ends s first.front).state (m.call ∷ calls))
 
   -- A chain of a run.
 
@@ -123,21 +124,22 @@ module _ {State : Type 0} (ends : Ends State) (Good : State → Type 0) (kept : 
       -- the commands that were sent between them are those of the places between them, of the same cycle
       pub between : (x : ℕ) (mark : _) → m < x → x < n → slice_get part.marks x ≡ Some (Some mark) → (mark.cycle ≡ b.cycle) × (a < mark.place) × (mark.place < b.place)
       -- and they were executed in this order, with these replies
-      pub executed : IsExecutedAfter stretch (8 + m) (8 + n) earlier.answer.command.call b.command.call earlier.good.line line_b
+      pub executed :
+          IsExecutedAfter stretch (record { number = 8 + m; call = earlier.answer.command.call; line = earlier.good.line })
+          (record { number = 8 + n; call = b.command.call; line = line_b })
 
   -- if a reply in time ended the command of record b, each command before it in its chain was executed before it (`IsChainedTo`)
-  abbrev pub IsExecutedInChain : Plan → List Task → Scope → List Act → UnderWay State → List (Run State) → Record → Type 0
-  IsExecutedInChain plan commands scope acts u rs b =
-      OfEachBeforeInChain plan commands b (λ line a.
-      IsChainedTo scope.reads commands (parts plan commands scope acts) (stretches ends u rs) (state_after plan commands scope acts).records a b line)
+  abbrev pub IsExecutedInChain : UnderWay State → Program State → Record → Type 0
+  IsExecutedInChain u x b =
+      OfEachBeforeInChain x.plan x.commands b (λ line a.
+      IsChainedTo x.scope.reads x.commands (program_parts x) (stretches ends u x.runs) (program_records x) a b line)
 
   -- each record of a run is `IsExecutedInChain`
-  abbrev pub AreExecutedInChain : Plan → List Task → Scope → List Act → UnderWay State → List (Run State) → Type 0
-  AreExecutedInChain plan commands scope acts u rs = AllByRecursion (IsExecutedInChain plan commands scope acts u rs) (state_after plan commands scope acts).records
+  abbrev pub AreExecutedInChain : UnderWay State → Program State → Type 0
+  AreExecutedInChain u x = AllByRecursion (IsExecutedInChain u x) (program_records x)
 
 -- each record is `IsExecutedInChain`: for any instrument, every plan, all commands, every run of the station in the field
 -- (`IsInField`), and all that the line and the instrument may do meanwhile
 abbrev pub ChainsAreExecuted : Type 0 → Type 0
 ChainsAreExecuted State = OfAnyInstrument {State = State} (λ ends Good kept.
-    (plan : Plan) (commands : List Task) (scope : Scope) (acts : List Act) (u : UnderWay State) (rs : List (Run State)) → IsInField ends Good kept plan commands scope acts u rs →
-    AreExecutedInChain ends Good kept plan commands scope acts u rs)
+    (u : UnderWay State) (x : Program State) → IsInField ends Good kept u x → AreExecutedInChain ends Good kept u x)

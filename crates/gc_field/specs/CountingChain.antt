@@ -1,15 +1,14 @@
 -- A run of a chain over an instrument that isn't the simulator, this project's own: it counts what it executes, answers to each
--- request with the count, and retains its reply. Each of its states is a good one, as the law of chains asks.
-use Rattle.std.specs.Prelude.{◌≡◌, ℕ, suc, false, List, [], ◌∷◌, take, codes, Option, Some, None}
+-- request with the count, and keeps its reply. Each of its states is a good one, as the law of chains asks.
+use Rattle.std.specs.Prelude.{◌≡◌, ℕ, suc, List, [], ◌∷◌, take, codes, Option, Some, None}
 use Rattle.gc_catalogue.specs.declared.asked.Asked.{Asked}
 use Rattle.gc_client.specs.declared.window.TheConstants.{WINDOW}
-use Rattle.gc_client.specs.Rule.{heard}
 use Rattle.gc_instrument.specs.Replying.{Handed}
 use Rattle.gc_instrument.specs.State.{KeptReply}
 use Rattle.gc_links.specs.Acts.{Act}
 use Rattle.gc_station.specs.Links.{AreChained}
 use Rattle.gc_station.specs.Runs.{state_after}
-use Rattle.gc_field.specs.World.{Ends}
+use Rattle.gc_field.specs.World.{Ends, ends_of}
 use Rattle.gc_field.specs.ChainWitness.{points, reads_all, commands, scope, acts_with, moves_with, records_with}
 use Rattle.gc_field.specs.Begin.{UnderWay, left_by_turns, none_under_way}
 use Rattle.gc_field.specs.Beginnings.{Run}
@@ -17,35 +16,35 @@ use Rattle.gc_field.specs.Begun.{WasMadeOn}
 use Rattle.gc_field.specs.Chains.{HasEffect, IsUndisturbed, stretch_wire}
 use Rattle.gc_field.specs.Field.{Move}
 use Rattle.gc_field.specs.Instrument.{IsAnInstrument, KeepsItsReply, AnyState, all_known}
-use Rattle.gc_field.specs.Needed.{Keeper, again_else, held, kept}
+use Rattle.gc_field.specs.Needed.{Keeper, repeats_or_executes, held, keeper_kept}
 use Rattle.gc_field.specs.Runs.{IsInField}
 use Rattle.gc_field.specs.Shown.{Stretch}
 use Rattle.gc_field.specs.Witness.{plan, eight_answered, run_and_end}
 
--- the state of this instrument: how many requests it has executed since it started, and what it retains: the last request's id,
+-- the state of this instrument: how many requests it has executed since it started, and what it keeps: the last request's id,
 -- and the count by then
 pub record Counter : Type 0 where
   pub count : ℕ
   pub keeps : Keeper
 
--- the state once the instrument has executed a request with this id: it has counted it, and retains the count as the reply
+-- the state once the instrument has executed a request with this id: it has counted it, and keeps the count as the reply
 abbrev pub once_counted : Counter → ℕ → Counter
 once_counted s id = record { count = suc s.count; keeps = Some (id, suc s.count) }
 
--- what the instrument does with a request, by the count that it retains for the request's id: it sends that count again; or, if
--- there is none (None), it executes the request, counts it, and retains that reply
-abbrev pub counted_or : Counter → ℕ → Option ℕ → Handed Counter
-counted_or s id o = again_else (once_counted s id) (suc s.count) id s o
+-- what the instrument does with a request, by the count that it keeps for the request's id: it sends that count again; or, if
+-- there is none (None), it executes the request, counts it, and keeps that reply
+abbrev pub counter_handed : Counter → ℕ → Option ℕ → Handed Counter
+counter_handed s id o = repeats_or_executes (once_counted s id) (suc s.count) id s o
 
 -- the instrument, which starts with the count 0, and nothing kept
 abbrev pub counting : Ends Counter
-counting = record { handed = λ s id call. counted_or s id (held s.keeps id); restarted = λ s. record { count = 0; keeps = None }; heard = heard; joint = false }
+counting = ends_of {State = Counter} (λ s id call. counter_handed s id (held s.keeps id)) (λ s. record { count = 0; keeps = None })
 
--- the reply that the instrument retains
+-- the reply that the instrument keeps
 abbrev pub kept_by : Counter → Option KeptReply
-kept_by s = kept s.keeps
+kept_by s = keeper_kept s.keeps
 
--- the state without what is retained
+-- the state without what is kept
 abbrev pub bare : Counter → Counter
 bare s = record { count = s.count; keeps = None }
 
@@ -91,7 +90,7 @@ stretch = record { from = left_by_turns counting eight_answered at_start; moves 
 abbrev pub runs : List (Run Counter)
 runs = run_and_end eight_answered moves
 
--- this run meets all premises of the law of chains: `counting` is an instrument in each of its states, retains its reply, and a
+-- this run meets all premises of the law of chains: `counting` is an instrument in each of its states, keeps its reply, and a
 -- call has the effect `counts` on its state. The run is in the field, its third command is of the first one's chain, and
 -- nothing disturbs the instrument. So the first and the third answer were made on executing their requests, and the count at
 -- the third command is what the first and the second made of it
@@ -99,7 +98,7 @@ pub record IsCountedInField : Type 0 where
   pub instrument : IsAnInstrument counting AnyState kept_by
   pub keeps : KeepsItsReply counting AnyState kept_by all_known
   pub effect : HasEffect counting bare counts
-  pub field : IsInField counting AnyState kept_by plan commands scope acts at_start runs
+  pub field : IsInField counting AnyState kept_by at_start (record { plan = plan; commands = commands; scope = scope; acts = acts; runs = runs })
   pub records : (state_after plan commands scope acts).records ≡ records_with first_reply second_reply third_reply
   pub chained : AreChained commands 0 2
   pub undisturbed : IsUndisturbed moves

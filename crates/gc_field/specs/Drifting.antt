@@ -1,4 +1,4 @@
--- A run over an instrument that isn't the simulator, this project's own: it retains no reply, and what it measures changes by
+-- A run over an instrument that isn't the simulator, this project's own: it keeps no reply, and what it measures changes by
 -- itself. Its second command asks for a procedure that isn't in the table. The first null procedure is sent again, and the
 -- synchronization goes on over another connection; a reply is lost, and its request timed out; the instrument starts again, and
 -- its connection is made again.
@@ -12,7 +12,6 @@ use Rattle.gc_catalogue.specs.declared.asked.Asked.TheVariants.{Table, Raw}
 use Rattle.gc_catalogue.specs.declared.call.Call.TheVariants.{InstrumentNo}
 use Rattle.gc_catalogue.specs.declared.raw.RawCall.{RawCall}
 use Rattle.gc_client.specs.declared.window.TheConstants.{WINDOW}
-use Rattle.gc_client.specs.Rule.{heard}
 use Rattle.gc_texts.specs.declared.tasks.Task.{Task}
 use Rattle.gc_texts.specs.Endings as end
 use Rattle.gc_texts.specs.declared.quality.Quality.TheVariants.{Fine}
@@ -22,26 +21,21 @@ use Rattle.gc_station.specs.Progressing.{is_over}
 use Rattle.gc_station.specs.Runs.{state_after}
 use Rattle.gc_station.specs.Scopes.{Scope}
 use Rattle.gc_field.specs.Plain.{plain_task, plain_turn}
-use Rattle.gc_field.specs.World.{Ends, Up_deliver, Down_lose}
-use Rattle.gc_field.specs.Begin.{Turn, Asks, Reaches, left_by_turns, none_under_way}
+use Rattle.gc_field.specs.World.{Ends, Up_deliver, Down_lose, ends_of}
+use Rattle.gc_field.specs.Begin.{SyncTurn, Asks, Reaches, left_by_turns, none_under_way}
 use Rattle.gc_field.specs.Begin as turn
 use Rattle.gc_field.specs.Beginnings.{Run}
 use Rattle.gc_field.specs.Begun.{WasMadeOn}
 use Rattle.gc_field.specs.Field.{Move, Sends, Tells, Comes, OnLine, Anew, Changes}
-use Rattle.gc_field.specs.Instrument.{IsAnInstrument, AnyState, nothing}
+use Rattle.gc_field.specs.Instrument.{IsAnInstrument, AnyState, never_kept}
 use Rattle.gc_field.specs.Runs.{IsInField}
-use Rattle.gc_field.specs.Witness.{plan_of, scope_saying, null_lines, at, eight_answered, exchanged, replies, run_and_end}
+use Rattle.gc_field.specs.Witness.{plan_of_width, scope_saying, null_lines, at, eight_answered, exchanged, replies, run_and_end}
 
--- an instrument that retains no reply, and answers every request with its state: `text` gives the parameters of the reply in a
+-- an instrument that keeps no reply, and answers every request with its state: `text` gives the parameters of the reply in a
 -- state, and `new` is the state after a start
 abbrev pub tells_its_state : {State : Type 0} → (text : State → List ℕ) → (new : State) → Ends State
-tells_its_state text new =
-    record {
-      handed = λ s id call. record { state = s; reply = reply_text (record { rc_com = 0; id = Some id; rc = 0; params = text s }); executed = true };
-      restarted = λ s. new;
-      heard = heard;
-      joint = false;
-    }
+tells_its_state {State = State} text new =
+    ends_of {State = State} (λ s id call. record { state = s; reply = reply_text (record { rc_com = 0; id = Some id; rc = 0; params = text s }); executed = true }) (λ s. new)
 
 -- the instrument: its state is the number that it measures, with which it answers every request; a start sets it to 0
 abbrev pub drifting : Ends ℕ
@@ -49,7 +43,7 @@ drifting = tells_its_state {State = ℕ} decimal 0
 
 -- the plan of this run: one request at a time, and three retries
 abbrev pub plan : Plan
-plan = record (plan_of 1) { retries = 3 }
+plan = record (plan_of_width 1) { retries = 3 }
 
 -- the two commands of this run: one asks for the instrument's number, the other for a procedure that isn't in the table
 abbrev pub commands : RawCall → List Task
@@ -112,7 +106,7 @@ acts raw =
 
 -- what happens while the station synchronizes: the line loses the first reply to the first null procedure, and that procedure's
 -- second request; and the number that the instrument measures becomes 12
-abbrev pub turns : List (Turn ℕ)
+abbrev pub turns : List (SyncTurn ℕ)
 turns = Asks ∷ Reaches ∷ turn.Down_lose 0 ∷ Asks ∷ turn.Up_lose 0 ∷ turn.Changes 12 ∷ eight_answered
 
 -- what happens once the station has synchronized: the first command is answered, and that reply is lost; the second
@@ -146,8 +140,8 @@ runs raw = run_and_end turns (moves raw)
 -- `drifting` is an instrument, and this is a run in the field, after which no act follows. The run recorded the first command
 -- as lost, and the second one's answer, which was made on executing the second command's request
 pub record IsAnsweredByDrifting (raw : RawCall) : Type 0 where
-  pub instrument : IsAnInstrument drifting AnyState nothing
-  pub field : IsInField drifting AnyState nothing plan (commands raw) scope (acts raw) (none_under_way 5) (runs raw)
+  pub instrument : IsAnInstrument drifting AnyState never_kept
+  pub field : IsInField drifting AnyState never_kept (none_under_way 5) (record { plan = plan; commands = commands raw; scope = scope; acts = acts raw; runs = runs raw })
   pub over : is_over (state_after plan (commands raw) scope (acts raw)).progress ≡ true
   pub records :
       (state_after plan (commands raw) scope (acts raw)).records

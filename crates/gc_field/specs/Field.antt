@@ -47,11 +47,11 @@ IsLineStep Nothing = Unit {0}
 -- the wire once the first two of these requests, which are in flight to the instrument, reached it as one line, with this reply:
 -- the reply counts as that to the first of them. Nothing counts as executed, and the instrument's state stays. If
 -- fewer than two are in flight, nothing happens
-abbrev pub joined : {State : Type 0} → Wire State → List (Numbered Request) → List ℕ → Wire State
-joined w (x ∷ y ∷ rest) line =
+abbrev pub wire_joined : {State : Type 0} → Wire State → List (Numbered Request) → List ℕ → Wire State
+wire_joined w (x ∷ y ∷ rest) line =
     let reply : Numbered (List ℕ) = record { number = x.number; line = line } in
     record w { up = rest; made = w.made ++ reply ∷ []; down = w.down ++ reply ∷ [] }
-joined w _ line = w
+wire_joined w _ line = w
 
 module _ {Client State : Type 0} where
   -- what a move does to the world
@@ -63,7 +63,7 @@ module _ {Client State : Type 0} where
   moves ends rule w (OnLine step) = happens ends rule w step
   moves ends rule w Anew = on_wire w (started ends w.wire true)
   moves ends rule w (Changes state) = on_wire w (record w.wire { state = state })
-  moves ends rule w (Joins line) = on_wire w (joined w.wire w.wire.up line)
+  moves ends rule w (Joins line) = on_wire w (wire_joined w.wire w.wire.up line)
 
   -- the world after these moves, in order
   abbrev pub moved : Ends State → Rule Client → List (Move State) → World Client State → World Client State
@@ -120,8 +120,8 @@ abbrev pub AsksTheTable : {State : Type 0} → List (Move State) → Type 0
 AsksTheTable ms = AsksOnly is_of_table ms
 
 -- from a new client on, with a window of this width, and with nothing in flight, these moves are possible, whatever reply the
--- instrument retains; the requests are calls of the table (`AsksTheTable`); and the first one is sent alone (`IsFirstAlone`)
-pub record IsField {State : Type 0} (width : ℕ) (ends : Ends State) (Good : State → Type 0) (kept : State → Option KeptReply) (state : State) (ms : List (Move State)) : Type 0 where
+-- instrument keeps; the requests are calls of the table (`AsksTheTable`); and the first one is sent alone (`IsFirstAlone`)
+pub record AreMovesInField {State : Type 0} (width : ℕ) (ends : Ends State) (Good : State → Type 0) (kept : State → Option KeptReply) (state : State) (ms : List (Move State)) : Type 0 where
   pub possible : ArePossible ends Good kept (by_ids width ends) ms (ids_open state)
   pub table : AsksTheTable ms
   pub alone : IsFirstAlone false ms

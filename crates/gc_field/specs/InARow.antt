@@ -3,35 +3,21 @@
 use Rattle.std.specs.Prelude.{ℕ, ◌≤◌, List, [], ◌∷◌, Option}
 use Rattle.gc_client.specs.declared.window.TheConstants.{WINDOW}
 use Rattle.gc_instrument.specs.State.{KeptReply, IsFittingState}
-use Rattle.gc_links.specs.Acts.{Act}
-use Rattle.gc_texts.specs.declared.tasks.Task.{Task}
-use Rattle.gc_station.specs.declared.plan.Plan.{Plan}
-use Rattle.gc_station.specs.Links.{parts}
-use Rattle.gc_station.specs.Scopes.{Scope}
 use Rattle.gc_station.specs.Model.{Runs, opening}
-use Rattle.gc_field.specs.Simulator.{ends}
+use Rattle.gc_field.specs.Simulator.{simulator_ends}
 use Rattle.gc_field.specs.World.{Ends}
-use Rattle.gc_field.specs.Begin.{IsWellFormed, Turn, UnderWay}
+use Rattle.gc_field.specs.Begin.{IsWellFormed, SyncTurn, UnderWay}
 use Rattle.gc_field.specs.Beginnings.{AreRuns, HasRisingIds, Run, killed_if, left_by_run, left_by_runs, after_turns}
 use Rattle.gc_field.specs.Instrument.{OfAnyInstrument}
 use Rattle.gc_field.specs.Laws.{kept_of}
-use Rattle.gc_field.specs.Runs.{IsRunFaithful}
+use Rattle.gc_field.specs.Runs.{IsRunFaithful, Program, program_parts}
 use Rattle.gc_field.specs.Shown.{AreShownAs}
-
--- a station's run as a program: its plan, its commands, its scope and its acts, and what happens on the line in each part of the
--- run (`runs`)
-pub record Program (State : Type 0) : Type 0 where
-  pub plan : Plan
-  pub commands : List Task
-  pub scope : Scope
-  pub acts : List Act
-  pub runs : List (Run State)
 
 module _ {State : Type 0} (ends : Ends State) where
   -- how many runs in a row were killed while they synchronized, up to the run r, where `n` were before it; `u` is what is in
   -- flight when it begins. The list is the run's turns: a run without turns, in which nothing happened, leaves the count as it
   -- was
-  abbrev pub killed_by : ℕ → UnderWay State → Run State → List (Turn State) → ℕ
+  abbrev pub killed_by : ℕ → UnderWay State → Run State → List (SyncTurn State) → ℕ
   killed_by n u r [] = n
   killed_by n u r (t ∷ ts) = killed_if (after_turns ends u r).left n
 
@@ -52,7 +38,7 @@ module _ {State : Type 0} (ends : Ends State) where
     -- row are, counted with those `n` (`AreFewKilledWithTurns`)
     pub record IsNextProgram (n : ℕ) (u : UnderWay State) (x : Program State) : Type 0 where
       pub runs : Runs x.plan x.commands (opening x.plan x.scope) x.acts
-      pub shown : AreShownAs ends u x.runs (parts x.plan x.commands x.scope x.acts)
+      pub shown : AreShownAs ends u x.runs (program_parts x)
       pub possible : AreRuns WINDOW ends Good kept u x.runs
       pub few : AreFewKilledWithTurns n u x.runs
 
@@ -64,11 +50,11 @@ module _ {State : Type 0} (ends : Ends State) where
     -- each of these programs is a faithful run, over what the one before it left
     abbrev pub AreFaithful : UnderWay State → List (Program State) → Type 0
     AreFaithful u [] = Unit {0}
-    AreFaithful u (x ∷ xs) = IsRunFaithful ends Good kept x.plan x.commands x.scope x.acts u x.runs × AreFaithful (left_by_runs WINDOW ends u x.runs) xs
+    AreFaithful u (x ∷ xs) = IsRunFaithful ends Good kept u x × AreFaithful (left_by_runs WINDOW ends u x.runs) xs
 
 -- after a run that had synchronized, or over a line with nothing in flight (`HasRisingIds`, `IsWellFormed`): as long as fewer
 -- than six runs in a row end while they synchronize, each program of programs in a row (`AreInARow`) is a faithful run. `Good`
--- says which states of the instrument are good, and `kept` what reply each of them retains
+-- says which states of the instrument are good, and `kept` what reply each of them keeps
 abbrev pub ProgramsInARowAreFaithful : {State : Type 0} → (ends : Ends State) → (Good : State → Type 0) → (kept : State → Option KeptReply) → Type 0
 ProgramsInARowAreFaithful {State = State} ends Good kept =
     (u : UnderWay State) → IsWellFormed Good u → HasRisingIds u → (xs : List (Program State)) → AreInARow ends Good kept 0 u xs → AreFaithful ends Good kept u xs
@@ -77,6 +63,6 @@ ProgramsInARowAreFaithful {State = State} ends Good kept =
 abbrev pub StationsInARowAreFaithful : Type 0 → Type 0
 StationsInARowAreFaithful State = OfAnyInstrument {State = State} (λ ends Good kept. ProgramsInARowAreFaithful ends Good kept)
 
--- `ProgramsInARowAreFaithful`, for the simulated instrument: its `ends` and its retained reply, in any state that fits
+-- `ProgramsInARowAreFaithful`, for the simulator, in any state that fits
 abbrev pub SimulatorsStationsInARowAreFaithful : Type 0
-SimulatorsStationsInARowAreFaithful = ProgramsInARowAreFaithful ends IsFittingState kept_of
+SimulatorsStationsInARowAreFaithful = ProgramsInARowAreFaithful simulator_ends IsFittingState kept_of

@@ -9,18 +9,27 @@ use Rattle.std.specs.Prelude.{◌≡◌, ℕ, ◌<◌, ◌⊎◌, Bool, true, fa
 use Rattle.gc_catalogue.specs.declared.asked.Asked.{Asked}
 use Rattle.gc_client.specs.declared.window.TheConstants.{IDS}
 use Rattle.gc_client.specs.Rule.{heard}
+use Rattle.gc_instrument.specs.Replying.{Handed}
 use Rattle.gc_instrument.specs.State.{KeptReply}
 use Rattle.gc_field.specs.World.{Ends}
 use Rattle.gc_catalogue.specs.Asked.{is_of_table}
 
--- what an instrument retains after a request with this id is `line`, its reply to that request, with the id; or nothing
-abbrev pub IsOwnOrNone : (id : ℕ) (line : List ℕ) → Option KeptReply → Type 0
-IsOwnOrNone id line after = (after ≡ None) ⊎ (after ≡ Some (record { id = id; line = line }))
+-- the reply to a request with this id, by what an instrument did with the request, as it is kept: with the id
+abbrev pub own_reply : {State : Type 0} → (id : ℕ) → Handed State → KeptReply
+own_reply id did = record { id = id; line = did.reply }
 
--- what an instrument retains after a request with this id is `line`, its reply to that request, or nothing (`IsOwnOrNone`); or,
--- if it doesn't know the request (`known` is false), what it retained before
-abbrev pub IsKeptAfter : (known : Bool) (id : ℕ) (line : List ℕ) (before after : Option KeptReply) → Type 0
-IsKeptAfter known id line before after = IsOwnOrNone id line after ⊎ ((known ≡ false) × (after ≡ before))
+-- what an instrument keeps after a request is its reply to that request (`own`), or nothing
+abbrev pub IsOwnOrNone : (own : KeptReply) (after : Option KeptReply) → Type 0
+IsOwnOrNone own after = (after ≡ None) ⊎ (after ≡ Some own)
+
+-- what an instrument keeps after a request is as `IsOwnOrNone` says; or, if it doesn't know the request (`known` is false), it is
+-- what it kept before
+abbrev pub MayBeKept : (known : Bool) (own : KeptReply) (before after : Option KeptReply) → Type 0
+MayBeKept known own before after = IsOwnOrNone own after ⊎ ((known ≡ false) × (after ≡ before))
+
+-- what an instrument keeps stays the same, or becomes nothing
+abbrev pub MayForget : (before after : Option KeptReply) → Type 0
+MayForget before after = (after ≡ None) ⊎ (after ≡ before)
 
 module _ {State : Type 0} (ends : Ends State) where
   -- The clauses on an instrument.
@@ -43,63 +52,63 @@ module _ {State : Type 0} (ends : Ends State) where
     StaysGoodOverStarts = (state : State) → Good state → Good (ends.restarted state)
 
     module _ (kept : State → Option KeptReply) where
-      -- in a good state, if the instrument sends an older line again (`executed` is false), that line is the one that it retains,
-      -- and it retains it for this very id
-      abbrev pub RepeatsWhatIsRetained : Type 0
-      RepeatsWhatIsRetained =
+      -- in a good state, if the instrument sends an older line again (`executed` is false), that line is the one that it keeps,
+      -- and it keeps it for this very id
+      abbrev pub RepeatsWhatIsKept : Type 0
+      RepeatsWhatIsKept =
           (state : State) (id : ℕ) (call : Asked) → Good state → id < IDS → (ends.handed state id call).executed ≡ false →
-          kept state ≡ Some (record { id = id; line = (ends.handed state id call).reply })
+          kept state ≡ Some (own_reply id (ends.handed state id call))
 
-      -- after this request the instrument retains its reply to that request, or nothing
+      -- after this request the instrument keeps its reply to that request, or nothing
       abbrev pub KeepsItsOwn : State → ℕ → Asked → Type 0
-      KeepsItsOwn state id call = IsOwnOrNone id (ends.handed state id call).reply (kept (ends.handed state id call).state)
+      KeepsItsOwn state id call = IsOwnOrNone (own_reply id (ends.handed state id call)) (kept (ends.handed state id call).state)
 
-      -- after a request in a good state the instrument retains its reply to that request, or nothing; or, if it doesn't know the
-      -- request (`knows`), what it retained before
-      abbrev pub RetainsItsOwn : (Asked → Bool) → Type 0
-      RetainsItsOwn knows =
+      -- after a request in a good state the instrument keeps its reply to that request, or nothing; or, if it doesn't know the
+      -- request (`knows`), what it kept before
+      abbrev pub KeepsItsOwnIfKnown : (knows : Asked → Bool) → Type 0
+      KeepsItsOwnIfKnown knows =
           (state : State) (id : ℕ) (call : Asked) → Good state → id < IDS →
-          IsKeptAfter (knows call) id (ends.handed state id call).reply (kept state) (kept (ends.handed state id call).state)
+          MayBeKept (knows call) (own_reply id (ends.handed state id call)) (kept state) (kept (ends.handed state id call).state)
 
-      -- after a start from a good state the instrument retains what it retained before, or nothing
-      abbrev pub RetainsOverStarts : Type 0
-      RetainsOverStarts = (state : State) → Good state → (kept (ends.restarted state) ≡ None) ⊎ (kept (ends.restarted state) ≡ kept state)
+      -- after a start from a good state the instrument keeps what it kept before, or nothing
+      abbrev pub KeepsOverStarts : Type 0
+      KeepsOverStarts = (state : State) → Good state → MayForget (kept state) (kept (ends.restarted state))
 
       -- `ends` is an instrument: what it does with a request (`handed`) and at a start (`restarted`), and how its lines are read
-      -- (`heard`). `Good` says which of its states are good, and `kept` what it retains in each: the line that it sent for a
-      -- request, with that request's id, or nothing. `knows` names requests after each of which it retains its own reply, or
+      -- (`heard`). `Good` says which of its states are good, and `kept` what it keeps in each: the line that it sent for a
+      -- request, with that request's id, or nothing. `knows` names requests after each of which it keeps its own reply, or
       -- nothing
       pub record IsAnInstrumentFor (knows : Asked → Bool) : Type 0 where
         pub hears : ReadsByGrammar
         pub replies : RepliesWithItsId
-        pub repeats : RepeatsWhatIsRetained
-        pub keeps : RetainsItsOwn knows
-        pub starts : RetainsOverStarts
+        pub repeats : RepeatsWhatIsKept
+        pub keeps : KeepsItsOwnIfKnown knows
+        pub starts : KeepsOverStarts
         pub stays_good : StaysGoodOverRequests
         pub starts_good : StaysGoodOverStarts
 
-      -- `ends` is an instrument that after each call of the table retains its own reply to that call, or nothing
+      -- `ends` is an instrument that after each call of the table keeps its own reply to that call, or nothing
       abbrev pub IsAnInstrument : Type 0
       IsAnInstrument = IsAnInstrumentFor is_of_table
 
-      -- after each request, also one that is no call of the table (a raw one), the instrument retains its own reply, or nothing
+      -- after each request, also one that is no call of the table (a raw one), the instrument keeps its own reply, or nothing
       abbrev pub TreatsRawsAlike : Type 0
       TreatsRawsAlike = (state : State) (id : ℕ) (call : Asked) → Good state → id < IDS → KeepsItsOwn state id call
 
-      -- an instrument that retains its reply to each request that it knows (`knows`), and, as long as it retains that reply,
+      -- an instrument that keeps its reply to each request that it knows (`knows`), and, as long as it keeps that reply,
       -- sends it again for a request that it knows with the same id
       pub record KeepsItsReply (knows : Asked → Bool) : Type 0 where
-        -- it doesn't execute a request that it knows and that has the id of the line that it retains
+        -- it doesn't execute a request that it knows and that has the id of the line that it keeps
         pub again :
             (state : State) (id : ℕ) (call : Asked) (line : List ℕ) → Good state → id < IDS → knows call ≡ true → kept state ≡ Some (record { id = id; line = line }) →
             (ends.handed state id call).executed ≡ false
-        -- after each request that it knows it retains its reply to that request
+        -- after each request that it knows it keeps its reply to that request
         pub always :
             (state : State) (id : ℕ) (call : Asked) → Good state → id < IDS → knows call ≡ true →
-            kept (ends.handed state id call).state ≡ Some (record { id = id; line = (ends.handed state id call).reply })
+            kept (ends.handed state id call).state ≡ Some (own_reply id (ends.handed state id call))
 
 -- an instrument's state may change by itself between two requests, as by a hand at its keys, a clock, or the noise of a
--- measurement: into any good state that retains the same reply as before, or none if none was retained
+-- measurement: into any good state that keeps the same reply as before, or none if none was kept
 abbrev pub MayBecome : {State : Type 0} → (State → Type 0) → (State → Option KeptReply) → (before after : State) → Type 0
 MayBecome Good kept before after = Good after × (kept after ≡ kept before)
 
@@ -115,14 +124,14 @@ OfAnyInstrument {State = State} Holds = (ends : Ends State) (kept : State → Op
 abbrev pub all_known : Asked → Bool
 all_known call = true
 
--- no state retains a reply
-abbrev pub nothing : {State : Type 0} → State → Option KeptReply
-nothing state = None
+-- no state keeps a reply
+abbrev pub never_kept : {State : Type 0} → State → Option KeptReply
+never_kept state = None
 
--- what retains no reply and executes each request is an instrument, if the client reads its lines by the grammar of replies
+-- what keeps no reply and executes each request is an instrument, if the client reads its lines by the grammar of replies
 -- (`ReadsByGrammar`), and each of its replies to a request with an id from 0 to 7 reads as one with that id (`RepliesWithItsId`)
 abbrev pub KeepingNothingSuffices : Type 0 → Type 0
 KeepingNothingSuffices State =
     (ends : Ends State) → ReadsByGrammar ends → RepliesWithItsId ends AnyState →
     ((state : State) (id : ℕ) (call : Asked) → (ends.handed state id call).executed ≡ true) →
-    IsAnInstrument ends AnyState nothing
+    IsAnInstrument ends AnyState never_kept

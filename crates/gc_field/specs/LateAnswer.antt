@@ -13,7 +13,7 @@ use Rattle.gc_links.specs.Acts.{Act, Told, Put, Gave, Silent, Closed}
 use Rattle.gc_station.specs.Progressing.{is_over}
 use Rattle.gc_station.specs.Runs.{state_after}
 use Rattle.gc_field.specs.Plain.{plain_task, plain_turn}
-use Rattle.gc_field.specs.Simulator.{ends}
+use Rattle.gc_field.specs.Simulator.{simulator_ends}
 use Rattle.gc_field.specs.World.{Up_deliver}
 use Rattle.gc_field.specs.Begin.{UnderWay, left_by_turns}
 use Rattle.gc_field.specs.Beginnings.{Run}
@@ -81,12 +81,12 @@ runs = run_and_end eight_answered moves
 
 -- what is in flight once the run has synchronized
 abbrev pub from : UnderWay State
-from = left_by_turns ends eight_answered at_start
+from = left_by_turns simulator_ends eight_answered at_start
 
 -- this is a run in the field over a line with nothing in flight, after which no act follows. It recorded the first command as
 -- late, and the second one's answer; and each of these lines was made on executing its own request
 pub record IsLateInField : Type 0 where
-  pub field : IsInField ends IsFittingState kept_of plan commands scope acts at_start runs
+  pub field : IsInField simulator_ends IsFittingState kept_of at_start (record { plan = plan; commands = commands; scope = scope; acts = acts; runs = runs })
   pub over : is_over (state_after plan commands scope acts).progress ≡ true
   pub records :
       (state_after plan commands scope acts).records
@@ -101,5 +101,5 @@ pub record IsLateInField : Type 0 where
         end = end.Answered Fine (Some (Long (pos 123456))) answer;
       }
       ∷ []
-  pub late_made_on : WasMadeOn WINDOW ends from moves 8 (Table InstrumentNo) late
-  pub answer_made_on : WasMadeOn WINDOW ends from moves 9 (Table InstrumentNo) answer
+  pub late_made_on : WasMadeOn WINDOW simulator_ends from moves 8 (Table InstrumentNo) late
+  pub answer_made_on : WasMadeOn WINDOW simulator_ends from moves 9 (Table InstrumentNo) answer

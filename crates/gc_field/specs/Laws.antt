@@ -13,13 +13,13 @@ pub use Rattle.gc_instrument.specs.Replying.{kept_of}
 pub use Rattle.gc_world.specs.Worlds.{of_sent as asked}
 use Rattle.gc_instrument.specs.State.{KeptReply, State, IsFittingState}
 use Rattle.gc_world.specs.Clients.{ByNumber, by_ids, by_numbers, ids_open, numbers_open}
-use Rattle.gc_field.specs.Simulator.{ends, handed}
+use Rattle.gc_field.specs.Simulator.{simulator_ends, simulator_handed}
 use Rattle.gc_world.specs.Record.{IsBooked, IsOneForOne}
 use Rattle.gc_field.specs.World.{Ends, Numbered, World}
-use Rattle.gc_field.specs.Field.{Move, Comes, IsField, moved, moves, seen}
-use Rattle.gc_field.specs.Made.{WasMadeOn}
+use Rattle.gc_field.specs.Field.{Move, Comes, AreMovesInField, moved, moves, seen}
+use Rattle.gc_field.specs.Made.{WasMadeFrom}
 use Rattle.gc_field.specs.Instrument.{IsAnInstrument, KeepsItsReply, OfAnyInstrument}
-use Rattle.gc_field.specs.Once.{ActsOnce, IsInOrder}
+use Rattle.gc_field.specs.Once.{ExecutesOnce, IsInOrder}
 use Rattle.gc_catalogue.specs.Asked.{asked_line, is_of_table}
 
 -- the request with this number is among those that were executed
@@ -50,18 +50,18 @@ module _ {State : Type 0} (width : ℕ) (ends : Ends State) (start : World (ById
     -- and the instrument executed request m at one of these moves
     pub executed :
         (m : ℕ) (s : Settlement Asked) (line : List ℕ) → IsSure m → slice_get world_then.wire.settled m ≡ Some s → s.outcome ≡ Answered line → WasExecuted world_then.wire.executed m
-    -- made on it: its line was made on executing request m, by `WasMadeOn`
+    -- made on it: its line was made on executing request m, by `WasMadeFrom`
     pub made_on :
         (m : ℕ) (s : Settlement Asked) (line : List ℕ) → IsSure m → slice_get world_then.wire.settled m ≡ Some s → s.outcome ≡ Answered line
-        → WasMadeOn width ends start ms m s.call line
+        → WasMadeFrom width ends start ms m s.call line
     -- in order: requests are executed in the order of sending, over starts too
     pub in_order : IsInOrder world_then.wire.executed
     -- late: the instrument executed the request, though its reply came too late
     pub late :
-        (m : ℕ) (s : Settlement Asked) → IsSure m → slice_get world_then.wire.settled m ≡ Some s → s.outcome ≡ Late → (line : List ℕ) × WasMadeOn width ends start ms m s.call line
-    -- acts once: if the instrument retains its reply to each request that it knows, between two of its starts each of these is
+        (m : ℕ) (s : Settlement Asked) → IsSure m → slice_get world_then.wire.settled m ≡ Some s → s.outcome ≡ Late → (line : List ℕ) × WasMadeFrom width ends start ms m s.call line
+    -- acts once: if the instrument keeps its reply to each request that it knows, between two of its starts each of these is
     -- executed at most once
-    pub once : (knows : Asked → Bool) → KeepsItsReply ends Good kept knows → ActsOnce knows world_then.wire.sent world_then.wire.executed world_then.wire.starts
+    pub once : (knows : Asked → Bool) → KeepsItsReply ends Good kept knows → ExecutesOnce knows world_then.wire.sent world_then.wire.executed world_then.wire.starts
     -- agreement: all is as with a client that is given the number of each reply's request
     pub agrees : world_then.wire ≡ (moved ends (by_numbers width) ms by_number).wire
     -- in time: a reply whose request isn't settled settles that request, and those before it as lost. The request is answered
@@ -76,16 +76,16 @@ module _ {State : Type 0} (width : ℕ) (ends : Ends State) (state : State) (ms 
   world_after = moved ends (by_ids width ends) ms (ids_open state)
 
   -- what holds after the moves of a new client that hasn't synchronized: `IsFaithfulFrom`, where the answers but that of the first
-  -- request are their own. The first is excepted because an instrument that retained an older reply with its id may have sent
+  -- request are their own. The first is excepted because an instrument that kept an older reply with its id may have sent
   -- that reply again
   abbrev pub IsFaithfulUnsynchronized : (Good : State → Type 0) (kept : State → Option KeptReply) → Type 0
   IsFaithfulUnsynchronized Good kept = IsFaithfulFrom width ends (ids_open state) (numbers_open state) ms [] (λ m. 0 < m) Good kept
 
--- moves that meet `IsField` are faithful, from a good state on, whatever reply it retains, and for a client with a window of at
--- most `WINDOW` requests. `Good` says which states of the instrument are good, and `kept` what reply each of them retains
+-- moves that are `AreMovesInField` are faithful, from a good state on, whatever reply it keeps, and for a client with a window of
+-- at most `WINDOW` requests. `Good` says which states of the instrument are good, and `kept` what reply each of them keeps
 abbrev pub MovesInFieldAreFaithful : {State : Type 0} → (ends : Ends State) → (Good : State → Type 0) → (kept : State → Option KeptReply) → Type 0
 MovesInFieldAreFaithful {State = State} ends Good kept =
-    (width : ℕ) → width ≤ WINDOW → (state : State) → Good state → (ms : List (Move State)) → IsField width ends Good kept state ms
+    (width : ℕ) → width ≤ WINDOW → (state : State) → Good state → (ms : List (Move State)) → AreMovesInField width ends Good kept state ms
     → IsFaithfulUnsynchronized width ends state ms Good kept
 
 -- `MovesInFieldAreFaithful`, for any instrument, from any state on: the premise that the state is a good one, `AnyState state`,
@@ -93,16 +93,16 @@ MovesInFieldAreFaithful {State = State} ends Good kept =
 abbrev pub AnswersAreTheirOwn : Type 0 → Type 0
 AnswersAreTheirOwn State = OfAnyInstrument {State = State} (λ ends Good kept. MovesInFieldAreFaithful ends Good kept)
 
--- the simulator is an instrument, in any state that fits, and one that retains its reply to each call of its table. It refuses
--- other requests, and these refusals leave the retained reply as it is
+-- the simulator is an instrument, in any state that fits, and one that keeps its reply to each call of its table. It refuses
+-- other requests, and these refusals leave the kept reply as it is
 pub record SimulatorIsAnInstrument : Type 0 where
-  pub instrument : IsAnInstrument ends IsFittingState kept_of
-  pub keeps : KeepsItsReply ends IsFittingState kept_of is_of_table
-  -- `handed` is what the simulated instrument does with the line of a request that isn't in its table, for an id from 0 to 7
+  pub instrument : IsAnInstrument simulator_ends IsFittingState kept_of
+  pub keeps : KeepsItsReply simulator_ends IsFittingState kept_of is_of_table
+  -- `simulator_handed` is what the simulator does with the line of a request that isn't in its table, for an id from 0 to 7
   pub refuses :
       (state : State) (id : ℕ) (raw : RawCall) → id < IDS
-      → IsReplied state (asked_line (Some id) (Raw raw)) (handed state id (Raw raw)).state (Some (handed state id (Raw raw)).reply)
+      → IsReplied state (asked_line (Some id) (Raw raw)) (simulator_handed state id (Raw raw)).state (Some (simulator_handed state id (Raw raw)).reply)
 
 -- `MovesInFieldAreFaithful`, for the simulator, from any state on that fits (`IsFittingState`)
 abbrev pub SimulatorsAnswersAreTheirOwn : Type 0
-SimulatorsAnswersAreTheirOwn = MovesInFieldAreFaithful ends IsFittingState kept_of
+SimulatorsAnswersAreTheirOwn = MovesInFieldAreFaithful simulator_ends IsFittingState kept_of

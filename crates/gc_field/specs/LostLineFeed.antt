@@ -10,21 +10,20 @@ use Rattle.gc_client.specs.declared.window.TheConstants.{WINDOW}
 use Rattle.gc_client.specs.Rule.{Answered}
 use Rattle.gc_instrument.specs.Replying.{IsReplied}
 use Rattle.gc_instrument.specs.State.{State, IsFittingState, simulator_opening}
-use Rattle.gc_world.specs.Clients.{by_ids}
-use Rattle.gc_field.specs.Simulator.{ends}
+use Rattle.gc_field.specs.Simulator.{simulator_ends}
 use Rattle.gc_field.specs.World.{Up_deliver}
 use Rattle.gc_field.specs.Begin.{none_under_way}
-use Rattle.gc_field.specs.Begun.{ids_begun, wire_over_empty_line}
-use Rattle.gc_field.specs.Field.{Move, Sends, Comes, OnLine, Joins, ArePossible}
+use Rattle.gc_field.specs.Begun.{wire_over_empty_line, ArePossibleOnceBegun}
+use Rattle.gc_field.specs.Field.{Move, Sends, Comes, OnLine, Joins}
 use Rattle.gc_field.specs.Laws.{kept_of}
 
 -- the reply to a line whose parameters don't read (communication code 3080), with the id of the request that was cut
-abbrev pub refusal : List ℕ
-refusal = codes "%R1P,3080,1:0"
+abbrev pub joint_refusal : List ℕ
+joint_refusal = codes "%R1P,3080,1:0"
 
 -- the front of the cut request and the whole next request, as one line
-abbrev pub joint : List ℕ
-joint = codes "%R1Q,5003,1:%R1Q,0,2:"
+abbrev pub joint_line : List ℕ
+joint_line = codes "%R1Q,5003,1:%R1Q,0,2:"
 
 -- the moves before: a client that has synchronized sends a null procedure, which is answered; and then two requests, of which
 -- the first is cut
@@ -33,19 +32,19 @@ moves_before = Sends 0 (Table NullProc) 9 ∷ OnLine Up_deliver ∷ Comes (codes
 
 -- the moves after that: the front of the first request and the second request reach the simulator as one line, whose reply comes
 abbrev pub moves_after : List (Move State)
-moves_after = Joins refusal ∷ Comes refusal ∷ []
+moves_after = Joins joint_refusal ∷ Comes joint_refusal ∷ []
 
 -- the moves before are possible, and the reply to that one line is booked for the request that was cut
 pub record IsBookedJoined : Type 0 where
   -- the first twelve bytes of the one request and the whole of the other are one line, and a request with the id of the first
-  pub line : lines (take 12 (with_end (codes "%R1Q,5003,1:")) ++ with_end (codes "%R1Q,0,2:")) ≡ joint ∷ []
-  pub reads : request_at joint ≡ Ok (record { rpc = 5003; id = Some 1; params = codes "%R1Q,0,2:" })
-  pub possible : ArePossible ends IsFittingState kept_of (by_ids WINDOW ends) moves_before (ids_begun (none_under_way simulator_opening))
+  pub line : lines (take 12 (with_end (codes "%R1Q,5003,1:")) ++ with_end (codes "%R1Q,0,2:")) ≡ joint_line ∷ []
+  pub reads : request_at joint_line ≡ Ok (record { rpc = 5003; id = Some 1; params = codes "%R1Q,0,2:" })
+  pub possible : ArePossibleOnceBegun WINDOW simulator_ends (none_under_way simulator_opening) IsFittingState kept_of moves_before
   -- the simulator, as it is by then, answers that line with this refusal, and nothing changes
   pub replied :
-      IsReplied (wire_over_empty_line ends simulator_opening moves_before).state joint (wire_over_empty_line ends simulator_opening moves_before).state (Some refusal)
+      IsReplied (wire_over_empty_line simulator_ends simulator_opening moves_before).state joint_line (wire_over_empty_line simulator_ends simulator_opening moves_before).state (Some joint_refusal)
   -- the reply is booked for the request that was cut, which wasn't executed
   pub settled :
-      slice_get (wire_over_empty_line ends simulator_opening (moves_before ++ moves_after)).settled 9
-      ≡ Some (record { target = 7; call = Table InstrumentNo; outcome = Answered refusal })
-  pub executed : (wire_over_empty_line ends simulator_opening (moves_before ++ moves_after)).executed ≡ 8 ∷ []
+      slice_get (wire_over_empty_line simulator_ends simulator_opening (moves_before ++ moves_after)).settled 9
+      ≡ Some (record { target = 7; call = Table InstrumentNo; outcome = Answered joint_refusal })
+  pub executed : (wire_over_empty_line simulator_ends simulator_opening (moves_before ++ moves_after)).executed ≡ 8 ∷ []

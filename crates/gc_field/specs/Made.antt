@@ -13,7 +13,7 @@ module _ {State : Type 0} (width : ℕ) (ends : Ends State) (start : World (ById
 
   -- at one of these moves request m, with this call, reaches the instrument, which executes the call in the state that it has by
   -- then; and this line is the instrument's reply
-  pub record WasMadeOn (ms : List (Move State)) (m : ℕ) (call : Asked) (line : List ℕ) : Type 0 where
+  pub record WasMadeFrom (ms : List (Move State)) (m : ℕ) (call : Asked) (line : List ℕ) : Type 0 where
     -- the moves before that one, and those after it
     pub front : List (Move State)
     pub later : List (Move State)

@@ -14,15 +14,14 @@ use Rattle.gc_client.specs.declared.window.TheConstants.{WINDOW}
 use Rattle.gc_client.specs.Rule.{Answered, heard}
 use Rattle.gc_instrument.specs.Replying.{Handed, refusal_line}
 use Rattle.gc_instrument.specs.State.{KeptReply}
-use Rattle.gc_world.specs.Clients.{by_ids}
-use Rattle.gc_field.specs.World.{Ends, Up_deliver, Up_repeat}
+use Rattle.gc_field.specs.World.{Ends, Up_deliver, Up_repeat, ends_of}
 use Rattle.gc_field.specs.Begin.{none_under_way}
-use Rattle.gc_field.specs.Begun.{IsClean, ids_begun, wire_over_empty_line}
-use Rattle.gc_field.specs.Field.{Move, Sends, Comes, OnLine, Anew, Changes, ArePossible}
-use Rattle.gc_field.specs.Instrument.{IsAnInstrument, AnyState, ReadsByGrammar, RepliesWithItsId, RepeatsWhatIsRetained, RetainsItsOwn, RetainsOverStarts, StaysGoodOverRequests, StaysGoodOverStarts, nothing}
+use Rattle.gc_field.specs.Begun.{IsClean, wire_over_empty_line, ArePossibleOnceBegun}
+use Rattle.gc_field.specs.Field.{Move, Sends, Comes, OnLine, Anew, Changes}
+use Rattle.gc_field.specs.Instrument.{IsAnInstrument, AnyState, ReadsByGrammar, RepliesWithItsId, RepeatsWhatIsKept, KeepsItsOwnIfKnown, KeepsOverStarts, StaysGoodOverRequests, StaysGoodOverStarts, never_kept, own_reply}
 use Rattle.gc_field.specs.Laws.{WasExecuted}
-use Rattle.gc_field.specs.Once.{ActsOnce}
-use Rattle.gc_catalogue.specs.Asked.{asked_request, is_of_table}
+use Rattle.gc_field.specs.Once.{ExecutesOnce}
+use Rattle.gc_catalogue.specs.Asked.{is_of_table, procedure_of}
 
 -- the clauses of what is asked of an instrument (`IsAnInstrumentFor`), each with the name of its field there
 pub data Clause : Type 0 where
@@ -38,9 +37,9 @@ pub data Clause : Type 0 where
 pub record IsAllBut {State : Type 0} (x : Clause) (ends : Ends State) (Good : State → Type 0) (kept : State → Option KeptReply) : Type 0 where
   pub hears : (x ≡ Hears) ⊎ ReadsByGrammar ends
   pub replies : (x ≡ Replies) ⊎ RepliesWithItsId ends Good
-  pub repeats : (x ≡ Repeats) ⊎ RepeatsWhatIsRetained ends Good kept
-  pub keeps : (x ≡ Keeps) ⊎ RetainsItsOwn ends Good kept is_of_table
-  pub starts : (x ≡ Starts) ⊎ RetainsOverStarts ends Good kept
+  pub repeats : (x ≡ Repeats) ⊎ RepeatsWhatIsKept ends Good kept
+  pub keeps : (x ≡ Keeps) ⊎ KeepsItsOwnIfKnown ends Good kept is_of_table
+  pub starts : (x ≡ Starts) ⊎ KeepsOverStarts ends Good kept
   pub stays_good : (x ≡ StaysGood) ⊎ StaysGoodOverRequests ends Good
   pub starts_good : (x ≡ StartsGood) ⊎ StaysGoodOverStarts ends Good
 
@@ -50,7 +49,7 @@ module _ {State : Type 0} (ends : Ends State) (Good : State → Type 0) (kept : 
   pub record IsBookedUnexecuted (ms : List (Move State)) (m : ℕ) (call : Asked) (line : List ℕ) : Type 0 where
     pub beyond : 8 ≤ m
     pub clean : IsClean Good kept (none_under_way state)
-    pub field : ArePossible ends Good kept (by_ids WINDOW ends) ms (ids_begun (none_under_way state))
+    pub field : ArePossibleOnceBegun WINDOW ends (none_under_way state) Good kept ms
     pub settled : slice_get (wire_over_empty_line ends state ms).settled m ≡ Some (record { target = 7; call = call; outcome = Answered line })
     pub executed : WasExecuted (wire_over_empty_line ends state ms).executed m → ⊥
 
@@ -79,50 +78,50 @@ two_asked line = Sends 7 (Table NullProc) 9 ∷ Sends 7 (Table InstrumentNo) 9 �
 
 -- Instruments that keep a reply.
 
--- the state of an instrument that retains a reply: the id of a request and the number in its reply, or nothing
+-- the state of an instrument that keeps a reply: the id of a request and the number in its reply, or nothing
 abbrev pub Keeper : Type 0
 Keeper = Option (ℕ × ℕ)
 
--- the reply that is retained
-abbrev pub kept : Keeper → Option KeptReply
-kept None = None
-kept (Some x) = Some (record { id = x.0; line = giving x.0 x.1 })
+-- the reply that is kept
+abbrev pub keeper_kept : Keeper → Option KeptReply
+keeper_kept None = None
+keeper_kept (Some x) = Some (record { id = x.0; line = giving x.0 x.1 })
 
--- the number that is retained for this id, if one is
+-- the number that is kept for this id, if one is
 abbrev pub held : Keeper → ℕ → Option ℕ
 held None id = None
 held (Some x) id = if nat_eq x.0 id then Some x.1 else None
 
--- what an instrument in the state s does with a request, by the number that it retains for the request's id: it sends that number
+-- what an instrument in the state s does with a request, by the number that it keeps for the request's id: it sends that number
 -- again; or, if there is none (None), it executes the request, answers `new`, and its state is `next` then
-abbrev pub again_else : {State : Type 0} → (next : State) → (new id : ℕ) → (s : State) → Option ℕ → Handed State
-again_else next new id s (Some n) = record { state = s; reply = giving id n; executed = false }
-again_else next new id s None = record { state = next; reply = giving id new; executed = true }
+abbrev pub repeats_or_executes : {State : Type 0} → (next : State) → (new id : ℕ) → (s : State) → Option ℕ → Handed State
+repeats_or_executes next new id s (Some n) = record { state = s; reply = giving id n; executed = false }
+repeats_or_executes next new id s None = record { state = next; reply = giving id new; executed = true }
 
--- what an instrument that retains a reply does with a request, as `again_else` says: if it executes the request, it answers 0,
--- and retains that reply
-abbrev pub again_or : ℕ → Keeper → Option ℕ → Handed Keeper
-again_or id k o = again_else (Some (id, 0)) 0 id k o
+-- what an instrument that keeps a reply does with a request (`repeats_or_executes`): if it executes the request, it answers 0, and
+-- keeps that reply
+abbrev pub keeper_handed : (id : ℕ) → Keeper → Option ℕ → Handed Keeper
+keeper_handed id k o = repeats_or_executes (Some (id, 0)) 0 id k o
 
--- an instrument that meets every clause: it retains its last reply, for a request with the same id, until it starts again
+-- an instrument that meets every clause: it keeps its last reply, for a request with the same id, until it starts again
 abbrev pub keeper : Ends Keeper
-keeper = record { handed = λ k id call. again_or id k (held k id); restarted = λ k. None; heard = heard; joint = true }
+keeper = ends_of {State = Keeper} (λ k id call. keeper_handed id k (held k id)) (λ k. None)
 
--- what an instrument does with a request that it knows (true), as `again_or` says; or with one that it doesn't know (false): it
--- refuses that, and still retains its older reply
-abbrev pub refuses_or : Bool → Keeper → ℕ → Handed Keeper
-refuses_or true k id = again_or id k (held k id)
-refuses_or false k id = record { state = k; reply = refusal id; executed = true }
+-- what an instrument does with a request that it knows (true), as `keeper_handed` says; or with one that it doesn't know (false):
+-- it refuses that, and still keeps its older reply
+abbrev pub handed_if_known : (known : Bool) → Keeper → (id : ℕ) → Handed Keeper
+handed_if_known true k id = keeper_handed id k (held k id)
+handed_if_known false k id = record { state = k; reply = refusal id; executed = true }
 
--- an instrument that knows the null procedure alone: it refuses any other request, and still retains its reply to the last null
+-- an instrument that knows the null procedure alone: it refuses any other request, and still keeps its reply to the last null
 -- procedure
 abbrev pub keeps_older : Ends Keeper
-keeps_older = record keeper { handed = λ k id call. refuses_or (nat_eq (asked_request None call).rpc 0) k id }
+keeps_older = record keeper { handed = λ k id call. handed_if_known (nat_eq (procedure_of call) 0) k id }
 
--- an instrument that knows the calls of the table alone: it refuses others, and still retains its reply to the last call of the
+-- an instrument that knows the calls of the table alone: it refuses others, and still keeps its reply to the last call of the
 -- table
 abbrev pub refuses_raws : Ends Keeper
-refuses_raws = record keeper { handed = λ k id call. refuses_or (is_of_table call) k id }
+refuses_raws = record keeper { handed = λ k id call. handed_if_known (is_of_table call) k id }
 
 -- the moves of nine requests, each answered before the next one is sent: the first and the last, whose id is the same, are null
 -- procedures, and the seven between are this one, which is refused
@@ -131,16 +130,16 @@ nine_requests call =
     one_answered (Table NullProc) (giving 0 0) (one_answered call (refusal 1) (one_answered call (refusal 2) (one_answered call (refusal 3) (one_answered call (refusal 4)
     (one_answered call (refusal 5) (one_answered call (refusal 6) (one_answered call (refusal 7) (one_answered (Table NullProc) (giving 0 0) []))))))))
 
--- an instrument that retains an old reply, with id 1, after each start
+-- an instrument that keeps an old reply, with id 1, after each start
 abbrev pub remembers : Ends Keeper
 remembers = record keeper { restarted = λ k. Some (1, 27) }
 
 -- the moves of two requests, each answered before the next one is sent, with this move between them; the answer to the second one
--- is the reply that `remembers` retains after a start
-abbrev pub two_around : Move Keeper → List (Move Keeper)
-two_around between = one_answered (Table NullProc) (giving 0 0) (between ∷ one_answered (Table InstrumentNo) (giving 1 27) [])
+-- is the reply that `remembers` keeps after a start
+abbrev pub two_answered_around : Move Keeper → List (Move Keeper)
+two_answered_around between = one_answered (Table NullProc) (giving 0 0) (between ∷ one_answered (Table InstrumentNo) (giving 1 27) [])
 
--- Instruments that retain no reply: their state says whether they are out of order.
+-- Instruments that keep no reply: their state says whether they are out of order.
 
 -- the next id; but 0 stays 0, so that the first request of a run is answered
 abbrev pub other_id : ℕ → ℕ
@@ -148,14 +147,15 @@ other_id zero = 0
 other_id (suc id) = id + 2
 
 -- the id of a reply to a request with this id: the same; or what `other_id` makes of it, if the instrument is out of order
-abbrev pub id_of : Bool → ℕ → ℕ
-id_of false id = id
-id_of true id = other_id id
+-- (`broken`)
+abbrev pub id_sent_back : (broken : Bool) (id : ℕ) → ℕ
+id_sent_back false id = id
+id_sent_back true id = other_id id
 
--- what an instrument that may be out of order does with a request: it executes the request, and its reply has the id that `id_of`
--- gives; `broken` says whether the instrument is out of order, and `after` is its state afterwards
-abbrev pub answers_in : Bool → ℕ → Bool → Handed Bool
-answers_in broken id after = record { state = after; reply = giving (id_of broken id) 0; executed = true }
+-- what an instrument that may be out of order (`broken`) does with a request: it executes the request, and replies with the id
+-- that `id_sent_back` gives; `after` is its state afterwards
+abbrev pub breakable_handed : (broken : Bool) (id : ℕ) (after : Bool) → Handed Bool
+breakable_handed broken id after = record { state = after; reply = giving (id_sent_back broken id) 0; executed = true }
 
 -- the good states: the instrument is in order
 abbrev pub IsUnbroken : Bool → Type 0
@@ -163,11 +163,11 @@ IsUnbroken broken = broken ≡ false
 
 -- an instrument that is always out of order
 abbrev pub mistaken : Ends Bool
-mistaken = record { handed = λ b id call. answers_in true id b; restarted = λ b. b; heard = heard; joint = true }
+mistaken = ends_of {State = Bool} (λ b id call. breakable_handed true id b) (λ b. b)
 
 -- an instrument in whose replies the client doesn't read the id by the grammar of replies, but what `other_id` makes of that id
 abbrev pub misheard : Ends Bool
-misheard = record mistaken { handed = λ b id call. answers_in false id b; heard = λ line. option_map other_id (heard line) }
+misheard = record mistaken { handed = λ b id call. breakable_handed false id b; heard = λ line. option_map other_id (heard line) }
 
 -- an instrument that answers without having executed the request
 abbrev pub pretends : Ends Bool
@@ -175,15 +175,15 @@ pretends = record mistaken { handed = λ b id call. record { state = b; reply = 
 
 -- an instrument that a request puts out of order
 abbrev pub wears_out : Ends Bool
-wears_out = record mistaken { handed = λ b id call. answers_in b id true; restarted = λ b. false }
+wears_out = record mistaken { handed = λ b id call. breakable_handed b id true; restarted = λ b. false }
 
 -- an instrument that a start puts out of order
 abbrev pub starts_broken : Ends Bool
-starts_broken = record mistaken { handed = λ b id call. answers_in b id b; restarted = λ b. true }
+starts_broken = record mistaken { handed = λ b id call. breakable_handed b id b; restarted = λ b. true }
 
 -- an instrument that meets every clause in its good states
 abbrev pub sound : Ends Bool
-sound = record mistaken { handed = λ b id call. answers_in b id b }
+sound = record mistaken { handed = λ b id call. breakable_handed b id b }
 
 -- Acts once.
 
@@ -192,52 +192,52 @@ sound = record mistaken { handed = λ b id call. answers_in b id b }
 abbrev pub repeated_request : {State : Type 0} → List (Move State)
 repeated_request = one_answered (Table NullProc) (giving 0 0) (Sends 7 (Table InstrumentNo) 9 ∷ OnLine (Up_repeat 0) ∷ OnLine Up_deliver ∷ OnLine Up_deliver ∷ [])
 
--- an instrument that retains its reply, but executes also a request that comes again
+-- an instrument that keeps its reply, but executes also a request that comes again
 abbrev pub executes_again : Ends Keeper
-executes_again = record keeper { handed = λ k id call. again_or id k None }
+executes_again = record keeper { handed = λ k id call. keeper_handed id k None }
 
--- an instrument that retains no reply
+-- an instrument that keeps no reply
 abbrev pub forgets : Ends Bool
-forgets = record mistaken { handed = λ b id call. answers_in false id b }
+forgets = record mistaken { handed = λ b id call. breakable_handed false id b }
 
 -- `ends` is an instrument that meets every clause, and yet, from this good state on, after a clean synchronization with nothing
--- in flight, `ActsOnce` fails after the moves `repeated_request`, which are possible, and by which one request reaches the
+-- in flight, `ExecutesOnce` fails after the moves `repeated_request`, which are possible, and by which one request reaches the
 -- instrument twice without a start between
 pub record IsExecutedTwice {State : Type 0} (ends : Ends State) (Good : State → Type 0) (kept : State → Option KeptReply) (state : State) : Type 0 where
   pub instrument : IsAnInstrument ends Good kept
   pub good : Good state
   pub clean : IsClean Good kept (none_under_way state)
-  pub field : ArePossible ends Good kept (by_ids WINDOW ends) repeated_request (ids_begun (none_under_way state))
+  pub field : ArePossibleOnceBegun WINDOW ends (none_under_way state) Good kept repeated_request
   pub twice :
-      ActsOnce is_of_table (wire_over_empty_line ends state repeated_request).sent (wire_over_empty_line ends state repeated_request).executed
+      ExecutesOnce is_of_table (wire_over_empty_line ends state repeated_request).sent (wire_over_empty_line ends state repeated_request).executed
       (wire_over_empty_line ends state repeated_request).starts → ⊥
 
 -- each clause of what is asked of an instrument (`IsAnInstrumentFor`) is needed; and so are the rule when a client sends, the
 -- limits of what may change by itself, and both clauses of `KeepsItsReply`
 pub record IsAllNeeded : Type 0 where
-  pub hears : IsNeeded misheard AnyState nothing false Hears (one_answered (Table NullProc) (giving 0 0) (two_asked (giving 1 0))) 10 (Table InstrumentNo) (giving 1 0)
-  pub replies : IsNeeded mistaken AnyState nothing false Replies (one_answered (Table NullProc) (giving 0 0) (two_asked (giving 2 0))) 10 (Table InstrumentNo) (giving 2 0)
-  pub repeats : IsNeeded pretends AnyState nothing false Repeats (one_answered (Table NullProc) (giving 0 0) (one_answered (Table InstrumentNo) (giving 1 0) [])) 9 (Table InstrumentNo) (giving 1 0)
-  pub keeps : IsNeeded keeps_older AnyState kept None Keeps (nine_requests (Table InstrumentNo)) 16 (Table NullProc) (giving 0 0)
-  pub starts : IsNeeded remembers AnyState kept None Starts (two_around Anew) 9 (Table InstrumentNo) (giving 1 27)
-  pub stays_good : IsNeeded wears_out IsUnbroken nothing false StaysGood (one_answered (Table NullProc) (giving 0 0) (two_asked (giving 2 0))) 10 (Table InstrumentNo) (giving 2 0)
-  pub starts_good : IsNeeded starts_broken IsUnbroken nothing false StartsGood (one_answered (Table NullProc) (giving 0 0) (Anew ∷ two_asked (giving 2 0))) 10 (Table InstrumentNo) (giving 2 0)
+  pub hears : IsNeeded misheard AnyState never_kept false Hears (one_answered (Table NullProc) (giving 0 0) (two_asked (giving 1 0))) 10 (Table InstrumentNo) (giving 1 0)
+  pub replies : IsNeeded mistaken AnyState never_kept false Replies (one_answered (Table NullProc) (giving 0 0) (two_asked (giving 2 0))) 10 (Table InstrumentNo) (giving 2 0)
+  pub repeats : IsNeeded pretends AnyState never_kept false Repeats (one_answered (Table NullProc) (giving 0 0) (one_answered (Table InstrumentNo) (giving 1 0) [])) 9 (Table InstrumentNo) (giving 1 0)
+  pub keeps : IsNeeded keeps_older AnyState keeper_kept None Keeps (nine_requests (Table InstrumentNo)) 16 (Table NullProc) (giving 0 0)
+  pub starts : IsNeeded remembers AnyState keeper_kept None Starts (two_answered_around Anew) 9 (Table InstrumentNo) (giving 1 27)
+  pub stays_good : IsNeeded wears_out IsUnbroken never_kept false StaysGood (one_answered (Table NullProc) (giving 0 0) (two_asked (giving 2 0))) 10 (Table InstrumentNo) (giving 2 0)
+  pub starts_good : IsNeeded starts_broken IsUnbroken never_kept false StartsGood (one_answered (Table NullProc) (giving 0 0) (Anew ∷ two_asked (giving 2 0))) 10 (Table InstrumentNo) (giving 2 0)
   -- when a client sends is needed, too: an instrument meets every clause, and the last request, which wasn't sent after the
   -- table (`IsBehindTheTable`), has an answer booked though it was never executed
-  pub rule_is : IsAnInstrument refuses_raws AnyState kept
-  pub rule : (raw : RawCall) → IsBookedUnexecuted refuses_raws AnyState kept None (nine_requests (Raw raw)) 16 (Table NullProc) (giving 0 0)
-  -- two limits of what may change by itself are needed: what is retained may not change, as it does if another client sends; and
-  -- the new state has to be a good one. The moves keep to all other limits: `nothing` in place of what the instrument retains,
+  pub refuses_raws_is : IsAnInstrument refuses_raws AnyState keeper_kept
+  pub rule : (raw : RawCall) → IsBookedUnexecuted refuses_raws AnyState keeper_kept None (nine_requests (Raw raw)) 16 (Table NullProc) (giving 0 0)
+  -- two limits of what may change by itself are needed: what is kept may not change, as it does if another client sends; and
+  -- the new state has to be a good one. The moves keep to all other limits: `never_kept` in place of what the instrument keeps,
   -- and `AnyState` in place of its good states, leave out one limit each
-  pub shared_is : IsAnInstrument keeper AnyState kept
-  pub changes_kept : IsBookedUnexecuted keeper AnyState nothing None (two_around (Changes (Some (1, 27)))) 9 (Table InstrumentNo) (giving 1 27)
-  pub sound_is : IsAnInstrument sound IsUnbroken nothing
-  pub changes_good : IsBookedUnexecuted sound AnyState nothing false (one_answered (Table NullProc) (giving 0 0) (Changes true ∷ two_asked (giving 2 0))) 10 (Table InstrumentNo) (giving 2 0)
-  -- an instrument that retains its reply executes a request that comes twice only once (`ActsOnce`), and both clauses on that
+  pub keeper_is : IsAnInstrument keeper AnyState keeper_kept
+  pub changes_kept : IsBookedUnexecuted keeper AnyState never_kept None (two_answered_around (Changes (Some (1, 27)))) 9 (Table InstrumentNo) (giving 1 27)
+  pub sound_is : IsAnInstrument sound IsUnbroken never_kept
+  pub changes_good : IsBookedUnexecuted sound AnyState never_kept false (one_answered (Table NullProc) (giving 0 0) (Changes true ∷ two_asked (giving 2 0))) 10 (Table InstrumentNo) (giving 2 0)
+  -- an instrument that keeps its reply executes a request that comes twice only once (`ExecutesOnce`), and both clauses on that
   -- are needed: here are an instrument that lacks the first clause and has the second, and one that lacks the second and has
   -- the first
-  pub again : IsExecutedTwice executes_again AnyState kept None
-  pub again_keeps : (state : Keeper) (id : ℕ) (call : Asked) → kept (executes_again.handed state id call).state ≡ Some (record { id = id; line = (executes_again.handed state id call).reply })
-  pub always : IsExecutedTwice forgets AnyState nothing false
+  pub again : IsExecutedTwice executes_again AnyState keeper_kept None
+  pub again_keeps : (state : Keeper) (id : ℕ) (call : Asked) → keeper_kept (executes_again.handed state id call).state ≡ Some (own_reply id (executes_again.handed state id call))
+  pub always : IsExecutedTwice forgets AnyState never_kept false
   pub always_again :
-      (state : Bool) (id : ℕ) (call : Asked) (line : List ℕ) → nothing state ≡ Some (record { id = id; line = line }) → (forgets.handed state id call).executed ≡ false
+      (state : Bool) (id : ℕ) (call : Asked) (line : List ℕ) → never_kept state ≡ Some (record { id = id; line = line }) → (forgets.handed state id call).executed ≡ false

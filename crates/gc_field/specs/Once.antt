@@ -17,7 +17,7 @@ IsInOrder executed = (j k m n : ℕ) → j < k → slice_get executed j ≡ Some
 
 -- of two executions with no start between them, the later one is of a request that was sent later, if it is of a request that the
 -- instrument knows (`knows`)
-abbrev pub ActsOnce : (Asked → Bool) → List Sent → (executed starts : List ℕ) → Type 0
-ActsOnce knows sent executed starts =
+abbrev pub ExecutesOnce : (Asked → Bool) → List Sent → (executed starts : List ℕ) → Type 0
+ExecutesOnce knows sent executed starts =
     (j k m n : ℕ) (r : Sent) → j < k → HasNoStart starts j k → slice_get executed j ≡ Some m → slice_get executed k ≡ Some n →
     slice_get sent n ≡ Some r → knows r.call ≡ true → m < n

@@ -11,26 +11,20 @@ use Rattle.gc_catalogue.specs.declared.call.Call.TheVariants.{Position, ChangeFa
 use Rattle.gc_instrument.specs.Execution.{exec}
 use Rattle.gc_instrument.specs.Replying.{without_kept}
 use Rattle.gc_instrument.specs.State.{State, IsFittingState}
-use Rattle.gc_links.specs.Acts.{Act}
 use Rattle.gc_texts.specs.declared.tasks.Task.{Task}
-use Rattle.gc_station.specs.Links.{parts}
 use Rattle.gc_station.specs.Parts.{Part}
 use Rattle.gc_station.specs.Records.{Record}
-use Rattle.gc_station.specs.Runs.{state_after}
-use Rattle.gc_station.specs.Scopes.{Scope}
-use Rattle.gc_station.specs.declared.plan.Plan.{Plan}
-use Rattle.gc_field.specs.Simulator.{ends}
+use Rattle.gc_field.specs.Simulator.{simulator_ends}
 use Rattle.gc_field.specs.Begin.{UnderWay}
-use Rattle.gc_field.specs.Beginnings.{Run}
 use Rattle.gc_field.specs.Chains.{HasEffect, IsChainedTo, IsUndisturbed, OfEachBeforeInChain, stretch_wire}
 use Rattle.gc_field.specs.Laws.{kept_of}
-use Rattle.gc_field.specs.Runs.{IsInField}
+use Rattle.gc_field.specs.Runs.{IsInField, Program, program_parts, program_records}
 use Rattle.gc_field.specs.Shown.{Stretch, stretches}
 
 -- the simulator's state once it has executed a request: a procedure that isn't in the table changes nothing
-abbrev pub after_call : State → Asked → State
-after_call s (Table call) = (exec s call).state
-after_call s (Raw raw) = s
+abbrev pub state_after_call : State → Asked → State
+state_after_call s (Table call) = (exec s call).state
+state_after_call s (Raw raw) = s
 
 -- whether a request may turn the simulator's telescope
 abbrev pub turns_telescope : Asked → Bool
@@ -52,32 +46,30 @@ pub record PointsAs (s t : State) : Type 0 where
 -- latter had left it; and if the latter was a positioning, in the direction that it commanded, in the face in which the telescope
 -- was before
 pub record IsMeasuredWhereItPointed {reads : Asked → List ℕ → Reading} {commands : List Task} {ps : List Part} {ss : List (Stretch State)}
-    {records : List Record} {a : ℕ} {b : Record} {line : List ℕ} (h : IsChainedTo ends IsFittingState kept_of reads commands ps ss records a b line) : Type 0 where
-  pub as_left : PointsAs (stretch_wire ends h.stretch h.executed.second.front).state (after_call (stretch_wire ends h.stretch h.executed.first.front).state h.earlier.answer.command.call)
+    {records : List Record} {a : ℕ} {b : Record} {line : List ℕ} (h : IsChainedTo simulator_ends IsFittingState kept_of reads commands ps ss records a b line) : Type 0 where
+  pub as_left : PointsAs (stretch_wire simulator_ends h.stretch h.executed.second.front).state (state_after_call (stretch_wire simulator_ends h.stretch h.executed.first.front).state h.earlier.answer.command.call)
   pub as_commanded :
       (hz v : Decimal) (pos_mode atr_mode dummy : _) → h.earlier.answer.command.call ≡ Table (Position hz v pos_mode atr_mode dummy)
-      → ((stretch_wire ends h.stretch h.executed.second.front).state.pointing ≡ record { hz = hz; v = v })
-      × ((stretch_wire ends h.stretch h.executed.second.front).state.face ≡ (stretch_wire ends h.stretch h.executed.first.front).state.face)
+      → ((stretch_wire simulator_ends h.stretch h.executed.second.front).state.pointing ≡ record { hz = hz; v = v })
+      × ((stretch_wire simulator_ends h.stretch h.executed.second.front).state.face ≡ (stretch_wire simulator_ends h.stretch h.executed.first.front).state.face)
 
 -- if a reply in time ended the command of record b, it was executed after each command before it in its chain (`h`, for the one
 -- at place a). If no command of the places between turns the telescope, and the instrument neither started again nor changed by
 -- itself between the two executions, it was executed with the telescope as the earlier one had left it
 -- (`IsMeasuredWhereItPointed`)
-abbrev pub IsPointedInChain : Plan → List Task → Scope → List Act → UnderWay State → List (Run State) → Record → Type 0
-IsPointedInChain plan commands scope acts u rs b =
-    OfEachBeforeInChain plan commands b (λ line a.
-    (h : IsChainedTo ends IsFittingState kept_of scope.reads commands (parts plan commands scope acts) (stretches ends u rs)
-    (state_after plan commands scope acts).records a b line)
-    × (AreStill commands a b.place → IsUndisturbed h.executed.between → IsMeasuredWhereItPointed h))
+abbrev pub IsPointedInChain : UnderWay State → Program State → Record → Type 0
+IsPointedInChain u x b =
+    OfEachBeforeInChain x.plan x.commands b (λ line a.
+    (h : IsChainedTo simulator_ends IsFittingState kept_of x.scope.reads x.commands (program_parts x) (stretches simulator_ends u x.runs) (program_records x) a b line)
+    × (AreStill x.commands a b.place → IsUndisturbed h.executed.between → IsMeasuredWhereItPointed h))
 
 -- each record is `IsPointedInChain`: for every plan, all commands, every run of the station in the field (`IsInField`) over the
 -- simulator, and all that the line and the simulator may do meanwhile
 abbrev pub ChainsAreMeasuredWhereTheyPointed : Type 0
 ChainsAreMeasuredWhereTheyPointed =
-    (plan : Plan) (commands : List Task) (scope : Scope) (acts : List Act) (u : UnderWay State) (rs : List (Run State)) → IsInField ends IsFittingState kept_of plan commands scope acts u rs →
-    AllByRecursion (IsPointedInChain plan commands scope acts u rs) (state_after plan commands scope acts).records
+    (u : UnderWay State) (x : Program State) → IsInField simulator_ends IsFittingState kept_of u x → AllByRecursion (IsPointedInChain u x) (program_records x)
 
 -- executing a call of the table makes of the simulator's state what the execution table says, apart from the reply that is
--- retained; another request changes nothing
+-- kept; another request changes nothing
 abbrev pub SimulatorHasItsEffect : Type 0
-SimulatorHasItsEffect = HasEffect ends without_kept after_call
+SimulatorHasItsEffect = HasEffect simulator_ends without_kept state_after_call

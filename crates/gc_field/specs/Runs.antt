@@ -29,7 +29,7 @@ use Rattle.gc_station.specs.Requests.{asked_at}
 use Rattle.gc_station.specs.Runs.{state_after}
 use Rattle.gc_station.specs.Model.{Model, opening, action_at, after, Runs}
 use Rattle.gc_station.specs.Scopes.{Scope}
-use Rattle.gc_field.specs.Simulator.{ends}
+use Rattle.gc_field.specs.Simulator.{simulator_ends}
 use Rattle.gc_world.specs.Record.{IsReplyTo}
 use Rattle.gc_field.specs.World.{Ends, Numbered, Sent, World}
 use Rattle.gc_field.specs.Asking.{MeansSyncSteps}
@@ -41,6 +41,23 @@ use Rattle.gc_field.specs.Instrument.{OfAnyInstrument}
 use Rattle.gc_field.specs.Laws.{WasExecuted, asked, kept_of}
 use Rattle.gc_field.specs.Meaning.{Means}
 use Rattle.gc_field.specs.Shown.{AreShownAs, Stretch, stretches}
+
+-- a station's run as a program: its plan, its commands, its scope and its acts, and what happens on the line in each part of the
+-- run (`runs`)
+pub record Program (State : Type 0) : Type 0 where
+  pub plan : Plan
+  pub commands : List Task
+  pub scope : Scope
+  pub acts : List Act
+  pub runs : List (Run State)
+
+-- the parts of a program's run
+abbrev pub program_parts : {State : Type 0} → Program State → List Part
+program_parts x = parts x.plan x.commands x.scope x.acts
+
+-- the records of a program's run
+abbrev pub program_records : {State : Type 0} → Program State → List Record
+program_records x = (state_after x.plan x.commands x.scope x.acts).records
 
 -- whether a moment at or past this deadline is read among these moves
 abbrev pub times_out : {State : Type 0} → ℕ → List (Move State) → Bool
@@ -120,84 +137,88 @@ pub record HasRequest {State : Type 0} (commands : List Task) (ps : List Part) (
   pub listed : slice_get commands r.place ≡ Some task
 
 module _ {State : Type 0} (ends : Ends State) (Good : State → Type 0) (kept : State → Option KeptReply) where
-  -- a run of a station, and for each of its parts what happens on the line and to an instrument: first while it synchronizes,
-  -- then once it has synchronized. In flight at its start may be anything well formed (`IsWellFormed`) but the word
-  -- (`LacksTheWord`); and each part is over what the one before it left. What these happenings show to the station and its client
-  -- are the steps of its acts
-  pub record IsInField (plan : Plan) (commands : List Task) (scope : Scope) (acts : List Act) (u : UnderWay State) (rs : List (Run State)) : Type 0 where
-    pub runs : Runs plan commands (opening plan scope) acts
+  -- a program is a run of its station, and for each part of the run what happens on the line and to an instrument: first while
+  -- the station synchronizes, then once it has synchronized. In flight at its start (`u`) may be anything well formed
+  -- (`IsWellFormed`) but the word (`LacksTheWord`); and each part is over what the one before it left. What these happenings show
+  -- to the station and its client are the steps of its acts
+  pub record IsInField (u : UnderWay State) (x : Program State) : Type 0 where
+    pub runs : Runs x.plan x.commands (opening x.plan x.scope) x.acts
     pub lines : IsWellFormed Good u
     pub none : LacksTheWord u
-    pub shown : AreShownAs ends u rs (parts plan commands scope acts)
-    pub possible : AreRuns WINDOW ends Good kept u rs
+    pub shown : AreShownAs ends u x.runs (program_parts x)
+    pub possible : AreRuns WINDOW ends Good kept u x.runs
 
-  -- where the answer `line` of record `r` comes from, in a run with the parts `ps` and the stretches `ss`: the instrument made
-  -- this line on executing the very request of the record's cycle and place (`of`); and the line settled that request
-  pub record IsItsOwn (commands : List Task) (ps : List Part) (ss : List (Stretch State)) (r : Record) (line : List ℕ) : Type 0 where
-    pub of : HasRequest commands ps ss r
-    pub request : Sent
-    pub sent : slice_get (own_sent ends of.stretch) of.m ≡ Some request
-    pub asks : asked request ≡ asked_at (sent_at r) of.task
-    pub settled : slice_get (own_settled ends of.stretch) of.m ≡ Some (record { target = r.command.target; call = r.command.call; outcome = Answered line })
-    pub made : (j : ℕ) × (slice_get (world ends of.stretch).wire.made j ≡ Some (record { number = 8 + of.m; line = line }))
-    pub reply : IsReplyTo ends Good (call_at of.task (sent_at r)) line
-    pub executed : WasExecuted (world ends of.stretch).wire.executed (8 + of.m)
-    -- the line was made on executing that very request: at one of the stretch's moves it, with what the command asks at the
-    -- moment at which it was sent, reached the instrument, which executed it, and this line was its reply
-    pub made_on : WasMadeOn WINDOW ends of.stretch.from of.stretch.moves (8 + of.m) (call_at of.task (sent_at r)) line
+  -- Of a run with the parts `ps` and the stretches `ss`.
+  module _ (commands : List Task) (ps : List Part) (ss : List (Stretch State)) where
+    -- the line was made on executing the very request of record `r` (`h`): at one of the stretch's moves it, with what the
+    -- command asks at the moment at which it was sent, reached the instrument, which executed it, and this line was its reply
+    abbrev pub WasMadeFor : (r : Record) → HasRequest commands ps ss r → (line : List ℕ) → Type 0
+    WasMadeFor r h line = WasMadeOn WINDOW ends h.stretch.from h.stretch.moves (8 + h.m) (call_at h.task (sent_at r)) line
 
-  -- if a record is of a reply in time, its line was made on executing its own request: by `IsItsOwn`
-  abbrev pub IsOwnAnswer : List Task → List Part → List (Stretch State) → Record → Type 0
-  IsOwnAnswer commands ps ss r = (line : List ℕ) → line_of r.end ≡ Some line → IsItsOwn commands ps ss r line
+    -- where the answer `line` of record `r` comes from: the instrument made this line on executing the very request of the
+    -- record's cycle and place (`of`); and the line settled that request
+    pub record IsItsOwn (r : Record) (line : List ℕ) : Type 0 where
+      pub of : HasRequest commands ps ss r
+      pub request : Sent
+      pub sent : slice_get (own_sent ends of.stretch) of.m ≡ Some request
+      pub asks : asked request ≡ asked_at (sent_at r) of.task
+      pub settled : slice_get (own_settled ends of.stretch) of.m ≡ Some (record { target = r.command.target; call = r.command.call; outcome = Answered line })
+      pub made : (j : ℕ) × (slice_get (world ends of.stretch).wire.made j ≡ Some (record { number = 8 + of.m; line = line }))
+      pub reply : IsReplyTo ends Good (call_at of.task (sent_at r)) line
+      pub executed : WasExecuted (world ends of.stretch).wire.executed (8 + of.m)
+      pub made_on : WasMadeFor r of line
 
-  -- the instrument executed the command of a late record `r`, in a run with the parts `ps` and the stretches `ss`: it made a line
-  -- on executing the request of the record's cycle and place (`of`)
-  pub record HasExecution (commands : List Task) (ps : List Part) (ss : List (Stretch State)) (r : Record) : Type 0 where
-    pub of : HasRequest commands ps ss r
-    pub line : List ℕ
-    pub made_on : WasMadeOn WINDOW ends of.stretch.from of.stretch.moves (8 + of.m) (call_at of.task (sent_at r)) line
+    -- if a record is of a reply in time, its line was made on executing its own request: by `IsItsOwn`
+    abbrev pub IsOwnAnswer : Record → Type 0
+    IsOwnAnswer r = (line : List ℕ) → line_of r.end ≡ Some line → IsItsOwn r line
 
-  -- if a record is late, the instrument executed its command all the same: by `HasExecution`
-  abbrev pub LateHasExecution : List Task → List Part → List (Stretch State) → Record → Type 0
-  LateHasExecution commands ps ss r = r.end ≡ end.Late → HasExecution commands ps ss r
+    -- the instrument executed the command of a late record `r`: it made a line on executing the request of the record's cycle and
+    -- place (`of`)
+    pub record HasExecution (r : Record) : Type 0 where
+      pub of : HasRequest commands ps ss r
+      pub line : List ℕ
+      pub made_on : WasMadeFor r of line
+
+    -- if a record is late, the instrument executed its command all the same: by `HasExecution`
+    abbrev pub LateHasExecution : Record → Type 0
+    LateHasExecution r = r.end ≡ end.Late → HasExecution r
 
   -- a stretch is faithful after its first moves, however many
   abbrev pub IsFaithfulThroughout : Stretch State → Type 0
   IsFaithfulThroughout s = (front later : List (Move State)) → s.moves ≡ front ++ later → IsFaithful WINDOW ends s.from front Good kept
 
   -- what holds of a run in the field, from its records back to what the instrument executed
-  pub record IsRunFaithful (plan : Plan) (commands : List Task) (scope : Scope) (acts : List Act) (u : UnderWay State) (rs : List (Run State)) : Type 0 where
+  pub record IsRunFaithful (u : UnderWay State) (x : Program State) : Type 0 where
     -- no command is sent before the eighth null procedure is answered: neither at first, nor when the run resynchronizes
-    pub begun : AreBegun the_word (parts plan commands scope acts)
+    pub begun : AreBegun the_word (program_parts x)
     -- and where it has synchronized, it has synchronized cleanly: no request from before is in flight, nor a reply to one
-    pub clean : AreOwn WINDOW ends Good kept u rs
+    pub clean : AreOwn WINDOW ends Good kept u x.runs
     -- its own: the answer of each record was made on executing the request of that very cycle and place
-    pub own : AllByRecursion (IsOwnAnswer commands (parts plan commands scope acts) (stretches ends u rs)) (state_after plan commands scope acts).records
+    pub own : AllByRecursion (IsOwnAnswer x.commands (program_parts x) (stretches ends u x.runs)) (program_records x)
     -- and if a reply came too late, the instrument executed the request all the same
-    pub late : AllByRecursion (LateHasExecution commands (parts plan commands scope acts) (stretches ends u rs)) (state_after plan commands scope acts).records
+    pub late : AllByRecursion (LateHasExecution x.commands (program_parts x) (stretches ends u x.runs)) (program_records x)
     -- one for one: the records and what is outstanding, of cycles, are the commands of cycles that had their turn, sent or not,
     -- in order, each once, but for those of further attempts that were left out
-    pub one_for_one : EachOnce plan commands scope acts
+    pub one_for_one : EachOnce x.plan x.commands x.scope x.acts
     -- the requests of the stretches are these commands, and null procedures; and the records, but for those of commands that
     -- weren't sent, are how they ended there, answered, late or lost
-    pub sent : AreSentAs ends commands (parts plan commands scope acts) (stretches ends u rs)
-    pub written : map timeless (sent_of (state_after plan commands scope acts).records) ≡ written_over ends scope.reads (parts plan commands scope acts) (stretches ends u rs)
+    pub sent : AreSentAs ends x.commands (program_parts x) (stretches ends u x.runs)
+    pub written : map timeless (sent_of (program_records x)) ≡ written_over ends x.scope.reads (program_parts x) (stretches ends u x.runs)
     -- the steps of a run are what its acts are to a synchronization and to a client: the bytes that are sent are the
     -- lines of these requests, and line feeds that clear the receiver
-    pub meant : AreMeant plan commands (opening plan scope) acts
+    pub meant : AreMeant x.plan x.commands (opening x.plan x.scope) x.acts
     -- in time: a reply that comes while its request isn't settled settles it, as answered, or as late if a moment at or past its
     -- deadline was read since it was sent
-    pub in_time : AllByRecursion (IsInTime ends) (stretches ends u rs)
-    -- each stretch is faithful after its first moves, however many. So it acts once: if the instrument retains its reply to each
+    pub in_time : AllByRecursion (IsInTime ends) (stretches ends u x.runs)
+    -- each stretch is faithful after its first moves, however many. So it acts once: if the instrument keeps its reply to each
     -- request that it knows, between two of its starts each of these is executed at most once
-    pub each : AllByRecursion IsFaithfulThroughout (stretches ends u rs)
+    pub each : AllByRecursion IsFaithfulThroughout (stretches ends u x.runs)
 
 -- every run in the field is faithful, whatever the plan and the commands are, and whatever the line and the instrument do
--- meanwhile. `Good` says which states of the instrument are good, and `kept` what reply each of them retains
+-- meanwhile. `Good` says which states of the instrument are good, and `kept` what reply each of them keeps
 abbrev pub RunsInFieldAreFaithful : {State : Type 0} → (ends : Ends State) → (Good : State → Type 0) → (kept : State → Option KeptReply) → Type 0
 RunsInFieldAreFaithful {State = State} ends Good kept =
-    (plan : Plan) (commands : List Task) (scope : Scope) (acts : List Act) (u : UnderWay State) (rs : List (Run State)) → IsInField ends Good kept plan commands scope acts u rs →
-    IsRunFaithful ends Good kept plan commands scope acts u rs
+    (u : UnderWay State) (x : Program State) → IsInField ends Good kept u x → IsRunFaithful ends Good kept u x
 
 -- `RunsInFieldAreFaithful`, for any instrument, in any state
 abbrev pub RunsAreFaithful : Type 0 → Type 0
@@ -205,4 +226,4 @@ RunsAreFaithful State = OfAnyInstrument {State = State} (λ ends Good kept. Runs
 
 -- `RunsInFieldAreFaithful`, for the simulator, in any state whose values lie in their types (`IsFittingState`)
 abbrev pub SimulatorsRunsAreFaithful : Type 0
-SimulatorsRunsAreFaithful = RunsInFieldAreFaithful ends IsFittingState kept_of
+SimulatorsRunsAreFaithful = RunsInFieldAreFaithful simulator_ends IsFittingState kept_of

@@ -6,12 +6,11 @@ use Rattle.gc_catalogue.specs.declared.call.Call.TheVariants.{NullProc, SetPrism
 use Rattle.gc_client.specs.declared.window.TheConstants.{WINDOW}
 use Rattle.gc_client.specs.Rule.{Answered}
 use Rattle.gc_instrument.specs.State.{State, IsFittingState, simulator_opening}
-use Rattle.gc_world.specs.Clients.{by_ids}
-use Rattle.gc_field.specs.Simulator.{ends}
+use Rattle.gc_field.specs.Simulator.{simulator_ends}
 use Rattle.gc_field.specs.World.{Up_deliver, Up_repeat, Down_lose}
 use Rattle.gc_field.specs.Begin.{none_under_way}
-use Rattle.gc_field.specs.Begun.{ids_begun, wire_over_empty_line}
-use Rattle.gc_field.specs.Field.{Move, Sends, Comes, OnLine, Anew, ArePossible}
+use Rattle.gc_field.specs.Begun.{wire_over_empty_line, ArePossibleOnceBegun}
+use Rattle.gc_field.specs.Field.{Move, Sends, Comes, OnLine, Anew}
 use Rattle.gc_field.specs.Laws.{kept_of}
 
 -- the moves: the line repeats the third request of a client that has synchronized. The instrument executes it, and the reply is
@@ -36,8 +35,8 @@ moves =
 -- these moves are possible after a synchronization that left nothing in flight; the third request is executed twice, and its
 -- answer is the second execution's, in the state after the start
 pub record IsExecutedAgain : Type 0 where
-  pub possible : ArePossible ends IsFittingState kept_of (by_ids WINDOW ends) moves (ids_begun (none_under_way simulator_opening))
-  pub executed : (wire_over_empty_line ends simulator_opening moves).executed ≡ 8 ∷ 9 ∷ 10 ∷ 10 ∷ []
+  pub possible : ArePossibleOnceBegun WINDOW simulator_ends (none_under_way simulator_opening) IsFittingState kept_of moves
+  pub executed : (wire_over_empty_line simulator_ends simulator_opening moves).executed ≡ 8 ∷ 9 ∷ 10 ∷ 10 ∷ []
   pub settled :
-      slice_get (wire_over_empty_line ends simulator_opening moves).settled 10
+      slice_get (wire_over_empty_line simulator_ends simulator_opening moves).settled 10
       ≡ Some (record { target = 7; call = Table GetPrism; outcome = Answered (codes "%R1P,0,2:0,0") })

@@ -5,7 +5,7 @@ use Rattle.gc_client.specs.declared.window.TheConstants.{WINDOW}
 use Rattle.gc_station.specs.Parts as part
 use Rattle.gc_station.specs.Parts.{Part}
 use Rattle.gc_field.specs.World.{Ends}
-use Rattle.gc_field.specs.Begin.{InFlight, Model, Turn, Asks, Comes, Foreign, Reaches, Up_lose, Up_repeat, Down_lose, Down_repeat, Anew, Changes, UnderWay, begins, left_by_turns, turns}
+use Rattle.gc_field.specs.Begin.{InFlight, SyncModel, SyncTurn, Asks, Comes, Foreign, Reaches, Up_lose, Up_repeat, Down_lose, Down_repeat, Anew, Changes, UnderWay, begins, left_by_turns, turns}
 use Rattle.gc_field.specs.Beginnings.{Run, left_by_run}
 use Rattle.gc_field.specs.Field.{Move, seen}
 
@@ -17,7 +17,7 @@ first_heard (x ∷ rest) = part.Hears x.line ∷ []
 module _ {State : Type 0} where
   -- what a turn of the field shows to the synchronizing station: its null procedure is sent, or a line is heard; what happens
   -- on the line is nothing to the station
-  abbrev pub shows : Model State → Turn State → List part.SyncStep
+  abbrev pub shows : SyncModel State → SyncTurn State → List part.SyncStep
   shows s Asks = part.Asks ∷ []
   shows s Comes = first_heard s.down
   shows s (Foreign line) = part.Hears line ∷ []
@@ -30,7 +30,7 @@ module _ {State : Type 0} where
   shows s (Changes state) = []
 
   -- what these turns of the field show to the synchronizing station, in order
-  abbrev pub shown : Ends State → List (Turn State) → Model State → List part.SyncStep
+  abbrev pub shown : Ends State → List (SyncTurn State) → SyncModel State → List part.SyncStep
   shown ends [] s = []
   shown ends (t ∷ ts) s = shows s t ++ shown ends ts (turns ends s t)
 

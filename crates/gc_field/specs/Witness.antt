@@ -19,10 +19,10 @@ use Rattle.gc_station.specs.Progressing.{is_over}
 use Rattle.gc_station.specs.Runs.{state_after}
 use Rattle.gc_station.specs.Scopes.{Scope, scoped}
 use Rattle.gc_field.specs.Plain.{plain_task, plain_turn}
-use Rattle.gc_field.specs.Simulator.{ends}
+use Rattle.gc_field.specs.Simulator.{simulator_ends}
 use Rattle.gc_field.specs.World.{Up_deliver}
 use Rattle.gc_field.specs.Begin as turn
-use Rattle.gc_field.specs.Begin.{Turn, Asks, Reaches, UnderWay, left_by_turns}
+use Rattle.gc_field.specs.Begin.{SyncTurn, Asks, Reaches, UnderWay, left_by_turns}
 use Rattle.gc_field.specs.Beginnings.{Run}
 use Rattle.gc_field.specs.Begun.{WasMadeOn}
 use Rattle.gc_field.specs.Field.{Move, Sends, Tells, Comes, OnLine}
@@ -30,12 +30,12 @@ use Rattle.gc_field.specs.Laws.{kept_of}
 use Rattle.gc_field.specs.Runs.{IsInField}
 
 -- a plan with requests in flight up to this width, deadlines of 100 ms, one cycle, a quiet time of 10 ms, and one retry
-abbrev pub plan_of : ℕ → Plan
-plan_of width = record { width = width; deadline = 100; every = 0; cycles = 1; quiet = 10; retries = 1; setup = 0; stale = 0; watched = false }
+abbrev pub plan_of_width : ℕ → Plan
+plan_of_width width = record { width = width; deadline = 100; every = 0; cycles = 1; quiet = 10; retries = 1; setup = 0; stale = 0; watched = false }
 
 -- the plan of this run: one request at a time
 abbrev pub plan : Plan
-plan = plan_of 1
+plan = plan_of_width 1
 
 -- the command: a request for the instrument's number
 abbrev pub commands : List Task
@@ -73,13 +73,13 @@ abbrev pub begun_with : List (List ℕ) → List Act → List Act
 begun_with answers acts = Opened ∷ Put (10 ∷ []) ∷ Told (at 0) ∷ exchanged 10 null_lines answers acts
 
 -- what happens in a synchronization: each null procedure reaches the instrument, and its reply comes
-abbrev pub eight_answered : {S : Type 0} → List (Turn S)
+abbrev pub eight_answered : {S : Type 0} → List (SyncTurn S)
 eight_answered =
     Asks ∷ Reaches ∷ turn.Comes ∷ Asks ∷ Reaches ∷ turn.Comes ∷ Asks ∷ Reaches ∷ turn.Comes ∷ Asks ∷ Reaches ∷ turn.Comes
     ∷ Asks ∷ Reaches ∷ turn.Comes ∷ Asks ∷ Reaches ∷ turn.Comes ∷ Asks ∷ Reaches ∷ turn.Comes ∷ Asks ∷ Reaches ∷ turn.Comes ∷ []
 
 -- a run with these turns and moves, and after its end one more, in which nothing happens
-abbrev pub run_and_end : {S : Type 0} → List (Turn S) → List (Move S) → List (Run S)
+abbrev pub run_and_end : {S : Type 0} → List (SyncTurn S) → List (Move S) → List (Run S)
 run_and_end turns moves = record { turns = turns; moves = moves } ∷ record { turns = []; moves = [] } ∷ []
 
 -- in flight at the start: a reply with id 0, and a request with that id, which the first command will have too
@@ -113,7 +113,7 @@ acts =
 
 -- what happens while the station synchronizes: each request reaches the simulator, the old one first, and each reply
 -- comes
-abbrev pub turns : List (Turn State)
+abbrev pub turns : List (SyncTurn State)
 turns = Asks ∷ turn.Comes ∷ Reaches ∷ turn.Comes ∷ Reaches ∷ turn.Comes ∷ drop 3 eight_answered
 
 -- what happens once the station has synchronized: the command reaches the simulator, and its reply comes
@@ -127,7 +127,7 @@ runs = run_and_end turns moves
 -- this is a run in the field, after which no act follows; it recorded the command's answer, which was made on executing the
 -- command's request
 pub record SomeRunIsInField : Type 0 where
-  pub field : IsInField ends IsFittingState kept_of plan commands scope acts at_start runs
+  pub field : IsInField simulator_ends IsFittingState kept_of at_start (record { plan = plan; commands = commands; scope = scope; acts = acts; runs = runs })
   pub over : is_over (state_after plan commands scope acts).progress ≡ true
   pub records :
       (state_after plan commands scope acts).records
@@ -140,4 +140,4 @@ pub record SomeRunIsInField : Type 0 where
         command = record { target = 7; call = Table InstrumentNo };
         end = end.Answered Fine (Some (Long (pos 123456))) answer;
       } ∷ []
-  pub made_on : WasMadeOn WINDOW ends (left_by_turns ends turns at_start) moves 8 (Table InstrumentNo) answer
+  pub made_on : WasMadeOn WINDOW simulator_ends (left_by_turns simulator_ends turns at_start) moves 8 (Table InstrumentNo) answer

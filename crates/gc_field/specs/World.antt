@@ -1,9 +1,10 @@
 -- The world, this project's own: a client and an instrument, the line between them, what may happen on it, and a run. A client of
 -- this world asks for calls of the table and for procedures that aren't in it.
-use Rattle.std.specs.Prelude.{ℕ, List, Option, Some}
+use Rattle.std.specs.Prelude.{ℕ, true, List, Option, Some}
 use Rattle.gc_catalogue.specs.Asked.{asked_line}
 use Rattle.gc_catalogue.specs.declared.asked.Asked.{Asked}
-use Rattle.gc_client.specs.Rule.{Sending}
+use Rattle.gc_client.specs.Rule.{Sending, heard}
+use Rattle.gc_instrument.specs.Replying.{Handed}
 use Rattle.gc_world.specs.Worlds
 pub use Rattle.gc_world.specs.Worlds.{Numbered, Send, Up_deliver, Up_lose, Up_repeat, Down_deliver, Down_lose, Down_repeat, Expire, Restart_client, Restart_instrument, Nothing, opened, without, doubled, idle, replied, up_delivered, with_up, with_down, started, instrument_restarted, on_wire, with_settled, down_delivered, client_restarted}
 
@@ -30,6 +31,11 @@ World Client State = Worlds.World Asked Client State
 -- the two ends: what an instrument does, and what id a client reads in a line
 abbrev pub Ends : Type 0 → Type 0
 Ends State = Worlds.Ends Asked State
+
+-- the two ends: an instrument that does this with a request, and this at a start, and a client that reads replies by their
+-- grammar
+abbrev pub ends_of : {State : Type 0} → (handed : State → ℕ → Asked → Handed State) → (restarted : State → State) → Ends State
+ends_of handed restarted = record { handed = handed; restarted = restarted; heard = heard; joint = true }
 
 -- a client's rule: what each event does to it
 abbrev pub Rule : Type 0 → Type 0

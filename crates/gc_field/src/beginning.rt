@@ -9,14 +9,14 @@ ghost use Rattle.gc_field.specs.Begun.{AnswersAreTheirOwnOnceBegun, BeginsCleanl
 /// For any instrument, whatever the line loses or repeats, and whatever is in flight when a synchronization begins, unless the
 /// ids in flight then have the word 6 5 4 3 2 1 0 7 as a subsequence: once it is done, no request from before is in flight, nor
 /// a reply to one. All that may be in flight is copies of its eighth null procedure, and replies to these. The instrument
-/// retains a reply with that procedure's id, or none. (A request in flight has an id from 0 to 7, by `IsWellFormed`.)
+/// keeps a reply with that procedure's id, or none. (A request in flight has an id from 0 to 7, by `IsWellFormed`.)
 pub fn begins_cleanly<State>()
     ensures { BeginsCleanly State }
 {}
 
 /// For any instrument, and a new client after a clean synchronization: each answer, from the client's first request on, was made
 /// on executing its very request, however many are sent at once, and the instrument executed each request that is late, if the
-/// request in question is safe (`IsSafe`): all requests are calls of the table, or the instrument retains after each request its
+/// request in question is safe (`IsSafe`): all requests are calls of the table, or the instrument keeps after each request its
 /// own reply or none, or one of the seven requests before it is a call of the table that a reply had ended, or the
 /// synchronization's eighth null procedure. The rest of what `answers_are_their_own` says holds whether requests are safe or not.
 pub fn answers_are_their_own_once_begun<State>()
@@ -60,8 +60,9 @@ pub fn some_runs_are_their_own()
     ensures { AreSomeRuns }
 {}
 
-/// Why the ids 6 5 4 3 2 1 0 7 may not be in flight in this order: replies from before would answer all null procedures of the
-/// synchronization, and a further reply from before would be booked for the first command, which was never executed.
-pub fn the_word_in_flight_is_booked_wrong()
+/// Why the ids 6 5 4 3 2 1 0 7 may not be in flight in this order. In some run of the simulator nine replies from before are in
+/// flight: eight with these ids, which answer all null procedures of the synchronization, and a ninth, which is booked for the
+/// first command, though nothing was executed.
+pub fn the_word_in_flight_books_a_wrong_answer()
     ensures { IsBookedFromBefore }
 {}

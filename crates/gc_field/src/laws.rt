@@ -3,7 +3,7 @@
 //! request from before, nor a reply to one, is in flight once the eighth is answered. A stretch of a run reaches from one
 //! synchronization to the next. Each function does nothing: its contract is the law.
 
-ghost use Rattle.gc_field.specs.Alone.{TwoAtOnceAreBookedWrong};
+ghost use Rattle.gc_field.specs.Alone.{TwoAtOnceBookAWrongAnswer};
 ghost use Rattle.gc_field.specs.BeginsAnew.{IsAnsweredAnew};
 ghost use Rattle.gc_field.specs.Carried.{SimulatorsStationsAnswersAreTheirOwn, StationsAnswersAreTheirOwn};
 ghost use Rattle.gc_field.specs.ChainWitness.{IsPointedInField};
@@ -25,14 +25,14 @@ ghost use Rattle.gc_field.specs.Witness.{SomeRunIsInField};
 /// For any instrument, and a client that doesn't synchronize, as that of `geocom ask`, with nothing in flight, over any number
 /// of connections: if the client asks only for calls of the table, and sends its first request alone, each answer was made on
 /// executing its very request, and the instrument executed each request that is late. The first request is excepted from both:
-/// its answer may be an older reply. Also executions are in the order of sending; and if the instrument retains its reply to each
+/// its answer may be an older reply. Also executions are in the order of sending; and if the instrument keeps its reply to each
 /// request that it knows, it executes each of these at most once between two of its restarts.
 pub fn answers_are_their_own<State>()
     ensures { AnswersAreTheirOwn State }
 {}
 
 /// For any instrument, and the acts of a station that has synchronized cleanly: each answer, from the first request on, was made
-/// on executing its very request, if all requests are calls of the table, or the instrument retains after each request its own
+/// on executing its very request, if all requests are calls of the table, or the instrument keeps after each request its own
 /// reply or none, or one of the seven requests before it is a call of the table that a reply ended, or the synchronization's
 /// eighth null procedure (`IsSafe`).
 pub fn stations_answers_are_their_own<State>()
@@ -48,7 +48,7 @@ pub fn stations_answers_are_their_own<State>()
 /// that were left out. The bytes that the station sends are the lines of its requests, and line feeds that clear the receiver.
 /// Its records of commands that were sent are how these ended on the line; the first reply to a request that isn't settled
 /// settles it. And each stretch from one synchronization to the next is faithful: its settlements and what is outstanding are its
-/// requests, one for one and in order; requests are executed in the order of sending; and if the instrument retains its reply to
+/// requests, one for one and in order; requests are executed in the order of sending; and if the instrument keeps its reply to
 /// each request that it knows, it executes each of these at most once between two of its restarts.
 pub fn runs_are_faithful<State>()
     ensures { RunsAreFaithful State }
@@ -70,8 +70,8 @@ pub fn simulators_stations_in_a_row_are_faithful()
 /// In every run that `runs_are_faithful` speaks of, for any instrument: a command of a chain that is answered, of a cycle and
 /// not of the setup, was executed after each earlier command of the chain, in the same stretch, and the answers of both are the
 /// replies to these executions. If the instrument didn't restart between the two executions, each request that it executed
-/// between them, and to which it retains its reply, was sent between them. If it didn't change by itself either, its state at
-/// the later execution is what the executions from the earlier one on made of it, apart from what it retains.
+/// between them, and to which it keeps its reply, was sent between them. If it didn't change by itself either, its state at
+/// the later execution is what the executions from the earlier one on made of it, apart from what it keeps.
 pub fn chains_are_executed<State>()
     ensures { ChainsAreExecuted State }
 {}
@@ -84,13 +84,13 @@ pub fn chains_are_measured_where_they_pointed()
     ensures { ChainsAreMeasuredWhereTheyPointed }
 {}
 
-/// The simulator is an instrument, and one that retains its reply to each call of its table, in any state whose values lie in
-/// their types (`IsFittingState`). It refuses other requests with 3081, and these refusals leave the retained reply as it is.
+/// The simulator is an instrument, and one that keeps its reply to each call of its table, in any state whose values lie in
+/// their types (`IsFittingState`). It refuses other requests with 3081, and these refusals leave the kept reply as it is.
 pub fn simulator_is_an_instrument()
     ensures { SimulatorIsAnInstrument }
 {}
 
-/// Executing a call of the table makes of the simulator's state what the execution table says, apart from the retained reply; a
+/// Executing a call of the table makes of the simulator's state what the execution table says, apart from the kept reply; a
 /// reply that is sent again changes nothing, and neither does a procedure that isn't in the table.
 pub fn simulator_has_its_effect()
     ensures { SimulatorHasItsEffect }
@@ -111,7 +111,7 @@ pub fn simulators_runs_are_faithful()
     ensures { SimulatorsRunsAreFaithful }
 {}
 
-/// An instrument that retains no reply and executes each request meets all that is asked of an instrument, if the client reads
+/// An instrument that keeps no reply and executes each request meets all that is asked of an instrument, if the client reads
 /// its lines by the grammar of replies, and each of its replies has its request's id.
 pub fn keeping_nothing_suffices<State>()
     ensures { KeepingNothingSuffices State }
@@ -139,15 +139,15 @@ pub fn joined_requests_have_the_fronts_id()
 
 /// Why the line feed that clears the front of a request has to arrive: in some run of the simulator it is lost, and the reply to
 /// the joined line is booked for the request that was cut, which was not executed.
-pub fn a_lost_line_feed_is_booked_wrong()
+pub fn a_lost_line_feed_books_a_wrong_answer()
     ensures { IsBookedJoined }
 {}
 
-/// Why a client that doesn't synchronize sends its first request alone: if the simulator retains a reply with the id of the
+/// Why a client that doesn't synchronize sends its first request alone: if the simulator keeps a reply with the id of the
 /// second of two requests that are sent at once, and the first is lost, it answers the second with that reply. The reply is
 /// booked for the second, though nothing was executed.
-pub fn two_at_once_are_booked_wrong()
-    ensures { TwoAtOnceAreBookedWrong }
+pub fn two_at_once_book_a_wrong_answer()
+    ensures { TwoAtOnceBookAWrongAnswer }
 {}
 
 /// Some run meets every premise of `simulators_runs_are_faithful`: over a line on which an earlier request and an earlier reply
@@ -157,7 +157,7 @@ pub fn some_run_is_in_the_field()
     ensures { SomeRunIsInField }
 {}
 
-/// Some run is over an instrument that retains no reply and changes by itself: with a synchronization that goes on over a second
+/// Some run is over an instrument that keeps no reply and changes by itself: with a synchronization that goes on over a second
 /// connection, a lost reply, a request that times out, a restart of the instrument and a third connection. Its second command
 /// asks for a procedure that isn't in the table, whichever that is, and the answer to it was made on executing its own request.
 pub fn some_run_is_over_a_drifting_instrument()
@@ -183,7 +183,7 @@ pub fn some_chain_is_in_the_field()
     ensures { IsPointedInField }
 {}
 
-/// Some run of a chain is over an instrument that counts what it executes and retains its reply, and meets every premise of
+/// Some run of a chain is over an instrument that counts what it executes and keeps its reply, and meets every premise of
 /// `chains_are_executed`: the instrument's count at the third command is what the first and the second made of it.
 pub fn some_chain_is_over_a_counting_instrument()
     ensures { IsCountedInField }

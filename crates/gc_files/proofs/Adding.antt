@@ -66,12 +66,12 @@ pub mend_all : (old mid new : Option Life) (known : Life) (end len : ℕ)
 mend_all old mid new known end len less is ends cut sync =
     subst (λ (steps : List Step). Adds old new steps) (sym (mended_by_cut (content known) end len less is ends)) (adds_two old mid new (Cut end ∷ []) (Sync ∷ []) cut sync)
 
--- where l, the whole rows of a file, isn't empty, an opening writes no head: what `start_of` has is nothing
+-- where l, the whole rows of a file, isn't empty, an opening writes no head: what `head_written` has is nothing
 no_head_after_rows : (head l : List ℕ) → 0 < length l → (if is_empty l then head else []) ≡ []
 no_head_after_rows head [] more = absurd (omega (arith, more))
 no_head_after_rows head (b ∷ l) more = refl
 
--- where l, the whole rows of a file, is empty, an opening writes the head: this is what `start_of` has
+-- where l, the whole rows of a file, is empty, an opening writes the head: this is what `head_written` has
 head_without_rows : (head l : List ℕ) → length l ≡ 0 → (if is_empty l then head else []) ≡ head
 head_without_rows head [] none = refl
 head_without_rows head (b ∷ l) none = absurd (omega (arith, none))

@@ -4,7 +4,7 @@
 use Rattle.std.proofs.Common.{◌≡◌, inl, inr, ℕ, Bool, true, false, List, [], ◌∷◌, ◌++◌, refl, sym, ◌∙◌, ap, subst, append_assoc}
 use Rattle.std.proofs.lemmas.List.{append-nil}
 use Rattle.gc_files.specs.Files.{Life, content, later_by}
-use Rattle.gc_files.specs.Rows.{has_feed, table}
+use Rattle.gc_files.specs.Rows.{has_feed, opened_table}
 use Rattle.gc_files.specs.Runs.{Run, IsHead, IsRun, HasRows}
 use Rattle.gc_files.specs.Failing.{Sides, settled, same_sides, done_by, Loses, Event, Ran, Failed, Copied, Crashed, sides_after, Occur, runs_of, IsTrusted, IsFound, TablesOutlastFailures}
 use Rattle.gc_files.proofs.Whole.{whole_front}
@@ -19,13 +19,13 @@ record HasRowsOnBothSides (head before : List ℕ) (runs : List Run) (sides : Si
   same : doubted ≡ false → sides.read ≡ sides.disk
 
 -- bytes at the end that end no row are no part of the table
-hole_is_none : (head front hole : List ℕ) → has_feed hole ≡ false → table head (front ++ hole) ≡ table head front
+hole_is_none : (head front hole : List ℕ) → has_feed hole ≡ false → opened_table head (front ++ hole) ≡ opened_table head front
 hole_is_none head front hole none = same_table head (front ++ hole) front (whole_front front hole none)
 
 -- where a file that holds `held` has the rows of these runs, a file that holds `left` and has the same table has these rows,
 -- too
 same_rows : (head before : List ℕ) (runs : List Run) (held left : List ℕ)
-    → HasRows head before runs held → table head left ≡ table head held → HasRows head before runs left
+    → HasRows head before runs held → opened_table head left ≡ opened_table head held → HasRows head before runs left
 same_rows head before runs held left has same = (has.0, has.1, same ∙ has.2)
 
 -- where all that a file holds is on the disk, and it has the rows of these runs, whatever a crash leaves has them
@@ -37,7 +37,7 @@ settled_lasts head before runs held has left may = subst (HasRows head before ru
 lost_has : (head before : List ℕ) (runs : List Run) (life : Life) (now : List ℕ)
     → Lasts head before runs life → Loses life now → HasRows head before runs now
 lost_has head before runs life now lasts lost =
-    same_rows head before runs lost.front now (lasts lost.front lost.may) (ap (table head) lost.is ∙ hole_is_none head lost.front lost.hole lost.none)
+    same_rows head before runs lost.front now (lasts lost.front lost.may) (ap (opened_table head) lost.is ∙ hole_is_none head lost.front lost.hole lost.none)
 
 -- for a file with this head, and `before` as its table before all runs
 module _ (head before : List ℕ) (heads : IsHead head) where
@@ -120,6 +120,6 @@ module _ (head before : List ℕ) (heads : IsHead head) where
 -- the law: the table lasts over failed syncs, too, where no run goes on in a file in doubt
 pub tables_outlast_failures : TablesOutlastFailures
 tables_outlast_failures head held heads events occur left found =
-    let has : HasRows head (table head held) [] held = ([], tt, sym (append-nil (table head held))) in
-    lasts_over_events head (table head held) heads [] (same_sides (settled held)) false events
-    (record { read = has; disk = settled_lasts head (table head held) [] held has; same = λ _. refl }) occur left found
+    let has : HasRows head (opened_table head held) [] held = ([], tt, sym (append-nil (opened_table head held))) in
+    lasts_over_events head (opened_table head held) heads [] (same_sides (settled held)) false events
+    (record { read = has; disk = settled_lasts head (opened_table head held) [] held has; same = λ _. refl }) occur left found

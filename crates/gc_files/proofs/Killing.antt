@@ -2,8 +2,8 @@
 use Rattle.std.proofs.Common.{◌≡◌, inl, inr, ℕ, List, [], ◌∷◌, ◌++◌, take, refl, sym, ◌∙◌, ap, subst, arith, append_assoc, Option}
 use Rattle.std.proofs.lemmas.List.{append-nil}
 use Rattle.gc_files.specs.Files.{Step, Sync, Life, held_after, content, later_by}
-use Rattle.gc_files.specs.Rows.{table, start_of, mended, appended, MendedAndPut, IsFront, ComesTo}
-use Rattle.gc_files.specs.Runs.{synced, Run, lines, IsHead, IsRun, life_after, life_once_ended, HasRows, IsKilled, AreKilled, KillsLoseNothing, OpeningsAreRuns, FailedOpeningsAreRuns}
+use Rattle.gc_files.specs.Rows.{opened_table, head_written, mended, appended, MendedAndPut, IsFront, ComesTo}
+use Rattle.gc_files.specs.Runs.{synced, Run, row_lines, IsHead, IsRun, life_after, life_once_ended, HasRows, IsKilled, AreKilled, KillsLoseNothing, OpeningsAreRuns, FailedOpeningsAreRuns}
 use Rattle.gc_files.proofs.Adding.{cuts_two, appended_two, synced_all}
 use Rattle.gc_files.proofs.Lasting.{RunHas, run_moments, has_more}
 use Rattle.gc_files.proofs.Moments.{may_stay, behind_two, two_steps, mend_synced}
@@ -25,18 +25,18 @@ calls_opened head held run did are few were =
     record {
       rows = are;
       steps = inr (
-        start_of head held ++ did.front,
+        head_written head held ++ did.front,
         record {
           later = ran.later ++ later;
           split = did.split ∙ ap (λ (xs : List Step). xs ++ later) ran.split ∙ append_assoc (mended held) ran.later later;
           puts = record {
             none_cut = cuts_two ran.later later ran.puts.none_cut puts.none_cut;
-            all = appended_two ran.later later ∙ ap (λ (xs : List ℕ). xs ++ appended later) ran.puts.all ∙ ap (λ (xs : List ℕ). start_of head held ++ xs) puts.all;
+            all = appended_two ran.later later ∙ ap (λ (xs : List ℕ). xs ++ appended later) ran.puts.all ∙ ap (λ (xs : List ℕ). head_written head held ++ xs) puts.all;
           };
         },
         record {
           rest = is_front.rest;
-          split = ap (λ (xs : List ℕ). start_of head held ++ xs) is_front.split ∙ sym (append_assoc (start_of head held) did.front is_front.rest);
+          split = ap (λ (xs : List ℕ). head_written head held ++ xs) is_front.split ∙ sym (append_assoc (head_written head held) did.front is_front.rest);
         },
       );
       few = few;
@@ -47,7 +47,7 @@ calls_opened head held run did are few were =
 pub calls_failed : FailedOpeningsAreRuns
 calls_failed head held steps left comes = record {
   rows = tt;
-  steps = subst (λ (all : List ℕ). ComesTo held all steps) (sym (append-nil (start_of head held))) comes;
+  steps = subst (λ (all : List ℕ). ComesTo held all steps) (sym (append-nil (head_written head held))) comes;
   few = omega arith;
   kept = inl refl;
 }
@@ -79,7 +79,7 @@ killed_has head held run heads one = elim one.is.kept [
           whole.2,
         );
         few = one.is.few;
-        kept = inr (subst (λ (all : List ℕ). IsFront (start_of head held ++ lines (take run.kept run.rows)) all) (sym (ran_synced held run.steps bytes ran)) whole.3);
+        kept = inr (subst (λ (all : List ℕ). IsFront (head_written head held ++ row_lines (take run.kept run.rows)) all) (sym (ran_synced held run.steps bytes ran)) whole.3);
       } in
       let same : held_after held with.steps ≡ held_after held run.steps = behind_two held run.steps (Sync ∷ []) in
       let has = run_moments head held with (held_after held with.steps) heads is (may_stay held with.steps) in
@@ -87,7 +87,7 @@ killed_has head held run heads one = elim one.is.kept [
         count = has.count;
         least = has.least;
         few = has.few;
-        is = ap (table head) (sym same) ∙ has.is;
+        is = ap (opened_table head) (sym same) ∙ has.is;
       }
 ]
 
@@ -108,4 +108,4 @@ killed_runs_add_rows head before heads done (run ∷ runs) life has killed =
 -- the law: while the machine goes on no row is lost that went out whole
 pub kills_lose_nothing : KillsLoseNothing
 kills_lose_nothing head heads life runs killed =
-    killed_runs_add_rows head (table head (content life)) heads [] runs life ([], tt, sym (append-nil (table head (content life)))) killed
+    killed_runs_add_rows head (opened_table head (content life)) heads [] runs life ([], tt, sym (append-nil (opened_table head (content life)))) killed

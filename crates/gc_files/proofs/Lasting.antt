@@ -5,8 +5,8 @@ use Rattle.std.proofs.lemmas.Bool.{cases_Bool}
 use Rattle.std.proofs.lemmas.List.{append-nil}
 use Rattle.std.proofs.lemmas.List.Prefix.{front_fits}
 use Rattle.gc_files.specs.Files.{Step, Append, Cut, Sync, Life, settled, has_sync, content, later_by, MayLeave}
-use Rattle.gc_files.specs.Rows.{whole, line, is_empty, start_of, table, mended, appended, MendedAndPut, IsFront}
-use Rattle.gc_files.specs.Runs.{synced, Run, lines, AreRows, IsHead, IsRun, life_once_ended, CrashMayLeave, Happen, life_after, rows_of, AreRowCounts, HasRows, TablesLast}
+use Rattle.gc_files.specs.Rows.{whole, row_line, is_empty, head_written, opened_table, mended, appended, MendedAndPut, IsFront}
+use Rattle.gc_files.specs.Runs.{synced, Run, row_lines, AreRows, IsHead, IsRun, life_once_ended, CrashMayLeave, Happen, life_after, rows_of, AreRowCounts, HasRows, TablesLast}
 use Rattle.gc_files.proofs.Whole.{whole_whole, whole_more, Within, within}
 use Rattle.gc_files.proofs.Moments.{may_stay, leaves_two, no_sync, mended_leaves_whole, mend_moments, two_steps, mend_synced, front_take, put_moments}
 
@@ -15,64 +15,65 @@ use Rattle.gc_files.proofs.Moments.{may_stay, leaves_two, no_sync, mended_leaves
 pub record HasRowsWithin (head held : List ℕ) (rows : List (List ℕ)) (k : ℕ) (left : List ℕ) : Type 0 where
   pub count : ℕ
   pub few : count ≤ length rows
-  pub is : table head left ≡ table head held ++ lines (take count rows)
-  pub least : (m : ℕ) → m ≤ length rows → length (start_of head held ++ lines (take m rows)) ≤ k → m ≤ count
+  pub is : opened_table head left ≡ opened_table head held ++ row_lines (take count rows)
+  pub least : (m : ℕ) → m ≤ length rows → length (head_written head held ++ row_lines (take m rows)) ≤ k → m ≤ count
 
 -- where `rows` are the whole rows of a file that holds `left`, the file's table is `rows`, or the head where `rows` is empty
-table_by : (head left : List ℕ) (rows : List ℕ) → whole left ≡ rows → table head left ≡ rows ++ (if is_empty rows then head else [])
+table_by : (head left : List ℕ) (rows : List ℕ) → whole left ≡ rows → opened_table head left ≡ rows ++ (if is_empty rows then head else [])
 table_by head left rows is = ap (λ (l : List ℕ). l ++ (if is_empty l then head else [])) is
 
 -- where what is found, `left`, has the same table as what was there before a run, `held`, `HasRowsWithin` is true for 0 bytes:
 -- none of the run's rows was added, and none ends within 0 bytes
-pub none_more : (head held : List ℕ) (rows : List (List ℕ)) (left : List ℕ) → AreRows rows → table head left ≡ table head held → HasRowsWithin head held rows 0 left
+pub none_more : (head held : List ℕ) (rows : List (List ℕ)) (left : List ℕ) → AreRows rows → opened_table head left ≡ opened_table head held → HasRowsWithin head held rows 0 left
 none_more head held rows left are same =
     let w = within rows 0 are in
     record {
       count = w.count;
       few = w.few;
-      is = same ∙ sym (ap (λ (l : List ℕ). table head held ++ l) (sym w.is) ∙ append-nil (table head held));
-      least = λ m few le. w.least m few (omega (arith, le, length-append (start_of head held) (lines (take m rows))));
+      is = same ∙ sym (ap (λ (l : List ℕ). opened_table head held ++ l) (sym w.is) ∙ append-nil (opened_table head held));
+      least = λ m few le. w.least m few (omega (arith, le, length-append (head_written head held) (row_lines (take m rows))));
     }
 
 -- the table of a file with a whole row is its whole rows
-table_of_rows : (head : List ℕ) (b : ℕ) (bs : List ℕ) (left : List ℕ) → whole left ≡ b ∷ bs → table head left ≡ b ∷ bs
+table_of_rows : (head : List ℕ) (b : ℕ) (bs : List ℕ) (left : List ℕ) → whole left ≡ b ∷ bs → opened_table head left ≡ b ∷ bs
 table_of_rows head b bs left is = table_by head left (b ∷ bs) is ∙ append-nil (b ∷ bs)
 
 -- the line of a row has a first byte
-line_first : (row : List ℕ) → (b : ℕ) × (bs : List ℕ) × (line row ≡ b ∷ bs)
+line_first : (row : List ℕ) → (b : ℕ) × (bs : List ℕ) × (row_line row ≡ b ∷ bs)
 line_first [] = (10, [], refl)
 line_first (b ∷ row) = (b, row ++ 10 ∷ [], refl)
 
 -- where a file held a whole row before a run, and `left` is its whole rows and then the first k bytes that the run appends,
 -- `left` has the rows that end within these k bytes (`HasRowsWithin`)
 behind_rows : (head held : List ℕ) (b : ℕ) (bs : List ℕ) (rows : List (List ℕ)) (k : ℕ) (left : List ℕ) → AreRows rows → whole held ≡ b ∷ bs
-    → left ≡ whole held ++ take k (start_of head held ++ lines rows) → HasRowsWithin head held rows k left
+    → left ≡ whole held ++ take k (head_written head held ++ row_lines rows) → HasRowsWithin head held rows k left
 behind_rows head held b bs rows k left are some is =
     let w = within rows k are in
-    let start : start_of head held ≡ [] = ap (λ (l : List ℕ). if is_empty l then head else []) some in
-    let at : left ≡ whole held ++ take k (lines rows) = is ∙ ap (λ (l : List ℕ). whole held ++ take k (l ++ lines rows)) start in
-    let whole_at : whole left ≡ whole held ++ lines (take w.count rows) = ap whole at ∙ whole_more (whole held) (take k (lines rows)) (whole_whole held) ∙ ap (λ (l : List ℕ). whole held ++ l) w.is in
-    let first : whole left ≡ b ∷ (bs ++ lines (take w.count rows)) = whole_at ∙ ap (λ (l : List ℕ). l ++ lines (take w.count rows)) some in
+    let start : head_written head held ≡ [] = ap (λ (l : List ℕ). if is_empty l then head else []) some in
+    let at : left ≡ whole held ++ take k (row_lines rows) = is ∙ ap (λ (l : List ℕ). whole held ++ take k (l ++ row_lines rows)) start in
+    let whole_at : whole left ≡ whole held ++ row_lines (take w.count rows) =
+    ap whole at ∙ whole_more (whole held) (take k (row_lines rows)) (whole_whole held) ∙ ap (λ (l : List ℕ). whole held ++ l) w.is in
+    let first : whole left ≡ b ∷ (bs ++ row_lines (take w.count rows)) = whole_at ∙ ap (λ (l : List ℕ). l ++ row_lines (take w.count rows)) some in
     record {
       count = w.count;
       few = w.few;
-      is = table_of_rows head b (bs ++ lines (take w.count rows)) left first ∙ ap (λ (l : List ℕ). l ++ lines (take w.count rows)) (sym (table_of_rows head b bs held some));
-      least = λ m few le. w.least m few (subst (λ (l : List ℕ). length (l ++ lines (take m rows)) ≤ k) start le);
+      is = table_of_rows head b (bs ++ row_lines (take w.count rows)) left first ∙ ap (λ (l : List ℕ). l ++ row_lines (take w.count rows)) (sym (table_of_rows head b bs held some));
+      least = λ m few le. w.least m few (subst (λ (l : List ℕ). length (l ++ row_lines (take m rows)) ≤ k) start le);
     }
 
 -- where a file held no whole row before a run, there is no head, and `left` is the first k bytes that the run appends, `left` has
 -- the rows that end within these k bytes (`HasRowsWithin`)
 behind_nothing : (held : List ℕ) (rows : List (List ℕ)) (k : ℕ) (left : List ℕ) → AreRows rows → whole held ≡ []
-    → left ≡ whole held ++ take k (start_of [] held ++ lines rows) → HasRowsWithin [] held rows k left
+    → left ≡ whole held ++ take k (head_written [] held ++ row_lines rows) → HasRowsWithin [] held rows k left
 behind_nothing held rows k left are none is =
     let w = within rows k are in
-    let start : start_of [] held ≡ [] = ap (λ (l : List ℕ). if is_empty l then [] else []) none in
-    let at : left ≡ take k (lines rows) = is ∙ ap (λ (l : List ℕ). l ++ take k (start_of [] held ++ lines rows)) none ∙ ap (λ (l : List ℕ). take k (l ++ lines rows)) start in
+    let start : head_written [] held ≡ [] = ap (λ (l : List ℕ). if is_empty l then [] else []) none in
+    let at : left ≡ take k (row_lines rows) = is ∙ ap (λ (l : List ℕ). l ++ take k (head_written [] held ++ row_lines rows)) none ∙ ap (λ (l : List ℕ). take k (l ++ row_lines rows)) start in
     record {
       count = w.count;
       few = w.few;
-      is = plain left ∙ ap whole at ∙ w.is ∙ ap (λ (l : List ℕ). l ++ lines (take w.count rows)) (sym (plain held ∙ none));
-      least = λ m few le. w.least m few (subst (λ (l : List ℕ). length (l ++ lines (take m rows)) ≤ k) start le);
+      is = plain left ∙ ap whole at ∙ w.is ∙ ap (λ (l : List ℕ). l ++ row_lines (take w.count rows)) (sym (plain held ∙ none));
+      least = λ m few le. w.least m few (subst (λ (l : List ℕ). length (l ++ row_lines (take m rows)) ≤ k) start le);
     }
   where
     -- a choice between a list and the same list is that list
@@ -81,36 +82,36 @@ behind_nothing held rows k left are none is =
     either_same e false = refl
 
     -- without a head, a file's table is its whole rows
-    plain : (l : List ℕ) → table [] l ≡ whole l
+    plain : (l : List ℕ) → opened_table [] l ≡ whole l
     plain l = ap (λ (e : List ℕ). whole l ++ e) (either_same [] (is_empty (whole l))) ∙ append-nil (whole l)
 
 -- where a file held no whole row before a run, the head is the line of `row`, and the whole rows of `left` are those of the first
 -- k bytes of the lines of `row` and of the run's rows (`Within`), `left` has the run's rows that end within the first k bytes
 -- that the run appends (`HasRowsWithin`)
 head_first : (row held : List ℕ) (rows : List (List ℕ)) (k : ℕ) (left : List ℕ) → whole held ≡ [] → (w : Within (row ∷ rows) k)
-    → whole left ≡ lines (take w.count (row ∷ rows)) → HasRowsWithin (line row) held rows k left
+    → whole left ≡ row_lines (take w.count (row ∷ rows)) → HasRowsWithin (row_line row) held rows k left
 head_first row held rows k left none w is = by w.count refl where
   -- by how many of these lines are whole: none, or the head and some rows
-  by : (count : ℕ) → w.count ≡ count → HasRowsWithin (line row) held rows k left
+  by : (count : ℕ) → w.count ≡ count → HasRowsWithin (row_line row) held rows k left
   by zero e =
-      let start : start_of (line row) held ≡ line row = ap (λ (l : List ℕ). if is_empty l then line row else []) none in
-      let nothing : whole left ≡ [] = is ∙ ap (λ n. lines (take n (row ∷ rows))) e in
+      let start : head_written (row_line row) held ≡ row_line row = ap (λ (l : List ℕ). if is_empty l then row_line row else []) none in
+      let nothing : whole left ≡ [] = is ∙ ap (λ n. row_lines (take n (row ∷ rows))) e in
       record {
         count = 0;
         few = omega arith;
-        is = table_by (line row) left [] nothing ∙ sym (append-nil (table (line row) held) ∙ table_by (line row) held [] none);
-        least = λ m few le. absurd (omega (arith, e, w.least (suc m) (omega (arith, few)) (subst (λ (l : List ℕ). length (l ++ lines (take m rows)) ≤ k) start le)));
+        is = table_by (row_line row) left [] nothing ∙ sym (append-nil (opened_table (row_line row) held) ∙ table_by (row_line row) held [] none);
+        least = λ m few le. absurd (omega (arith, e, w.least (suc m) (omega (arith, few)) (subst (λ (l : List ℕ). length (l ++ row_lines (take m rows)) ≤ k) start le)));
       }
   by (suc n) e =
-      let start : start_of (line row) held ≡ line row = ap (λ (l : List ℕ). if is_empty l then line row else []) none in
-      let some : whole left ≡ line row ++ lines (take n rows) = is ∙ ap (λ c. lines (take c (row ∷ rows))) e in
+      let start : head_written (row_line row) held ≡ row_line row = ap (λ (l : List ℕ). if is_empty l then row_line row else []) none in
+      let some : whole left ≡ row_line row ++ row_lines (take n rows) = is ∙ ap (λ c. row_lines (take c (row ∷ rows))) e in
       let f = line_first row in
-      let first : whole left ≡ f.0 ∷ (f.1 ++ lines (take n rows)) = some ∙ ap (λ (l : List ℕ). l ++ lines (take n rows)) f.2 in
+      let first : whole left ≡ f.0 ∷ (f.1 ++ row_lines (take n rows)) = some ∙ ap (λ (l : List ℕ). l ++ row_lines (take n rows)) f.2 in
       record {
         count = n;
         few = omega (arith, e, w.few);
-        is = table_of_rows (line row) f.0 (f.1 ++ lines (take n rows)) left first ∙ ap (λ (l : List ℕ). l ++ lines (take n rows)) (sym f.2 ∙ sym (table_by (line row) held [] none));
-        least = λ m few le. omega (arith, e, w.least (suc m) (omega (arith, few)) (subst (λ (l : List ℕ). length (l ++ lines (take m rows)) ≤ k) start le));
+        is = table_of_rows (row_line row) f.0 (f.1 ++ row_lines (take n rows)) left first ∙ ap (λ (l : List ℕ). l ++ row_lines (take n rows)) (sym f.2 ∙ sym (table_by (row_line row) held [] none));
+        least = λ m few le. omega (arith, e, w.least (suc m) (omega (arith, few)) (subst (λ (l : List ℕ). length (l ++ row_lines (take m rows)) ≤ k) start le));
       }
 
 -- a list is empty, or has a first item
@@ -121,17 +122,17 @@ list_cases (b ∷ bs) = inr (b, bs, refl)
 -- where `left` is the whole rows that a file held before a run, and then the first k bytes that the run appends, `left` has the
 -- rows that end within these k bytes (`HasRowsWithin`)
 pub reached : (head held : List ℕ) (rows : List (List ℕ)) (k : ℕ) (left : List ℕ) → IsHead head → AreRows rows
-    → left ≡ whole held ++ take k (start_of head held ++ lines rows) → HasRowsWithin head held rows k left
+    → left ≡ whole held ++ take k (head_written head held ++ row_lines rows) → HasRowsWithin head held rows k left
 reached head held rows k left heads are is = elim (list_cases (whole held)) [
   | inr some ↦ behind_rows head held some.0 some.1 rows k left are some.2 is
   | inl none ↦ elim heads [
     | inl empty ↦ subst (λ (h : List ℕ). HasRowsWithin h held rows k left) (sym empty)
-        (behind_nothing held rows k left are none (subst (λ (h : List ℕ). left ≡ whole held ++ take k (start_of h held ++ lines rows)) empty is))
+        (behind_nothing held rows k left are none (subst (λ (h : List ℕ). left ≡ whole held ++ take k (head_written h held ++ row_lines rows)) empty is))
     | inr one ↦
         let row = one.0 in
         let w = within (row ∷ rows) k (one.1, are) in
-        let start : start_of head held ≡ line row = ap (λ (l : List ℕ). if is_empty l then head else []) none ∙ one.2 in
-        let at : left ≡ take k (lines (row ∷ rows)) = is ∙ ap (λ (l : List ℕ). l ++ take k (start_of head held ++ lines rows)) none ∙ ap (λ (l : List ℕ). take k (l ++ lines rows)) start in
+        let start : head_written head held ≡ row_line row = ap (λ (l : List ℕ). if is_empty l then head else []) none ∙ one.2 in
+        let at : left ≡ take k (row_lines (row ∷ rows)) = is ∙ ap (λ (l : List ℕ). l ++ take k (head_written head held ++ row_lines rows)) none ∙ ap (λ (l : List ℕ). take k (l ++ row_lines rows)) start in
         subst (λ (h : List ℕ). HasRowsWithin h held rows k left) (sym one.2) (head_first row held rows k left none w (ap whole at ∙ w.is))
   ]
 ]
@@ -142,7 +143,7 @@ pub record RunHas (head held : List ℕ) (run : Run) (left : List ℕ) : Type 0 
   pub count : ℕ
   pub least : run.kept ≤ count
   pub few : count ≤ length run.rows
-  pub is : table head left ≡ table head held ++ lines (take count run.rows)
+  pub is : opened_table head left ≡ opened_table head held ++ row_lines (take count run.rows)
 
 -- where a run is one over `held` (`IsRun`), at most k of the bytes that it appended were synced, and `left` has the rows that end
 -- within the first k bytes that the run appends (`HasRowsWithin`), `left` has first rows of the run, at least the kept ones
@@ -169,14 +170,14 @@ no_row_kept head held run left one nothing =
       least = elim one.kept [
         | inl none ↦ omega (arith, none)
         | inr front ↦
-            w.least run.kept one.few (omega (arith, front_fits _ _ front.rest front.split, ap length nothing, length-append (start_of head held) (lines (take run.kept run.rows))))
+            w.least run.kept one.few (omega (arith, front_fits _ _ front.rest front.split, ap length nothing, length-append (head_written head held) (row_lines (take run.kept run.rows))))
       ];
       few = w.few;
-      is = sym (ap (λ (l : List ℕ). table head left ++ l) (sym w.is) ∙ append-nil (table head left));
+      is = sym (ap (λ (l : List ℕ). opened_table head left ++ l) (sym w.is) ∙ append-nil (opened_table head left));
     }
 
 -- files with the same whole rows have the same table
-pub same_table : (head left held : List ℕ) → whole left ≡ whole held → table head left ≡ table head held
+pub same_table : (head left held : List ℕ) → whole left ≡ whole held → opened_table head left ≡ opened_table head held
 same_table head left held same = table_by head left (whole held) same
 
 -- no more bytes were synced than were appended
@@ -204,7 +205,7 @@ run_moments head held run left heads one may = elim one.steps [
     -- where the run mended the file whole, and then appended `bytes`, a front of the head (where no whole row was there) and,
     -- after it, the lines of the run's rows, then what a crash left, `left`, has the table from before and first rows of the run,
     -- at least the kept ones (`RunHas`)
-    ran_moments : (bytes : List ℕ) → MendedAndPut held run.steps bytes → IsFront bytes (start_of head held ++ lines run.rows) → RunHas head held run left
+    ran_moments : (bytes : List ℕ) → MendedAndPut held run.steps bytes → IsFront bytes (head_written head held ++ row_lines run.rows) → RunHas head held run left
     ran_moments bytes ran front =
         let steps = mended held ++ ran.later in
         let here = subst (λ (steps : List Step). MayLeave held steps left) ran.split may in
@@ -218,7 +219,7 @@ run_moments head held run left heads one may = elim one.steps [
               let there = subst (λ (h : List ℕ). MayLeave h ran.later left) (mended_leaves_whole held) behind_it in
               let moment = put_moments ran.later (whole held) left ran.puts.none_cut there in
               let at_bytes : left ≡ whole held ++ take moment.count bytes = moment.is ∙ ap (λ (l : List ℕ). whole held ++ take moment.count l) ran.puts.all in
-              let t = front_take (whole held) (start_of head held ++ lines run.rows) bytes moment.count front in
+              let t = front_take (whole held) (head_written head held ++ row_lines run.rows) bytes moment.count front in
               let enough : length (synced run.steps) ≤ t.0 = elim t.1 [
                 | inl more ↦ omega (arith, more, moment.enough, ap length is_synced)
                 | inr more ↦ omega (arith, more, synced_length ran.later, ap length ran.puts.all, ap length is_synced)
@@ -242,12 +243,12 @@ counts_more (r ∷ runs) (m ∷ counts) run n cs least few = (cs.0, cs.1, counts
 -- where each of some runs has its count, the rows of these runs and of one more, whose count is n, are the rows of these runs,
 -- and then the first n of that one
 pub rows_more : (runs : List Run) (counts : List ℕ) (run : Run) (n : ℕ)
-    → AreRowCounts runs counts → rows_of (runs ++ run ∷ []) (counts ++ n ∷ []) ≡ rows_of runs counts ++ lines (take n run.rows)
-rows_more [] [] run n cs = append-nil (lines (take n run.rows))
+    → AreRowCounts runs counts → rows_of (runs ++ run ∷ []) (counts ++ n ∷ []) ≡ rows_of runs counts ++ row_lines (take n run.rows)
+rows_more [] [] run n cs = append-nil (row_lines (take n run.rows))
 rows_more [] (m ∷ counts) run n cs = absurd cs
 rows_more (r ∷ runs) [] run n cs = absurd cs
-rows_more (r ∷ runs) (m ∷ counts) run n cs = ap (λ (l : List ℕ). lines (take m r.rows) ++ l) (rows_more runs counts run n cs.2)
-    ∙ sym (append_assoc (lines (take m r.rows)) (rows_of runs counts) (lines (take n run.rows)))
+rows_more (r ∷ runs) (m ∷ counts) run n cs = ap (λ (l : List ℕ). row_lines (take m r.rows) ++ l) (rows_more runs counts run n cs.2)
+    ∙ sym (append_assoc (row_lines (take m r.rows)) (rows_of runs counts) (row_lines (take n run.rows)))
 
 -- where a file has the rows of some runs, and what is found of it after one more run, `left`, has first rows of that run, at
 -- least the kept ones (`RunHas`), `left` has the rows of all these runs
@@ -256,7 +257,7 @@ pub has_more : (head before : List ℕ) (runs : List Run) (run : Run) (held left
 has_more head before runs run held left has more = (
   has.0 ++ more.count ∷ [],
   counts_more runs has.0 run more.count has.1 more.least more.few,
-  more.is ∙ ap (λ (l : List ℕ). l ++ lines (take more.count run.rows)) has.2 ∙ append_assoc before (rows_of runs has.0) (lines (take more.count run.rows))
+  more.is ∙ ap (λ (l : List ℕ). l ++ row_lines (take more.count run.rows)) has.2 ∙ append_assoc before (rows_of runs has.0) (row_lines (take more.count run.rows))
       ∙ ap (λ (l : List ℕ). before ++ l) (sym (rows_more runs has.0 run more.count has.1)),
 )
 
@@ -298,5 +299,5 @@ module _ (head before : List ℕ) (heads : IsHead head) where
 -- the law: over any runs and crashes the table lasts
 pub tables_last : TablesLast
 tables_last head held heads runs happen =
-    all_runs head (table head held) heads [] runs (settled held)
-    (λ left may. ([], tt, ap (table head) may ∙ sym (append-nil (table head held)))) happen
+    all_runs head (opened_table head held) heads [] runs (settled held)
+    (λ left may. ([], tt, ap (opened_table head) may ∙ sym (append-nil (opened_table head held)))) happen

@@ -20,16 +20,16 @@ content_step life step = behind_two life.start life.steps (step ∷ [])
 
 -- where a file held `old`, which is what `calls` make of `start`, where `new` are `calls` and then c, and where the file now
 -- holds what c makes of `old`, it holds what `new` make of `start`
-pub holds_after_note : (start : List ℕ) (calls new : List Call) (c : Call) (old now next : List ℕ)
+pub holds_after_call : (start : List ℕ) (calls new : List Call) (c : Call) (old now next : List ℕ)
     → new ≡ calls ++ c ∷ [] → now ≡ next → next ≡ stepped old (step_of c)
     → old ≡ content (life_by start calls) → now ≡ content (life_by start new)
-holds_after_note start calls new c old now next is put made was =
+holds_after_call start calls new c old now next is put made was =
     put ∙ made ∙ ap (λ (held : List ℕ). stepped held (step_of c)) was ∙ sym (content_step (life_by start calls) (step_of c)) ∙ ap content (sym (life_more start calls new c is))
 
--- where one more call is noted, its step is added to the known life of the file
-pub noted_step : (start : List ℕ) (calls new : List Call) (c : Call)
+-- where one more call is made, its step is added to the known life of the file
+pub made_step : (start : List ℕ) (calls new : List Call) (c : Call)
     → new ≡ calls ++ c ∷ [] → Adds (Some (life_by start calls)) (Some (life_by start new)) (step_of c ∷ [])
-noted_step start calls new c is life same =
+made_step start calls new c is life same =
     ap (λ (l : Life). Some l) (life_more start calls new c is) ∙ ap (λ (o : Option Life). after o) same
   where
     -- the life with the step of c at its end, where the life is known

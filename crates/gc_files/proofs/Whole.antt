@@ -4,8 +4,8 @@ use Rattle.std.proofs.Common.{◌≡◌, inl, inr, ℕ, zero, suc, ◌+◌, ◌-
 use Rattle.std.proofs.Math.Seq.{take-append-add}
 use Rattle.std.proofs.lemmas.Bool.{cases_Bool, cases_lt}
 use Rattle.std.proofs.lemmas.List.{append-nil, take_all, take-append-le, take-append-drop}
-use Rattle.gc_files.specs.Rows.{has_feed, whole, line}
-use Rattle.gc_files.specs.Runs.{lines, AreRows}
+use Rattle.gc_files.specs.Rows.{has_feed, whole, row_line}
+use Rattle.gc_files.specs.Runs.{row_lines, AreRows}
 
 -- where a second text has no line feed, both texts together have one exactly where the first has
 pub feed_front : (xs ys : List ℕ) → has_feed ys ≡ false → has_feed (xs ++ ys) ≡ has_feed xs
@@ -79,7 +79,7 @@ whole_more xs ys is = elim (cases_Bool (has_feed ys)) [
 ]
 
 -- the line of a row is whole
-pub whole_line : (row : List ℕ) → whole (line row) ≡ line row
+pub whole_line : (row : List ℕ) → whole (row_line row) ≡ row_line row
 whole_line row = whole_behind row (10 ∷ []) refl
 
 -- where the whole rows have no more than k bytes, the first k bytes have the same whole rows as all bytes
@@ -98,38 +98,38 @@ whole_take xs k far =
 pub record Within (rows : List (List ℕ)) (k : ℕ) : Type 0 where
   pub count : ℕ
   pub few : count ≤ length rows
-  pub is : whole (take k (lines rows)) ≡ lines (take count rows)
-  pub least : (m : ℕ) → m ≤ length rows → length (lines (take m rows)) ≤ k → m ≤ count
+  pub is : whole (take k (row_lines rows)) ≡ row_lines (take count rows)
+  pub least : (m : ℕ) → m ≤ length rows → length (row_lines (take m rows)) ≤ k → m ≤ count
 
 -- the line of a row has one byte more than the row
-length-line : (row : List ℕ) → length (line row) ≡ suc (length row)
+length-line : (row : List ℕ) → length (row_line row) ≡ suc (length row)
 length-line row = length-append row (10 ∷ []) ∙ omega arith
 
 -- where k bytes are fewer than the first row's line has, no row ends within them
-none_ends_within : (row : List ℕ) (rows : List (List ℕ)) (k : ℕ) → k < length (line row)
-    → (m : ℕ) → length (lines (take m (row ∷ rows))) ≤ k → m ≤ 0
+none_ends_within : (row : List ℕ) (rows : List (List ℕ)) (k : ℕ) → k < length (row_line row)
+    → (m : ℕ) → length (row_lines (take m (row ∷ rows))) ≤ k → m ≤ 0
 none_ends_within row rows k less zero le = omega arith
-none_ends_within row rows k less (suc m) le = absurd (omega (arith, less, le, length-append (line row) (lines (take m rows))))
+none_ends_within row rows k less (suc m) le = absurd (omega (arith, less, le, length-append (row_line row) (row_lines (take m rows))))
 
 -- for each k it can be said how many rows are whole in the first k bytes of their lines (`Within`)
 pub within : (rows : List (List ℕ)) (k : ℕ) → AreRows rows → Within rows k
 within [] k are = record { count = 0; few = omega arith; is = ap whole (take_all k [] (omega arith)); least = λ m few le. few }
-within (row ∷ rows) k are = elim (cases_lt k (length (line row))) [
+within (row ∷ rows) k are = elim (cases_lt k (length (row_line row))) [
   | inl less ↦
       let inside : k ≤ length row = omega (arith, less, length-line row) in
-      let at : take k (lines (row ∷ rows)) ≡ take k row =
-      take-append-le k (line row) (lines rows) (omega (arith, less)) ∙ take-append-le k row (10 ∷ []) inside in
+      let at : take k (row_lines (row ∷ rows)) ≡ take k row =
+      take-append-le k (row_line row) (row_lines rows) (omega (arith, less)) ∙ take-append-le k row (10 ∷ []) inside in
       let none : has_feed (take k row) ≡ false = feed_first (take k row) (drop k row) (ap has_feed (take-append-drop k row) ∙ are.0) in
       record { count = 0; few = omega arith; is = ap whole at ∙ whole_none (take k row) none; least = λ m few le. none_ends_within row rows k less m le }
   | inr more ↦
-      let rest = within rows (k - length (line row)) are.1 in
-      let is_k : k ≡ length (line row) + (k - length (line row)) = omega (arith, more) in
-      let at : take k (lines (row ∷ rows)) ≡ line row ++ take (k - length (line row)) (lines rows) =
-      ap (λ n. take n (lines (row ∷ rows))) is_k ∙ take-append-add (line row) (lines rows) (k - length (line row)) in
+      let rest = within rows (k - length (row_line row)) are.1 in
+      let is_k : k ≡ length (row_line row) + (k - length (row_line row)) = omega (arith, more) in
+      let at : take k (row_lines (row ∷ rows)) ≡ row_line row ++ take (k - length (row_line row)) (row_lines rows) =
+      ap (λ n. take n (row_lines (row ∷ rows))) is_k ∙ take-append-add (row_line row) (row_lines rows) (k - length (row_line row)) in
       record {
         count = suc rest.count;
         few = omega (arith, rest.few);
-        is = ap whole at ∙ whole_more (line row) (take (k - length (line row)) (lines rows)) (whole_line row) ∙ ap (λ (l : List ℕ). line row ++ l) rest.is;
+        is = ap whole at ∙ whole_more (row_line row) (take (k - length (row_line row)) (row_lines rows)) (whole_line row) ∙ ap (λ (l : List ℕ). row_line row ++ l) rest.is;
         least = least_more row rows k rest.count rest.least;
       }
 ]
@@ -137,9 +137,9 @@ within (row ∷ rows) k are = elim (cases_lt k (length (line row))) [
     -- where `count` is at least the number of the later rows that end within the bytes that the first row's line leaves of k,
     -- `count + 1` is at least the number of all rows that end within k bytes
     least_more : (row : List ℕ) (rows : List (List ℕ)) (k count : ℕ)
-        → ((m : ℕ) → m ≤ length rows → length (lines (take m rows)) ≤ k - length (line row) → m ≤ count)
-        → (m : ℕ) → m ≤ length (row ∷ rows) → length (lines (take m (row ∷ rows))) ≤ k → m ≤ suc count
+        → ((m : ℕ) → m ≤ length rows → length (row_lines (take m rows)) ≤ k - length (row_line row) → m ≤ count)
+        → (m : ℕ) → m ≤ length (row ∷ rows) → length (row_lines (take m (row ∷ rows))) ≤ k → m ≤ suc count
     least_more row rows k count least zero few le = omega arith
     least_more row rows k count least (suc m) few le =
-        let one : m ≤ count = least m (omega (arith, few)) (omega (arith, le, length-append (line row) (lines (take m rows)))) in
+        let one : m ≤ count = least m (omega (arith, few)) (omega (arith, le, length-append (row_line row) (row_lines (take m rows)))) in
         omega (arith, one)

@@ -2,7 +2,7 @@
 use Rattle.std.specs.Prelude.{◌≡◌, ◌⊎◌, ℕ, Bool, true, false, not, List, [], ◌∷◌, ◌++◌, ◌==◌, length, filter, Option}
 use Rattle.gc_files.specs.Files.{Step, Life, IfKnown, content, later_by, MayLeave}
 pub use Rattle.gc_files.specs.Files.{settled}
-use Rattle.gc_files.specs.Rows.{has_feed, table}
+use Rattle.gc_files.specs.Rows.{has_feed, opened_table}
 use Rattle.gc_files.specs.Runs.{Run, IsHead, IsRun, HasRows}
 
 -- how many line feeds are among these bytes
@@ -96,7 +96,7 @@ IsFound sides left = (left ≡ content sides.read) ⊎ MayLeave sides.disk.start
 -- table the first rows of each run, at least the kept ones
 abbrev pub TablesLastWhere : (goes : Bool → Type 0) → Type 0
 TablesLastWhere goes = (head held : List ℕ) → IsHead head → (events : List Event) → Occur goes head (same_sides (settled held)) false events
-    → (left : List ℕ) → IsFound (sides_after (same_sides (settled held)) events) left → HasRows head (table head held) (runs_of events) left
+    → (left : List ℕ) → IsFound (sides_after (same_sides (settled held)) events) left → HasRows head (opened_table head held) (runs_of events) left
 
 -- a file is trusted with further rows: it isn't in doubt
 abbrev pub IsTrusted : (doubted : Bool) → Type 0

@@ -14,8 +14,8 @@ whole [] = []
 whole (b ∷ bs) = if has_feed (b ∷ bs) then b ∷ whole bs else []
 
 -- a row with its line feed
-abbrev pub line : List ℕ → List ℕ
-line row = row ++ 10 ∷ []
+abbrev pub row_line : List ℕ → List ℕ
+row_line row = row ++ 10 ∷ []
 
 -- whether a file that holds `held` begins with the sign, or holds a front of the sign and nothing else
 abbrev pub fits : (sign held : List ℕ) → Bool
@@ -29,12 +29,12 @@ is_empty [] = true
 is_empty (b ∷ bs) = false
 
 -- what an opening writes into a file that held `held`: the head, where no whole row is there, and else nothing
-abbrev pub start_of : (head held : List ℕ) → List ℕ
-start_of head held = if is_empty (whole held) then head else []
+abbrev pub head_written : (head held : List ℕ) → List ℕ
+head_written head held = if is_empty (whole held) then head else []
 
--- what is in a file once it is opened: its whole rows, or the head where there are none
-abbrev pub table : (head held : List ℕ) → List ℕ
-table head held = whole held ++ start_of head held
+-- the table of a file that held `held`, once it is opened: its whole rows, or the head where there are none
+abbrev pub opened_table : (head held : List ℕ) → List ℕ
+opened_table head held = whole held ++ head_written head held
 
 -- the steps by which an opening mends a file: where bytes follow its whole rows, a cut that takes them off, and a sync of it;
 -- else none
@@ -87,12 +87,12 @@ Did old new claim = (life : Life) → old ≡ Some life → (steps : List Step) 
 
 -- an opening mended the file, and wrote the head where no whole row was there
 abbrev pub Opens : (head : List ℕ) (old new : Option Life) → Type 0
-Opens head old new = Did old new (λ held steps. MendedAndPut held steps (start_of head held))
+Opens head old new = Did old new (λ held steps. MendedAndPut held steps (head_written head held))
 
 -- an opening did a front of what an opening does, as far as it came: it mended the file, whole, in part or not at all, and did
 -- nothing else; or it mended the file whole, and then wrote a front of the head, where no whole row was there
 abbrev pub OpensInPart : (head : List ℕ) (old new : Option Life) → Type 0
-OpensInPart head old new = Did old new (λ held. ComesTo held (start_of head held))
+OpensInPart head old new = Did old new (λ held. ComesTo held (head_written head held))
 
 -- these bytes were appended, in some pieces, and nothing else was done but syncs
 abbrev pub PutsAll : (old new : Option Life) (bytes : List ℕ) → Type 0

@@ -2,7 +2,7 @@
 use Rattle.std.specs.Prelude.{◌≡◌, ◌⊎◌, ℕ, ◌≤◌, false, List, [], ◌∷◌, ◌++◌, length, take, Option, Some, None, if◌then◌else◌}
 use Rattle.std.specs.List.{AllByRecursion, flat_map}
 use Rattle.gc_files.specs.Files.{Step, Append, Cut, Sync, Life, settled, has_sync, content, later_by, MayLeave}
-use Rattle.gc_files.specs.Rows.{has_feed, line, table, start_of, Puts, MendedAndPut, IsFront, ComesTo}
+use Rattle.gc_files.specs.Rows.{has_feed, row_line, opened_table, head_written, Puts, MendedAndPut, IsFront, ComesTo}
 
 -- what these steps appended before their last sync
 abbrev pub synced : List Step → List ℕ
@@ -20,8 +20,8 @@ pub record Run : Type 0 where
   pub left : Option (List ℕ)
 
 -- the rows, each with its line feed, one after the other
-abbrev pub lines : List (List ℕ) → List ℕ
-lines rows = flat_map line rows
+abbrev pub row_lines : List (List ℕ) → List ℕ
+row_lines rows = flat_map row_line rows
 
 -- each of these texts is a row: none has a line feed
 abbrev pub AreRows : List (List ℕ) → Type 0
@@ -29,19 +29,19 @@ AreRows rows = AllByRecursion (λ row. has_feed row ≡ false) rows
 
 -- a head is empty, or one line
 abbrev pub IsHead : List ℕ → Type 0
-IsHead head = (head ≡ []) ⊎ ((row : List ℕ) × (has_feed row ≡ false) × (head ≡ line row))
+IsHead head = (head ≡ []) ⊎ ((row : List ℕ) × (has_feed row ≡ false) × (head ≡ row_line row))
 
 -- the first `kept` rows of a run are kept: they were appended before the last sync, and before them the head where the run
 -- wrote it; or `kept` is 0
 abbrev pub WereKept : (head held : List ℕ) (rows : List (List ℕ)) (kept : ℕ) → List Step → Type 0
-WereKept head held rows kept steps = (kept ≡ 0) ⊎ IsFront (start_of head held ++ lines (take kept rows)) (synced steps)
+WereKept head held rows kept steps = (kept ≡ 0) ⊎ IsFront (head_written head held ++ row_lines (take kept rows)) (synced steps)
 
 -- a run over a file that held `held`: it mended the file, and then wrote the head where no whole row was there, and its rows,
 -- none of which has a line feed in it, as far as it came; and `Counts` says what its steps did with those of its first rows that
 -- it counts as kept
 pub record IsRunBy (Counts : (head held : List ℕ) (rows : List (List ℕ)) (kept : ℕ) → List Step → Type 0) (head held : List ℕ) (run : Run) : Type 0 where
   pub rows : AreRows run.rows
-  pub steps : ComesTo held (start_of head held ++ lines run.rows) run.steps
+  pub steps : ComesTo held (head_written head held ++ row_lines run.rows) run.steps
   pub few : run.kept ≤ length run.rows
   pub kept : Counts head held run.rows run.kept run.steps
 
@@ -75,7 +75,7 @@ life_after life (run ∷ runs) = life_after (life_once_ended life run run.left) 
 abbrev pub rows_of : List Run → (counts : List ℕ) → List ℕ
 rows_of [] counts = []
 rows_of (run ∷ runs) [] = []
-rows_of (run ∷ runs) (n ∷ counts) = lines (take n run.rows) ++ rows_of runs counts
+rows_of (run ∷ runs) (n ∷ counts) = row_lines (take n run.rows) ++ rows_of runs counts
 
 -- one count of rows for each run: at least as many as were kept, and at most as many as the run has
 abbrev pub AreRowCounts : List Run → (counts : List ℕ) → Type 0
@@ -87,22 +87,22 @@ AreRowCounts (run ∷ runs) (n ∷ counts) = (run.kept ≤ n) × (n ≤ length r
 -- the table of a file that holds `held` is `before`, and after that, for each run in order, the run's first rows: at least
 -- those that were kept, each once, none in part
 abbrev pub HasRows : (head before : List ℕ) → List Run → (held : List ℕ) → Type 0
-HasRows head before runs held = (counts : List ℕ) × AreRowCounts runs counts × (table head held ≡ before ++ rows_of runs counts)
+HasRows head before runs held = (counts : List ℕ) × AreRowCounts runs counts × (opened_table head held ≡ before ++ rows_of runs counts)
 
 -- Over any runs and crashes the table stays: whatever a crash after them leaves or a read returns, the next opening makes of it
 -- the table that was there before the runs, and after that table the first rows of each run, at least the kept ones.
 abbrev pub TablesLast : Type 0
 TablesLast = (head held : List ℕ) → IsHead head → (runs : List Run) → Happen head (settled held) runs
     → (left : List ℕ) → MayLeave (life_after (settled held) runs).start (life_after (settled held) runs).steps left
-    → HasRows head (table head held) runs left
+    → HasRows head (opened_table head held) runs left
 
 -- the first `count` rows of a run went out whole: what was appended after the mending (`bytes`) is a front of all that the run
 -- had to append, which is the head, where it wrote one, and its rows; and the first `count` rows are whole in it; or `count` is 0
 abbrev pub WereWritten : (head held : List ℕ) (rows : List (List ℕ)) (count : ℕ) → List Step → Type 0
 WereWritten head held rows count steps =
     (count ≡ 0)
-    ⊎ ((bytes : List ℕ) × MendedAndPut held steps bytes × IsFront bytes (start_of head held ++ lines rows)
-    × IsFront (start_of head held ++ lines (take count rows)) bytes)
+    ⊎ ((bytes : List ℕ) × MendedAndPut held steps bytes × IsFront bytes (head_written head held ++ row_lines rows)
+    × IsFront (head_written head held ++ row_lines (take count rows)) bytes)
 
 -- a run that ended by itself or by a kill, with the machine going on; only rows that went out whole count as kept
 pub record IsKilled (head held : List ℕ) (run : Run) : Type 0 where
@@ -119,7 +119,7 @@ AreKilled head life (run ∷ runs) = IsKilled head (content life) run × AreKill
 -- that they went out whole (`IsKilled`).
 abbrev pub KillsLoseNothing : Type 0
 KillsLoseNothing = (head : List ℕ) → IsHead head → (life : Life) (runs : List Run) → AreKilled head life runs
-    → HasRows head (table head (content life)) runs (content (life_after life runs))
+    → HasRows head (opened_table head (content life)) runs (content (life_after life runs))
 
 -- the steps of this run, over a file that held `held`, are those of an opening, and after them those of writes and syncs of the
 -- run's rows, as far as they came
@@ -127,10 +127,10 @@ pub record OpensAndWrites (head held : List ℕ) (run : Run) : Type 0 where
   pub opening : List Step
   pub later : List Step
   pub split : run.steps ≡ opening ++ later
-  pub opened : MendedAndPut held opening (start_of head held)
+  pub opened : MendedAndPut held opening (head_written head held)
   pub front : List ℕ
   pub puts : Puts later front
-  pub is_front : IsFront front (lines run.rows)
+  pub is_front : IsFront front (row_lines run.rows)
 
 -- an opening, and after it writes and syncs of rows as far as they came, are a run of these rows, if the first `kept` of the rows
 -- were kept (`WereKept`)
@@ -140,7 +140,7 @@ OpeningsAreRuns = (head held : List ℕ) (run : Run) → OpensAndWrites head hel
 
 -- an opening that failed, as far as it came (`ComesTo`), is a run without rows
 abbrev pub FailedOpeningsAreRuns : Type 0
-FailedOpeningsAreRuns = (head held : List ℕ) (steps : List Step) (left : Option (List ℕ)) → ComesTo held (start_of head held) steps
+FailedOpeningsAreRuns = (head held : List ℕ) (steps : List Step) (left : Option (List ℕ)) → ComesTo held (head_written head held) steps
     → IsRun head held (record { rows = []; steps = steps; kept = 0; left = left })
 
 -- what the calls do to a file is a run; `kept`: a sync after an opening and writes keeps all that was appended

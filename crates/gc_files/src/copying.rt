@@ -32,22 +32,14 @@ pub fn copy_lines<F: Appending, G: Appending>(old: &F, fresh: &mut G) -> Result<
     while at < len {
         let size = (len - at).min(BLOCK as u64) as usize;
         let block = &mut buf[..size];
-        match read_all(old, at, block) {
-            Ok(()) => {}
-            Err(failed) => return Err(failed),
-        }
-        match append_all(fresh, block) {
-            Ok(()) => {}
-            Err(failed) => return Err(failed),
-        }
+        read_all(old, at, block)?;
+        append_all(fresh, block)?;
         lines += feeds_in(block);
         at += size as u64;
     }
     if fresh.is_doubted() {
         return Err(PortFailed);
     }
-    match fresh.sync() {
-        Ok(()) => Ok(lines),
-        Err(failed) => Err(failed),
-    }
+    fresh.sync()?;
+    Ok(lines)
 }

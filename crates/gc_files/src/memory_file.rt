@@ -70,9 +70,9 @@ impl MemoryFile {
     }
 }
 
-// Adds a call, after which the file holds `next`, to the file's calls, and sets its bytes to `next`. It fails, and changes nothing,
-// where memory was refused.
-fn note(
+// Makes a call, after which the file holds `next`: adds it to the file's calls, and sets its bytes to `next`. It fails, and changes
+// nothing, where memory was refused.
+fn make_call(
     calls: &mut Vec<Call>,
     bytes: &mut Vec<u8>,
     call: Call,
@@ -117,7 +117,7 @@ impl Appending for MemoryFile {
         let Ok(next) = self.bytes[..(len as usize).min(self.bytes.len())].to_vec(self.alloc) else {
             return Err(PortFailed);
         };
-        note(&mut self.calls, &mut self.bytes, Call::Cut(len), next)
+        make_call(&mut self.calls, &mut self.bytes, Call::Cut(len), next)
     }
 
     // Appends as many of these bytes as there is room for. It fails where there is no room, or memory was refused.
@@ -135,7 +135,7 @@ impl Appending for MemoryFile {
         let Ok(()) = next.extend_from_slice(&bytes[..n]) else {
             return Err(PortFailed);
         };
-        match note(&mut self.calls, &mut self.bytes, Call::Append(piece), next) {
+        match make_call(&mut self.calls, &mut self.bytes, Call::Append(piece), next) {
             Ok(()) => {
                 self.room -= n;
                 Ok(n)
@@ -144,14 +144,14 @@ impl Appending for MemoryFile {
         }
     }
 
-    // Notes a sync. It fails, and leaves the file in doubt, where its syncs were made to fail, or memory was refused.
+    // Makes a sync. It fails, and leaves the file in doubt, where its syncs were made to fail, or memory was refused.
     fn sync(&mut self) -> Result<(), PortFailed> {
         let next = self.bytes.to_vec(self.alloc);
         let (false, Ok(next)) = (self.fails, next) else {
             self.doubted = true;
             return Err(PortFailed);
         };
-        match note(&mut self.calls, &mut self.bytes, Call::Sync, next) {
+        match make_call(&mut self.calls, &mut self.bytes, Call::Sync, next) {
             Ok(()) => Ok(()),
             Err(failed) => {
                 self.doubted = true;

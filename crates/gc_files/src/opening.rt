@@ -37,7 +37,7 @@ pub(crate) struct Extent {
 }
 
 // The bytes after the first `at`.
-fn behind(bytes: &[u8], at: usize) -> &[u8]
+fn bytes_from(bytes: &[u8], at: usize) -> &[u8]
     requires { at ≤ length bytes.now }
     ensures { result.now ≡ drop at bytes.now }
 {
@@ -53,10 +53,7 @@ pub(crate) fn read_all<F: Appending>(file: &F, at: u64, buf: &mut [u8]) -> Resul
     let mut done = 0;
     while done < buf.len() {
         let from = at + done as u64;
-        let n = match file.read_at(from, &mut buf[done..]) {
-            Ok(n) => n,
-            Err(failed) => return Err(failed),
-        };
+        let n = file.read_at(from, &mut buf[done..])?;
         if n == 0 {
             return Err(PortFailed);
         }
@@ -73,14 +70,11 @@ fn has_sign<F: Appending>(file: &F, len: u64, sign: &[u8]) -> Result<bool, PortF
     let mut buf = [0u8; BLOCK];
     let mut at = 0usize;
     while at < sign.len() && (at as u64) < len {
-        let rest = behind(sign, at);
+        let rest = bytes_from(sign, at);
         let most = rest.len().min(BLOCK) as u64;
         let size = most.min(len - at as u64) as usize;
         let block = &mut buf[..size];
-        match read_all(file, at as u64, block) {
-            Ok(()) => {}
-            Err(failed) => return Err(failed),
-        }
+        read_all(file, at as u64, block)?;
         if !rest.starts_with(block) {
             return Ok(false);
         }
@@ -113,10 +107,7 @@ fn end_of_rows<F: Appending>(file: &F, len: u64) -> Result<u64, PortFailed>
         let size = end.min(BLOCK as u64);
         let at = end - size;
         let block = &mut buf[..size as usize];
-        match read_all(file, at, block) {
-            Ok(()) => {}
-            Err(failed) => return Err(failed),
-        }
+        read_all(file, at, block)?;
         let rows = whole_len(block);
         if rows > 0 {
             return Ok(at + rows as u64);
@@ -148,7 +139,7 @@ pub(crate) fn append_all<F: Appending>(file: &mut F, bytes: &[u8]) -> Result<(),
 {
     let mut done = 0;
     while done < bytes.len() {
-        match file.append(behind(bytes, done)) {
+        match file.append(bytes_from(bytes, done)) {
             Ok(n) => done += n,
             Err(failed) => return Err(failed),
         }
@@ -163,17 +154,11 @@ fn make_table<F: Appending>(file: &mut F, extent: Extent, head: &[u8]) -> Result
     ensures ok { OnOk result (Opens head.now (F.life file.old) (F.life file.new)) }
     ensures err { OnErr result (OpensInPart head.now (F.life file.old) (F.life file.new)) }
 {
-    match cut_torn_row(file, extent) {
-        Ok(()) => {}
-        Err(failed) => return Err(failed),
-    }
+    cut_torn_row(file, extent)?;
     if extent.end > 0 {
         return Ok(());
     }
-    match append_all(file, head) {
-        Ok(()) => Ok(()),
-        Err(failed) => Err(failed),
-    }
+    append_all(file, head)
 }
 
 // The extent of a file of rows. `Foreign`: the file neither begins with the sign nor is a front of it. `Failed`: a call of the

@@ -28,32 +28,32 @@ use Rattle.gc_instrument.specs.Execution.{Executed, exec}
 use Rattle.gc_instrument.specs.Replying.{IsReplied, silent, answers, AppendsExchange, AnswersCall, repeats, executes, AnswersRequest, refuses, answers_call, IsReplyToCall, IsReplyToRequest, IsAnswered, IsExchanged, Handed, handed, again_or_new, kept_line, with_kept, reading_of, refusal_line, executed_line, reply_id}
 
 -- a request that names no call gets the refusal's line, with the id of its reply, and changes nothing
-pub refused_reply : (state : State) (q : RequestFields) (fault : CallFault) (number : ℕ) (line : List ℕ)
-    → IsRefusal q.rpc q.params fault → number ≡ reply_id q → line ≡ refusal_line number fault → AnswersRequest state q state line
-refused_reply state q fault number line is same made = refuses fault is refl (made ∙ ap (λ n. refusal_line n fault) same)
+pub refused_reply : (state : State) (q : RequestFields) (fault : CallFault) (id : ℕ) (line : List ℕ)
+    → IsRefusal q.rpc q.params fault → id ≡ reply_id q → line ≡ refusal_line id fault → AnswersRequest state q state line
+refused_reply state q fault id line is same made = refuses fault is refl (made ∙ ap (λ n. refusal_line n fault) same)
 
 -- where the reply line of a call's outcome reads back as the outcome's reading, `IsAnswered` holds of that line
-reads_as : (before : State) (number : ℕ) (call : Call) (x : Executed) → exec before call ≡ x
-    → ReadsBackAnswer call number x.rc x.answer x.state.precision (reading_of x) → IsAnswered before number call (executed_line number x)
-reads_as before number call x e back = record {
-  fields = reply_of number x.rc x.answer x.state.precision;
-  is_reply = reply_found (executed_line number x) (reply_of number x.rc x.answer x.state.precision) back.line;
+reads_as : (before : State) (id : ℕ) (call : Call) (x : Executed) → exec before call ≡ x
+    → ReadsBackAnswer call id x.rc x.answer x.state.precision (reading_of x) → IsAnswered before id call (executed_line id x)
+reads_as before id call x e back = record {
+  fields = reply_of id x.rc x.answer x.state.precision;
+  is_reply = reply_found (executed_line id x) (reply_of id x.rc x.answer x.state.precision) back.line;
   same_id = refl;
-  reading = subst (λ (r : Reading). IsReading call (reply_of number x.rc x.answer x.state.precision) r) (sym (ap reading_of e)) back.is_reading;
+  reading = subst (λ (r : Reading). IsReading call (reply_of id x.rc x.answer x.state.precision) r) (sym (ap reading_of e)) back.is_reading;
 }
 
 -- where the reply line of a call's outcome reads back as the answer with its doubles rounded (`ReadsBackValue`), or as the
 -- refusal (`ReadsBackRefusal`), `IsAnswered` holds of that line
-pub reads_executed : (before : State) (number : ℕ) (call : Call) (x : Executed) → exec before call ≡ x
-    → ReadsBackValue number x.rc x.answer x.state.precision → ReadsBackRefusal number x.rc x.answer x.state.precision
-    → IsAnswered before number call (executed_line number x)
-reads_executed before number call x e back refused =
+pub reads_executed : (before : State) (id : ℕ) (call : Call) (x : Executed) → exec before call ≡ x
+    → ReadsBackValue id x.rc x.answer x.state.precision → ReadsBackRefusal id x.rc x.answer x.state.precision
+    → IsAnswered before id call (executed_line id x)
+reads_executed before id call x e back refused =
     let outcome : IsSoundOutcome before call x = subst (λ (y : Executed). IsSoundOutcome before call y) e (exec_outcome before call) in
     let value : Reading = Value (rounded_answer x.state.precision x.answer) in
-    let ReadsBack : Reading → Type 0 = λ r. ReadsBackAnswer call number x.rc x.answer x.state.precision r in
+    let ReadsBack : Reading → Type 0 = λ r. ReadsBackAnswer call id x.rc x.answer x.state.precision r in
     elim (cases_eq x.rc 0) [
-      | inl h ↦ reads_as before number call x e (subst ReadsBack (sym (ap (λ (n : ℕ). if n == 0 then value else Refused x.rc) h)) (back call h (outcome.answers h)))
-      | inr h ↦ reads_as before number call x e (subst ReadsBack (sym (cond-false (x.rc == 0) value (Refused x.rc) (ne_eqb x.rc 0 h))) (refused call h))
+      | inl h ↦ reads_as before id call x e (subst ReadsBack (sym (ap (λ (n : ℕ). if n == 0 then value else Refused x.rc) h)) (back call h (outcome.answers h)))
+      | inr h ↦ reads_as before id call x e (subst ReadsBack (sym (cond-false (x.rc == 0) value (Refused x.rc) (ne_eqb x.rc 0 h))) (refused call h))
     ]
 
 -- the request line of a call with values in range and an id below 8 reads as the call's request

@@ -1,13 +1,12 @@
 -- Lines that are no requests change nothing.
-use Rattle.std.proofs.Common.{◌≡◌, inl, inr, ℕ, List, [], ◌∷◌, ◌++◌, Option, None, refl, sym, ap, ◌∙◌, subst}
+use Rattle.std.proofs.Common.{◌≡◌, ℕ, List, [], ◌∷◌, ◌++◌, Option, None, refl, sym, ap, ◌∙◌, subst}
 use Rattle.std.specs.Option.{option_to_list}
-use Rattle.gc_lines.specs.Frames.{lines, rest_of}
+use Rattle.gc_lines.specs.Frames.{lines}
 use Rattle.gc_lines.specs.Requests.{IsNoRequest}
-use Rattle.gc_lines.proofs.Cutting.{rest-append}
 use Rattle.gc_instrument.specs.State.{State}
 use Rattle.gc_instrument.specs.Replying.{IsReplied, silent, answers}
 use Rattle.gc_instrument.specs.Hearing.{Hears, IsOutput}
-use Rattle.gc_instrument.specs.Laws.{AreForeign, IsWhole, ForeignLinesAreSilent}
+use Rattle.gc_instrument.specs.Laws.{AreForeign, ForeignLinesAreSilent}
 use Rattle.gc_instrument.proofs.HeardFrames.{lines-next}
 
 -- with lines that are no requests put in front, lines have the same replies, and lead to the same state
@@ -32,15 +31,10 @@ take_out s t (line ∷ foreign) later ps none h =
 
 -- lines may be exchanged behind others: if ys lead to t, with the same replies, from every state from which xs do, `first ++ ys`
 -- leads from s to t, with the same replies, where `first ++ xs` does
-lines_before : (s t : State) (first xs ys ps : List (List ℕ)) → ((u : State) (qs : List (List ℕ)) → Hears u xs t qs → Hears u ys t qs)
+exchanged_behind : (s t : State) (first xs ys ps : List (List ℕ)) → ((u : State) (qs : List (List ℕ)) → Hears u xs t qs → Hears u ys t qs)
     → Hears s (first ++ xs) t ps → Hears s (first ++ ys) t ps
-lines_before s t [] xs ys ps change h = change s ps h
-lines_before s t (line ∷ first) xs ys ps change h = (h.0, h.1, h.2, h.3, lines_before h.0 t first xs ys h.2 change h.4, h.5)
-
--- a stream that is empty or ends in a line feed has no bytes after its last line feed
-whole_rest : (stream : List ℕ) → IsWhole stream → rest_of stream ≡ []
-whole_rest stream (inl e) = ap rest_of e
-whole_rest stream (inr ends) = ap rest_of ends.1 ∙ rest-append [] ends.0 (10 ∷ [])
+exchanged_behind s t [] xs ys ps change h = change s ps h
+exchanged_behind s t (line ∷ first) xs ys ps change h = (h.0, h.1, h.2, h.3, exchanged_behind h.0 t first xs ys h.2 change h.4, h.5)
 
 -- where the lines of y have the replies of those of x and lead to the same state, y has the output of x
 same_output : (s t : State) (x y bytes : List ℕ) → ((ps : List (List ℕ)) → Hears s (lines x) t ps → Hears s (lines y) t ps)
@@ -52,14 +46,14 @@ same_output s t x y bytes change h = record { replies = h.replies; hears = chang
 pub foreign_lines_are_silent : ForeignLinesAreSilent
 foreign_lines_are_silent s t front foreign back bytes front_whole foreign_whole none =
     let longer : lines (front ++ (foreign ++ back)) ≡ lines front ++ (lines foreign ++ lines back) =
-    lines-next front (foreign ++ back) (whole_rest front front_whole) ∙ ap (λ (xs : List (List ℕ)). lines front ++ xs) (lines-next foreign back (whole_rest foreign foreign_whole)) in
-    let shorter : lines (front ++ back) ≡ lines front ++ lines back = lines-next front back (whole_rest front front_whole) in (
+    lines-next front (foreign ++ back) front_whole ∙ ap (λ (xs : List (List ℕ)). lines front ++ xs) (lines-next foreign back foreign_whole) in
+    let shorter : lines (front ++ back) ≡ lines front ++ lines back = lines-next front back front_whole in (
       same_output s t (front ++ (foreign ++ back)) (front ++ back) bytes (λ ps h.
           subst (λ (xs : List (List ℕ)). Hears s xs t ps) (sym shorter)
-          (lines_before s t (lines front) (lines foreign ++ lines back) (lines back) ps
+          (exchanged_behind s t (lines front) (lines foreign ++ lines back) (lines back) ps
           (λ u qs k. take_out u t (lines foreign) (lines back) qs none k) (subst (λ (xs : List (List ℕ)). Hears s xs t ps) longer h))),
       same_output s t (front ++ back) (front ++ (foreign ++ back)) bytes (λ ps h.
           subst (λ (xs : List (List ℕ)). Hears s xs t ps) (sym longer)
-          (lines_before s t (lines front) (lines back) (lines foreign ++ lines back) ps
+          (exchanged_behind s t (lines front) (lines back) (lines foreign ++ lines back) ps
           (λ u qs k. put_in u t (lines foreign) (lines back) qs none k) (subst (λ (xs : List (List ℕ)). Hears s xs t ps) shorter h))),
     )

@@ -1,5 +1,5 @@
 -- What is claimed of the definitions themselves, apart from any call of a function: this project's own.
-use Rattle.std.specs.Prelude.{◌≡◌, ◌↔◌, ◌⊎◌, ℕ, ◌<◌, List, [], ◌∷◌, ◌++◌, Option, Some, None}
+use Rattle.std.specs.Prelude.{◌≡◌, ◌↔◌, ℕ, ◌<◌, List, [], ◌++◌, Option, Some, None}
 use Rattle.std.specs.List.{AllByRecursion}
 use Rattle.gc_lines.specs.AnsweringLines.{HasOneReply}
 use Rattle.gc_lines.specs.Frames.{lines, rest_of}
@@ -49,10 +49,6 @@ pub record AnswersInTurn : Type 0 where
   pub whole : (s t u : State) (first next : List ℕ) (xs ys : List ℕ) → rest_of first ≡ [] → IsOutput s first t xs → IsOutput t next u ys
       → IsOutput s (first ++ next) u (xs ++ ys)
 
--- a stream is empty or ends in a line feed
-abbrev pub IsWhole : List ℕ → Type 0
-IsWhole stream = (stream ≡ []) ⊎ ((front : List ℕ) × (stream ≡ front ++ 10 ∷ []))
-
 -- none of these lines is a request
 abbrev pub AreForeign : List (List ℕ) → Type 0
 AreForeign heard = AllByRecursion IsNoRequest heard
@@ -61,8 +57,8 @@ AreForeign heard = AllByRecursion IsNoRequest heard
 abbrev pub HasNoRequest : List ℕ → Type 0
 HasNoRequest stream = AreForeign (lines stream)
 
--- a whole stream (`IsWhole`) without a request (`HasNoRequest`), inserted into another stream after a whole front part of it,
--- changes nothing: what is written, and the state after it, are the same without the inserted one
+-- a stream without a request (`HasNoRequest`), inserted into another stream after a front part of it, changes nothing, where it
+-- and that part are each empty or end in a line feed: what is written, and the state after it, are the same without it
 abbrev pub ForeignLinesAreSilent : Type 0
-ForeignLinesAreSilent = (s t : State) (front foreign back bytes : List ℕ) → IsWhole front → IsWhole foreign → HasNoRequest foreign
+ForeignLinesAreSilent = (s t : State) (front foreign back bytes : List ℕ) → rest_of front ≡ [] → rest_of foreign ≡ [] → HasNoRequest foreign
     → IsOutput s (front ++ (foreign ++ back)) t bytes ↔ IsOutput s (front ++ back) t bytes

@@ -1,5 +1,5 @@
 -- The reply to a line: what the instrument does with each line that it gets. The communication codes are the manual's, the rest
--- is this project's own. A parameter `number` is an id.
+-- is this project's own.
 use Rattle.std.specs.Prelude.{◌≡◌, ◌<◌, ℕ, List, [], Bool, true, false, Option, Some, None, if◌then◌else◌, ◌==◌, nat_eq, unwrap_or}
 use Rattle.gc_lines.specs.Answering.{AppendsAnswer}
 use Rattle.gc_lines.specs.AnsweringLines.{RepliesTo}
@@ -31,12 +31,12 @@ com_code Unknown = 3081
 com_code (Parameters _) = 3080
 
 -- the reply line, with this id, to a request that names no call
-abbrev pub refusal_line : (number : ℕ) → CallFault → List ℕ
-refusal_line number fault = reply_text (record { rc_com = com_code fault; id = Some number; rc = 0; params = [] })
+abbrev pub refusal_line : (id : ℕ) → CallFault → List ℕ
+refusal_line id fault = reply_text (record { rc_com = com_code fault; id = Some id; rc = 0; params = [] })
 
 -- the reply line, with this id, to a call with this outcome: doubles are rounded to the precision after the call
-abbrev pub executed_line : (number : ℕ) → Executed → List ℕ
-executed_line number x = reply_line number x.rc x.answer x.state.precision
+abbrev pub executed_line : (id : ℕ) → Executed → List ℕ
+executed_line id x = reply_line id x.rc x.answer x.state.precision
 
 -- the stored line, if the request carries the stored id; else none
 abbrev pub kept_line : (kept : Option KeptReply) → (id : Option ℕ) → Option (List ℕ)
@@ -88,46 +88,46 @@ pub record Handed (State : Type 0) : Type 0 where
 
 -- what an instrument does with a call's request line: it sends the line that is stored for the id again, and carries out nothing;
 -- or, if there is no such line, it carries out the call and stores the reply
-abbrev pub again_or_new : State → (number : ℕ) → Call → (stored : Option (List ℕ)) → Handed State
-again_or_new s number call (Some line) = record { state = s; reply = line; executed = false }
-again_or_new s number call None =
-    let line = executed_line number (exec s call) in
+abbrev pub again_or_new : State → (id : ℕ) → Call → (stored : Option (List ℕ)) → Handed State
+again_or_new s id call (Some line) = record { state = s; reply = line; executed = false }
+again_or_new s id call None =
+    let line = executed_line id (exec s call) in
     record {
-      state = with_kept (Some (record { id = number; line = line })) (exec s call).state;
+      state = with_kept (Some (record { id = id; line = line })) (exec s call).state;
       reply = line;
       executed = true;
     }
 
 -- what an instrument in this state does with the request line of this call with this id
-unfoldable pub handed : State → (number : ℕ) → Call → Handed State
-handed s number call = again_or_new s number call (kept_line s.kept (Some number))
+unfoldable pub handed : State → (id : ℕ) → Call → Handed State
+handed s id call = again_or_new s id call (kept_line s.kept (Some id))
 
 -- the reading of a reply to a call with this outcome: the answer with its doubles rounded to the precision, or the refusal
 abbrev pub reading_of : Executed → Reading
 reading_of x = if x.rc == 0 then Value (rounded_answer x.state.precision x.answer) else Refused x.rc
 
 -- the line is a reply with this id, whose reading for the call is the outcome of carrying it out
-pub record IsAnswered (before : State) (number : ℕ) (call : Call) (line : List ℕ) : Type 0 where
+pub record IsAnswered (before : State) (id : ℕ) (call : Call) (line : List ℕ) : Type 0 where
   pub fields : ReplyFields
   pub is_reply : IsReply line fields
-  pub same_id : fields.id ≡ Some number
+  pub same_id : fields.id ≡ Some id
   pub reading : IsReading call fields (reading_of (exec before call))
 
 -- the request line of a call led to the state and the reply of `handed`; the reply has neither CR nor LF, and if the request's id
 -- isn't the stored one, the reply reads as the outcome of carrying out the call
-pub record IsExchanged (before : State) (number : ℕ) (call : Call) (after : State) (reply : Option (List ℕ)) : Type 0 where
-  pub state : after ≡ (handed before number call).state
-  pub line : reply ≡ Some (handed before number call).reply
-  pub plain : IsPlain (handed before number call).reply
-  pub answered : kept_line before.kept (Some number) ≡ None → IsAnswered before number call (handed before number call).reply
+pub record IsExchanged (before : State) (id : ℕ) (call : Call) (after : State) (reply : Option (List ℕ)) : Type 0 where
+  pub state : after ≡ (handed before id call).state
+  pub line : reply ≡ Some (handed before id call).reply
+  pub plain : IsPlain (handed before id call).reply
+  pub answered : kept_line before.kept (Some id) ≡ None → IsAnswered before id call (handed before id call).reply
 
 -- the text is the reply, with this id, to a call that was carried out: it has neither CR nor LF, and reads as the outcome of the
 -- call. The state `after` is that of the outcome, with the stored reply as it was
-pub record IsReplyToExecuted (before : State) (number : ℕ) (call : Call) (after : State) (text : List ℕ) : Type 0 where
+pub record IsReplyToExecuted (before : State) (id : ℕ) (call : Call) (after : State) (text : List ℕ) : Type 0 where
   pub plain : IsPlain text
   pub state : after ≡ (exec before call).state
-  pub line : text ≡ executed_line number (exec before call)
-  pub says : IsAnswered before number call text
+  pub line : text ≡ executed_line id (exec before call)
+  pub says : IsAnswered before id call text
 
 -- the text is the reply to a call (`AnswersCall`), and has neither CR nor LF; unless the request carries the stored id, it reads
 -- as the outcome of carrying out the call

@@ -83,12 +83,12 @@ first_pointing = record { hz = zero; v = zero }
 abbrev pub first_date : DateTime
 first_date = record { year = pos 1996; month = 7; day = 25; hour = 16; minute = 19; second = 47 }
 
--- the state at the start, of an instrument with this serial number, this name and these targets as its scene (this project's own)
-abbrev pub opening : (number : ℤ) → (letters : List ℕ) → (targets : List Target) → State
-opening number letters targets = record {
-  serial = number;
-  name = letters;
-  scene = targets;
+-- the state at the start, of an instrument with this serial number, this name and this scene (this project's own)
+abbrev pub opening : (serial : ℤ) → (name : List ℕ) → (scene : List Target) → State
+opening serial name scene = record {
+  serial = serial;
+  name = name;
+  scene = scene;
   precision = 15;
   station = origin;
   height = zero;

@@ -11,8 +11,7 @@ mod settings;
 
 use crate::face::Face;
 use crate::pointing::Pointing;
-use crate::simulator;
-use crate::simulator::simulator_name;
+use crate::simulator::{SIMULATOR_SERIAL, simulator_name, simulator_scene};
 use crate::target::Target;
 use arrayvec::ArrayVec;
 use gc_catalogue::{DateTime, Station};
@@ -118,7 +117,7 @@ impl Instrument {
         ensures fits { IsFittingState result }
     {
         // The scene has three targets, so it is never refused.
-        match Instrument::new(simulator::SERIAL, simulator_name(), &simulator::scene()) {
+        match Instrument::new(SIMULATOR_SERIAL, simulator_name(), &simulator_scene()) {
             Ok(instrument) => instrument,
             Err(_) => unreachable!(),
         }

@@ -20,5 +20,5 @@ pub use measurement::first_at;
 pub use pointing::Pointing;
 pub use replies::{Replies, answer_frame, reply_to_line};
 pub use serving::serve;
-pub use simulator::simulator_name;
+pub use simulator::{SIMULATOR_SERIAL, simulator_name};
 pub use target::Target;

@@ -1,4 +1,4 @@
-//! What instruments that reply to requests have in common, the simulator and that of a scene: what they do with lines and frames.
+//! What the simulator and the instrument of a scene have in common: how they reply to lines and frames, by how they reply to requests.
 
 ghost use Rattle.std.specs.Prelude.{◌<◌, ◌≤◌, ◌+◌, ℕ, List, length};
 ghost use Rattle.std.specs.Option.{ForSome};

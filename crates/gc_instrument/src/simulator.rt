@@ -7,7 +7,7 @@ use crate::target::Target;
 use gc_values::{Decimal, Text};
 
 /// The simulator's serial number.
-pub const SERIAL: i32 = 123456;
+pub const SIMULATOR_SERIAL: i32 = 123456;
 
 /// The simulator's name, `GEOCOM SIM`.
 pub fn simulator_name() -> Text
@@ -21,7 +21,7 @@ pub fn simulator_name() -> Text
 }
 
 /// The three targets of the simulator. `Decimal::literal(25_125, 3)` is 25.125.
-pub fn scene() -> [Target; 3]
+pub fn simulator_scene() -> [Target; 3]
     ensures { result ≡ simulator_scene }
 {
     [

@@ -25,10 +25,8 @@ impl Rows for Calls {
 
 /// The call of a request's line. `None`: the line is no request, or its call is refused.
 pub fn call_of(line: &[u8]) -> Option<Call> {
-    match read_request(line) {
-        Ok(request) => decode_call(&request).ok(),
-        Err(_) => None,
-    }
+    let request = read_request(line).ok()?;
+    decode_call(&request).ok()
 }
 
 // Reports a fault by its number and its name.
@@ -58,10 +56,8 @@ fn rewrite_call(line: &[u8], came: &mut Told) {
 fn reading_of(words: &str) -> Option<Reading> {
     let (request, reply) = cut_word(words);
     let call = call_of(request.as_bytes())?;
-    match read_reply(reply.as_bytes()) {
-        Ok(reply) => Some(decode_answer(&call, &reply)),
-        Err(_) => None,
-    }
+    let reply = read_reply(reply.as_bytes()).ok()?;
+    Some(decode_answer(&call, &reply))
 }
 
 // Reports the reading of a reply, the second word, for the call of a request, the first one; or that there is none (`reading_of`).

@@ -67,7 +67,7 @@ impl<W: Window<Asked = Call>> Clients<W> {
             "send" => self.send(what, came),
             "hear" => self.hear(bytes, came),
             "expire" => self.expire(what, came),
-            "restart" => tell_settlements(self.client.restart().as_slice(), came),
+            "restart" => tell_settled(self.client.restart().as_slice(), came),
             "deadline" => came.debug(&self.client.next_deadline()),
             _ => came.text("an unknown word"),
         }
@@ -101,26 +101,26 @@ impl<W: Window<Asked = Call>> Clients<W> {
             Hearing::Stray => came.text("stray"),
             Hearing::Unread(fault) => came.titled("unread ", &fault.number()),
         }
-        tell_settlements(self.settled.as_slice(), came)
+        tell_settled(self.settled.as_slice(), came)
     }
 
     // Hands the client the moment that `now` writes, and reports the targets of the requests that it times out.
     fn expire(&mut self, now: &str, came: &mut Told) {
-        let now = came.number(now);
+        let now = came.number_in(now);
         for target in self.client.expire(now).as_slice() {
             came.counted(target, ", ");
         }
     }
 }
 
-/// The target and the deadline, a moment, that two words write, each as `Told::number` says.
+/// The target and the deadline, a moment, that two words write, each as `Told::number_in` says.
 pub fn target_and_deadline(words: &str, came: &mut Told) -> (u32, u64) {
     let (target, deadline) = cut_word(words);
-    (came.number(target), came.number(deadline))
+    (came.number_in(target), came.number_in(deadline))
 }
 
 // Reports settlements: each with its target, and how its request ended.
-fn tell_settlements(settled: &[Settlement<Call>], came: &mut Told) {
+fn tell_settled(settled: &[Settlement<Call>], came: &mut Told) {
     for settlement in settled {
         came.display(&settlement.target);
         tell_outcome(&settlement.outcome, came);

@@ -105,7 +105,7 @@ impl Rows for Files {
 // ran out.
 fn file_of(alloc: Global, words: &str, came: &mut Told) -> Result<MemoryFile, AllocError> {
     let (room, held) = cut_word(words);
-    let room = came.number(room);
+    let room = came.number_in(room);
     let held = bytes_of(alloc, held)?;
     MemoryFile::new(alloc, held.as_slice(), room).ok_or(AllocError)
 }

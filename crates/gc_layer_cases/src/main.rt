@@ -31,53 +31,56 @@ use std::io;
 use std::process::ExitCode;
 use values::Values;
 
-// The layer whose cases a file has: `name` is the end of the file's name, as in `layers.client`.
+// The layers, each with cases in a file of its own.
 #[derive(Drop)]
-struct Layer {
-    name: &'static str,
+enum Layer {
+    Lines,
+    Ports,
+    Values,
+    Calls,
+    Client,
+    Beginning,
+    Stations,
+    Instrument,
+    Files,
 }
 
 impl Player for Layer {
     // Plays a case of the layer. There is never an error.
     fn play(&self, rt: &HostRuntime, case: &Case<'_>, wrong: &mut Told) -> io::Result<()> {
-        play_case(self.name, rt.alloc(), case, wrong);
+        self.play_case(rt.alloc(), case, wrong);
         Ok(())
     }
 }
 
-// Plays a case of this layer. What came otherwise than the case expects is appended to `wrong`, and so is a layer without a
-// player.
-fn play_case(layer: &str, alloc: Global, case: &Case<'_>, wrong: &mut Told) {
-    match layer {
-        "lines" => play_rows(alloc, case, &mut Lines::new(), wrong),
-        "ports" => play_rows(alloc, case, &mut Ports, wrong),
-        "values" => play_rows(alloc, case, &mut Values, wrong),
-        "calls" => play_rows(alloc, case, &mut Calls, wrong),
-        "client" => play_clients(alloc, case, wrong),
-        "beginning" => play_rows(alloc, case, &mut Beginnings::new(), wrong),
-        "stations" => play_rows(alloc, case, &mut Stations::new(alloc), wrong),
-        "instrument" => play_rows(alloc, case, &mut Instruments::new(alloc), wrong),
-        "files" => play_rows(alloc, case, &mut Files::new(), wrong),
-        _ => case.tell_wrong("player", b"none", wrong),
+impl Layer {
+    // Plays a case of the layer. What came otherwise than the case expects is appended to `wrong`.
+    fn play_case(&self, alloc: Global, case: &Case<'_>, wrong: &mut Told) {
+        match self {
+            Layer::Lines => play_rows(alloc, case, &mut Lines::new(), wrong),
+            Layer::Ports => play_rows(alloc, case, &mut Ports, wrong),
+            Layer::Values => play_rows(alloc, case, &mut Values, wrong),
+            Layer::Calls => play_rows(alloc, case, &mut Calls, wrong),
+            Layer::Client => play_clients(alloc, case, wrong),
+            Layer::Beginning => play_rows(alloc, case, &mut Beginnings::new(), wrong),
+            Layer::Stations => play_rows(alloc, case, &mut Stations::new(alloc), wrong),
+            Layer::Instrument => play_rows(alloc, case, &mut Instruments::new(alloc), wrong),
+            Layer::Files => play_rows(alloc, case, &mut Files::new(), wrong),
+        }
     }
 }
 
 // Plays the cases of all layers, from the files of the current folder. The status is 1 if a case came to something else than it
 // expects, and otherwise 0. `Err`: `play_folder` gave one.
 fn main(rt: HostRuntime) -> io::Result<ExitCode> {
-    let mut are_right = true;
-    for name in [
-        "lines",
-        "ports",
-        "values",
-        "calls",
-        "client",
-        "beginning",
-        "stations",
-        "instrument",
-        "files",
-    ] {
-        are_right &= play_folder(&rt, ".", name, &Layer { name })?;
-    }
+    let mut are_right = play_folder(&rt, ".", "lines", &Layer::Lines)?;
+    are_right &= play_folder(&rt, ".", "ports", &Layer::Ports)?;
+    are_right &= play_folder(&rt, ".", "values", &Layer::Values)?;
+    are_right &= play_folder(&rt, ".", "calls", &Layer::Calls)?;
+    are_right &= play_folder(&rt, ".", "client", &Layer::Client)?;
+    are_right &= play_folder(&rt, ".", "beginning", &Layer::Beginning)?;
+    are_right &= play_folder(&rt, ".", "stations", &Layer::Stations)?;
+    are_right &= play_folder(&rt, ".", "instrument", &Layer::Instrument)?;
+    are_right &= play_folder(&rt, ".", "files", &Layer::Files)?;
     Ok(ExitCode::from(u8::from(!are_right)))
 }

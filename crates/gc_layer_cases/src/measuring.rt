@@ -141,7 +141,7 @@ impl Stations {
     fn hear(&mut self, alloc: Global, now: &str, bytes: &[u8], came: &mut Told) {
         let mut told = String::new(alloc);
         let read = bytes_behind(now, bytes);
-        let heard = self.station.hear(read, came.number(now), &mut told);
+        let heard = self.station.hear(read, came.number_in(now), &mut told);
         tell_report(heard, told.as_str(), came);
     }
 

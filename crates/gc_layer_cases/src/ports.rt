@@ -11,9 +11,19 @@ use std::io::{self, ErrorKind, Read};
 
 // How often a reader was asked, and for how many bytes the last time; 0 before the first.
 #[derive(Drop)]
-struct Asked {
+struct ReadCalls {
     calls: Cell<u64>,
     room: Cell<usize>,
+}
+
+impl ReadCalls {
+    // The reader wasn't asked yet.
+    fn none() -> ReadCalls {
+        ReadCalls {
+            calls: Cell::new(0),
+            room: Cell::new(0),
+        }
+    }
 }
 
 // A reader that gives `left`, at most `most` bytes a read, and is interrupted at read number `fails_at`, counted from 0.
@@ -22,7 +32,7 @@ struct PieceReader<'a, 'b> {
     left: &'a [u8],
     most: usize,
     fails_at: u64,
-    asked: &'b Asked,
+    asked: &'b ReadCalls,
 }
 
 impl Read for PieceReader<'_, '_> {
@@ -53,8 +63,8 @@ impl Rows for Ports {
     // Plays a row: `source` or `ahead` with three words, `sink` with a room in bytes, or `lines`.
     fn play(&mut self, _alloc: Global, word: &str, what: &str, _bytes: &[u8], came: &mut Told) {
         match word {
-            "source" => read_through(false, what, came),
-            "ahead" => read_through(true, what, came),
+            "source" => read_source(what, came),
+            "ahead" => read_ahead(what, came),
             "sink" => write_through(what, came),
             "lines" => write_lines(came),
             _ => came.text("an unknown word"),
@@ -62,31 +72,36 @@ impl Rows for Ports {
     }
 }
 
-// Reads the bytes of the third word through a port, which reads ahead if `is_ahead`, and reports what `read_four_times` does. The
-// first word says how many bytes the reader gives a read at most, and the second at which read it is interrupted, counted from 0.
-fn read_through(is_ahead: bool, words: &str, came: &mut Told) {
+// Reads through a port from the reader of these words (`reader_of`), and reports what `read_four_times` does.
+fn read_source(words: &str, came: &mut Told) {
+    let asked = ReadCalls::none();
+    let reader = reader_of(words, &asked, came);
+    read_four_times(&mut FromReader::new(reader), &asked, came);
+}
+
+// As `read_source`, but the port reads ahead.
+fn read_ahead(words: &str, came: &mut Told) {
+    let asked = ReadCalls::none();
+    let reader = reader_of(words, &asked, came);
+    read_four_times(&mut FromReader::new(ReadAhead::new(reader)), &asked, came);
+}
+
+// A reader of the bytes of the third word. The first word says how many bytes it gives a read at most, and the second at which read
+// it is interrupted, counted from 0.
+fn reader_of<'a, 'b>(words: &'a str, asked: &'b ReadCalls, came: &mut Told) -> PieceReader<'a, 'b> {
     let (most, rest) = cut_word(words);
     let (fails_at, left) = cut_word(rest);
-    let asked = Asked {
-        calls: Cell::new(0),
-        room: Cell::new(0),
-    };
-    let reader = PieceReader {
+    PieceReader {
         left: left.as_bytes(),
-        most: came.number(most),
-        fails_at: came.number(fails_at),
-        asked: &asked,
-    };
-    if is_ahead {
-        read_four_times(&mut FromReader::new(ReadAhead::new(reader)), &asked, came);
-    } else {
-        read_four_times(&mut FromReader::new(reader), &asked, came);
+        most: came.number_in(most),
+        fails_at: came.number_in(fails_at),
+        asked,
     }
 }
 
 // Reads four times into four bytes, by the trait's bound alone, and reports of each read what came (`read_once`), how often the reader
 // was asked by then, and for how many bytes the last time.
-fn read_four_times<S: Source>(source: &mut S, asked: &Asked, came: &mut Told) {
+fn read_four_times<S: Source>(source: &mut S, asked: &ReadCalls, came: &mut Told) {
     for _ in 0..4 {
         read_once(source, came);
         came.titled(" asked ", &asked.calls.get());
@@ -111,7 +126,7 @@ fn read_once<S: Source>(source: &mut S, came: &mut Told) {
 // `write_four_times` does.
 fn write_through(room: &str, came: &mut Told) {
     let mut bytes = [0u8; 16];
-    let room = came.number::<usize>(room).min(16);
+    let room = came.number_in::<usize>(room).min(16);
     write_four_times(&mut ToWriter::new(&mut bytes[..room]), came);
 }
 

@@ -21,12 +21,12 @@ const ALL_SET: [&[u8]; 8] = [
 // Carries out the calls of `ALL_SET`.
 fn set_all(instrument: &mut Instrument) {
     for line in ALL_SET.as_slice() {
-        execute(instrument, line);
+        carry_out(instrument, line);
     }
 }
 
 // Carries out the call of a request's line, if it has one, without a look at what comes of it.
-fn execute(instrument: &mut Instrument, line: &[u8]) {
+fn carry_out(instrument: &mut Instrument, line: &[u8]) {
     if let Some(call) = call_of(line) {
         let _ = instrument.execute(&call);
     }

@@ -80,7 +80,7 @@ fn two_decimals(words: &str) -> Option<(Decimal, Decimal)> {
 // Makes a decimal of two words, its digits and its scale, and reports both as the decimal has them, and its text; or the fault.
 fn new_decimal(words: &str, came: &mut Told) {
     let (digits, scale) = cut_word(words);
-    match Decimal::new(came.number(digits), came.number(scale)) {
+    match Decimal::new(came.number_in(digits), came.number_in(scale)) {
         Ok(decimal) => tell_parts(&decimal, came),
         Err(fault) => came.debug(&fault),
     }
@@ -106,7 +106,7 @@ fn round(words: &str, came: &mut Told) {
     let (places, text) = cut_word(words);
     match Decimal::read(text.as_bytes()) {
         Ok(decimal) => {
-            let places = came.number::<u8>(places).min(24);
+            let places = came.number_in::<u8>(places).min(24);
             round_to(&decimal, places, came)
         }
         Err(fault) => came.debug(&fault),
@@ -132,7 +132,7 @@ fn within(words: &str, came: &mut Told) {
 // Reads the second word as a whole number of at most the first word, and reports the number or the fault.
 fn read_whole_word(words: &str, came: &mut Told) {
     let (most, item) = cut_word(words);
-    let most = came.number(most);
+    let most = came.number_in(most);
     tell_read(read_whole(item.as_bytes(), most), came);
 }
 

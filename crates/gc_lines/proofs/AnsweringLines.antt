@@ -30,9 +30,9 @@ appended_alone answered new h = subst (λ (text : List ℕ). answered (Some text
 
 -- appending a line's reply, and CR LF after it, is how an answerer of lines answers the frame of that line
 pub line_answered : {State : Type 0} (replies : ReplyRule State) (before after : State) (line old between new : List ℕ)
-    → AppendsAnswer (replies before line after) old between true → new ≡ between ++ 13 ∷ 10 ∷ []
+    → AppendsAnswer (replies before line after) old between true → new ≡ with_end between
     → AppendsAnswer (AnswersLines replies before (Line (record { items = line })) after) old new true
-line_answered replies before after line old between new h e = (with_end h.0, (Some h.0, h.1, refl), e ∙ ap (λ (xs : List ℕ). xs ++ 13 ∷ 10 ∷ []) h.2 ∙ append_assoc old h.0 (13 ∷ 10 ∷ []))
+line_answered replies before after line old between new h e = (with_end h.0, (Some h.0, h.1, refl), e ∙ ap with_end h.2 ∙ append_assoc old h.0 (13 ∷ 10 ∷ []))
 
 -- where a line has no reply, appending nothing is how an answerer of lines answers the frame of that line
 pub line_unanswered : {State : Type 0} (replies : ReplyRule State) (before after : State) (line old new : List ℕ)

@@ -7,7 +7,8 @@ use Rattle.std.proofs.lemmas.Bool.{ltb-true, ltb-false, eqb-true, eq-eqb, ne_eqb
 use Rattle.std.proofs.Permutation.{every_append}
 use Rattle.std.proofs.Math.Dec.{ltb}
 use Rattle.std.proofs.Math.Numerals.{one-add}
-use Rattle.gc_lines.specs.Frames.{is_line_feed, pieces_behind, rest_behind, pieces, rest_of, HasNoLineFeed, IsCut, frame_of, frames}
+use Rattle.gc_lines.specs.Frames.{is_line_feed, pieces_behind, rest_behind, pieces, rest_of, HasNoLineFeed, IsCut, frame_of}
+use Rattle.gc_lines.specs.Laws.{FramesHoweverCut}
 
 -- whether a byte continues the bytes before it: it is no line feed
 abbrev pub goes_on : ℕ → Bool
@@ -137,9 +138,9 @@ one_cut stream parts rest cut =
 pub is_cut_of : (stream : List ℕ) → IsCut stream (pieces stream) (rest_of stream)
 is_cut_of stream = let clean = cut_clean [] stream tt in record { whole = sym (cut_whole [] stream); each = clean.0; last = clean.1 }
 
--- the frames of `xs ++ ys` are those of xs, and then those of the rest of xs with ys after it; and the rest of `xs ++ ys` is that
--- of the rest of xs with ys after it
-pub however_cut : (xs ys : List ℕ) → (frames (xs ++ ys) ≡ frames xs ++ frames (rest_of xs ++ ys)) × (rest_of (xs ++ ys) ≡ rest_of (rest_of xs ++ ys))
+-- the law: the frames of `xs ++ ys` are those of xs, and then those of the rest of xs with ys after it; and the rest of `xs ++ ys`
+-- is that of the rest of xs with ys after it
+pub however_cut : FramesHoweverCut
 however_cut xs ys =
     let b = front_joins_piece [] (rest_of xs) ys (cut_clean [] xs tt).1 in (
       ap (λ ps. map frame_of ps) (pieces-append [] xs ys ∙ ap (λ ps. pieces xs ++ ps) (sym b.0)) ∙ map-append frame_of (pieces xs) (pieces (rest_of xs ++ ys)),

@@ -7,7 +7,7 @@ use Rattle.std.specs.Cmp.Lexicographic.{bytes_decides}
 use Rattle.std.proofs.Math.Dec.{ltb}
 use Rattle.gc_lines.specs.declared.fault.LineFault.{LineFault}
 use Rattle.gc_lines.specs.declared.fault.LineFault.TheVariants.{Signature, Id, Colon}
-use Rattle.gc_lines.specs.Numbers.{IsNumber, HasNumber, NoDigitFirst}
+use Rattle.gc_lines.specs.Numbers.{IsSmallNumber, HasNumber, NoDigitFirst}
 use Rattle.gc_lines.specs.Headers.{HasId, EndsId, IsIdInRange, id_text, PastSignature}
 use Rattle.gc_lines.specs.Readers.{number_at, digits_len, signature_at, id_at, colon_at}
 use Rattle.gc_lines.proofs.Digits.{run_is, run_digits, run_stops, run_length, run_of_one, one_digit_runs}
@@ -63,7 +63,7 @@ number_found f bytes x e =
     }
 
 -- where `text` is a number's, and `rest` doesn't begin with a digit, `number_at` gives the number and `rest` for `text ++ rest`
-number_of_text : (f : LineFault) (text rest : List ℕ) (n : ℕ) → IsNumber text n → NoDigitFirst rest → number_at f (text ++ rest) ≡ Ok (n, rest)
+number_of_text : (f : LineFault) (text rest : List ℕ) (n : ℕ) → IsSmallNumber text n → NoDigitFirst rest → number_at f (text ++ rest) ≡ Ok (n, rest)
 number_of_text f text rest n h stop =
     rw (
       run_length text rest h.digits stop,

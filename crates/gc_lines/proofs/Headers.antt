@@ -3,7 +3,7 @@ use Rattle.std.proofs.Common.{◌≡◌, ℕ, inl, inr, List, ◌∷◌, ◌++�
 use Rattle.std.proofs.lemmas.Bool.{eq-eqb}
 use Rattle.gc_lines.specs.declared.fault.LineFault.{LineFault}
 use Rattle.gc_lines.specs.declared.fault.LineFault.TheVariants.{Signature, Number, Id, Colon, Code, TooLong}
-use Rattle.gc_lines.specs.Numbers.{IsNumber, NoDigitFirst}
+use Rattle.gc_lines.specs.Numbers.{IsSmallNumber, NoDigitFirst}
 use Rattle.gc_lines.specs.Headers.{EndsId, IsIdInRange, id_text, PastSignature, PastNumber, PastId, PastColon, FirstBadField}
 use Rattle.gc_lines.specs.Readers.{number_at, HeaderFields, signature_at, id_at, colon_at, header_at, ◌>>=◌}
 use Rattle.gc_lines.proofs.Reading.{none_means_fault, fault_means_none, bind_ok, bind_err, bind_on, bind_stop}
@@ -12,7 +12,7 @@ use Rattle.gc_lines.proofs.Fields.{signature_reads, number_reads, id_reads, colo
 -- the fields of the line through the colon have their form and these values, and `header.rest` follows them
 pub record IsHeader (signature line : List ℕ) (header : HeaderFields) : Type 0 where
   pub number : List ℕ
-  pub is_number : IsNumber number header.number
+  pub is_number : IsSmallNumber number header.number
   pub is_id : IsIdInRange header.id
   pub whole : line ≡ signature ++ (number ++ (id_text header.id ++ 58 ∷ header.rest))
 

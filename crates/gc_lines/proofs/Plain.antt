@@ -8,12 +8,12 @@ use Rattle.std.proofs.lemmas.Str.Parse.{digit_from_value}
 use Rattle.std.proofs.lemmas.List.Elements.{recursion_from_All, All-from_recursion, All-append}
 use Rattle.std.proofs.lemmas.List.{take_at}
 use Rattle.gc_lines.specs.declared.frame.Frame.TheVariants.{Line}
-use Rattle.gc_lines.specs.Lines.{IsPlainByte, IsPlain}
+use Rattle.gc_lines.specs.Lines.{IsPlainByte, IsPlain, with_end}
 use Rattle.gc_lines.specs.Frames.{HasNoLineFeed, frame_of, frames, rest_of}
 use Rattle.gc_lines.specs.Headers.{id_text}
 use Rattle.gc_lines.specs.Requests.{RequestFields, request_text}
 use Rattle.gc_lines.specs.Replies.{ReplyFields, reply_text, params_text}
-use Rattle.gc_lines.specs.Laws.{IsRequestInRange, IsReplyInRange}
+use Rattle.gc_lines.specs.Laws.{IsRequestInRange, IsReplyInRange, PlainIsOneLine}
 use Rattle.gc_lines.proofs.Cutting.{front_joins_piece}
 use Rattle.gc_lines.proofs.Keeping.{line_frame, last-append}
 
@@ -85,10 +85,9 @@ plain_frame bytes fits =
     let items : bytes ≡ take (length (bytes ++ 13 ∷ []) - 1) (bytes ++ 13 ∷ []) = sym (ap (λ n. take n (bytes ++ 13 ∷ [])) one ∙ take_at bytes (13 ∷ []) (length bytes) refl) in
     line_frame (bytes ++ 13 ∷ []) (record { items = bytes }) (omega arith) last (omega arith) items
 
--- at most 512 plain bytes and then CR LF are one line, and leave no rest
-pub plain_line : (bytes : List ℕ) → IsPlain bytes → length bytes ≤ 512
-    → (frames (bytes ++ 13 ∷ 10 ∷ []) ≡ Line (record { items = bytes }) ∷ []) × (rest_of (bytes ++ 13 ∷ 10 ∷ []) ≡ [])
+-- the law: at most 512 plain bytes and then CR LF are one line, and leave no rest
+pub plain_line : PlainIsOneLine
 plain_line bytes h fits =
     let cut = front_joins_piece [] (bytes ++ 13 ∷ []) (10 ∷ []) (plain_has_no_feed bytes (recursion_from_All IsPlainByte bytes h)) in
-    let whole : bytes ++ 13 ∷ 10 ∷ [] ≡ (bytes ++ 13 ∷ []) ++ 10 ∷ [] = simp append_assoc in
+    let whole : with_end bytes ≡ (bytes ++ 13 ∷ []) ++ 10 ∷ [] = sym (append_assoc bytes (13 ∷ []) (10 ∷ [])) in
     (ap frames whole ∙ ap (λ ps. map frame_of ps) cut.0 ∙ ap (λ f. f ∷ []) (sym (plain_frame bytes fits)), ap rest_of whole ∙ cut.1)

@@ -1,7 +1,7 @@
 -- A reader of one field, and what it finds where the field has its form, or hasn't. A chain is `r >>= f`: r is its first part.
 use Rattle.std.proofs.Common.{◌≡◌, ℕ, ◌⊎◌, inl, inr, Bool, true, false, cond, List, Result, Ok, Err, IfOk, IfErr, refl, sym, ap, subst}
 use Rattle.gc_lines.specs.declared.fault.LineFault.{LineFault}
-use Rattle.gc_lines.specs.Headers.{Gives, GivesEach, FailsEach}
+use Rattle.gc_lines.specs.Headers.{GivesSame, GivesEach, FailsEach}
 use Rattle.gc_lines.specs.Laws.{ReadsExactly}
 use Rattle.gc_lines.specs.Readers.{◌>>=◌}
 
@@ -86,23 +86,23 @@ pub record KnowsResult {F X : Type 0} (Is : List ℕ → F → Type 0) (Bad : Li
 -- `KnowsResult` says
 pub knows_result : {F X : Type 0} {read : List ℕ → Result F LineFault} {Is : List ℕ → F → Type 0} {Bad : List ℕ → LineFault → Type 0}
     → ReadsLines read Is Bad
-    → (view : X → F) (line : List ℕ) (r : Result X LineFault) → Gives view r (read line) → KnowsResult Is Bad view line r
+    → (view : X → F) (line : List ℕ) (r : Result X LineFault) → GivesSame view r (read line) → KnowsResult Is Bad view line r
 knows_result {F} {X} {read} {Is} {Bad} reads view line r gives = record { found = found r gives; only = only; fault = fault r gives; faulty = faulty r gives } where
   -- a value has the grammar
-  found : (r : Result X LineFault) → Gives view r (read line) → IfOk r (λ x. Is line (view x))
+  found : (r : Result X LineFault) → GivesSame view r (read line) → IfOk r (λ x. Is line (view x))
   found (Ok x) e = reads.found line (view x) e
   found (Err d) e = tt
 
   -- where the line has the grammar of y, the result is y, seen by the view
-  only : (y : F) → Is line y → Gives view r (Ok y)
-  only y is = subst (λ (got : Result F LineFault). Gives view r got) (reads.again line y is) gives
+  only : (y : F) → Is line y → GivesSame view r (Ok y)
+  only y is = subst (λ (got : Result F LineFault). GivesSame view r got) (reads.again line y is) gives
 
   -- a fault is the first bad field of the line
-  fault : (r : Result X LineFault) → Gives view r (read line) → IfErr r (λ d. Bad line d)
+  fault : (r : Result X LineFault) → GivesSame view r (read line) → IfErr r (λ d. Bad line d)
   fault (Ok x) e = tt
   fault (Err d) e = reads.fault line d e
 
   -- where d is the first bad field of the line, the result is the fault d
-  faulty : (r : Result X LineFault) → Gives view r (read line) → (d : LineFault) → Bad line d → r ≡ Err d
+  faulty : (r : Result X LineFault) → GivesSame view r (read line) → (d : LineFault) → Bad line d → r ≡ Err d
   faulty (Ok x) e d bad = let f = reads.bad line d bad in (cc)
   faulty (Err c) e d bad = let f = reads.bad line d bad in (cc)

@@ -3,7 +3,7 @@ use Rattle.std.proofs.Common.{◌≡◌, ◌↔◌, ℕ, ◌<◌, List, [], ◌�
 use Rattle.std.specs.Fmt.{decimal}
 use Rattle.std.proofs.lemmas.Fmt.{length-decimal-le, decimal_nonempty, decimal_is_IsNumeral, decimal-digits_value, decimal_digit, first_decimal}
 use Rattle.std.proofs.lemmas.Bool.{cases_lt}
-use Rattle.gc_lines.specs.Numbers.{IsNumber, NoLeadingZero}
+use Rattle.gc_lines.specs.Numbers.{IsSmallNumber, NoLeadingZero}
 use Rattle.gc_lines.specs.Headers.{id_text}
 use Rattle.gc_lines.specs.Requests.{RequestFields, IsRequest, IsWrittenRequest, request_signature, request_text}
 use Rattle.gc_lines.specs.Replies.{ReplyFields, IsReply, IsWrittenReply, EndsCode, params_text, reply_signature, reply_text}
@@ -14,7 +14,7 @@ use Rattle.gc_lines.proofs.Requests.{request_again}
 use Rattle.gc_lines.proofs.Replies.{reply_again}
 
 -- a number below 65536, as it is written, has a number's form
-pub decimal_number : (n : ℕ) → n < 65536 → IsNumber (decimal n) n
+pub decimal_number : (n : ℕ) → n < 65536 → IsSmallNumber (decimal n) n
 decimal_number n h =
     let numeral = decimal_is_IsNumeral n (omega arith) in
     record {
@@ -33,7 +33,7 @@ decimal_zeros n h zero = elim (cases_lt 0 n) [
 ]
 
 -- a number's text without leading zeros is the one that is written
-number_written : (text : List ℕ) (n : ℕ) → IsNumber text n → NoLeadingZero text → text ≡ decimal n
+number_written : (text : List ℕ) (n : ℕ) → IsSmallNumber text n → NoLeadingZero text → text ≡ decimal n
 number_written text n is zeros = sym (decimal-digits_value digits_are_numerals text is.digits is.some zeros (omega (arith, is.value, is.bound))) ∙ ap decimal is.value
 
 -- what is written after a reply's return code is a reply's end with the same parameters, as `EndsCode` has it

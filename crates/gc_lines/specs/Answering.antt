@@ -13,24 +13,24 @@ use Rattle.gc_lines.specs.declared.served.ServeFault.{ServeFault}
 use Rattle.gc_lines.specs.declared.served.ServeFault.TheVariants.{Read, Write, TooManyReads}
 
 -- the number of a fault that ends a run
-abbrev pub fault_number : ServeFault → ℕ
-fault_number (Read _) = 42
-fault_number (Write _ _) = 43
-fault_number (TooManyReads _) = 44
+abbrev pub serve_fault_number : ServeFault → ℕ
+serve_fault_number (Read _) = 42
+serve_fault_number (Write _ _) = 43
+serve_fault_number (TooManyReads _) = 44
 
 -- how a printed fault begins: the word "fault" and its number
-abbrev pub numbered : ℕ → List ℕ
-numbered number = codes "fault " ++ decimal number
+abbrev pub numbered_fault : ℕ → List ℕ
+numbered_fault number = codes "fault " ++ decimal number
 
 -- what is printed after the number of a failed write: how many replies were written whole, and how many bytes of the next
 abbrev pub how_far : (replies bytes : ℕ) → List ℕ
 how_far replies bytes = codes " reply " ++ (decimal replies ++ (codes " byte " ++ decimal bytes))
 
 -- the text of a fault that ends a run, as it is printed
-abbrev pub fault_text : ServeFault → List ℕ
-fault_text (Read _) = numbered 42
-fault_text (Write replies bytes) = numbered 43 ++ how_far replies bytes
-fault_text (TooManyReads _) = numbered 44
+abbrev pub serve_fault_text : ServeFault → List ℕ
+serve_fault_text (Read _) = numbered_fault 42
+serve_fault_text (Write replies bytes) = numbered_fault 43 ++ how_far replies bytes
+serve_fault_text (TooManyReads _) = numbered_fault 44
 
 -- what answering an item, such as a frame or a line, may do: the state before the item, the item, the state after it, and the
 -- text that answers it, if there is one
@@ -148,11 +148,11 @@ pub record HasEnded (old new : Ports) (most : ℕ) (result : Result Served Serve
   -- the result is `Ok` exactly where a read was answered and the last one was the end
   pub served : IsOk result ↔ ((old.reads < new.reads) × (new.ended ≡ true))
   -- of a port that hadn't failed before: the fault is 42 exactly where the source failed, and 43 exactly where the sink did
-  pub read : old.source_failed ≡ false → IsErrAnd result (λ fault. fault_number fault ≡ 42) ↔ (new.source_failed ≡ true)
-  pub write : old.sink_failed ≡ false → IsErrAnd result (λ fault. fault_number fault ≡ 43) ↔ (new.sink_failed ≡ true)
+  pub read : old.source_failed ≡ false → IsErrAnd result (λ fault. serve_fault_number fault ≡ 42) ↔ (new.source_failed ≡ true)
+  pub write : old.sink_failed ≡ false → IsErrAnd result (λ fault. serve_fault_number fault ≡ 43) ↔ (new.sink_failed ≡ true)
   -- of ports that hadn't failed before: the fault is 44 exactly where all reads were answered, none was the end, and no port
   -- failed
-  pub too_many : old.source_failed ≡ false → old.sink_failed ≡ false → IsErrAnd result (λ fault. fault_number fault ≡ 44)
+  pub too_many : old.source_failed ≡ false → old.sink_failed ≡ false → IsErrAnd result (λ fault. serve_fault_number fault ≡ 44)
       ↔ ((new.reads ≡ old.reads + most) × (old.reads < new.reads → new.ended ≡ false) × (new.source_failed ≡ false) × (new.sink_failed ≡ false))
 
 -- the source gave at most 256 bytes a read, the frames of these bytes were answered, and the sink took the texts: how far,

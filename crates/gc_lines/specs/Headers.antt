@@ -72,13 +72,13 @@ FirstBadField signature Body line TooLong = ⊥
 
 -- a function's result is the one that the definition `read` has: the same fault, or a value `x` where `read` is `Ok (view x)`.
 -- `view` gives what contracts see of a value
-abbrev pub Gives : {X Y : Type 0} → (view : X → Y) → Result X LineFault → (read : Result Y LineFault) → Type 0
-Gives view (Ok x) read = read ≡ Ok (view x)
-Gives view (Err e) read = read ≡ Err e
+abbrev pub GivesSame : {X Y : Type 0} → (view : X → Y) → Result X LineFault → (read : Result Y LineFault) → Type 0
+GivesSame view (Ok x) read = read ≡ Ok (view x)
+GivesSame view (Err e) read = read ≡ Err e
 
 -- where a line has fields by the grammar `Is`, a reader's result is these, seen by `view`
 abbrev pub GivesEach : {X F : Type 0} → (Is : List ℕ → F → Type 0) → (view : X → F) → (line : List ℕ) → Result X LineFault → Type 0
-GivesEach {X} {F} Is view line result = (fields : F) → Is line fields → Gives view result (Ok fields)
+GivesEach {X} {F} Is view line result = (fields : F) → Is line fields → GivesSame view result (Ok fields)
 
 -- where a line has the fault that `Bad` is true of, a reader's result is this fault
 abbrev pub FailsEach : {X : Type 0} → (Bad : List ℕ → LineFault → Type 0) → (line : List ℕ) → Result X LineFault → Type 0

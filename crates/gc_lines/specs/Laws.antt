@@ -3,7 +3,7 @@ use Rattle.std.specs.Prelude.{◌≡◌, ◌↔◌, ℕ, ◌<◌, ◌≤◌, Lis
 use Rattle.gc_lines.specs.declared.fault.LineFault.{LineFault}
 use Rattle.gc_lines.specs.declared.frame.Frame.TheVariants.{Line}
 use Rattle.gc_lines.specs.Headers.{IsIdInRange}
-use Rattle.gc_lines.specs.Lines.{IsPlain}
+use Rattle.gc_lines.specs.Lines.{IsPlain, with_end}
 use Rattle.gc_lines.specs.Frames.{IsCut, pieces, rest_of, frames}
 use Rattle.gc_lines.specs.Requests.{RequestFields, IsRequest, IsWrittenRequest, FirstBadOfRequest, request_text}
 use Rattle.gc_lines.specs.Replies.{ReplyFields, IsReply, IsWrittenReply, FirstBadOfReply, reply_text}
@@ -23,7 +23,7 @@ FramesHoweverCut = (front back : List ℕ)
 -- a stream of at most 512 bytes without CR and LF, and then CR LF, is one line, and no rest
 abbrev pub PlainIsOneLine : Type 0
 PlainIsOneLine = (bytes : List ℕ) → IsPlain bytes → length bytes ≤ 512
-    → (frames (bytes ++ 13 ∷ 10 ∷ []) ≡ Line (record { items = bytes }) ∷ []) × (rest_of (bytes ++ 13 ∷ 10 ∷ []) ≡ [])
+    → (frames (with_end bytes) ≡ Line (record { items = bytes }) ∷ []) × (rest_of (with_end bytes) ≡ [])
 
 -- a reader gives fields exactly where the line has the grammar with them, as `Is` says, and a fault exactly where its field is the
 -- first bad one, as `Bad` says; and a line has the grammar with at most one list of fields

@@ -4,7 +4,7 @@ use Rattle.std.specs.Char.{is_ascii_digit}
 use Rattle.std.specs.Str.Parse.{digits_value, AllDigits}
 
 -- a text of one to five digits writes the number n, which is at most 65535
-pub record IsNumber (text : List ℕ) (n : ℕ) : Type 0 where
+pub record IsSmallNumber (text : List ℕ) (n : ℕ) : Type 0 where
   pub some : 0 < length text
   pub few : length text ≤ 5
   pub digits : AllDigits 10 text
@@ -23,6 +23,6 @@ NoDigitFirst (b ∷ bs) = is_ascii_digit b ≡ false
 -- the bytes begin with a whole run of digits that is a number, and the rest follows it
 pub record HasNumber (bytes : List ℕ) (n : ℕ) (rest : List ℕ) : Type 0 where
   pub text : List ℕ
-  pub is_number : IsNumber text n
+  pub is_number : IsSmallNumber text n
   pub whole : bytes ≡ text ++ rest
   pub ends : NoDigitFirst rest

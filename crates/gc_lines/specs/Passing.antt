@@ -85,11 +85,11 @@ NoneWait session = (session.text.items ≡ []) × (session.lengths ≡ [])
 abbrev pub ChangesTextsAlone : (old new : Session) → Type 0
 ChangesTextsAlone old new = (new.assembler ≡ old.assembler) × (new.gathers ≡ old.gathers)
 
--- there is room for one more text of at most 514 bytes, and for its length; and without `gathers` no text waits
-pub record HasRoom (text lengths : List ℕ) (gathers : Bool) : Type 0 where
-  pub for_text : length text + 514 ≤ 8192
-  pub for_length : length lengths < 256
-  pub alone : gathers ≡ false → lengths ≡ []
+-- a session has room for one more text of at most 514 bytes, and for its length; and without `gathers` no text waits
+pub record HasRoomForText (session : Session) : Type 0 where
+  pub for_text : length session.text.items + 514 ≤ 8192
+  pub for_length : length session.lengths < 256
+  pub alone : session.gathers ≡ false → session.lengths ≡ []
 
 -- where a sink took the first `taken` bytes of texts with these lengths: how many texts it took whole, `whole` earlier ones
 -- included, and how many bytes of the next text it took

@@ -3,7 +3,7 @@ use Rattle.std.specs.Prelude.{◌≡◌, ◌↔◌, ℕ, ◌⊎◌, List, [], �
 use Rattle.std.specs.Fmt.{decimal}
 use Rattle.gc_lines.specs.declared.fault.LineFault.{LineFault}
 use Rattle.gc_lines.specs.declared.reply.Reply.{Reply}
-use Rattle.gc_lines.specs.Numbers.{IsNumber, NoLeadingZero}
+use Rattle.gc_lines.specs.Numbers.{IsSmallNumber, NoLeadingZero}
 use Rattle.gc_lines.specs.Headers.{id_text, FirstBadField, IsIdInRange}
 
 -- the fields of a reply: the return code of the communication, the transaction id where there is one, the return code of the
@@ -27,9 +27,9 @@ pub record IsReply (line : List ℕ) (fields : ReplyFields) : Type 0 where
   pub number : List ℕ
   pub code : List ℕ
   pub tail : List ℕ
-  pub is_number : IsNumber number fields.rc_com
+  pub is_number : IsSmallNumber number fields.rc_com
   pub is_id : IsIdInRange fields.id
-  pub is_code : IsNumber code fields.rc
+  pub is_code : IsSmallNumber code fields.rc
   pub is_tail : EndsCode tail fields.params
   pub whole : line ≡ reply_signature ++ (number ++ (id_text fields.id ++ 58 ∷ (code ++ tail)))
 
@@ -41,7 +41,7 @@ reply_seen r = record { rc_com = r.rc_com; id = r.id; rc = r.rc; params = r.para
 pub record HasCode (bytes : List ℕ) (rc : ℕ) (params : List ℕ) : Type 0 where
   pub text : List ℕ
   pub tail : List ℕ
-  pub is_number : IsNumber text rc
+  pub is_number : IsSmallNumber text rc
   pub is_tail : EndsCode tail params
   pub whole : bytes ≡ text ++ tail
 

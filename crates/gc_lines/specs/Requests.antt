@@ -3,7 +3,7 @@ use Rattle.std.specs.Prelude.{◌≡◌, ℕ, List, ◌∷◌, ◌++◌, Option,
 use Rattle.std.specs.Fmt.{decimal}
 use Rattle.gc_lines.specs.declared.fault.LineFault.{LineFault}
 use Rattle.gc_lines.specs.declared.request.Request.{Request}
-use Rattle.gc_lines.specs.Numbers.{IsNumber, NoLeadingZero}
+use Rattle.gc_lines.specs.Numbers.{IsSmallNumber, NoLeadingZero}
 use Rattle.gc_lines.specs.Headers.{id_text, FirstBadField, IsIdInRange}
 
 -- the fields of a request: the procedure's number, the transaction id where there is one, and all bytes after the colon
@@ -23,7 +23,7 @@ request_signature = codes "%R1Q,"
 -- a line has the grammar of a request with these fields: it is the fields' texts, one after the other
 pub record IsRequest (line : List ℕ) (fields : RequestFields) : Type 0 where
   pub number : List ℕ
-  pub is_number : IsNumber number fields.rpc
+  pub is_number : IsSmallNumber number fields.rpc
   pub is_id : IsIdInRange fields.id
   pub whole : line ≡ request_signature ++ (number ++ (id_text fields.id ++ 58 ∷ fields.params))
 

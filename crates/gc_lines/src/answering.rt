@@ -40,9 +40,9 @@ pub trait Answers {
 /// are sent together before the next read, or earlier as soon as one more text of 514 bytes has no room: there is room for 8192
 /// bytes and 256 texts. It allocates nothing itself.
 ///
-/// Bytes that no line feed followed are no frame, however the run ends. The answerer has got all frames that were read; after a
-/// failed write only those up to the one whose text the sink didn't take whole, and with `gathers` maybe later ones of the same
-/// read, too.
+/// Bytes that no line feed followed are no frame, however the run ends. The answerer gets all frames that were read. Where a write
+/// failed, it has got only those up to the one whose text the sink didn't take whole; with `gathers` it may have got later ones of
+/// the same read, too.
 ///
 /// It returns [`Served`] exactly where its last read was the end. Over ports that hadn't failed before, it fails with `Read` (42)
 /// exactly where the source failed, with `Write` (43) exactly where the sink did, and with `TooManyReads` (44) exactly where all

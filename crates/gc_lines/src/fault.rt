@@ -1,7 +1,7 @@
 //! The faults of a line, one for each field, their numbers and their texts.
 
 ghost use Rattle.std.specs.Prelude.{◌≡◌, Some};
-ghost use Rattle.gc_lines.specs.Faults.{fault_number, fault_text};
+ghost use Rattle.gc_lines.specs.Faults.{line_fault_number, line_fault_text};
 
 use std::error::Error;
 use std::fmt;
@@ -31,7 +31,7 @@ pub enum LineFault {
 impl LineFault {
     /// The fault's number, 1 to 6.
     pub fn number(self) -> u8
-        ensures { result ≡ fault_number self }
+        ensures { result ≡ line_fault_number self }
     {
         match self {
             LineFault::Signature => 1,
@@ -45,7 +45,7 @@ impl LineFault {
 }
 
 impl fmt::Display for LineFault {
-    ghost output = { λ fault. Some (fault_text fault) };
+    ghost output = { λ fault. Some (line_fault_text fault) };
 
     fn fmt<W: fmt::Write>(&self, f: &mut fmt::Formatter<W>) -> fmt::Result {
         f.write_str(match self {

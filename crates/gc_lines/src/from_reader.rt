@@ -36,6 +36,13 @@ impl<R: Read> FromReader<R> {
             broken: false,
         }
     }
+
+    /// The reader that it reads from.
+    pub fn reader(&self) -> &R
+        ensures { result.now ≡ self.now.reader }
+    {
+        &self.reader
+    }
 }
 
 impl<R: Read> Source for FromReader<R> {

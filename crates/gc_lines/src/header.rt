@@ -3,7 +3,7 @@
 ghost use Rattle.std.specs.Prelude.{◌≡◌, ◌+◌, ◌<◌, ◌≤◌, ◌++◌, [], length};
 ghost use Rattle.std.specs.Option.{ForSome};
 ghost use Rattle.arrayvec.specs.ArrayVec.{array_vec_len};
-ghost use Rattle.gc_lines.specs.Headers.{Gives, id_text, header_text};
+ghost use Rattle.gc_lines.specs.Headers.{GivesSame, id_text, header_text};
 ghost use Rattle.gc_lines.specs.Readers.{header_seen, signature_at, id_at, colon_at, header_at};
 
 use crate::fault::LineFault;
@@ -26,7 +26,7 @@ pub(crate) struct Header<'a> {
 #[inline(always)]
 #[tactic(auto, unfolding(crate::specs::Readers::header_at))]
 pub(crate) fn header_of<'a>(signature: &[u8], line: &'a [u8]) -> Result<Header<'a>, LineFault>
-    ensures { Gives header_seen result (header_at signature.now line.now) }
+    ensures { GivesSame header_seen result (header_at signature.now line.now) }
 {
     let rest = after_signature(signature, line)?;
     let (number, rest) = number_of(rest, LineFault::Number)?;
@@ -38,7 +38,7 @@ pub(crate) fn header_of<'a>(signature: &[u8], line: &'a [u8]) -> Result<Header<'
 // The bytes after the signature. `Signature`: the line doesn't begin with it.
 #[inline(always)]
 fn after_signature<'a>(signature: &[u8], line: &'a [u8]) -> Result<&'a [u8], LineFault>
-    ensures { Gives (λ rest. rest.now) result (signature_at signature.now line.now) }
+    ensures { GivesSame (λ rest. rest.now) result (signature_at signature.now line.now) }
 {
     line.strip_prefix(signature).ok_or(LineFault::Signature)
 }
@@ -47,7 +47,7 @@ fn after_signature<'a>(signature: &[u8], line: &'a [u8]) -> Result<&'a [u8], Lin
 // comma.
 #[inline(always)]
 fn id_of(bytes: &[u8]) -> Result<(Option<u8>, &[u8]), LineFault>
-    ensures { Gives (λ x. (x.0, x.1.now)) result (id_at bytes.now) }
+    ensures { GivesSame (λ x. (x.0, x.1.now)) result (id_at bytes.now) }
 {
     let [b',', rest @ ..] = bytes else {
         return Ok((None, bytes));
@@ -61,7 +61,7 @@ fn id_of(bytes: &[u8]) -> Result<(Option<u8>, &[u8]), LineFault>
 // The bytes after a colon. `Colon`: there is none at the front.
 #[inline(always)]
 fn after_colon(bytes: &[u8]) -> Result<&[u8], LineFault>
-    ensures { Gives (λ rest. rest.now) result (colon_at bytes.now) }
+    ensures { GivesSame (λ rest. rest.now) result (colon_at bytes.now) }
 {
     match bytes {
         [b':', rest @ ..] => Ok(rest),

@@ -2,7 +2,7 @@
 
 ghost use Rattle.std.specs.Prelude.{◌≡◌, ◌+◌, ◌≤◌, ◌++◌, ◌↔◌, length, IsTrue};
 ghost use Rattle.arrayvec.specs.ArrayVec.{array_vec_len};
-ghost use Rattle.gc_lines.specs.Lines.{IsPlain};
+ghost use Rattle.gc_lines.specs.Lines.{IsPlain, with_end};
 
 use arrayvec::ArrayVec;
 
@@ -35,4 +35,15 @@ pub fn line_from(bytes: &[u8]) -> Line
     let mut line = Line::new();
     append(&mut line, bytes);
     line
+}
+
+/// A line and then CR LF.
+#[inline]
+pub fn with_end(line: &Line) -> ArrayVec<u8, 514>
+    ensures { result.items ≡ with_end line.now.items }
+{
+    let mut text = ArrayVec::new();
+    append(&mut text, line);
+    append(&mut text, b"\r\n");
+    text
 }

@@ -4,7 +4,7 @@ ghost use Rattle.std.specs.Prelude.{◌≡◌, ◌+◌, ◌++◌, ◌≤◌, len
 ghost use Rattle.std.specs.Fmt.{decimal};
 ghost use Rattle.std.specs.Str.Parse.{digits_value, AllDigits};
 ghost use Rattle.arrayvec.specs.ArrayVec.{array_vec_len};
-ghost use Rattle.gc_lines.specs.Headers.{Gives};
+ghost use Rattle.gc_lines.specs.Headers.{GivesSame};
 ghost use Rattle.gc_lines.specs.Readers.{digits_len, number_at};
 
 use crate::fault::LineFault;
@@ -24,7 +24,7 @@ pub(crate) fn count_digits(bytes: &[u8]) -> usize
 // digits, or its number is above 65535, `fault` is returned, which names the number's field.
 #[inline(always)]
 pub(crate) fn number_of(bytes: &[u8], fault: LineFault) -> Result<(u16, &[u8]), LineFault>
-    ensures { Gives (λ x. (x.0, x.1.now)) result (number_at fault bytes.now) }
+    ensures { GivesSame (λ x. (x.0, x.1.now)) result (number_at fault bytes.now) }
 {
     let mut value = 0u32;
     let mut len = 0;

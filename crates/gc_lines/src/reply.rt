@@ -3,7 +3,7 @@
 ghost use Rattle.std.specs.Prelude.{◌≡◌, ◌+◌, ◌<◌, ◌≤◌, ◌++◌, [], Some, IfOk, IfErr};
 ghost use Rattle.std.specs.Option.{ForSome};
 ghost use Rattle.arrayvec.specs.ArrayVec.{array_vec_len};
-ghost use Rattle.gc_lines.specs.Headers.{FailsEach, Gives, GivesEach};
+ghost use Rattle.gc_lines.specs.Headers.{FailsEach, GivesSame, GivesEach};
 
 use crate::fault::LineFault;
 use crate::header::{header_of, push_header};
@@ -34,7 +34,7 @@ ghost use Rattle.gc_lines.specs.Lines.{IsPlain, IsLineWithText, IsTooLong};
 // The parameters after a return code: none at the end of the line, else all that follows a comma. `Code`: neither is there.
 #[inline(always)]
 fn params_of(bytes: &[u8]) -> Result<&[u8], LineFault>
-    ensures { Gives (λ params. params.now) result (params_at bytes.now) }
+    ensures { GivesSame (λ params. params.now) result (params_at bytes.now) }
 {
     match bytes {
         [] => Ok(bytes),
@@ -47,7 +47,7 @@ fn params_of(bytes: &[u8]) -> Result<&[u8], LineFault>
 // a value of at most 65535, or neither a comma nor the end follows the run.
 #[inline(always)]
 fn code_of(bytes: &[u8]) -> Result<(u16, &[u8]), LineFault>
-    ensures { Gives (λ x. (x.0, x.1.now)) result (code_at bytes.now) }
+    ensures { GivesSame (λ x. (x.0, x.1.now)) result (code_at bytes.now) }
 {
     let (rc, rest) = number_of(bytes, LineFault::Code)?;
     let params = params_of(rest)?;
@@ -59,7 +59,7 @@ fn code_of(bytes: &[u8]) -> Result<(u16, &[u8]), LineFault>
 #[inline(always)]
 #[tactic(auto, unfolding(crate::specs::Readers::reply_at))]
 fn reply_of(line: &[u8]) -> Result<Reply<'_>, LineFault>
-    ensures { Gives reply_seen result (reply_at line.now) }
+    ensures { GivesSame reply_seen result (reply_at line.now) }
 {
     let header = header_of(b"%R1P,", line)?;
     let (rc, params) = code_of(header.rest)?;
@@ -79,7 +79,7 @@ pub fn read_reply(line: &[u8]) -> Result<Reply<'_>, LineFault>
     ensures only { GivesEach IsReply reply_seen line.now result }
     ensures fault { IfErr result (λ f. FirstBadOfReply line.now f) }
     ensures faulty { FailsEach FirstBadOfReply line.now result }
-    ensures exact { Gives reply_seen result (reply_at line.now) }
+    ensures exact { GivesSame reply_seen result (reply_at line.now) }
 {
     reply_of(line)
 }

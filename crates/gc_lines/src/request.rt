@@ -4,7 +4,7 @@ ghost use Rattle.std.specs.Prelude.{◌≡◌, ◌+◌, ◌<◌, ◌≤◌, ◌+
 ghost use Rattle.std.specs.Option.{ForSome};
 ghost use Rattle.arrayvec.specs.ArrayVec.{array_vec_len};
 ghost use Rattle.gc_lines.specs.Lines.{IsPlain, IsLineWithText, IsTooLong};
-ghost use Rattle.gc_lines.specs.Headers.{FailsEach, Gives, GivesEach};
+ghost use Rattle.gc_lines.specs.Headers.{FailsEach, GivesSame, GivesEach};
 
 use crate::fault::LineFault;
 use crate::header::{header_of, push_header};
@@ -33,7 +33,7 @@ ghost use Rattle.gc_lines.specs.Readers.{request_at};
 #[inline(always)]
 #[tactic(auto, unfolding(crate::specs::Readers::request_at))]
 fn request_of(line: &[u8]) -> Result<Request<'_>, LineFault>
-    ensures { Gives request_seen result (request_at line.now) }
+    ensures { GivesSame request_seen result (request_at line.now) }
 {
     let header = header_of(b"%R1Q,", line)?;
     Ok(Request {
@@ -51,7 +51,7 @@ pub fn read_request(line: &[u8]) -> Result<Request<'_>, LineFault>
     ensures only { GivesEach IsRequest request_seen line.now result }
     ensures fault { IfErr result (λ f. FirstBadOfRequest line.now f) }
     ensures faulty { FailsEach FirstBadOfRequest line.now result }
-    ensures exact { Gives request_seen result (request_at line.now) }
+    ensures exact { GivesSame request_seen result (request_at line.now) }
 {
     request_of(line)
 }

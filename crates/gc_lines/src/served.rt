@@ -1,7 +1,7 @@
 //! How answering a source's frames ends: served to the end, or a fault that says what was written.
 
 ghost use Rattle.std.specs.Prelude.{◌≡◌, Some};
-ghost use Rattle.gc_lines.specs.Answering.{fault_number, fault_text};
+ghost use Rattle.gc_lines.specs.Answering.{serve_fault_number, serve_fault_text};
 
 use std::error::Error;
 use std::fmt;
@@ -36,7 +36,7 @@ pub enum ServeFault {
 impl ServeFault {
     /// The number of the fault: 42 for `Read`, 43 for `Write`, 44 for `TooManyReads`.
     pub fn number(self) -> u8
-        ensures { result ≡ fault_number self }
+        ensures { result ≡ serve_fault_number self }
     {
         match self {
             ServeFault::Read { .. } => READ_FAILED,
@@ -47,7 +47,7 @@ impl ServeFault {
 }
 
 impl fmt::Display for ServeFault {
-    ghost output = { λ fault. Some (fault_text fault) };
+    ghost output = { λ fault. Some (serve_fault_text fault) };
 
     fn fmt<W: fmt::Write>(&self, f: &mut fmt::Formatter<W>) -> fmt::Result {
         match self {

@@ -4,7 +4,7 @@
 ghost use Rattle.std.specs.Prelude.{◌≡◌, ◌+◌, ◌<◌, ◌≤◌, ◌^◌, [], length, OnOk, true};
 ghost use Rattle.gc_lines.specs.Assembler.{StandsFor};
 ghost use Rattle.gc_lines.specs.Lent.{lent_seen};
-ghost use Rattle.gc_lines.specs.Passing.{AnswersPiece, ChangesTextsAlone, GathersFrame, HasRoom, NoneWait, WritesWaiting};
+ghost use Rattle.gc_lines.specs.Passing.{AnswersPiece, ChangesTextsAlone, GathersFrame, HasRoomForText, NoneWait, WritesWaiting};
 ghost use Rattle.gc_lines.specs.Passing.{session_progress, whole_and_part};
 ghost use Rattle.gc_lines.specs.Ports.{FailsWith};
 
@@ -89,10 +89,10 @@ impl Session {
         frame: Lent<'_>,
     ) -> Result<(), usize>
         requires count { self.old.replies + length self.old.lengths + 1 < 2 ^ 64 }
-        requires room { HasRoom self.old.text.items self.old.lengths self.old.gathers }
+        requires room { HasRoomForText self.old }
         ensures few { self.new.replies ≤ self.old.replies + length self.old.lengths + 1 }
         ensures bound { OnOk result (self.new.replies + length self.new.lengths ≤ self.old.replies + length self.old.lengths + 1) }
-        ensures room { OnOk result (HasRoom self.new.text.items self.new.lengths self.new.gathers) }
+        ensures room { OnOk result (HasRoomForText self.new) }
         ensures same { ChangesTextsAlone self.old self.new }
         ensures failed { FailsWith result (K.failed sink.old) (K.failed sink.new) }
         ensures answered { GathersFrame A.answers (session_progress K.Sink answerer.old sink.old self.old)
@@ -120,7 +120,7 @@ impl Session {
     // 8192 of `Outgoing`, and for its length among the 256 of `Lengths`.
     #[inline]
     fn may_wait(&self) -> bool
-        ensures { result ≡ true → HasRoom self.now.text.items self.now.lengths self.now.gathers }
+        ensures { result ≡ true → HasRoomForText self.now }
     {
         self.gathers && self.lengths.len() < 256 && self.text.len() <= 8192 - 514
     }

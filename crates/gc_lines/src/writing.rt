@@ -5,9 +5,8 @@ ghost use Rattle.std.specs.Io.KnownBytes.{Appends};
 ghost use Rattle.gc_lines.specs.Lines.{with_end};
 ghost use Rattle.gc_lines.specs.Ports.{FailsWith, TakesFront};
 
-use crate::line::{Line, append};
+use crate::line::{Line, with_end};
 use crate::ports::Sink;
-use arrayvec::ArrayVec;
 
 /// Writes all of the bytes. `Err(n)`: the sink took only the first n of them, and failed. Without bytes it succeeds and doesn't
 /// call the sink, also where the sink has failed before.
@@ -33,8 +32,5 @@ pub fn write_line<K: Sink>(sink: &mut K, line: &Line) -> Result<(), usize>
     ensures ok { OnOk result (Appends (K.taken sink.old) (K.taken sink.new) (with_end line.now.items)) }
     ensures err { IfErr result (λ n. TakesFront (K.taken sink.old) (K.taken sink.new) n (with_end line.now.items)) }
 {
-    let mut text = ArrayVec::<u8, 514>::new();
-    append(&mut text, line);
-    append(&mut text, b"\r\n");
-    write_whole(sink, text.as_slice())
+    write_whole(sink, &with_end(line))
 }

@@ -31,10 +31,10 @@ pub data Act : Type 0 where
 
 -- where the acts of a link were known before a call (`old`), they are known after it (`new`), and are those before and then `acts`. Of a
 -- link whose acts aren't known (`None`) nothing is claimed
-abbrev pub Tells : (old new : Option (List Act)) (acts : List Act) → Type 0
-Tells None new acts = Unit {0}
-Tells (Some xs) None acts = ⊥
-Tells (Some xs) (Some ys) acts = ys ≡ xs ++ acts
+abbrev pub AddsActs : (old new : Option (List Act)) (acts : List Act) → Type 0
+AddsActs None new acts = Unit {0}
+AddsActs (Some xs) None acts = ⊥
+AddsActs (Some xs) (Some ys) acts = ys ≡ xs ++ acts
 
 -- the act of a reading of the clock, by its result
 abbrev pub clock_act : {E : Type 0} → Result Moment E → Act
@@ -60,9 +60,9 @@ open_act (Ok _) = Opened
 open_act (Err _) = Unopened
 
 -- where a read gave bytes, there is at least one, and no more than the buffer has room for
-abbrev pub IsWithin : Came → (buf : List ℕ) → Type 0
-IsWithin (Bytes n moment) buf = (0 < n) × (n ≤ length buf)
-IsWithin _ buf = Unit {0}
+abbrev pub CameWithin : Came → (buf : List ℕ) → Type 0
+CameWithin (Bytes n moment) buf = (0 < n) × (n ≤ length buf)
+CameWithin _ buf = Unit {0}
 
 -- where a read that may also give nothing (`None`) gave bytes, they are no more than the buffer has room for
 abbrev pub GivesAtMost : {E : Type 0} → Result (Option ℕ) E → (buf : List ℕ) → Type 0

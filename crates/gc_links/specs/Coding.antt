@@ -7,19 +7,19 @@ use Rattle.gc_links.specs.Acts.{Act, Told, Untold, Put, Cut, Gave, Silent, Ended
 
 -- the parts of an act: a number for its kind, its bytes, its count, and its moment, which is a time on each of two clocks and whether the
 -- end of the run was asked for by then
-abbrev Parts : Type 0
-Parts = ℕ × (List ℕ × (ℕ × (ℕ × (ℕ × Bool))))
+abbrev ActParts : Type 0
+ActParts = ℕ × (List ℕ × (ℕ × (ℕ × (ℕ × Bool))))
 
 -- the moment that is stored with an act that has none
 abbrev no_moment : Moment
 no_moment = record { elapsed = 0; utc = 0; stops = false }
 
 -- the parts of an act of this kind, with these bytes, this count and this moment
-abbrev parts : (kind : ℕ) (bytes : List ℕ) (count : ℕ) → Moment → Parts
+abbrev parts : (kind : ℕ) (bytes : List ℕ) (count : ℕ) → Moment → ActParts
 parts kind bytes count m = (kind, (bytes, (count, (m.elapsed, (m.utc, m.stops)))))
 
 -- an act as its parts
-abbrev to_parts : Act → Parts
+abbrev to_parts : Act → ActParts
 to_parts (Told m) = parts 0 [] 0 m
 to_parts Untold = parts 1 [] 0 no_moment
 to_parts (Put bytes) = parts 2 bytes 0 no_moment
@@ -33,11 +33,11 @@ to_parts Opened = parts 9 [] 0 no_moment
 to_parts Unopened = parts 10 [] 0 no_moment
 
 -- the moment among the parts of an act
-abbrev moment_in : Parts → Moment
+abbrev moment_in : ActParts → Moment
 moment_in p = record { elapsed = p.1.1.1.0; utc = p.1.1.1.1.0; stops = p.1.1.1.1.1 }
 
 -- the act of these parts; a kind above 10, which no act has, counts as 10
-abbrev from_parts : Parts → Act
+abbrev from_parts : ActParts → Act
 from_parts p =
     cond (p.0 == 0) (Told (moment_in p))
     (cond (p.0 == 1) Untold
@@ -68,5 +68,5 @@ from_parts-to_parts Unopened = refl
 abbrev pub acts_code : Coded (List Act)
 acts_code =
     coded_list
-    (code_by Parts (coded× coded_ℕ (coded× (coded_list coded_ℕ) (coded× coded_ℕ (coded× coded_ℕ (coded× coded_ℕ coded_bool)))))
+    (code_by ActParts (coded× coded_ℕ (coded× (coded_list coded_ℕ) (coded× coded_ℕ (coded× coded_ℕ (coded× coded_ℕ coded_bool)))))
     to_parts from_parts from_parts-to_parts)

@@ -14,8 +14,8 @@ HasSlash word = (at : ℕ) × (at < length word) × (get_or word at 0 ≡ 47)
 
 -- the word names this place: digits alone are a port; something, a colon and a port, without a slash, are a host; a word with a slash is
 -- the path of a device
-abbrev pub IsPlace : List ℕ → Place → Type 0
-IsPlace word (Port port) = IsPort word port
-IsPlace word (Host text) = (text.now ≡ word) × (HasSlash word → ⊥)
+abbrev pub NamesPlace : List ℕ → Place → Type 0
+NamesPlace word (Port port) = IsPort word port
+NamesPlace word (Host text) = (text.now ≡ word) × (HasSlash word → ⊥)
     × ((host : List ℕ) × (digits : List ℕ) × (port : ℕ) × (0 < length host) × IsPort digits port × (word ≡ host ++ 58 ∷ digits))
-IsPlace word (Device path) = (path.now ≡ word) × HasSlash word
+NamesPlace word (Device path) = (path.now ≡ word) × HasSlash word

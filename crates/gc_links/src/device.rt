@@ -1,7 +1,8 @@
 //! A serial device: opened so that no call waits in the system, held against other programs, and a link over it.
 
-ghost use Rattle.std.specs.Prelude.{ℕ, ◌≤◌, List, length, None, IfOk};
-ghost use Rattle.gc_links.specs.Acts.{GivesAtMost, IsWithin};
+ghost use Rattle.std.specs.Prelude.{None};
+ghost use Rattle.std.specs.Io.{WritesAtMost};
+ghost use Rattle.gc_links.specs.Acts.{CameWithin, GivesAtMost};
 
 use crate::connection::PATIENCE;
 use crate::link::{Came, Link, Moment};
@@ -108,7 +109,7 @@ pub(crate) fn write_some<R: Clock>(
     bytes: &[u8],
     rests: &mut u64,
 ) -> io::Result<usize>
-    ensures { IfOk result (λ n. n ≤ length bytes.now) }
+    ensures { WritesAtMost result bytes.now }
 {
     let mut file = file;
     while *rests < PATIENCE / REST {
@@ -181,7 +182,7 @@ impl<'a, R: Files<File = File> + Clock> DeviceLink<'a, R> {
     // moment `began`, in milliseconds since the link was made. The moment of a silence is taken before the last read. That read gave
     // nothing, so nothing had come by that moment.
     fn read_until(&mut self, buf: &mut [u8], began: u64, millis: u64) -> Came
-        ensures { IsWithin result buf.new }
+        ensures { CameWithin result buf.new }
     {
         for _ in 0..u64::MAX {
             let Ok(moment) = self.timer.moment() else {

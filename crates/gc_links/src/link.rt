@@ -1,7 +1,7 @@
 //! A link: a connection that can be made again, and a clock, as one port, so that the order of all its calls is known.
 
 ghost use Rattle.std.specs.Prelude.{[], ◌∷◌, ◌<◌, length};
-ghost use Rattle.gc_links.specs.Acts.{Closed, Tells, clock_act, put_act, read_act, open_act, IsWithin, IsPart};
+ghost use Rattle.gc_links.specs.Acts.{Closed, AddsActs, clock_act, put_act, read_act, open_act, CameWithin, IsPart};
 
 use gc_lines::PortFailed;
 
@@ -45,7 +45,7 @@ pub trait Link {
 
     /// Reads the clock. `Err`: it couldn't be read.
     fn now(&mut self) -> Result<Moment, PortFailed>
-        ensures { Tells (acts self.old) (acts self.new) (clock_act result ∷ []) };
+        ensures { AddsActs (acts self.old) (acts self.new) (clock_act result ∷ []) };
 
     /// Reads some bytes into the front of `buf`, which is not empty, and waits for them about `millis` milliseconds at most. It may
     /// end earlier, with `Silence`.
@@ -53,22 +53,22 @@ pub trait Link {
     /// Without a connection it waits that long, and returns `Silence`, or `NoMoment`.
     fn read(&mut self, buf: &mut [u8], millis: u64) -> Came
         requires { 0 < length buf.old }
-        ensures tells { Tells (acts self.old) (acts self.new) (read_act result buf.new ∷ []) }
-        ensures within { IsWithin result buf.new };
+        ensures tells { AddsActs (acts self.old) (acts self.new) (read_act result buf.new ∷ []) }
+        ensures within { CameWithin result buf.new };
 
     /// Writes all of these bytes, at least one. `Err(n)`: only the first n of them went out, because the connection failed,
     /// or because there is none (then n is 0). A write that stalls is cut off.
     fn put(&mut self, bytes: &[u8]) -> Result<(), usize>
         requires { 0 < length bytes.now }
-        ensures tells { Tells (acts self.old) (acts self.new) (put_act result bytes.now ∷ []) }
+        ensures tells { AddsActs (acts self.old) (acts self.new) (put_act result bytes.now ∷ []) }
         ensures part { IsPart result bytes.now };
 
     /// Closes the connection.
     fn close(&mut self)
-        ensures { Tells (acts self.old) (acts self.new) (Closed ∷ []) };
+        ensures { AddsActs (acts self.old) (acts self.new) (Closed ∷ []) };
 
     /// Makes a new connection, in place of the old one, if one is open. `Err`: none could be made; the old one may be closed
     /// or not.
     fn open(&mut self) -> Result<(), PortFailed>
-        ensures { Tells (acts self.old) (acts self.new) (open_act result ∷ []) };
+        ensures { AddsActs (acts self.old) (acts self.new) (open_act result ∷ []) };
 }

@@ -1,7 +1,7 @@
 //! Where an instrument is, as a word of the command line names it.
 
 ghost use Rattle.std.specs.Prelude.{IfSome};
-ghost use Rattle.gc_links.specs.Places.{IsPort, IsPlace};
+ghost use Rattle.gc_links.specs.Places.{IsPort, NamesPlace};
 
 use gc_values::read_whole;
 use memchr::{memchr, memrchr};
@@ -33,7 +33,7 @@ impl<'a> Display for Place<'a> {
 /// other host is. `None`: the word is none of the three. No clause says which words are none, nor what brackets and `://`
 /// mean.
 pub fn place_of(word: &str) -> Option<Place<'_>>
-    ensures { IfSome result (λ place. IsPlace word.now place) }
+    ensures { IfSome result (λ place. NamesPlace word.now place) }
 {
     let bytes = word.as_bytes();
     if memchr(b'/', bytes).is_some() {
@@ -44,12 +44,12 @@ pub fn place_of(word: &str) -> Option<Place<'_>>
         };
     }
     let Some(at) = memrchr(b':', bytes) else {
-        return Some(Place::Port(port_of(bytes)?));
+        return Some(Place::Port(read_port(bytes)?));
     };
     if at == 0 || !is_host(&bytes[..at]) {
         return None;
     }
-    port_of(&bytes[at + 1..])?;
+    read_port(&bytes[at + 1..])?;
     Some(Place::Host(word))
 }
 
@@ -82,7 +82,7 @@ fn has_bracket(text: &[u8]) -> bool {
 }
 
 // The port that digits write, from 1 to 65535. `None`: they write no such port.
-fn port_of(digits: &[u8]) -> Option<u16>
+fn read_port(digits: &[u8]) -> Option<u16>
     ensures { IfSome result (λ port. IsPort digits.now port) }
 {
     match read_whole(digits, 65535) {

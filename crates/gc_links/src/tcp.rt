@@ -2,7 +2,7 @@
 //! takes to look up a name.
 
 ghost use Rattle.std.specs.Prelude.{◌≤◌, None};
-ghost use Rattle.gc_links.specs.Acts.{GivesAtMost, IsWithin};
+ghost use Rattle.gc_links.specs.Acts.{CameWithin, GivesAtMost};
 
 use crate::connection::{PATIENCE, Peer, connect};
 use crate::link::{Came, Link, Moment};
@@ -74,7 +74,7 @@ impl<'a, R: Net<Listener = TcpListener, Stream = TcpStream> + Clock> TcpLink<'a,
     // Reads with the shortest timeout, a millisecond. The moment of a silence is taken before the read: since the read gave nothing,
     // nothing had come by that moment, even if this program was stopped for a while before it.
     fn read_briefly(&self, buf: &mut [u8]) -> Came
-        ensures { IsWithin result buf.new }
+        ensures { CameWithin result buf.new }
     {
         let Ok(moment) = self.timer.moment() else {
             return Came::NoMoment;
@@ -182,14 +182,12 @@ impl<'a, R: Net<Listener = TcpListener, Stream = TcpStream> + Clock> Link for Tc
     // Connects to the peer, and sets how long a write may wait. Where either fails, the old connection stays.
     fn open(&mut self) -> Result<(), PortFailed> {
         let patience = Duration::from_millis(self.patience);
-        let Ok(stream) = connect(self.rt, self.peer, patience) else {
-            return Err(PortFailed);
-        };
+        let stream = connect(self.rt, self.peer, patience).map_err(|_| PortFailed)?;
         // Without this a peer that takes nothing would hold a write for ever. So a connection that refuses it counts
         // as failed.
-        if stream.set_write_timeout(Some(patience)).is_err() {
-            return Err(PortFailed);
-        }
+        stream
+            .set_write_timeout(Some(patience))
+            .map_err(|_| PortFailed)?;
         self.stream = Some(stream);
         Ok(())
     }

@@ -2,7 +2,7 @@
 //! noted in a history that exists in proofs alone.
 
 ghost use Rattle.std.specs.Prelude.{◌≡◌, []};
-ghost use Rattle.gc_links.specs.Acts.{IsWithin, read_act};
+ghost use Rattle.gc_links.specs.Acts.{CameWithin, read_act};
 ghost use Rattle.gc_links.specs.Noted.{act_of};
 
 use crate::history::{History, Note};
@@ -32,7 +32,7 @@ impl<L: Link> Telling<L> {
 
 // The note of a read, by its outcome and the buffer after it.
 fn note_of_read<'a>(came: Came, buf: &'a [u8]) -> Note<'a>
-    requires { IsWithin came buf.now }
+    requires { CameWithin came buf.now }
     ensures { act_of result ≡ read_act came buf.now }
 {
     match came {

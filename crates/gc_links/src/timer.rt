@@ -1,7 +1,7 @@
 //! The clock of a link: the time since it was made, and the time of day.
 
 ghost use Rattle.std.specs.Prelude.{ℕ, ◌≤◌, List, length};
-ghost use Rattle.gc_links.specs.Acts.{IsWithin};
+ghost use Rattle.gc_links.specs.Acts.{CameWithin};
 
 use crate::link::{Came, Moment};
 use std::time::{Clock, Duration, Instant, SystemTime, UNIX_EPOCH};
@@ -47,7 +47,7 @@ impl<'a, R: Clock> Timer<'a, R> {
     /// Waits for `millis` milliseconds in place of a read, where there is no connection. It returns `Silence` with the moment
     /// after the wait, or `NoMoment` where the clock couldn't be read.
     pub(crate) fn wait(&self, millis: u64) -> Came
-        ensures { (buf : List ℕ) → IsWithin result buf }
+        ensures { (buf : List ℕ) → CameWithin result buf }
     {
         self.rest(millis);
         match self.moment() {
@@ -59,7 +59,7 @@ impl<'a, R: Clock> Timer<'a, R> {
     /// The outcome of a read that gave `n` bytes: `Bytes` with the moment after the read, or `End` where `n` is 0, at the end of
     /// the stream. `NoMoment`: bytes came, and the clock couldn't be read.
     pub(crate) fn came(&self, n: usize) -> Came
-        ensures { (buf : List ℕ) → n ≤ length buf → IsWithin result buf }
+        ensures { (buf : List ℕ) → n ≤ length buf → CameWithin result buf }
     {
         if n == 0 {
             return Came::End;

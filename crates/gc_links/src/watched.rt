@@ -48,10 +48,8 @@ impl<'a, R: Files, L: Link> Link for Watched<'a, R, L> {
     ghost acts = { λ _. None };
 
     fn now(&mut self) -> Result<Moment, PortFailed> {
-        match self.link.now() {
-            Ok(moment) => Ok(self.seen(moment)),
-            Err(failed) => Err(failed),
-        }
+        let moment = self.link.now()?;
+        Ok(self.seen(moment))
     }
 
     fn read(&mut self, buf: &mut [u8], millis: u64) -> Came {

@@ -1,6 +1,6 @@
 //! Connections whose reads may wait without a deadline, for `ask` and `serve`.
 
-ghost use Rattle.std.specs.Prelude.{◌≤◌, length, IfOk};
+ghost use Rattle.std.specs.Io.{ReadsAtMost, WritesAtMost};
 ghost use Rattle.gc_links.specs.Acts.{GivesAtMost};
 
 use crate::connection::{PATIENCE, Peer, connect};
@@ -95,7 +95,7 @@ impl<'a, R: Clock> Write for &Wire<'a, R> {
 
 // Reads from a connection over TCP.
 fn read_from(stream: &TcpStream, buf: &mut [u8]) -> io::Result<usize>
-    ensures { IfOk result (λ n. n ≤ length buf.new) }
+    ensures { ReadsAtMost result buf.new }
 {
     let mut stream = stream;
     stream.read(buf)
@@ -103,7 +103,7 @@ fn read_from(stream: &TcpStream, buf: &mut [u8]) -> io::Result<usize>
 
 /// Writes to a connection over TCP, as much as it takes at once, and returns how many bytes that is.
 pub fn write_stream(stream: &TcpStream, buf: &[u8]) -> io::Result<usize>
-    ensures { IfOk result (λ n. n ≤ length buf.now) }
+    ensures { WritesAtMost result buf.now }
 {
     let mut stream = stream;
     stream.write(buf)
@@ -149,7 +149,7 @@ fn read_device_within<R: Clock>(
 
 // Reads what has come over a device, and rests until something has. A device that was pulled out is at its end.
 fn read_device<R: Clock>(rt: &R, file: &File, buf: &mut [u8]) -> io::Result<usize>
-    ensures { IfOk result (λ n. n ≤ length buf.new) }
+    ensures { ReadsAtMost result buf.new }
 {
     match read_device_within(rt, file, buf, u64::MAX) {
         Ok(Some(n)) => Ok(n),

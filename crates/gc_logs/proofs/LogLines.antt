@@ -1,5 +1,5 @@
 -- The lines that a log has of more and more bytes, what is pending after these, and the bytes that the lines stand for
--- (`wire`). `Takes` says that a log's sink, if it hasn't failed, took a text: a, b and c are what the sink has taken at first, then and at
+-- (`wire`). `TakesText` says that a log's sink, if it hasn't failed, took a text: a, b and c are what the sink has taken at first, then and at
 -- last, and fa, fb and fc whether it had failed by then. `p` is what is pending.
 use Rattle.std.proofs.Common.{◌≡◌, ℕ, ◌+◌, ◌-◌, ◌<◌, ◌==◌, ◌&&◌, Bool, true, inl, inr, not, List, [], ◌∷◌, ◌++◌, length, take, get_or, Option, refl, sym, ap, subst, ◌∙◌, arith, append_assoc, append-nil}
 use Rattle.std.specs.Prelude.{nat_lt}
@@ -8,8 +8,9 @@ use Rattle.std.proofs.lemmas.List.{take_all, take_more}
 use Rattle.std.proofs.lemmas.List.Concat.{flat_map-append}
 use Rattle.std.proofs.KnownBytes.{Appends-trans}
 use Rattle.gc_lines.specs.Frames.{ends_in_return}
+use Rattle.gc_lines.specs.Lines.{with_end}
 use Rattle.gc_texts.specs.Logs.{log_line}
-use Rattle.gc_logs.specs.Logging.{Entry, entry, line_mark, part_mark, entry_of_line, entries_at, pending_at, entries, pending_behind, log_text_of, Takes, wire_of, wire, LogKeepsAll}
+use Rattle.gc_logs.specs.Logging.{Entry, entry, line_mark, part_mark, entry_of_line, entries_at, pending_at, entries, pending_behind, log_text_of, TakesText, wire_of, wire, LogKeepsAll}
 use Rattle.gc_logs.specs.declared.logging.Unwritten.{Unwritten}
 use Rattle.gc_logs.specs.declared.logging.Direction.{Direction}
 use Rattle.gc_logs.specs.declared.logging.Direction.TheVariants.{Went, Came}
@@ -28,7 +29,7 @@ pending_more p (c ∷ cs) b = pending_more (pending_at p c) cs b
 
 -- if a log took one text, and then another, it took both as one
 takes_both : {a b c : Option (List ℕ)} {fa fb fc : Bool} (xs ys : List ℕ)
-    → Takes a b fa fb xs → Takes b c fb fc ys → Takes a c fa fc (xs ++ ys)
+    → TakesText a b fa fb xs → TakesText b c fb fc ys → TakesText a c fa fc (xs ++ ys)
 takes_both {a} {b} {c} {fa} {fb} {fc} xs ys one next = record {
   took = λ stands. Appends-trans a b c xs ys (one.took (next.stood stands)) (next.took stands);
   stood = λ stands. one.stood (next.stood stands);
@@ -36,23 +37,23 @@ takes_both {a} {b} {c} {fa} {fb} {fc} xs ys one next = record {
 
 -- if a log took the lines of one list, and then those of another, written at an equal moment, it took those of both
 pub takes_both_lists : {a b c : Option (List ℕ)} {fa fb fc : Bool} (utc now : ℕ) (es fs : List Entry)
-    → now ≡ utc → Takes a b fa fb (log_text_of utc es) → Takes b c fb fc (log_text_of now fs) → Takes a c fa fc (log_text_of utc (es ++ fs))
+    → now ≡ utc → TakesText a b fa fb (log_text_of utc es) → TakesText b c fb fc (log_text_of now fs) → TakesText a c fa fc (log_text_of utc (es ++ fs))
 takes_both_lists {a} {b} {c} {fa} {fb} {fc} utc now es fs same one next =
-    subst (Takes a c fa fc) (sym (flat_map-append (λ (e : Entry). log_line utc e.mark e.bytes) es fs))
-    (takes_both (log_text_of utc es) (log_text_of utc fs) one (subst (λ u. Takes b c fb fc (log_text_of u fs)) same next))
+    subst (TakesText a c fa fc) (sym (flat_map-append (λ (e : Entry). log_line utc e.mark e.bytes) es fs))
+    (takes_both (log_text_of utc es) (log_text_of utc fs) one (subst (λ u. TakesText b c fb fc (log_text_of u fs)) same next))
 
 -- one turn of the loop over the bytes `bs`, at byte i: `p` is pending before the loop, and `q` before this byte
 module _ (p q : Unwritten) (bs : List ℕ) (i : ℕ) (within : i < length bs) (behind : q ≡ pending_behind p (take i bs)) where
   -- if a log took the lines of the first i bytes, and then those of byte i, it took the lines of the first i + 1
   pub took_more : {a b c : Option (List ℕ)} {fa fb fc : Bool} (utc : ℕ) (way : Direction)
-      → Takes a b fa fb (log_text_of utc (entries way p (take i bs))) → Takes b c fb fc (log_text_of utc (entries_at way q (get_or bs i 0)))
-      → Takes a c fa fc (log_text_of utc (entries way p (take (i + 1) bs)))
+      → TakesText a b fa fb (log_text_of utc (entries way p (take i bs))) → TakesText b c fb fc (log_text_of utc (entries_at way q (get_or bs i 0)))
+      → TakesText a c fa fc (log_text_of utc (entries way p (take (i + 1) bs)))
   took_more {a} {b} {c} {fa} {fb} {fc} utc way one next =
       let es = entries way p (take i bs) in
       let fs = entries_at way (pending_behind p (take i bs)) (get_or bs i 0) in
       let whole : es ++ fs ≡ entries way p (take (i + 1) bs) = sym (ap (entries way p) (take_more bs i 0 within) ∙ entries_more way p (take i bs) (get_or bs i 0)) in
-      let last : Takes b c fb fc (log_text_of utc fs) = subst (λ z. Takes b c fb fc (log_text_of utc (entries_at way z (get_or bs i 0)))) behind next in
-      subst (Takes a c fa fc) (ap (log_text_of utc) whole) (takes_both_lists utc utc es fs refl one last)
+      let last : TakesText b c fb fc (log_text_of utc fs) = subst (λ z. TakesText b c fb fc (log_text_of utc (entries_at way z (get_or bs i 0)))) behind next in
+      subst (TakesText a c fa fc) (ap (log_text_of utc) whole) (takes_both_lists utc utc es fs refl one last)
 
   -- if byte i makes `r` of what is pending before it, `r` is pending after the first i + 1
   pub is_behind : (r : Unwritten) → r ≡ pending_at q (get_or bs i 0) → r ≡ pending_behind p (take (i + 1) bs)
@@ -68,9 +69,9 @@ last_return bytes e =
     ∙ ap (λ b. take (length bytes - 1) bytes ++ b ∷ []) last
 
 -- a line with its CR LF stands for its bytes and CR LF
-whole_wire : (way : Direction) (bytes : List ℕ) → wire (entry (line_mark way) bytes ∷ []) ≡ bytes ++ 13 ∷ 10 ∷ []
-whole_wire Went bytes = append-nil (bytes ++ 13 ∷ 10 ∷ [])
-whole_wire Came bytes = append-nil (bytes ++ 13 ∷ 10 ∷ [])
+whole_wire : (way : Direction) (bytes : List ℕ) → wire (entry (line_mark way) bytes ∷ []) ≡ with_end bytes
+whole_wire Went bytes = append-nil (with_end bytes)
+whole_wire Came bytes = append-nil (with_end bytes)
 
 -- a part stands for its bytes
 part_wire : (way : Direction) (bytes : List ℕ) → wire (entry (part_mark way) bytes ∷ []) ≡ bytes
@@ -99,12 +100,12 @@ byte_wire way p b = elim (cases_Bool (b == 10)) [
 ]
 
 -- the law: of the bytes of one direction nothing is lost, nothing is added, and nothing changes places
-pub keeps_all : LogKeepsAll
-keeps_all way p [] = append-nil p.bytes.items
-keeps_all way p (b ∷ bs) =
+pub log_keeps_all : LogKeepsAll
+log_keeps_all way p [] = append-nil p.bytes.items
+log_keeps_all way p (b ∷ bs) =
     let es = entries_at way p b in
     let q = pending_at p b in
     let fs = entries way q bs in
     let held = (pending_behind q bs).bytes.items in
-    sym (append_assoc p.bytes.items (b ∷ []) bs) ∙ ap (λ w. w ++ bs) (sym (byte_wire way p b)) ∙ append_assoc (wire es) q.bytes.items bs ∙ ap (λ w. wire es ++ w) (keeps_all way q bs)
+    sym (append_assoc p.bytes.items (b ∷ []) bs) ∙ ap (λ w. w ++ bs) (sym (byte_wire way p b)) ∙ append_assoc (wire es) q.bytes.items bs ∙ ap (λ w. wire es ++ w) (log_keeps_all way q bs)
     ∙ sym (append_assoc (wire es) (wire fs) held) ∙ ap (λ w. w ++ held) (sym (flat_map-append (λ (e : Entry). wire_of e.mark e.bytes) es fs))

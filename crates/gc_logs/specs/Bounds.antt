@@ -6,10 +6,14 @@ use Rattle.gc_lines.specs.declared.ports.Sink.{Ghosts as Sink}
 use Rattle.gc_logs.specs.declared.bounded.Bounded.{Bounded}
 use Rattle.gc_logs.specs.declared.logged.Logged.{Logged}
 
+-- the moment of a line of a log: its first 24 bytes, or all if it has fewer
+abbrev pub moment_of : List ℕ → List ℕ
+moment_of line = take (min (length line) 24) line
+
 -- the notice that a log is full, in place of `line`, the first that has no room: a line with the moment of `line`, and words that say
 -- that the rest is left out
 abbrev pub full_notice : List ℕ → List ℕ
-full_notice line = take (min (length line) 24) line ++ codes " - full: what went or came from here on is left out\n"
+full_notice line = moment_of line ++ codes " - full: what went or came from here on is left out\n"
 
 -- a sink took all of the text, or a front of it
 abbrev pub TakesAllOrFront : (old new : Option (List ℕ)) → (text : List ℕ) → Type 0

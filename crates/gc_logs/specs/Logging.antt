@@ -4,6 +4,7 @@ use Rattle.std.specs.Prelude.{◌≡◌, ℕ, ◌-◌, ◌==◌, ◌&&◌, Bool,
 use Rattle.std.specs.Io.KnownBytes.{Appends}
 use Rattle.std.specs.List.{flat_map}
 use Rattle.gc_lines.specs.Frames.{ends_in_return}
+use Rattle.gc_lines.specs.Lines.{with_end}
 use Rattle.gc_lines.specs.declared.ports.Sink.{Ghosts as Sink}
 use Rattle.gc_texts.specs.Logs.{log_line}
 use Rattle.gc_texts.specs.declared.log_line.LogMark.{LogMark}
@@ -81,21 +82,21 @@ abbrev pub log_text_of : ℕ → List Entry → List ℕ
 log_text_of utc es = flat_map (λ (e : Entry). log_line utc e.mark e.bytes) es
 
 -- if a log's sink hasn't failed now, it hadn't failed before, and it took this text
-pub record Takes (old new : Option (List ℕ)) (old_failed new_failed : Bool) (text : List ℕ) : Type 0 where
+pub record TakesText (old new : Option (List ℕ)) (old_failed new_failed : Bool) (text : List ℕ) : Type 0 where
   pub took : new_failed ≡ false → Appends old new text
   pub stood : new_failed ≡ false → old_failed ≡ false
 
--- if this sink hasn't failed now, it took the text of these lines, written at the moment `utc` (`Takes`). `old` and `new` are the sink
+-- if this sink hasn't failed now, it took the text of these lines, written at the moment `utc` (`TakesText`). `old` and `new` are the sink
 -- before and after
 abbrev pub TakesEntries : {K : Type 0} → Sink K → (old new : K) → (utc : ℕ) → List Entry → Type 0
-TakesEntries of_sink old new utc es = Takes (of_sink.taken old) (of_sink.taken new) (of_sink.failed old) (of_sink.failed new) (log_text_of utc es)
+TakesEntries of_sink old new utc es = TakesText (of_sink.taken old) (of_sink.taken new) (of_sink.failed old) (of_sink.failed new) (log_text_of utc es)
 
 -- the bytes on the link that a line of a log with this mark and these bytes stands for: its bytes, with CR LF after a whole line; none for
 -- a word on the connection
 abbrev pub wire_of : LogMark → List ℕ → List ℕ
-wire_of mark.Went bytes = bytes ++ 13 ∷ 10 ∷ []
+wire_of mark.Went bytes = with_end bytes
 wire_of mark.WentPart bytes = bytes
-wire_of mark.Came bytes = bytes ++ 13 ∷ 10 ∷ []
+wire_of mark.Came bytes = with_end bytes
 wire_of mark.CamePart bytes = bytes
 wire_of mark.Link bytes = []
 
@@ -164,7 +165,7 @@ came_behind came _ = came
 
 -- a log took these lines, at the moment that it had and keeps, and these are pending then of the sent and of the received bytes
 pub record TakesLines (old new : LogSeen) (es : List Entry) (sent received : Unwritten) : Type 0 where
-  pub took : Takes old.taken new.taken old.failed new.failed (log_text_of old.utc es)
+  pub took : TakesText old.taken new.taken old.failed new.failed (log_text_of old.utc es)
   pub went : new.went ≡ sent
   pub came : new.came ≡ received
   pub utc : new.utc ≡ old.utc

@@ -1,8 +1,8 @@
 //! A sink with a bound: how many bytes a log may have, and the line that says that the rest is left out.
 
-ghost use Rattle.std.specs.Prelude.{◌≡◌, ◌+◌, ◌<◌, ◌≤◌, None, false, length, take, min};
+ghost use Rattle.std.specs.Prelude.{◌≡◌, ◌+◌, ◌<◌, ◌≤◌, ◌&&◌, not, None, false, length, take, min};
 ghost use Rattle.gc_lines.specs.Ports.{TakesBytes, Fails};
-ghost use Rattle.gc_logs.specs.Bounds.{full_notice, bound_seen, TakesNotice, KeepsBound};
+ghost use Rattle.gc_logs.specs.Bounds.{moment_of, full_notice, bound_seen, has_ended, TakesNotice, KeepsBound};
 
 use arrayvec::ArrayVec;
 use gc_lines::{PortFailed, Sink, append, write_whole};
@@ -47,7 +47,9 @@ impl<K: Sink> Bounded<K> {
     }
 
     /// Whether this sink has ended though the sink below hasn't failed: at its bound, or at once, because its room was below 100.
-    pub fn is_full(&self) -> bool {
+    pub fn is_full(&self) -> bool
+        ensures { result ≡ (has_ended self.now && not (K.failed self.now.sink)) }
+    {
         self.is_ended && !self.sink.has_failed()
     }
 
@@ -61,7 +63,7 @@ impl<K: Sink> Bounded<K> {
 
 // The moment of a line: its first 24 bytes, or all if it has fewer.
 fn moment_of(line: &[u8]) -> &[u8]
-    ensures is { result.now ≡ take (min (length line.now) 24) line.now }
+    ensures is { result.now ≡ moment_of line.now }
     ensures short { length result.now ≤ 24 }
 {
     &line[..line.len().min(MOMENT)]

@@ -1,7 +1,7 @@
 //! Any link, with a log of what is on it.
 
 ghost use Rattle.std.specs.Prelude.{◌≡◌, ◌<◌, [], ◌∷◌, length};
-ghost use Rattle.gc_links.specs.Acts.{Tells, Closed, clock_act, read_act, put_act, open_act, IsWithin, IsPart};
+ghost use Rattle.gc_links.specs.Acts.{AddsActs, Closed, clock_act, read_act, put_act, open_act, CameWithin, IsPart};
 ghost use Rattle.gc_logs.specs.Bounds.{sink_of};
 ghost use Rattle.gc_logs.specs.Logging.{Logs, log_seen};
 
@@ -65,7 +65,7 @@ impl<L: Link, K: Sink> Link for Logged<L, K> {
     // Reads the clock of the link inside. If it gives a moment, the lines from here on have that moment, until the link gives
     // another.
     fn now(&mut self) -> Result<Moment, PortFailed>
-        ensures tells { Tells (L.acts self.old.link) (L.acts self.new.link) (clock_act result ∷ []) }
+        ensures tells { AddsActs (L.acts self.old.link) (L.acts self.new.link) (clock_act result ∷ []) }
         ensures logs { Logs (log_seen K.Sink self.old.log) (log_seen K.Sink self.new.log) (clock_act result) }
     {
         let told = self.link.now();
@@ -79,8 +79,8 @@ impl<L: Link, K: Sink> Link for Logged<L, K> {
     // silence it takes the moment, and logs nothing. Nor does it log anything where the clock couldn't be read (`NoMoment`).
     fn read(&mut self, buf: &mut [u8], millis: u64) -> Came
         requires { 0 < length buf.old }
-        ensures tells { Tells (L.acts self.old.link) (L.acts self.new.link) (read_act result buf.new ∷ []) }
-        ensures within { IsWithin result buf.new }
+        ensures tells { AddsActs (L.acts self.old.link) (L.acts self.new.link) (read_act result buf.new ∷ []) }
+        ensures within { CameWithin result buf.new }
         ensures logs { Logs (log_seen K.Sink self.old.log) (log_seen K.Sink self.new.log) (read_act result buf.new) }
     {
         let came = self.link.read(buf, millis);
@@ -100,7 +100,7 @@ impl<L: Link, K: Sink> Link for Logged<L, K> {
     // Writes to the link inside, and logs the bytes that were sent (`add_sent`), and that the connection failed, if it did.
     fn put(&mut self, bytes: &[u8]) -> Result<(), usize>
         requires { 0 < length bytes.now }
-        ensures tells { Tells (L.acts self.old.link) (L.acts self.new.link) (put_act result bytes.now ∷ []) }
+        ensures tells { AddsActs (L.acts self.old.link) (L.acts self.new.link) (put_act result bytes.now ∷ []) }
         ensures part { IsPart result bytes.now }
         ensures logs { Logs (log_seen K.Sink self.old.log) (log_seen K.Sink self.new.log) (put_act result bytes.now) }
     {
@@ -117,7 +117,7 @@ impl<L: Link, K: Sink> Link for Logged<L, K> {
 
     // Closes the link inside, and logs what was pending of both directions, and the close.
     fn close(&mut self)
-        ensures tells { Tells (L.acts self.old.link) (L.acts self.new.link) (Closed ∷ []) }
+        ensures tells { AddsActs (L.acts self.old.link) (L.acts self.new.link) (Closed ∷ []) }
         ensures logs { Logs (log_seen K.Sink self.old.log) (log_seen K.Sink self.new.log) Closed }
     {
         self.link.close();
@@ -127,7 +127,7 @@ impl<L: Link, K: Sink> Link for Logged<L, K> {
 
     // Opens the link inside, and logs whether a connection was made.
     fn open(&mut self) -> Result<(), PortFailed>
-        ensures tells { Tells (L.acts self.old.link) (L.acts self.new.link) (open_act result ∷ []) }
+        ensures tells { AddsActs (L.acts self.old.link) (L.acts self.new.link) (open_act result ∷ []) }
         ensures logs { Logs (log_seen K.Sink self.old.log) (log_seen K.Sink self.new.log) (open_act result) }
     {
         let opened = self.link.open();

@@ -15,8 +15,8 @@ ok_is_no_stop x stop is = cc
 pub done_at_0 : (station : Settings) (old new : PortsSeen) (end : Result Tally Stop) (status : ℕ) (before after : Option (List ℕ))
     → MeasuresGiven station old new end → ReportsEndOfRun end status before after → status ≡ 0 → IsMeasured station old new
 done_at_0 station old new (Ok tally) status before after (given, takes, inl refused) tells zero = absurd (ok_is_no_stop tally refused.0 refused.1)
-done_at_0 station old new (Ok tally) status before after (given, takes, inr (setup, tasks, names, gives, inl front)) tells zero =
+done_at_0 station old new (Ok tally) status before after (given, takes, inr (all, gives, inl front)) tells zero =
     absurd (ok_is_no_stop tally (Run Output) front.is)
-done_at_0 station old new (Ok tally) status before after (given, takes, inr (setup, tasks, names, gives, inr behind)) tells zero =
-    record { given = given; takes = takes; setup = setup; tasks = tasks; names = names; gives = gives; tally = tally; ran = behind }
+done_at_0 station old new (Ok tally) status before after (given, takes, inr (all, gives, inr behind)) tells zero =
+    record { given = given; takes = takes; all = all; gives = gives; tally = tally; ran = behind }
 done_at_0 station old new (Err stop) status before after measured tells zero = absurd (omega (arith, tells.0, zero))

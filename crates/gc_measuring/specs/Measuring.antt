@@ -20,6 +20,7 @@ use Rattle.gc_station.specs.Runs.{RanForReadings, LastUnlessFailed}
 use Rattle.gc_station.specs.declared.plan.Plan.{Plan}
 use Rattle.gc_station.specs.declared.tally.Tally.{Tally}
 use Rattle.gc_texts.specs.Names.{name_text}
+use Rattle.gc_texts.specs.Tasks.{TasksSeen}
 use Rattle.gc_rows.specs.Records.{record_text, head_text}
 use Rattle.gc_texts.specs.declared.fault.RunFault.{RunFault}
 use Rattle.gc_texts.specs.declared.fault.RunFault.TheVariants.{Output}
@@ -66,23 +67,27 @@ pub record Survey : Type 0 where
   pub layout : Layout
   pub names : List Name
 
--- what a station measures, in at most `max_turns` acts, of a text with these names and tasks, of which the first `setup` are the setup
-abbrev pub survey_of : Settings → (max_turns setup : ℕ) → List Task → List Name → Survey
-survey_of station max_turns setup tasks names =
-    record { plan = plan_of station.choice setup tasks; tasks = tasks; max_turns = max_turns; layout = station.layout; names = names }
+-- the text of a record of this survey
+abbrev pub text_by : Survey → Record → List ℕ
+text_by survey = text_in survey.layout survey.names
+
+-- what a station measures, in at most `max_turns` acts, of a text with these tasks and names
+abbrev pub survey_of : Settings → (max_turns : ℕ) → TasksSeen → Survey
+survey_of station max_turns all =
+    record { plan = plan_of station.choice all.setup all.tasks; tasks = all.tasks; max_turns = max_turns; layout = station.layout; names = all.names }
 
 -- a run over a link, whose acts before and after are `acts` and `acts'`, wrote the records that its acts give of the tasks into a
 -- sink, which had taken `taken` before and `taken'` after, and ended with `end` (`RanForReadings`)
 abbrev pub RunsSurvey : Survey → (acts acts' : Option (List Act)) → (taken taken' : Option (List ℕ)) → (end : Result Tally RunFault) → Type 0
 RunsSurvey survey acts acts' taken taken' end =
-    RanForReadings survey.plan survey.tasks survey.max_turns (text_in survey.layout survey.names) acts acts' taken taken' end
+    RanForReadings survey.plan survey.tasks survey.max_turns (text_by survey) acts acts' taken taken' end
 
 -- at each act of a run over these tasks, all that the acts before it settled was recorded, and lasted (`KeepsUpForReadings`).
 -- `taken` is what the sink had taken before the run; `seen` and `seen'` are what was seen at each act so far, before the run and
--- after it
+-- after it. A run whose sink failed closes the connection at its end (`close_at_output`)
 abbrev pub SurveyKeepsUp : Survey → (acts acts' : Option (List Act)) → (taken : Option (List ℕ)) → (seen seen' : List Snapshot) → (end : Result Tally RunFault) → Type 0
 SurveyKeepsUp survey acts acts' taken seen seen' end =
-    KeepsUpForReadings survey.plan survey.tasks survey.max_turns (text_in survey.layout survey.names) acts acts' taken seen seen' (close_at_output end)
+    KeepsUpForReadings survey.plan survey.tasks survey.max_turns (text_by survey) acts acts' taken seen seen' (close_at_output end)
 
 -- the sink took what comes before the records, and then what a run over the link records of its tasks. At each act all that the acts
 -- before it settled was recorded, and lasted. `between` is what the sink had taken before the records
@@ -106,29 +111,30 @@ pub record IsUnused (old new : PortsSeen) : Type 0 where
 abbrev pub Measures : (given : List ℕ) → Settings → (max_turns : ℕ) → (old new : PortsSeen) → Result Tally Stop → Type 0
 Measures given station max_turns old new result =
     ((stop : Stop) × (result ≡ Err stop) × RefusesTasks given old.input new.input stop × IsUnused old new)
-    ⊎ ((setup : ℕ) × (tasks : List Task) × (names : List Name) × GivesTasks given old.input new.input station.choice setup tasks names
-    × (FailsInFront station.layout old new result ⊎ RunsAfterFront (survey_of station max_turns setup tasks names) old new result))
+    ⊎ ((all : TasksSeen) × GivesTasks given old.input new.input station.choice all
+    × (FailsInFront station.layout old new result ⊎ RunsAfterFront (survey_of station max_turns all) old new result))
 
 -- a source gave bytes, by at most one read for each and one for the end, and of these `Measures` holds, in at most `max_turns` acts
 abbrev pub MeasuresText : Settings → (max_turns : ℕ) → (old new : PortsSeen) → Result Tally Stop → Type 0
 MeasuresText station max_turns old new result = Gave old.input new.input (λ given. Measures given station max_turns old new result)
 
--- a source gave bytes, by any number of reads, and of these `Measures` holds, in at most as many acts as a u64 counts
+-- as many acts as a u64 counts
+abbrev pub most_turns : ℕ
+most_turns = 18446744073709551615
+
+-- a source gave bytes, by any number of reads, and of these `Measures` holds, in at most `most_turns` acts
 abbrev pub MeasuresGiven : Settings → (old new : PortsSeen) → Result Tally Stop → Type 0
 MeasuresGiven station old new result =
-    (given : List ℕ) × Consumes old.input.remaining new.input.remaining given × Measures given station 18446744073709551615 old new result
+    (given : List ℕ) × Consumes old.input.remaining new.input.remaining given × Measures given station most_turns old new result
 
--- a source gave a text to its end, and the run over its tasks, in at most as many acts as a u64 counts, is done, or its end was
--- asked for
+-- a source gave a text to its end, and the run over its tasks, in at most `most_turns` acts, is done, or its end was asked for
 pub record IsMeasured (station : Settings) (old new : PortsSeen) : Type 0 where
   pub given : List ℕ
   pub takes : Consumes old.input.remaining new.input.remaining given
-  pub setup : ℕ
-  pub tasks : List Task
-  pub names : List Name
-  pub gives : GivesTasks given old.input new.input station.choice setup tasks names
+  pub all : TasksSeen
+  pub gives : GivesTasks given old.input new.input station.choice all
   pub tally : Tally
-  pub ran : RunsAfterFront (survey_of station 18446744073709551615 setup tasks names) old new (Ok tally)
+  pub ran : RunsAfterFront (survey_of station most_turns all) old new (Ok tally)
 
 -- if the text was refused nothing was done over the link, and nothing written
 abbrev pub IsUntouched : (old new : PortsSeen) → Result Tally Stop → Type 0

@@ -7,7 +7,7 @@ use Rattle.gc_files.specs.declared.rows_file.RowsFile.{RowsFile}
 use Rattle.gc_files.specs.declared.system.Unfit.{Unfit}
 use Rattle.gc_files.specs.declared.system.Unfit.TheVariants.{Unopened, Held, Foreign, Failed}
 use Rattle.gc_messages.specs.Repairs.{copied_line, torn_line}
-use Rattle.gc_rows.specs.Records.{head_text, sign_text}
+use Rattle.gc_rows.specs.Records.{head_text, form_sign}
 use Rattle.gc_texts.specs.Faults.{run_fault_text, fault_line}
 use Rattle.gc_texts.specs.declared.fault.RunFault.{RunFault}
 use Rattle.gc_texts.specs.declared.fault.RunFault.TheVariants.{RecordsUnopened, RecordsHeld, RecordsForeign, Output}
@@ -41,7 +41,7 @@ opened_lines copied torn = copied_line copied ++ torn_line torn
 
 -- the file was opened for rows in the station's form, each of which is to be synced (`true`) or not
 abbrev pub IsOpenedFor : {F : Type 0} {D : Ghosts F} → Settings → (sync : Bool) → RowsFile F D → Type 0
-IsOpenedFor station sync file = IsOpenedAs (head_text (form_of_rows station.layout.form)) (sign_text (form_of_rows station.layout.form)) sync file
+IsOpenedFor station sync file = IsOpenedAs (head_text (form_of_rows station.layout.form)) (form_sign (form_of_rows station.layout.form)) sync file
 
 -- the messages, which were `old` and are now `new`, got a report of the file's opening, if it could be written (`told`): how many rows
 -- were copied, and how many bytes of a torn row were cut off

@@ -4,21 +4,18 @@ use Rattle.gc_words.specs.declared.choice.Choice.{Choice}
 use Rattle.gc_measuring.specs.declared.stop.Stop.{Stop}
 use Rattle.gc_measuring.specs.declared.stop.Stop.TheVariants.{Text, Empty, Line}
 use Rattle.gc_texts.specs.LineForms.{line_at}
-use Rattle.gc_texts.specs.Tasks.{IsTasks, TaskFault}
+use Rattle.gc_texts.specs.Tasks.{TasksSeen, IsTasks, TaskFault, tasks_seen}
 use Rattle.gc_texts.specs.Troubles.{IsTrouble}
 use Rattle.gc_texts.specs.WholeTexts.{Input, Gave, WasRead, RefusesText}
 use Rattle.gc_texts.specs.declared.fault.RunFault.{RunFault}
 use Rattle.gc_texts.specs.declared.fault.RunFault.TheVariants.{Schedule}
-use Rattle.gc_texts.specs.declared.name.Name.{Name}
-use Rattle.gc_texts.specs.declared.near.Near.{Near}
-use Rattle.gc_texts.specs.declared.tasks.Task.{Task}
 use Rattle.gc_texts.specs.declared.tasks.Tasks.{Tasks}
 use Rattle.gc_texts.specs.declared.trouble.Trouble.{Trouble}
 
 -- the stop by which a text with this fault is refused: for a faulty line, with the line's trouble
-abbrev pub IsRefusal : (text : List ℕ) → (fault : RunFault) → Stop → Type 0
-IsRefusal text (Schedule n) stop = (trouble : Trouble) × IsTrouble (line_at text n) trouble × (stop ≡ Line n trouble)
-IsRefusal text fault stop = stop ≡ Text fault
+abbrev pub IsStopFor : (text : List ℕ) → (fault : RunFault) → Stop → Type 0
+IsStopFor text (Schedule n) stop = (trouble : Trouble) × IsTrouble (line_at text n) trouble × (stop ≡ Line n trouble)
+IsStopFor text fault stop = stop ≡ Text fault
 
 -- the text that a source gave, to its end, is a station's text without a command of a cycle, read with some deadline and some chaining
 -- as its defaults, and so the stop is `Empty`
@@ -26,31 +23,26 @@ pub record HasNoCommand (given : List ℕ) (old new : Input) (stop : Stop) : Typ
   pub read : WasRead given old new
   pub deadline : ℕ
   pub chained : Bool
-  pub tasks : List Task
-  pub names : List Name
-  pub nears : List Near
-  pub setup : ℕ
-  pub are : IsTasks given deadline chained setup tasks names nears
-  pub none : length tasks ≤ setup
+  pub all : TasksSeen
+  pub are : IsTasks given deadline chained all
+  pub none : length all.tasks ≤ all.setup
   pub is : stop ≡ Empty
 
 -- the text that a source gave wasn't read to its end, or is no station's text, or has no command of a cycle, and this stop says which
 abbrev pub RefusesTasks : (given : List ℕ) → (old new : Input) → Stop → Type 0
 RefusesTasks given old new stop =
-    ((fault : RunFault) × RefusesText TaskFault given old new fault × IsRefusal given fault stop) ⊎ HasNoCommand given old new stop
+    ((fault : RunFault) × RefusesText TaskFault given old new fault × IsStopFor given fault stop) ⊎ HasNoCommand given old new stop
 
--- a source gave a station's text with these tasks, of which the first `setup` are the setup, and at least one after them is of
--- the cycle, and these names. Until a line says otherwise its commands have the choice's deadline, and are chained or not as
--- the choice says
-pub record GivesTasks (given : List ℕ) (old new : Input) (choice : Choice) (setup : ℕ) (tasks : List Task) (names : List Name) : Type 0 where
+-- a source gave a station's text with these tasks and names, and at least one task of the cycle, after those of the setup. Until
+-- a line says otherwise its commands have the choice's deadline, and are chained or not as the choice says
+pub record GivesTasks (given : List ℕ) (old new : Input) (choice : Choice) (all : TasksSeen) : Type 0 where
   pub read : WasRead given old new
-  pub nears : List Near
-  pub are : IsTasks given choice.deadline choice.chained setup tasks names nears
-  pub some : setup < length tasks
+  pub are : IsTasks given choice.deadline choice.chained all
+  pub some : all.setup < length all.tasks
 
 -- reading took a source from `old` to `new`, and gave the tasks of a station's text, which has the defaults of this choice
 abbrev pub ReadsTasks : (old new : Input) → Choice → Tasks → Type 0
-ReadsTasks old new choice all = Gave old new (λ given. GivesTasks given old new choice all.setup all.tasks.items all.names.items)
+ReadsTasks old new choice all = Gave old new (λ given. GivesTasks given old new choice (tasks_seen all))
 
 -- reading took a source from `old` to `new`, and gave no tasks, for the reason that this stop says
 abbrev pub ReadsNoTasks : (old new : Input) → Stop → Type 0
@@ -58,4 +50,4 @@ ReadsNoTasks old new stop = Gave old new (λ given. RefusesTasks given old new s
 
 -- a source gave a text that a station with this choice can measure
 abbrev pub IsCheckable : Choice → (old new : Input) → Type 0
-IsCheckable choice old new = Gave old new (λ given. (setup : ℕ) × (tasks : List Task) × (names : List Name) × GivesTasks given old new choice setup tasks names)
+IsCheckable choice old new = Gave old new (λ given. (all : TasksSeen) × GivesTasks given old new choice all)

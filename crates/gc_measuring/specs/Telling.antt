@@ -42,7 +42,7 @@ pub record Views (S K E : Type 0) : Type 1 where
   pub lasts : K → Bool
   pub shown : E → Option (List ℕ)
 
--- the views by these members
+-- the views of a run by these ghost members of its source and its sink, and by these functions
 abbrev pub views_by : {S K E : Type 0} → Source S → Sink K → (lasts : K → Bool) → (shown : E → Option (List ℕ)) → Views S K E
 views_by source sink lasts shown = record { source = source; sink = sink; lasts = lasts; shown = shown }
 
@@ -53,7 +53,7 @@ pub record Stage (S K E : Type 0) : Type 0 where
   pub acts : Option (List Act)
   pub turns : List Snapshot
 
--- the moment of a run with these streams, acts and turns
+-- a run at the moment at which it has these streams, acts and turns
 abbrev pub stage : {S K E : Type 0} → Streams S K E → Option (List Act) → (turns : List Snapshot) → Stage S K E
 stage streams acts turns = record { streams = streams; acts = acts; turns = turns }
 

@@ -10,7 +10,7 @@ use crate::plan::commands_per_cycle;
 use crate::stop::Stop;
 use crate::task_text::read_task_text;
 use gc_lines::{Sink, Source, write_whole};
-use gc_messages::{Streams, report_odd_angles, report_spaces, report_unasked, report_unused_names};
+use gc_messages::{Streams, report_blanks, report_odd_angles, report_unasked, report_unused_names};
 use gc_texts::{Again, RunFault, Task, Tasks};
 use gc_words::Choice;
 use std::alloc::Global;
@@ -60,7 +60,7 @@ fn report_doubts<E: Write>(text: &[u8], tasks: &Tasks, messages: &mut E) -> io::
     report_odd_angles(text, tasks, messages)?;
     report_unasked(tasks, messages)?;
     report_unused_names(tasks, messages)?;
-    report_spaces(text, messages)
+    report_blanks(text, messages)
 }
 
 // Writes the outline of these tasks on the output. It fails with `Memory` if memory was refused, and with `Output` if the output failed.

@@ -14,7 +14,7 @@ use gc_files::{Appending, RowsFile, RowsOptions, SystemFile, Unfit, open_file, o
 use gc_lines::{Durable, PortFailed, Sink, Source};
 use gc_links::Link;
 use gc_logs::{Bounded, Logged};
-use gc_messages::{FilesSeen, LogSeen, Noticed, Streams};
+use gc_messages::{FilesSeen, LogSeen, Noticed, Streams, note_files};
 use gc_station::Kept;
 use gc_texts::RunFault;
 use gc_words::{LogPlace, Settings};
@@ -121,8 +121,7 @@ impl<'a, K: Sink> Sink for LogSink<'a, K> {
         match self.sink.write(bytes) {
             Ok(n) => Ok(n),
             Err(failed) => {
-                let is_full = self.sink.is_full();
-                note_log_end(self.noticed, is_full);
+                note_log(self.noticed, end_seen(&self.sink));
                 Err(failed)
             }
         }
@@ -133,13 +132,17 @@ impl<'a, K: Sink> Sink for LogSink<'a, K> {
     }
 }
 
-// Notes that the log ended, at its bound (`is_full`) or because it couldn't be written.
-fn note_log_end(noticed: &Cell<Noticed>, is_full: bool) {
-    let log = if is_full {
+// What is seen of the end of a log whose sink failed: the log is full, or its file failed.
+fn end_seen<K: Sink>(sink: &Bounded<K>) -> LogSeen {
+    if sink.is_full() {
         LogSeen::Full
     } else {
         LogSeen::Lost
-    };
+    }
+}
+
+// Notes what became of the log.
+fn note_log(noticed: &Cell<Noticed>, log: LogSeen) {
     let files = noticed.get().files;
     note_files(noticed, FilesSeen { log, ..files });
 }
@@ -154,12 +157,6 @@ fn note_torn(noticed: &Cell<Noticed>, torn: u64) {
             ..files
         },
     );
-}
-
-// Notes what was seen of the station's files.
-fn note_files(noticed: &Cell<Noticed>, files: FilesSeen) {
-    let seen = noticed.get();
-    noticed.set(Noticed { files, ..seen });
 }
 
 /// Measures over a link with a log, and reports how the run ended, as `measure_over` does. If the log isn't complete, because it

@@ -7,6 +7,7 @@ ghost use Rattle.gc_measuring.specs.Stops.{with_fault};
 ghost use Rattle.gc_measuring.specs.Telling.{ports_seen};
 ghost use Rattle.gc_lines.specs.Ports.{FailsWith, TakesFront};
 ghost use Rattle.gc_station.specs.Runs.{FailsAtOutput, LastUnlessFailed};
+ghost use Rattle.gc_texts.specs.Tasks.{tasks_seen};
 ghost use Rattle.gc_texts.specs.declared.text.TheConstants.{TEXT_LIMIT};
 
 use crate::plan::{commands_per_cycle, plan_of};
@@ -103,9 +104,9 @@ fn measure<L: Link, S, K: Durable, E: Write>(
     streams: Streams<S, K, E>,
     kept: &mut Kept,
 ) -> (Streams<S, K, E>, Result<Tally, RunFault>)
-    ensures ran { RunsSurvey (survey_of station max_turns tasks.setup tasks.tasks.items tasks.names.items)
+    ensures ran { RunsSurvey (survey_of station max_turns (tasks_seen tasks))
         (L.acts link.old) (L.acts link.new) (K.taken streams.output) (K.taken result.0.output) result.1 }
-    ensures keeps { SurveyKeepsUp (survey_of station max_turns tasks.setup tasks.tasks.items tasks.names.items)
+    ensures keeps { SurveyKeepsUp (survey_of station max_turns (tasks_seen tasks))
         (L.acts link.old) (L.acts link.new) (K.taken streams.output) kept.old.turns kept.new.turns result.1 }
     ensures output { FailsAtOutput (K.failed streams.output) (K.failed result.0.output) result.1 }
     ensures is_durable { LastUnlessFailed (K.is_durable result.0.output) result.1 }

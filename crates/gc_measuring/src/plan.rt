@@ -1,7 +1,7 @@
 //! What a run makes of the tasks of a text: the plan, by an operator's choice, and the number of a cycle's commands.
 
 ghost use Rattle.std.specs.Prelude.{◌≡◌};
-ghost use Rattle.gc_measuring.specs.Choices.{longest, plan_of};
+ghost use Rattle.gc_measuring.specs.Choices.{longest_deadline, plan_of};
 
 use gc_station::Plan;
 use gc_texts::{Task, Tasks};
@@ -14,7 +14,7 @@ pub fn plan_of(choice: Choice, setup: usize, tasks: &[Task]) -> Plan
 {
     Plan {
         width: choice.width,
-        deadline: longest(choice.deadline, tasks),
+        deadline: longest_deadline(choice.deadline, tasks),
         every: choice.every,
         cycles: choice.cycles,
         quiet: choice.quiet,
@@ -26,8 +26,8 @@ pub fn plan_of(choice: Choice, setup: usize, tasks: &[Task]) -> Plan
 }
 
 // The longest deadline in use, in milliseconds: the greatest of this one and those of the tasks.
-fn longest(deadline: u64, tasks: &[Task]) -> u64
-    ensures { result ≡ longest deadline tasks.now }
+fn longest_deadline(deadline: u64, tasks: &[Task]) -> u64
+    ensures { result ≡ longest_deadline deadline tasks.now }
 {
     let mut longest = deadline;
     for task in tasks {

@@ -71,7 +71,7 @@ impl<E: Write> Reporter<E> {
     /// Writes that this cycle was not done when the next was due, unless nobody watches or a line of this kind was written in the last
     /// minute.
     pub(crate) fn report_overrun(&mut self, cycle: u64) {
-        if self.signs.may_report_overrun() {
+        if self.signs.claim_overrun() {
             let _ = self.signs.clear(&mut self.messages);
             let _ = tell_overrun(cycle, &mut self.messages);
         }

@@ -23,7 +23,7 @@ const COLUMNS: usize = 79;
 // A second, in milliseconds: the status line of a terminal is rewritten once a second at most, and gives ages in seconds.
 const SECOND: u64 = 1_000;
 
-// Limits how often a line of one kind is written. `last`: when one was allowed last, also one that couldn't be written, in
+// Limits how often a line of one kind is written. `last`: when one was granted last, also one that couldn't be written, in
 // milliseconds of the clock for deadlines; `None`: none was yet.
 #[derive(Clone, Copy)]
 struct RateLimit {
@@ -36,17 +36,17 @@ impl RateLimit {
         RateLimit { last: None }
     }
 
-    // Whether a line of this kind may be written now: there was none, or the last one is at least `apart` milliseconds old at `elapsed`,
-    // by the clock for deadlines. If so, a line counts as written now.
-    fn allows(&mut self, elapsed: u64, apart: u64) -> bool {
-        let allows = match self.last {
+    // Claims the writing of a line of this kind at `elapsed`, by the clock for deadlines. It is granted if there was none, or the
+    // last one is at least `apart` milliseconds old, and then a line counts as written now. Returns whether it is granted.
+    fn claim(&mut self, elapsed: u64, apart: u64) -> bool {
+        let is_granted = match self.last {
             Some(last) => has_lasted(last, elapsed, apart),
             None => true,
         };
-        if allows {
+        if is_granted {
             self.last = Some(elapsed);
         }
-        allows
+        is_granted
     }
 }
 
@@ -180,10 +180,10 @@ impl Signs {
         self.skipped = self.skipped.saturating_add(1);
     }
 
-    /// Whether a line on a cycle that wasn't done when the next was due may be written now: somebody watches, and none was written in
-    /// the last minute. If so, it counts as written.
-    pub(crate) fn may_report_overrun(&mut self) -> bool {
-        self.is_watched() && self.overrun.allows(self.elapsed, MINUTE)
+    /// Claims the writing of a line on a cycle that wasn't done when the next was due. It is granted if somebody watches, and none
+    /// was written in the last minute, and then it counts as written. Returns whether it is granted.
+    pub(crate) fn claim_overrun(&mut self) -> bool {
+        self.is_watched() && self.overrun.claim(self.elapsed, MINUTE)
     }
 
     /// Takes in the health of the link and the moment, and writes the lines that are due. `is_lost`: the last connection was lost
@@ -288,7 +288,7 @@ impl Signs {
         if !is_lost || before == LinkHealth::Idle {
             return Ok(());
         }
-        if !self.unconnected.allows(self.elapsed, MINUTE) {
+        if !self.unconnected.claim(self.elapsed, MINUTE) {
             return Ok(());
         }
         self.report_since(self.since.utc, "no connection", messages)
@@ -298,7 +298,7 @@ impl Signs {
     // since.
     fn report_unprepared<E: Write>(&mut self, messages: &mut E) -> io::Result<()> {
         match self.unprepared_since {
-            Some(since) if self.unprepared.allows(self.elapsed, MINUTE) => {
+            Some(since) if self.unprepared.claim(self.elapsed, MINUTE) => {
                 self.report_since(since, "setup not done", messages)
             }
             _ => Ok(()),
@@ -312,7 +312,7 @@ impl Signs {
         {
             return Ok(());
         }
-        if !self.unquiet.allows(self.elapsed, MINUTE) {
+        if !self.unquiet.claim(self.elapsed, MINUTE) {
             return Ok(());
         }
         self.report_since(self.since.utc, "line not quiet", messages)
@@ -324,7 +324,7 @@ impl Signs {
         match self.wanted.lasting(self.elapsed, LASTING) {
             Some(since) => {
                 self.wanted.overdue = true;
-                if !self.unanswered.allows(self.elapsed, MINUTE) {
+                if !self.unanswered.claim(self.elapsed, MINUTE) {
                     return Ok(());
                 }
                 self.report_since(since.utc, "no answer", messages)
@@ -357,7 +357,7 @@ impl Signs {
     // Reports the end of a trouble, once a command was answered after the last report of a trouble and after the last look
     // without a connection, unless a line of this kind was written in the last minute.
     fn report_recovery<E: Write>(&mut self, messages: &mut E) -> io::Result<()> {
-        if !self.is_troubled || !self.is_answered || !self.connected.allows(self.elapsed, MINUTE) {
+        if !self.is_troubled || !self.is_answered || !self.connected.claim(self.elapsed, MINUTE) {
             return Ok(());
         }
         self.is_troubled = false;
@@ -368,7 +368,7 @@ impl Signs {
     // Writes how many commands were skipped that no line reported yet, if any were, and since when, unless a line of this kind was
     // written in the last minute.
     fn report_skipped<E: Write>(&mut self, messages: &mut E) -> io::Result<()> {
-        if self.skipped == 0 || !self.skipping.allows(self.elapsed, MINUTE) {
+        if self.skipped == 0 || !self.skipping.claim(self.elapsed, MINUTE) {
             return Ok(());
         }
         self.clear(messages)?;
@@ -382,7 +382,7 @@ impl Signs {
     // Writes the status line, over the one that is shown, if somebody watches at a terminal: at most once a second. What has no
     // room in `COLUMNS` is left out.
     fn show<E: Write>(&mut self, messages: &mut E) -> io::Result<()> {
-        if self.watch != Watch::Terminal || !self.shown.allows(self.elapsed, SECOND) {
+        if self.watch != Watch::Terminal || !self.shown.claim(self.elapsed, SECOND) {
             return Ok(());
         }
         self.clear(messages)?;

@@ -1,7 +1,7 @@
 //! A station's text, read whole from a source.
 
 ghost use Rattle.std.specs.Prelude.{◌+◌, ◌≤◌, IfOk, IfErr};
-ghost use Rattle.gc_measuring.specs.TaskTexts.{IsRefusal, ReadsNoTasks, ReadsTasks};
+ghost use Rattle.gc_measuring.specs.TaskTexts.{IsStopFor, ReadsNoTasks, ReadsTasks};
 ghost use Rattle.gc_texts.specs.WholeTexts.{input_of};
 ghost use Rattle.gc_texts.specs.declared.text.TheConstants.{TEXT_LIMIT};
 
@@ -35,13 +35,13 @@ pub fn read_task_text<S: Source>(
             }
             Ok((tasks, text))
         }
-        Err(fault) => Err(refusal(text.as_slice(), fault)),
+        Err(fault) => Err(stop_for(text.as_slice(), fault)),
     }
 }
 
 // The stop for a text with this fault. That for a faulty line has the line's number, and which of its fields is at fault.
-fn refusal(text: &[u8], fault: RunFault) -> Stop
-    ensures { IsRefusal text.now fault result }
+fn stop_for(text: &[u8], fault: RunFault) -> Stop
+    ensures { IsStopFor text.now fault result }
 {
     match fault {
         RunFault::Schedule { line } => Stop::Line(line, trouble_of(line_at(text, line))),

@@ -2,11 +2,10 @@
 
 ghost use Rattle.std.specs.Prelude.{◌≤◌, IfOk};
 ghost use Rattle.std.specs.Process.{exit_status};
-ghost use Rattle.gc_lines.specs.Answering.{fault_text};
+ghost use Rattle.gc_lines.specs.Answering.{serve_fault_text};
 ghost use Rattle.gc_texts.specs.Faults.{run_fault_text, Tells};
 ghost use Rattle.gc_messages.specs.Refusals.{Refuses, refusal_line, range_line, stale_line, place_line};
 
-use crate::oddity::tell_place;
 use gc_lines::{ServeFault, Served};
 use gc_links::Place;
 use gc_texts::RunFault;
@@ -88,13 +87,29 @@ pub fn report_end_at<E: Write>(
     ended
 }
 
+/// Writes a line with the place and a reason in words, for the faults `LinkClosed`, `Mute`, `SetUp`, `Write`, `NoTerminal` and
+/// `Held` of a run over a connection. For any other fault, such as `Socket`, whose reason the system gives, it writes nothing.
+/// `Err`: the messages couldn't be written.
+pub fn tell_place<E: Write>(place: Place<'_>, fault: RunFault, messages: &mut E) -> io::Result<()> {
+    let why = match fault {
+        RunFault::LinkClosed => "the connection ended",
+        RunFault::Mute => "no further reply came",
+        RunFault::SetUp => "a command of the setup was not answered well",
+        RunFault::Write { .. } => "a write failed",
+        RunFault::NoTerminal => "it is not a terminal",
+        RunFault::Held => "another program has locked it",
+        _ => return Ok(()),
+    };
+    writeln!(messages, "geocom: {place}: {why}")
+}
+
 /// Reports how serving or checking ended: with status 0 and no line, or with status 1 and the line of the fault. `Err`: the messages
 /// couldn't be written.
 pub fn report_served<E: Write>(
     end: Result<Served, ServeFault>,
     messages: &mut E,
 ) -> io::Result<ExitCode>
-    ensures told { IfOk result (λ status. Tells fault_text end (exit_status status) (E.contents messages.old) (E.contents messages.new)) }
+    ensures told { IfOk result (λ status. Tells serve_fault_text end (exit_status status) (E.contents messages.old) (E.contents messages.new)) }
 {
     match end {
         Ok(_) => Ok(ExitCode::SUCCESS),

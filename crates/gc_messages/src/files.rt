@@ -76,8 +76,8 @@ impl FilesTold {
     }
 
     /// Returns what is to be reported now, which then counts as reported: what is new since the last call (at the first call,
-    /// what was seen at all); and that the path of the rows leads astray: at once and, while it does, again at the first call at
-    /// which the clock for deadlines is a minute or more past the last report of that.
+    /// since nothing was seen); and, while the path of the rows leads astray, that it does: at once, and again whenever a minute
+    /// of the clock for deadlines has passed since that was reported last.
     ///
     /// `None`: there is nothing to report. `Some` may have nothing to write, as when the path leads to the file again.
     pub fn take_news(&mut self, seen: FilesSeen, moment: Moment) -> Option<FilesNews> {
@@ -85,17 +85,17 @@ impl FilesTold {
             Some(last) => moment.elapsed.saturating_sub(last) >= MINUTE,
             None => true,
         };
-        let is_astray = seen.is_astray && is_due;
-        if seen == self.told && !is_astray {
+        let tells_astray = seen.is_astray && is_due;
+        if seen == self.told && !tells_astray {
             return None;
         }
         let news = FilesNews {
             before: self.told,
             now: seen,
-            is_astray,
+            tells_astray,
         };
         self.told = seen;
-        if is_astray {
+        if tells_astray {
             self.astray = Some(moment.elapsed);
         }
         if !seen.is_astray {
@@ -112,7 +112,7 @@ pub struct FilesNews {
     before: FilesSeen,
     now: FilesSeen,
     // Whether it is to be reported, for the first time or again, that the path of the rows leads astray.
-    is_astray: bool,
+    tells_astray: bool,
 }
 
 impl FilesNews {
@@ -127,7 +127,7 @@ impl FilesNews {
     // Writes, if that is due, that the rows' file was moved or deleted, that no new one can be opened at its path, and that rows
     // are still written to the old one.
     fn report_astray<E: Write>(self, messages: &mut E) -> io::Result<()> {
-        if !self.is_astray {
+        if !self.tells_astray {
             return Ok(());
         }
         writeln!(

@@ -1,10 +1,11 @@
 //! A file of rows that is looked for at its path: if it was moved or deleted, rows go on in a new one at that path.
 
-ghost use Rattle.std.specs.Prelude.{◌≡◌, [], Some};
+ghost use Rattle.std.specs.Prelude.{◌≡◌, [], true, Some, OnOk};
 ghost use Rattle.gc_files.specs.Sinks.{has_failed, is_durable, steps_in};
+ghost use Rattle.gc_lines.specs.Ports.{Fails};
 
 use crate::files::FilesSeen;
-use crate::oddity::Noticed;
+use crate::oddity::{Noticed, note_files};
 use gc_files::{Done, Past, RowsFile, SystemFile, end_at, open_at};
 use gc_lines::{Durable, PortFailed, Sink};
 use std::alloc::Global;
@@ -68,16 +69,33 @@ impl<'a, R: Files<File = File>> Followed<'a, R> {
         end_at(rt, alloc, path, rows);
     }
 
-    // Notes what became of the file of rows and of the log (`files`), and keeps what else was noticed.
-    fn note(&self, files: FilesSeen) {
-        let seen = self.noticed.get();
-        self.noticed.set(Noticed { files, ..seen });
-    }
-
     // Notes whether the path leads astray: it isn't known to lead to the file, and no new one can be had there.
     fn note_astray(&self, is_astray: bool) {
         let files = self.noticed.get().files;
-        self.note(FilesSeen { is_astray, ..files });
+        note_files(self.noticed, FilesSeen { is_astray, ..files });
+    }
+
+    // Lets the rows go on in a new file at the path, into which this many rows were copied as it was opened, notes that, and
+    // syncs the new file. `Err`: that sync failed; the new file takes the rows all the same.
+    fn go_on_in(&mut self, rows: RowsFile<SystemFile>, copied: u64) -> Result<(), PortFailed>
+        requires { steps_in rows ≡ [] }
+        ensures is_durable { OnOk result (is_durable self.new.rows ≡ true) }
+        ensures same { bytes_in self.new ≡ bytes_in self.old }
+        ensures fails { Fails (has_failed rows) (has_failed self.new.rows) result }
+    {
+        let files = self.noticed.get().files;
+        let moved = FilesSeen {
+            moves: files.moves.saturating_add(1),
+            copied,
+            torn: rows.torn(),
+            is_astray: false,
+            ..files
+        };
+        note_files(self.noticed, moved);
+        // The past of the old file is read before the new one takes its place.
+        self.earlier = self.earlier.then(&Done::All(self.rows.past()));
+        self.rows = rows;
+        self.rows.sync()
     }
 }
 
@@ -107,32 +125,13 @@ impl<'a, R: Files<File = File>> Durable for Followed<'a, R> {
     // is noted. `Err`: the file failed, now or before, and the path isn't looked at; or the new file failed, which takes the rows
     // then.
     fn sync(&mut self) -> Result<(), PortFailed> {
-        match self.rows.sync() {
-            Ok(()) => {}
-            Err(failed) => return Err(failed),
-        }
+        self.rows.sync()?;
         if self.rows.file().is_at(self.rt, self.path) {
             self.note_astray(false);
             return Ok(());
         }
-        let opened = open_at(self.rt, self.alloc, self.path, self.rows.options());
-        match opened {
-            Ok((rows, copied)) => {
-                let files = self.noticed.get().files;
-                self.note(FilesSeen {
-                    moves: files.moves.saturating_add(1),
-                    copied,
-                    torn: rows.torn(),
-                    is_astray: false,
-                    ..files
-                });
-                self.earlier = self.earlier.then(&Done::All(self.rows.past()));
-                self.rows = rows;
-                match self.rows.sync() {
-                    Ok(()) => Ok(()),
-                    Err(failed) => Err(failed),
-                }
-            }
+        match open_at(self.rt, self.alloc, self.path, self.rows.options()) {
+            Ok((rows, copied)) => self.go_on_in(rows, copied),
             Err(_) => {
                 self.note_astray(true);
                 Ok(())

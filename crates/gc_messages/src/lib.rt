@@ -2,6 +2,7 @@
 //! connection and of files; and the standard streams, one of which takes them.
 #![tactic(auto)]
 
+mod blanks;
 mod ending;
 mod files;
 mod following;
@@ -9,22 +10,22 @@ mod lossy;
 mod noting;
 mod oddity;
 mod short_text;
-mod spaces;
 mod standard;
 mod streams;
 mod turns;
 mod unasked;
 
+pub use blanks::report_blanks;
 pub use ending::{
     refuse_numbers, refuse_place, refuse_stale, report_end, report_end_at, report_served,
+    tell_place,
 };
 pub use files::{FilesNews, FilesSeen, FilesTold, LogSeen, MINUTE, report_copied, report_torn};
 pub use following::Followed;
 pub use lossy::Lossy;
 pub use noting::Noting;
-pub use oddity::{Noticed, Noticing, Oddities, tell_place};
+pub use oddity::{Noticed, Noticing, Oddities, note_files};
 pub use short_text::ShortText;
-pub use spaces::report_spaces;
 pub use standard::{Places, Standard};
 pub use streams::Streams;
 pub use turns::report_odd_angles;

@@ -17,9 +17,9 @@ use std::time::{Clock, Duration};
 // The most bytes of a path, an address or a name that are noted.
 const NAME_ROOM: usize = 120;
 
-// What was refused, by the first bytes of its name, and why.
+// An error of the system, with the first bytes of the path, address or name that it came of.
 #[derive(Drop)]
-struct Refusal {
+struct NamedError {
     name: ShortText<NAME_ROOM>,
     why: io::Error,
 }
@@ -29,7 +29,7 @@ struct Refusal {
 #[derive(Drop)]
 pub struct Noting<'a, R> {
     rt: &'a R,
-    last: Cell<Option<Refusal>>,
+    last: Cell<Option<NamedError>>,
 }
 
 impl<'a, R> Noting<'a, R> {
@@ -52,7 +52,7 @@ impl<'a, R> Noting<'a, R> {
             Err(why) => {
                 let mut name = ShortText::new();
                 let _ = write!(name, "{what}");
-                self.last.set(Some(Refusal { name, why }));
+                self.last.set(Some(NamedError { name, why }));
                 Err(why)
             }
         }
@@ -76,13 +76,13 @@ impl<'a, R> Noting<'a, R> {
         let status = ended?;
         if standard.messages && status != ExitCode::SUCCESS {
             // If this line can't be written, the fault's line is written all the same.
-            let _ = self.write(messages);
+            let _ = self.tell_last(messages);
         }
         Ok(status)
     }
 
     // Writes the line of what was refused last, if anything is noted, and clears the note, also if the line can't be written.
-    fn write<E: Write>(&self, messages: &mut E) -> io::Result<()> {
+    fn tell_last<E: Write>(&self, messages: &mut E) -> io::Result<()> {
         match self.last.take() {
             Some(refusal) => {
                 let why = refusal.why;

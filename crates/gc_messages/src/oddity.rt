@@ -5,10 +5,9 @@ ghost use Rattle.std.specs.Prelude.{◌≡◌};
 
 use crate::files::FilesSeen;
 use gc_lines::PortFailed;
-use gc_links::{Came, Link, Moment, Place};
+use gc_links::{Came, Link, Moment};
 use gc_texts::RunFault;
 use std::cell::Cell;
-use std::io::{self, Write};
 
 /// What is odd about a line.
 #[derive(Clone, Copy, PartialEq, Eq)]
@@ -54,20 +53,10 @@ impl Noticed {
     }
 }
 
-/// Writes a line with the place and a reason in words, for the faults `LinkClosed`, `Mute`, `SetUp`, `Write`, `NoTerminal` and
-/// `Held` of a run over a connection. For any other fault, such as `Socket`, whose reason the system gives, it writes nothing.
-/// `Err`: the messages couldn't be written.
-pub fn tell_place<E: Write>(place: Place<'_>, fault: RunFault, messages: &mut E) -> io::Result<()> {
-    let why = match fault {
-        RunFault::LinkClosed => "the connection ended",
-        RunFault::Mute => "no further reply came",
-        RunFault::SetUp => "a command of the setup was not answered well",
-        RunFault::Write { .. } => "a write failed",
-        RunFault::NoTerminal => "it is not a terminal",
-        RunFault::Held => "another program has locked it",
-        _ => return Ok(()),
-    };
-    writeln!(messages, "geocom: {place}: {why}")
+/// Notes what became of the station's files. What else was noticed stays noted.
+pub fn note_files(noticed: &Cell<Noticed>, files: FilesSeen) {
+    let seen = noticed.get();
+    noticed.set(Noticed { files, ..seen });
 }
 
 // The longest read of a link, in milliseconds: what watches a station between two reads gets its turn at least that often.
@@ -79,7 +68,7 @@ const LONGEST_READ: u64 = 1_000;
 pub struct Noticing<'a, L> {
     /// The link inside.
     pub link: L,
-    seen: &'a Cell<Noticed>,
+    noticed: &'a Cell<Noticed>,
     // The first bytes of the line that comes, how many there are, and its last byte so far.
     front: [u8; 4],
     count: usize,
@@ -87,13 +76,13 @@ pub struct Noticing<'a, L> {
 }
 
 impl<'a, L: Link> Noticing<'a, L> {
-    /// A link over `link`, over which nothing came yet. What it notices it notes in `seen`, beside what is noted there already.
-    pub fn new(link: L, seen: &'a Cell<Noticed>) -> Noticing<'a, L>
+    /// A link over `link`, over which nothing came yet. What it notices it notes in `noticed`, beside what is noted there already.
+    pub fn new(link: L, noticed: &'a Cell<Noticed>) -> Noticing<'a, L>
         ensures { result.link ≡ link }
     {
         Noticing {
             link,
-            seen,
+            noticed,
             front: [0; 4],
             count: 0,
             last: 0,
@@ -108,7 +97,7 @@ impl<'a, L> Noticing<'a, L> {
     {
         let Noticing {
             link,
-            seen: _,
+            noticed: _,
             front: _,
             count: _,
             last: _,
@@ -135,21 +124,21 @@ impl<'a, L> Noticing<'a, L> {
     // Notes what is odd about the line that a line feed has just ended: it begins as a request (`echoes`), or it begins as a
     // reply and has no CR at its end (`bare`). What was noted of earlier lines stays, and a line of less than four bytes is neither.
     fn judge(&self) {
-        let seen = self.seen.get();
-        let odd = seen.odd;
-        if self.count == self.front.len() {
-            let odd = Oddities {
-                echoes: odd.echoes || self.front == *b"%R1Q",
-                bare: odd.bare || self.front == *b"%R1P" && self.last != b'\r',
-            };
-            self.seen.set(Noticed { odd, ..seen });
+        if self.count < self.front.len() {
+            return;
         }
+        let seen = self.noticed.get();
+        let odd = Oddities {
+            echoes: seen.odd.echoes || self.front == *b"%R1Q",
+            bare: seen.odd.bare || self.front == *b"%R1P" && self.last != b'\r',
+        };
+        self.noticed.set(Noticed { odd, ..seen });
     }
 
     // Notes whether the connection is lost (`is_lost`): it ended or failed, or couldn't be made.
     fn note_loss(&self, is_lost: bool) {
-        let seen = self.seen.get();
-        self.seen.set(Noticed { is_lost, ..seen });
+        let seen = self.noticed.get();
+        self.noticed.set(Noticed { is_lost, ..seen });
     }
 }
 

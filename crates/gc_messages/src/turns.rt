@@ -21,11 +21,11 @@ fn is_outside(angle: Decimal, least: Decimal) -> bool {
     angle > one_turn() || angle < least
 }
 
-/// Writes a line for each angle outside one turn that a positioning of `text` has, with the number of its line, counted from 1. `all`
-/// has the tasks that were read from this text. `Err`: a message couldn't be written; those after that one aren't.
-pub fn report_odd_angles<E: Write>(text: &[u8], all: &Tasks, messages: &mut E) -> io::Result<()> {
-    let mut setup = all.tasks.iter().take(all.setup);
-    let mut cycle = all.tasks.iter().skip(all.setup);
+/// Writes a line for each angle outside one turn that a positioning of `text` has, with the number of its line, counted from 1.
+/// `tasks` are those that were read from this text. `Err`: a message couldn't be written; those after that one aren't.
+pub fn report_odd_angles<E: Write>(text: &[u8], tasks: &Tasks, messages: &mut E) -> io::Result<()> {
+    let mut setup = tasks.tasks.iter().take(tasks.setup);
+    let mut cycle = tasks.tasks.iter().skip(tasks.setup);
     let mut is_setup = false;
     for (at, line) in text.split(|byte| *byte == b'\n').enumerate() {
         is_setup = is_setup_after(line, is_setup);

@@ -48,8 +48,8 @@ abbrev pub IsAmong : List Claim → Claim → Type 0
 IsAmong claims claim = (place : ℕ) × (slice_get claims place ≡ Some claim)
 
 -- the row of a claim
-abbrev pub row_of : Claim → FalseRow
-row_of claim = record { row = claim.row; stamp = claim.stamp; target = claim.target }
+abbrev pub false_row_of : Claim → FalseRow
+false_row_of claim = record { row = claim.row; stamp = claim.stamp; target = claim.target }
 
 -- a count or a claim of the rows is missing, because memory was refused for it, or some truths are, `missing` of them
 abbrev pub IsIncomplete : Seen → (missing : ℕ) → Type 0
@@ -57,7 +57,7 @@ IsIncomplete seen missing = (seen.lacks_memory ≡ true) ⊎ (0 < missing)
 
 -- how a rehearsal with this seed stops for a row of these claims: it names the row of one of them
 abbrev pub NamesRow : List Claim → (seed : ℕ) → Halt → Type 0
-NamesRow claims seed halt = (claim : Claim) × IsAmong claims claim × (halt ≡ Untrue seed (row_of claim))
+NamesRow claims seed halt = (claim : Claim) × IsAmong claims claim × (halt ≡ Untrue seed (false_row_of claim))
 
 -- the result of comparing these claims with these truths, where `incomplete` says that some of them are missing: none is, and the
 -- claims are true; or some are, which is the fault `Memory`; or none is, the claims aren't true, and a row is named (`NamesRow`)

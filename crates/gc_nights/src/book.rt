@@ -13,6 +13,7 @@ use gc_measuring::write_station_row;
 use gc_station::{Book, LinkHealth};
 use gc_texts::{Ending, Name, Stamp, Wish};
 use gc_words::Layout;
+use std::alloc::Global;
 
 /// What was seen of the rows: what those of the present run claim, and the counts of all runs.
 #[derive(Drop)]
@@ -27,17 +28,12 @@ pub(crate) struct Seen {
 }
 
 impl Seen {
-    /// What was seen before the first row, with claims and a summary that are empty. The line was made `start` milliseconds after 1970.
-    pub(crate) fn new(
-        start: u64,
-        deadlines: Deadlines,
-        claims: Vec<Claim>,
-        summary: Summary,
-    ) -> Seen {
+    /// What was seen before the first row, with a summary that is empty. The line was made `start` milliseconds after 1970.
+    pub(crate) fn new(alloc: Global, start: u64, deadlines: Deadlines, summary: Summary) -> Seen {
         Seen {
             start,
             deadlines,
-            claims,
+            claims: Vec::new(alloc),
             summary,
             lacks_memory: false,
         }
@@ -87,6 +83,26 @@ fn line_of(ending: Ending<'_>) -> Option<Line> {
     }
 }
 
+/// How far a run of the station may come.
+#[derive(Clone, Copy)]
+pub(crate) struct RunLimits {
+    /// How many cycles it has.
+    pub(crate) cycles: u64,
+    /// After how many acts it is killed.
+    pub(crate) acts: u64,
+    /// When its night is over, in milliseconds since 1970.
+    pub(crate) until: u64,
+}
+
+/// Why a book ended a run.
+#[derive(Clone, Copy)]
+pub(crate) enum Interruption {
+    /// The station was killed.
+    Killed,
+    /// The night was over.
+    NightOver,
+}
+
 /// A book that writes rows into a sink, until the station is killed or the night is over.
 #[derive(Drop)]
 pub(crate) struct RunBook<K> {
@@ -95,14 +111,13 @@ pub(crate) struct RunBook<K> {
     // The names of targets.
     names: Vec<Name>,
     pub(crate) seen: Seen,
-    // How many acts the station may yet make in the run, and whether it was killed at the end of them.
+    // How many acts the station may yet make in the run, before it is killed.
     left: u64,
-    is_killed: bool,
-    // When the night ends, in milliseconds since 1970; whether the station has read that moment, or a later one; and whether `sync` cut
-    // the run off for it.
+    // When the night ends, in milliseconds since 1970, and whether the station has read that moment, or a later one.
     until: u64,
     is_over: bool,
-    is_cut_off: bool,
+    // Why `sync` ended the run, if it did.
+    interruption: Option<Interruption>,
     // Whether a row of the run couldn't be written, or the run was ended by `sync`.
     has_failed: bool,
 }
@@ -116,35 +131,29 @@ impl<K> RunBook<K> {
             names,
             seen,
             left: 0,
-            is_killed: false,
             until: 0,
             is_over: false,
-            is_cut_off: false,
+            interruption: None,
             has_failed: false,
         }
     }
 
-    /// Begins a run of the station at the moment `run`. The run is killed after `acts` acts, and cut off once the station has read the
-    /// moment `until` or a later one. Both moments are in milliseconds since 1970. The claims of the run before are dropped.
-    pub(crate) fn begin(&mut self, run: u64, acts: u64, until: u64) {
+    /// Begins a run of the station at the moment `run`, in milliseconds since 1970. The run is killed after as many acts as the limits
+    /// say, and cut off once the station has read the moment at which its night is over, or a later one. The claims of the run before
+    /// are dropped.
+    pub(crate) fn begin(&mut self, run: u64, limits: RunLimits) {
         self.layout.run = run;
-        self.left = acts;
-        self.is_killed = false;
-        self.until = until;
+        self.left = limits.acts;
+        self.until = limits.until;
         self.is_over = false;
-        self.is_cut_off = false;
+        self.interruption = None;
         self.has_failed = false;
         self.seen.claims.clear();
     }
 
-    /// Whether the station was killed in the present run.
-    pub(crate) fn is_killed(&self) -> bool {
-        self.is_killed
-    }
-
-    /// Whether the present run was cut off at the end of its night.
-    pub(crate) fn is_cut_off(&self) -> bool {
-        self.is_cut_off
+    /// Why the book ended the present run. `None`: it didn't.
+    pub(crate) fn interruption(&self) -> Option<Interruption> {
+        self.interruption
     }
 
     /// Ends the book, and hands back the sink, what was seen of the rows, and the names of targets.
@@ -155,10 +164,9 @@ impl<K> RunBook<K> {
             names,
             seen,
             left: _,
-            is_killed: _,
             until: _,
             is_over: _,
-            is_cut_off: _,
+            interruption: _,
             has_failed: _,
         } = self;
         (sink, seen, names)
@@ -204,12 +212,12 @@ impl<K: Sink> Book for RunBook<K> {
     // no act is left, and the station is killed.
     fn sync(&mut self) -> Result<(), PortFailed> {
         if self.is_over {
-            self.is_cut_off = true;
+            self.interruption = Some(Interruption::NightOver);
             self.has_failed = true;
             return Err(PortFailed);
         }
         if self.left == 0 {
-            self.is_killed = true;
+            self.interruption = Some(Interruption::Killed);
             self.has_failed = true;
             return Err(PortFailed);
         }

@@ -2,7 +2,7 @@
 
 ghost use Rattle.std.specs.Prelude.{◌≡◌, ◌↔◌, ◌+◌, ◌<◌, IsTrue, IfNone, IfSome, OnSome, Some};
 ghost use Rattle.gc_catalogue.specs.Asked.{asked_line};
-ghost use Rattle.gc_nights.specs.Claims.{IsRequestFor, SpeaksOf, IsTrueAt, MatchesNext, AreTrue, IsAmong};
+ghost use Rattle.gc_nights.specs.Claims.{IsRequestFor, SpeaksOf, MatchesNext, AreTrue, IsAmong};
 
 use gc_catalogue::{Asked, encode_asked};
 use gc_lines::Line;
@@ -82,28 +82,15 @@ fn speaks_of(claim: &Claim, truth: &Truth) -> bool
         && is_asked(&claim.call, truth.asked.as_slice())
 }
 
-// Whether the claim at this place speaks of this reply; `false` if there is no such place.
-fn is_true_by(claims: &[Claim], place: usize, truth: &Truth) -> bool
-    ensures { IsTrue result ↔ IsTrueAt claims.now place truth.now }
-{
-    match claims.get(place) {
-        Some(claim) => speaks_of(claim, truth),
-        None => false,
-    }
-}
-
 // How many claims, from the first on, are matched with replies once this reply came, if `matched` were before it: one more if the
 // claim after them speaks of this reply.
 fn matched_with(claims: &[Claim], matched: usize, truth: &Truth) -> usize
     ensures { MatchesNext claims.now matched truth.now result }
 {
-    if matched >= claims.len() {
-        return matched;
+    match claims.get(matched) {
+        Some(claim) if speaks_of(claim, truth) => matched + 1,
+        _ => matched,
     }
-    if is_true_by(claims, matched, truth) {
-        return matched + 1;
-    }
-    matched
 }
 
 /// The first claim that isn't true: the claims before it speak of replies that came, in their order, and it speaks of none that

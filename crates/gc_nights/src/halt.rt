@@ -2,7 +2,7 @@
 //! refused, or a row is false.
 
 ghost use Rattle.std.specs.Prelude.{◌≡◌};
-ghost use Rattle.gc_nights.specs.Claims.{row_of};
+ghost use Rattle.gc_nights.specs.Claims.{false_row_of};
 
 use crate::claim::Claim;
 use gc_engines::SceneTrouble;
@@ -25,7 +25,7 @@ pub(crate) struct FalseRow {
 impl FalseRow {
     /// The row of a claim.
     pub(crate) fn of(claim: &Claim) -> FalseRow
-        ensures { result ≡ row_of claim.now }
+        ensures { result ≡ false_row_of claim.now }
     {
         FalseRow {
             row: claim.row,

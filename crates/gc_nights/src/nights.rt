@@ -4,7 +4,7 @@ ghost use Rattle.std.specs.Prelude.{[], ◌≡◌};
 ghost use Rattle.gc_nights.specs.Claims.{Compares, IsIncomplete};
 ghost use Rattle.gc_nights.specs.Runs.{AreRuns, AreFaithfulRuns};
 
-use crate::book::RunBook;
+use crate::book::{Interruption, RunBook, RunLimits};
 use crate::claim::first_false;
 use crate::halt::{FalseRow, Halt};
 use crate::quotient::quotient;
@@ -48,17 +48,6 @@ pub(crate) struct Programme<'a> {
     pub(crate) seed: u64,
     /// When the first night begins, in milliseconds since 1970.
     pub(crate) start: u64,
-}
-
-// How far a run of the station may come.
-#[derive(Clone, Copy)]
-struct RunLimits {
-    // How many cycles it has.
-    cycles: u64,
-    // After how many acts it is killed.
-    acts: u64,
-    // When its night is over, in milliseconds since 1970.
-    until: u64,
 }
 
 // How a run ended.
@@ -136,14 +125,9 @@ fn run_night<K: Sink>(
         if cycles == 0 {
             return Ok(());
         }
-        let acts = if kills == 0 {
-            u64::MAX
-        } else {
-            acts_until_kill(programme, night, kills)
-        };
         let limits = RunLimits {
             cycles,
-            acts,
+            acts: acts_until_kill(programme, night, kills),
             until: end_of_night(programme, begins),
         };
         match run_once(link, book, programme, limits)? {
@@ -173,11 +157,15 @@ fn cycles_left(programme: Programme<'_>, begins: u64, now: u64) -> u64 {
     programme.cycles.saturating_sub(gone)
 }
 
-// After how many acts of its run the next kill of a night comes, if `left` kills are left of the night: `ACTS_BEFORE_KILL`, and a
-// number that is drawn uniformly from 0 to a greatest one. The greatest one is twice the number of acts with which the commands
-// of the night's cycles are reckoned (`ACTS_OF_COMMAND`), divided by one more than the night's kills, so that the kills are
-// spread over the night; it is at most the greatest `u32`. Each planned kill has a draw of its own, whether it comes or not.
+// After how many acts of its run the next kill of a night comes, if `left` kills are left of the night; the greatest `u64` if none
+// is. It is `ACTS_BEFORE_KILL`, and a number that is drawn uniformly from 0 to a greatest one. The greatest one is twice the number
+// of acts with which the commands of the night's cycles are reckoned (`ACTS_OF_COMMAND`), divided by one more than the night's
+// kills, so that the kills are spread over the night; it is at most the greatest `u32`. Each planned kill has a draw of its own,
+// whether it comes or not.
 fn acts_until_kill(programme: Programme<'_>, night: u64, left: u64) -> u64 {
+    if left == 0 {
+        return u64::MAX;
+    }
     let acts = programme
         .commands
         .saturating_mul(programme.cycles)
@@ -208,7 +196,7 @@ fn run_by_plan<K: Sink>(
 }
 
 // Runs the station over the line within these limits. Then the rows of the run are compared with the truth (`check_rows`), and if that
-// succeeds, the end of the run is judged (`end_of_run`). It fails as these two do.
+// succeeds, the end of the run is judged (`judge_end`). It fails as these two do.
 fn run_once<K: Sink>(
     link: &mut Rehearsed<Seeded>,
     book: &mut RunBook<K>,
@@ -224,17 +212,17 @@ fn run_once<K: Sink>(
     let plan = plan_of(choice, programme.setup, programme.tasks);
     link.begin();
     let begins = programme.start.saturating_add(link.elapsed());
-    book.begin(begins, limits.acts, limits.until);
+    book.begin(begins, limits);
     let fault = run_by_plan(link, book, programme, &plan);
     check_rows(link, book, programme.seed)?;
-    end_of_run(book, fault)
+    judge_end(book, fault)
 }
 
 // How a run ended that stopped for this fault; `None`: it is done. The summary counts the last cycle of a run that is done, and
 // leaves out the last one of any other, also if it has a row for each command; but it counts how the run ended. A run that was
 // killed, or cut off at the end of its night, ended for that, whatever its fault. It fails with `Output` for any other run with
 // that fault, and with `Memory` if memory was refused for the last cycle.
-fn end_of_run<K>(book: &mut RunBook<K>, fault: Option<RunFault>) -> Result<RunEnd, Halt> {
+fn judge_end<K>(book: &mut RunBook<K>, fault: Option<RunFault>) -> Result<RunEnd, Halt> {
     let Some(fault) = fault else {
         if book.seen.summary.finish().is_err() {
             return Err(Halt::Fault(RunFault::Memory));
@@ -242,19 +230,21 @@ fn end_of_run<K>(book: &mut RunBook<K>, fault: Option<RunFault>) -> Result<RunEn
         return Ok(RunEnd::Done);
     };
     book.seen.summary.leave();
-    if book.is_killed() {
-        book.seen.summary.runs.count_killed();
-        return Ok(RunEnd::Killed);
+    match (book.interruption(), fault) {
+        (Some(Interruption::Killed), _) => {
+            book.seen.summary.runs.count_killed();
+            Ok(RunEnd::Killed)
+        }
+        (Some(Interruption::NightOver), _) => {
+            book.seen.summary.runs.count_cut_off();
+            Ok(RunEnd::CutOff)
+        }
+        (None, RunFault::Output) => Err(Halt::Fault(RunFault::Output)),
+        (None, fault) => {
+            book.seen.summary.runs.count_given_up(fault);
+            Ok(RunEnd::GaveUp)
+        }
     }
-    if book.is_cut_off() {
-        book.seen.summary.runs.count_cut_off();
-        return Ok(RunEnd::CutOff);
-    }
-    if let RunFault::Output = fault {
-        return Err(Halt::Fault(RunFault::Output));
-    }
-    book.seen.summary.runs.count_given_up(fault);
-    Ok(RunEnd::GaveUp)
 }
 
 // Compares each row of a run that says that a reply came with the truth, and fails with `Untrue` at the first false one. If

@@ -207,7 +207,7 @@ fn rehearse_texts<K: Sink + Drop, E: Write>(
         commands: commands as u64,
         choice: rehearsal.station.choice,
         nights: rehearsal.nights,
-        cycles: rehearsal.cycles(),
+        cycles: rehearsal.cycles,
         kills: kills_of(&rules),
         seed: rehearsal.seed,
         start: BEGINNING,
@@ -215,7 +215,7 @@ fn rehearse_texts<K: Sink + Drop, E: Write>(
     let Ok(deadlines) = Deadlines::new(alloc, tasks.as_slice(), setup) else {
         return (output, Err(Halt::Fault(RunFault::Memory)));
     };
-    let seen = Seen::new(BEGINNING, deadlines, Vec::new(alloc), summary);
+    let seen = Seen::new(alloc, BEGINNING, deadlines, summary);
     let book = RunBook::new(output, layout, names, seen);
     let chance = Seeded::new(rules, rehearsal.seed);
     let link = Rehearsed::new(alloc, chance, instrument, BEGINNING);

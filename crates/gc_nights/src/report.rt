@@ -39,21 +39,20 @@ fn tell_nights<E: Write>(
     messages: &mut E,
 ) -> io::Result<()> {
     let runs = summary.runs;
-    let nights = programme.nights;
-    let seed = programme.seed;
-    write!(messages, "nights {nights} seed {seed} ")?;
-    let killed = runs.killed;
-    write!(messages, "killed {killed} ")?;
-    let gave_up = runs.gave_up;
-    write!(messages, "gave up {gave_up}")?;
+    write!(
+        messages,
+        "nights {} seed {} ",
+        programme.nights, programme.seed
+    )?;
+    write!(messages, "killed {} gave up {}", runs.killed, runs.gave_up)?;
     if let Some(fault) = runs.fault {
-        let number = fault.number();
-        write!(messages, " with fault {number}")?;
+        write!(messages, " with fault {}", fault.number())?;
     }
-    let cut_off = runs.cut_off;
-    write!(messages, " cut off {cut_off}")?;
-    let rows = summary.rows;
-    writeln!(messages, " rows {rows} false 0")
+    writeln!(
+        messages,
+        " cut off {} rows {} false 0",
+        runs.cut_off, summary.rows
+    )
 }
 
 // Writes how commands ended, and the end of the line.
@@ -72,16 +71,14 @@ fn tell_cycles<E: Write>(
     messages: &mut E,
 ) -> io::Result<()> {
     let due = programme.cycles.saturating_mul(programme.nights);
-    let whole = summary.whole;
-    write!(messages, "cycles {due} whole {whole}, ")?;
-    tell_percent(whole, due, messages)?;
-    write!(messages, "; milliseconds least ")?;
     let spans = summary.spans.as_slice();
     let least = number_at(spans, 0);
     let median = number_at(spans, spans.len() / 2);
-    write!(messages, "{least} median {median} ")?;
     let worst = number_at(spans, spans.len().saturating_sub(1));
-    writeln!(messages, "worst {worst}")
+    write!(messages, "cycles {due} whole {}, ", summary.whole)?;
+    tell_percent(summary.whole, due, messages)?;
+    write!(messages, "; milliseconds least {least} ")?;
+    writeln!(messages, "median {median} worst {worst}")
 }
 
 // The number at a place; 0 if there is no such place.
@@ -99,10 +96,8 @@ fn tell_percent<E: Write>(part: u64, whole: u64, messages: &mut E) -> io::Result
 // Writes a number of hundredths as a decimal with two places.
 fn tell_hundredths<E: Write>(number: u64, messages: &mut E) -> io::Result<()> {
     let ones = number / 100;
-    let tenths = number / 10 % 10;
-    write!(messages, "{ones}.{tenths}")?;
-    let hundredths = number % 10;
-    write!(messages, "{hundredths}")
+    let hundredths = number % 100;
+    write!(messages, "{ones}.{hundredths:02}")
 }
 
 // Writes how the commands of a target with this name ended.
@@ -115,17 +110,19 @@ fn tell_target<E: Write>(target: TargetTally, name: &[u8], messages: &mut E) -> 
 // Writes the counts of what happened on the line: requests, replies, how often a line was lost or repeated, holds, closes,
 // refusals of connections, and restarts of the instrument.
 fn tell_line<E: Write>(counts: Counts, messages: &mut E) -> io::Result<()> {
-    let requests = counts.requests;
-    let replies = counts.replies;
+    let Counts {
+        requests,
+        replies,
+        lost,
+        repeated,
+        holds,
+        closes,
+        refusals,
+        restarts,
+    } = counts;
     write!(messages, "line: requests {requests} replies {replies} ")?;
-    let lost = counts.lost;
-    let repeated = counts.repeated;
     write!(messages, "lost {lost} repeated {repeated} ")?;
-    let holds = counts.holds;
-    let closes = counts.closes;
     write!(messages, "holds {holds} closes {closes} ")?;
-    let refusals = counts.refusals;
-    let restarts = counts.restarts;
     writeln!(messages, "refusals {refusals} restarts {restarts}")
 }
 

@@ -1,6 +1,6 @@
 //! What decides on the line of a rehearsal: the rules of its text, and a seed.
 
-use gc_fates::{Direction, Draws, Rules, fate_of, restarts_at};
+use gc_fates::{Draws, Rules, fate_of, restarts_at};
 use gc_rehearsal::{Chance, Fate};
 
 // Of a request that a close cuts, fewer bytes than this are sent.
@@ -34,8 +34,8 @@ impl Seeded {
     pub(crate) fn new(rules: Rules, seed: u64) -> Seeded {
         Seeded {
             rules,
-            up: Draws::new(seed, Direction::Up),
-            down: Draws::new(seed, Direction::Down),
+            up: Draws::of_ups(seed),
+            down: Draws::of_downs(seed),
             ups: 0,
             downs: 0,
             is_reply_next: false,
@@ -74,7 +74,7 @@ impl Chance for Seeded {
     }
 
     // How many bytes are sent of the last request, at which the connection closes: drawn for that request, and below `CUT_MAX`.
-    fn cut(&mut self) -> usize {
+    fn cut_place(&mut self) -> usize {
         (self.up.draw(self.ups, CUT_DRAW) % CUT_MAX) as usize
     }
 

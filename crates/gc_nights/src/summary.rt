@@ -51,6 +51,40 @@ impl RunCounts {
     }
 }
 
+// A cycle that is going on.
+#[derive(Clone, Copy)]
+struct Cycle {
+    // Its number in its run, from 1.
+    number: u64,
+    // When its first request went out. `None`: nothing was sent yet.
+    first: Option<u64>,
+    // When the last of its commands ended that were sent; 0 as long as nothing was sent.
+    last: u64,
+}
+
+impl Cycle {
+    // The cycle with this number, before its first row.
+    fn new(number: u64) -> Cycle {
+        Cycle {
+            number,
+            first: None,
+            last: 0,
+        }
+    }
+
+    // The cycle with one more row, whose moments are those of the stamp.
+    fn with_row(self, stamp: Stamp) -> Cycle {
+        let Some(sent) = stamp.sent else {
+            return self;
+        };
+        Cycle {
+            number: self.number,
+            first: Some(self.first.unwrap_or(sent)),
+            last: stamp.utc,
+        }
+    }
+}
+
 /// What is counted over all nights. Times are in milliseconds.
 #[derive(Drop)]
 pub(crate) struct Summary {
@@ -66,12 +100,8 @@ pub(crate) struct Summary {
     pub(crate) spans: Vec<u64>,
     // How many of the cycles that were counted (`finish`) have a good answer (`is_well`) in the last row of each command.
     pub(crate) whole: u64,
-    // The cycle of the last row that isn't one of the setup; 0 where none is going on. When its first request went out (`None`:
-    // nothing was sent yet), and when the last of its commands ended that were sent (without meaning as long as nothing was
-    // sent).
-    cycle: u64,
-    first: Option<u64>,
-    last: u64,
+    // The cycle of the last row that isn't one of the setup. `None`: none is going on.
+    cycle: Option<Cycle>,
     // For each command of a cycle, by its place: the number of the cycle of its last row, counted over all nights, if it was answered
     // well there, and else 0.
     good: Vec<u64>,
@@ -81,10 +111,10 @@ pub(crate) struct Summary {
 
 // The place of a target among these; how many they are, if it isn't one of them.
 fn place_of_target(targets: &[TargetTally], target: u32) -> usize {
-    match targets.iter().position(|tally| tally.target == target) {
-        Some(place) => place,
-        None => targets.len(),
-    }
+    targets
+        .iter()
+        .position(|tally| tally.target == target)
+        .unwrap_or(targets.len())
 }
 
 impl Summary {
@@ -98,9 +128,7 @@ impl Summary {
             targets: Vec::new(alloc),
             spans: Vec::new(alloc),
             whole: 0,
-            cycle: 0,
-            first: None,
-            last: 0,
+            cycle: None,
             good: vec![in alloc; 0u64; commands]?,
             count: 0,
         })
@@ -120,28 +148,26 @@ impl Summary {
         if stamp.cycle == 0 {
             return Ok(());
         }
-        if stamp.cycle != self.cycle {
-            self.finish()?;
-            self.cycle = stamp.cycle;
-            self.first = None;
-            self.count = self.count.saturating_add(1);
-        }
-        self.note_row(stamp, is_well(ending));
-        Ok(())
-    }
-
-    // Notes a row of the cycle that is going on, and whether its command was answered well (`good`).
-    fn note_row(&mut self, stamp: Stamp, good: bool) {
-        if let Some(sent) = stamp.sent {
-            if self.first.is_none() {
-                self.first = Some(sent);
-            }
-            self.last = stamp.utc;
-        }
-        let count = if good { self.count } else { 0 };
+        let cycle = self.cycle_of(stamp)?;
+        self.cycle = Some(cycle.with_row(stamp));
+        let count = if is_well(ending) { self.count } else { 0 };
         if let Some(place) = self.good.get_mut(stamp.turn.place) {
             *place = count;
         }
+        Ok(())
+    }
+
+    // The cycle of a row with this stamp, as it was before the row: the one that is going on; or else a new one, before which that
+    // one is ended and counted (`finish`). It fails as `finish` does.
+    fn cycle_of(&mut self, stamp: Stamp) -> Result<Cycle, AllocError> {
+        if let Some(cycle) = self.cycle {
+            if cycle.number == stamp.cycle {
+                return Ok(cycle);
+            }
+        }
+        self.finish()?;
+        self.count = self.count.saturating_add(1);
+        Ok(Cycle::new(stamp.cycle))
     }
 
     // Counts a row of a target, which gets a tally at its first row. It fails, and doesn't count the row, if memory is refused
@@ -162,12 +188,12 @@ impl Summary {
     /// is whole. It is called once the cycle has a row for each command. It fails, and doesn't count the cycle, if memory is
     /// refused for its span.
     pub(crate) fn finish(&mut self) -> Result<(), AllocError> {
-        if self.cycle == 0 {
+        let Some(cycle) = self.cycle else {
             return Ok(());
-        }
-        self.cycle = 0;
-        if let Some(first) = self.first {
-            self.spans.push(self.last.saturating_sub(first))?;
+        };
+        self.cycle = None;
+        if let Some(first) = cycle.first {
+            self.spans.push(cycle.last.saturating_sub(first))?;
         }
         let count = self.count;
         if self.good.iter().all(|place| *place == count) {
@@ -179,6 +205,6 @@ impl Summary {
     /// Ends the cycle that is going on, and doesn't count it, also if it has a row for each command: the run ended before it was
     /// done.
     pub(crate) fn leave(&mut self) {
-        self.cycle = 0;
+        self.cycle = None;
     }
 }

@@ -11,7 +11,7 @@
 //!     do hear 0                what this caller, counted from 0, has heard at the end of its connection, or `it waits` if no end comes
 //!     do ask 9 7 5003\n        these commands are asked at the port, in that many reads
 //!     do accept                the connection that `ask` or `at` made is accepted, and its end here is one more caller
-//!     do listen [::1]          another port, of this address; where it can't be listened at, `at` reports `done`
+//!     do listen [::1]          another port, of this address or of 127.0.0.2; where [::1] can't be listened at, `at` reports `done`
 //!     do at [::1]              a text without commands is asked there
 //!     do port 7                a text without commands is asked at this port, by its number and as a place, and the port is served
 //!     do ends, cut_ends        in ends.rt
@@ -48,7 +48,7 @@ impl Player for CallersPlayer {
 
 // Plays the rows of a case at the port of this listener.
 fn play_at(rt: &HostRuntime, listener: TcpListener, case: &Case<'_>, wrong: &mut Told) {
-    let mut played = Played {
+    let mut played = PortRows {
         rt,
         listener,
         is_absent: false,
@@ -60,7 +60,7 @@ fn play_at(rt: &HostRuntime, listener: TcpListener, case: &Case<'_>, wrong: &mut
 
 // A port, the instrument that is served there, and the port's callers.
 #[derive(Drop)]
-struct Played<'a> {
+struct PortRows<'a> {
     rt: &'a HostRuntime,
     listener: TcpListener,
     // Whether the last row `listen [::1]` couldn't listen, as on a machine that has no such address.
@@ -69,18 +69,18 @@ struct Played<'a> {
     callers: Vec<TcpStream>,
 }
 
-impl<'a> Rows for Played<'a> {
+impl<'a> Rows for PortRows<'a> {
     // Plays a row by its word: here if something is served, asked or heard, otherwise in `prepare`.
-    fn play(&mut self, alloc: Global, word: &str, what: &str, bytes: &[u8], came: &mut Told) {
+    fn play(&mut self, _alloc: Global, word: &str, what: &str, bytes: &[u8], came: &mut Told) {
         match word {
             "serve" => self.serve(what, came),
-            "keep" => self.keep(alloc, what, came),
+            "keep" => self.keep(what, came),
             "slow" => self.serve_slowly(what, came),
-            "hear" => self.hear(alloc, what, came),
-            "ask" => self.ask(alloc, cut_word(what).0, bytes, came),
-            "at" => self.ask_at(alloc, what, came),
-            "port" => self.ask_port(alloc, what, came),
-            "ends" => tell_ends(alloc, came),
+            "hear" => self.hear(what, came),
+            "ask" => self.ask(cut_word(what).0, bytes, came),
+            "at" => self.ask_at(what, came),
+            "port" => self.ask_port(what, came),
+            "ends" => tell_ends(self.rt.alloc(), came),
             "cut_ends" => tell_cut_ends(came),
             _ => self.prepare(word, what, bytes, came),
         }
@@ -110,7 +110,7 @@ fn tell_uncounted(lines: &str, came: &mut Told) {
     came.text(behind.split_once(" byte ").map_or(behind, |cut| cut.1));
 }
 
-impl<'a> Played<'a> {
+impl<'a> PortRows<'a> {
     // Plays a row in which a caller does something, or in which another port is listened at, and reports what can't be done, or that the
     // word is unknown.
     fn prepare(&mut self, word: &str, what: &str, bytes: &[u8], came: &mut Told) {
@@ -150,7 +150,7 @@ impl<'a> Played<'a> {
     // The last caller writes what is in `bytes` after the number `times`, that many times. At the first write that fails it
     // stops, and reports that.
     fn write_times(&mut self, times: &str, bytes: &[u8], came: &mut Told) {
-        for _ in 0..came.number::<u64>(times) {
+        for _ in 0..came.number_in::<u64>(times) {
             if !self.write(bytes_behind(times, bytes)) {
                 return tell_done(false, came);
             }
@@ -174,16 +174,23 @@ impl<'a> Played<'a> {
         }
     }
 
-    // Listens at a free port of the address 127.0.0.2, if `what` says so, and otherwise of ::1, from now on. Returns whether that
-    // could be done; for ::1 always `true`: where ::1 can't be listened at, as on a machine without it, `is_absent` is true. If
-    // it can't be done, the listener from before stays.
+    // Listens at a free port of this address from now on, which is 127.0.0.2 or [::1]. Returns whether that could be done. Where [::1]
+    // can't be listened at, as on a machine without it, that counts as done, and `is_absent` is true.
     fn listen(&mut self, what: &str) -> bool {
-        if what == "127.0.0.2" {
-            let address = SocketAddr::from(([127, 0, 0, 2], 0));
-            return self.listen_by(TcpListener::bind(self.rt, address));
+        match what {
+            "127.0.0.2" => {
+                let address = SocketAddr::from(([127, 0, 0, 2], 0));
+                self.listen_by(TcpListener::bind(self.rt, address))
+            }
+            "[::1]" => {
+                self.is_absent = !self.listen_by(TcpListener::bind(
+                    self.rt,
+                    (Ipv6Addr::LOCALHOST, 0),
+                ));
+                true
+            }
+            _ => false,
         }
-        self.is_absent = !self.listen_by(TcpListener::bind(self.rt, (Ipv6Addr::LOCALHOST, 0)));
-        true
     }
 
     // Listens by this listener from now on, if there is one, and returns whether there is. Without one the listener from before stays.
@@ -200,8 +207,8 @@ impl<'a> Played<'a> {
     // Serves callers, and reports how that ended. `what` says how many callers, and how many reads each may take.
     fn serve(&mut self, what: &str, came: &mut Told) {
         let (count, reads) = cut_word(what);
-        let count = came.number(count);
-        let reads = came.number(reads);
+        let count = came.number_in(count);
+        let reads = came.number_in(reads);
         let end = serve_on(self.rt, &self.listener, count, &mut self.instrument, reads);
         tell_end(end, came)
     }
@@ -213,8 +220,8 @@ impl<'a> Played<'a> {
         let (busy, rest) = cut_word(what);
         let (rpc, ms) = cut_word(rest);
         let delay = Delay {
-            rpc: came.number(rpc),
-            ms: came.number(ms),
+            rpc: came.number_in(rpc),
+            ms: came.number_in(ms),
         };
         let slow = slow_instrument(delay, busy == "drop");
         let (Ok(clock), Ok(begun)) = (BusyClock::new(self.rt, &slow), Instant::now(self.rt)) else {
@@ -230,13 +237,13 @@ impl<'a> Played<'a> {
 
     // Serves as many callers as `what` says at a kept port, each in at most nine reads. The port closes the connection of one
     // that is idle for a second. Reports whether all lines on their faults could be written, and these lines.
-    fn keep(&mut self, alloc: Global, what: &str, came: &mut Told) {
+    fn keep(&mut self, what: &str, came: &mut Told) {
         let keeping = Keeping {
-            connections: Some(came.number(what)),
+            connections: Some(came.number_in(what)),
             idle: 1,
             max_reads: 9,
         };
-        let mut messages = Vec::new(alloc);
+        let mut messages = Vec::new(self.rt.alloc());
         let all = keep_on(
             self.rt,
             &self.listener,
@@ -248,55 +255,78 @@ impl<'a> Played<'a> {
     }
 
     // Reports what the caller at the place `what`, counted from 0, has heard, or that there is no such caller.
-    fn hear(&mut self, alloc: Global, what: &str, came: &mut Told) {
-        let place = came.number::<usize>(what);
+    fn hear(&mut self, what: &str, came: &mut Told) {
+        let place = came.number_in::<usize>(what);
         match self.callers.get_mut(place) {
-            Some(caller) => tell_heard(alloc, caller, came),
+            Some(caller) => tell_heard(self.rt.alloc(), caller, came),
             None => came.text("no such caller"),
         }
     }
 
     // Asks the commands in `bytes` after the number `reads` at the port, in at most that many reads, and reports what was
     // written and how it ended; or `no port` if the system doesn't say which port it is.
-    fn ask(&mut self, alloc: Global, reads: &str, bytes: &[u8], came: &mut Told) {
+    fn ask(&self, reads: &str, bytes: &[u8], came: &mut Told) {
         let port = port_of(&self.listener);
         if port == 0 {
             return came.text("no port");
         }
-        let mut source = PieceSource::new(bytes_behind(reads, bytes), &[], u64::MAX);
-        let mut sink = PieceSink::new(alloc, 1000, u64::MAX);
-        let reads = came.number(reads);
-        let end = ask_tcp(self.rt, alloc, port, &mut source, &mut sink, reads);
-        came.bytes(sink.taken());
-        tell_end(end, came)
+        let most = came.number_in(reads);
+        self.tell_asked(port, bytes_behind(reads, bytes), most, came);
     }
 
     // Asks a text without commands at the address or name `what`, with the listener's port (0 if the system doesn't say), and
     // reports how that ended. If `is_absent`, nobody is asked, and `done` is reported.
-    fn ask_at(&mut self, alloc: Global, what: &str, came: &mut Told) {
+    fn ask_at(&self, what: &str, came: &mut Told) {
         if self.is_absent {
             return came.text("done");
         }
-        let mut name = Told::new(alloc);
+        let mut name = Told::new(self.rt.alloc());
         name.text(what);
         name.titled(":", &port_of(&self.listener));
         let name = str::from_utf8(name.as_bytes()).unwrap_or("");
-        tell_end(ask_place(self.rt, alloc, Place::Host(name)), came)
+        tell_end(self.ask_place(Place::Host(name)), came)
     }
 
     // Asks a text without commands at the port that `what` says, by its number and as a place, then serves that port, and reports how
     // each of these ended; or `no port` if `what` is no number from 1 to 65535.
-    fn ask_port(&mut self, alloc: Global, what: &str, came: &mut Told) {
-        let port = came.number::<u16>(what);
+    fn ask_port(&mut self, what: &str, came: &mut Told) {
+        let port = came.number_in::<u16>(what);
         if port == 0 {
             return came.text("no port");
         }
         let _other = listener_at_1024(self.rt);
-        tell_asked(self.rt, alloc, port, came);
+        self.tell_asked(port, b"", 9, came);
+        came.text(", ");
+        tell_end(self.ask_place(Place::Port(port)), came);
         came.text(", ");
         // Serving fails then: the port is in use, or this user can't bind it.
         let _taken = listen(self.rt, port);
         let end = serve_tcp(self.rt, Address::Here(port), 1, &mut self.instrument, 9);
+        tell_end(end, came)
+    }
+
+    // Asks a text without commands at a place, in at most nine reads, and returns how that ended.
+    fn ask_place(&self, place: Place<'_>) -> Result<(), RunFault> {
+        let mut none = PieceSource::new(b"", &[], u64::MAX);
+        let mut sink = PieceSink::new(self.rt.alloc(), 1000, u64::MAX);
+        ask_at(self.rt, self.rt.alloc(), place, &mut none, &mut sink, 9)
+    }
+
+    // Asks these commands at a port, by its number, in at most so many reads, and reports what was written and how it ended.
+    fn tell_asked(&self, port: u16, commands: &[u8], reads: u32, came: &mut Told)
+        requires { 1 ≤ port }
+    {
+        let mut source = PieceSource::new(commands, &[], u64::MAX);
+        let mut sink = PieceSink::new(self.rt.alloc(), 1000, u64::MAX);
+        let end = ask_tcp(
+            self.rt,
+            self.rt.alloc(),
+            port,
+            &mut source,
+            &mut sink,
+            reads,
+        );
+        came.bytes(sink.taken());
         tell_end(end, came)
     }
 }
@@ -356,23 +386,4 @@ fn tell_heard(alloc: Global, caller: &mut TcpStream, came: &mut Told) {
         return came.text("it waits");
     }
     tell_end_behind(bytes.as_slice(), came);
-}
-
-// Asks a text without commands at a place, in at most nine reads, and returns how that ended.
-fn ask_place(rt: &HostRuntime, alloc: Global, place: Place<'_>) -> Result<(), RunFault> {
-    let mut none = PieceSource::new(b"", &[], u64::MAX);
-    let mut sink = PieceSink::new(alloc, 1000, u64::MAX);
-    ask_at(rt, alloc, place, &mut none, &mut sink, 9)
-}
-
-// Reports how it ends when no commands are asked at a port: first over `ask_tcp`, by the port's number, and then over `ask_at`, by a
-// place, with a comma between.
-fn tell_asked(rt: &HostRuntime, alloc: Global, port: u16, came: &mut Told)
-    requires { 1 ≤ port }
-{
-    let mut none = PieceSource::new(b"", &[], u64::MAX);
-    let mut sink = PieceSink::new(alloc, 1000, u64::MAX);
-    tell_end(ask_tcp(rt, alloc, port, &mut none, &mut sink, 9), came);
-    came.text(", ");
-    tell_end(ask_place(rt, alloc, Place::Port(port)), came);
 }

@@ -5,7 +5,6 @@ use crate::links::{await_silence, dots, put_counted};
 use crate::rig::{Done, Rig, rigged};
 use gc_cases::{CaseRuntime, Told};
 use gc_links::{Came, Link, Place, PlacedLink, TcpLink, Unusable};
-use std::alloc::Global;
 use std::cell::RefCell;
 use std::fs::{File, OpenOptions};
 use std::net::{SocketAddr, TcpStream, UdpSocket};
@@ -16,9 +15,9 @@ use std::{io, thread};
 
 /// Reports what the link of the row with this word comes to: `device`, `pulled`, `second_address` or `own_connection`. Any other word is
 /// reported as unknown.
-pub fn tell_outcome(rt: &HostRuntime, alloc: Global, word: &str, came: &mut Told) {
+pub fn tell_outcome(rt: &HostRuntime, word: &str, came: &mut Told) {
     match word {
-        "device" => tell_device(rt, alloc, came),
+        "device" => tell_device(rt, came),
         "pulled" => came.text(pulled_outcome(rt).text()),
         "second_address" => came.text(second_address_outcome(rt).text()),
         "own_connection" => came.text(own_connection_outcome(rt).text()),
@@ -80,8 +79,8 @@ impl Outcome {
 }
 
 // Reports what a link over a device comes to. If memory runs out for the bytes to put, `came` notes that it lacks a part.
-fn tell_device(rt: &HostRuntime, alloc: Global, came: &mut Told) {
-    match dots(alloc, 1_000_000) {
+fn tell_device(rt: &HostRuntime, came: &mut Told) {
+    match dots(rt.alloc(), 1_000_000) {
         Ok(much) => came.text(device_outcome(rt, much.as_slice()).text()),
         Err(_) => came.lack(),
     }

@@ -72,7 +72,7 @@ fn play_over<'a>(
     case: &Case<'_>,
     wrong: &mut Told,
 ) {
-    let mut played = Played {
+    let mut played = LinkRows {
         rt,
         listener: Some(listener),
         link,
@@ -84,7 +84,7 @@ fn play_over<'a>(
 
 // A link, its far end, and the listener at its port.
 #[derive(Drop)]
-struct Played<'a> {
+struct LinkRows<'a> {
     rt: &'a HostRuntime,
     // `None`: nobody listens any more.
     listener: Option<TcpListener>,
@@ -95,28 +95,28 @@ struct Played<'a> {
     sent: usize,
 }
 
-impl<'a> Rows for Played<'a> {
+impl<'a> Rows for LinkRows<'a> {
     // Plays a row by its word: here, or in devices.rt.
-    fn play(&mut self, alloc: Global, word: &str, what: &str, bytes: &[u8], came: &mut Told) {
+    fn play(&mut self, _alloc: Global, word: &str, what: &str, bytes: &[u8], came: &mut Told) {
         match word {
             "open" => came.either(self.link.open().is_ok(), "open", "shut"),
             "close" => self.link.close(),
             "put" => self.put(bytes, came),
-            "stall" => self.stall(alloc, came),
+            "stall" => self.stall(came),
             "read" => self.read(&mut [0; 2], 1000, came),
             "look" => self.read(&mut [0; 16], 1, came),
             "wait" => self.wait(what, came),
-            "hear" => self.hear(alloc, came),
+            "hear" => self.hear(came),
             "accept" => self.far = self.accept(),
             "far" => self.write_far(bytes, came),
             "go" => self.far = None,
             "deaf" => self.listener = None,
-            _ => tell_outcome(self.rt, alloc, word, came),
+            _ => tell_outcome(self.rt, word, came),
         }
     }
 }
 
-impl<'a> Played<'a> {
+impl<'a> LinkRows<'a> {
     // Puts bytes on the link, and reports whether all were sent, or after how many bytes the put was cut; or that there is nothing to put.
     fn put(&mut self, bytes: &[u8], came: &mut Told) {
         if bytes.is_empty() {
@@ -130,8 +130,8 @@ impl<'a> Played<'a> {
 
     // Puts sixteen million bytes, which is more than a connection takes while nobody reads, and reports what came of the put. If
     // memory runs out for the bytes, `came` notes that it lacks a part.
-    fn stall(&mut self, alloc: Global, came: &mut Told) {
-        match dots(alloc, 16_000_000) {
+    fn stall(&mut self, came: &mut Told) {
+        match dots(self.rt.alloc(), 16_000_000) {
             Ok(much) => self.put_much(much.as_slice(), came),
             Err(_) => came.lack(),
         }
@@ -160,14 +160,14 @@ impl<'a> Played<'a> {
     fn read(&mut self, buf: &mut [u8], millis: u64, came: &mut Told)
         requires { 0 < length buf.old }
     {
-        let ended = self.link.read(buf, millis);
-        tell_came(ended, buf, came)
+        let read = self.link.read(buf, millis);
+        tell_came(read, buf, came)
     }
 
     // Waits until the link was silent for as many milliseconds as `what` says. Reports that the link was silent so long, in less
     // than a second, or else for how many milliseconds it was silent, as `await_silence` says.
     fn wait(&mut self, what: &str, came: &mut Told) {
-        let millis = came.number(what);
+        let millis = came.number_in(what);
         let waited = await_silence(&mut self.link, millis);
         if waited < millis || waited >= 1000 {
             return came.counted(&waited, " milliseconds of silence");
@@ -176,9 +176,9 @@ impl<'a> Played<'a> {
     }
 
     // Reports what the far end heard until the end of its connection, or that there is no far end.
-    fn hear(&mut self, alloc: Global, came: &mut Told) {
+    fn hear(&mut self, came: &mut Told) {
         match &mut self.far {
-            Some(far) => tell_heard(alloc, far, self.sent, came),
+            Some(far) => tell_far_heard(self.rt.alloc(), far, self.sent, came),
             None => came.text("no far end"),
         }
     }
@@ -203,18 +203,18 @@ fn write_all(far: &mut Option<TcpStream>, bytes: &[u8]) -> bool {
     }
 }
 
-// Reads what the far end hears until its connection is shut, and reports it as `tell_heard_bytes` says. `sent` is how many bytes the
+// Reads what the far end hears until its connection is shut, and reports it as `tell_far_bytes` says. `sent` is how many bytes the
 // stalled put sent.
-fn tell_heard(alloc: Global, far: &mut TcpStream, sent: usize, came: &mut Told) {
+fn tell_far_heard(alloc: Global, far: &mut TcpStream, sent: usize, came: &mut Told) {
     let mut bytes = Vec::new(alloc);
     let is_end = hear(far, &mut bytes);
-    tell_heard_bytes(is_end, bytes.as_slice(), sent, came);
+    tell_far_bytes(is_end, bytes.as_slice(), sent, came);
 }
 
 // Reports what a far end heard: `bytes` until its connection was shut, or `open` if it wasn't heard to that end (`is_end` is
 // false). Of a hundred bytes or more only the number is reported, and as "that part" if it is `sent`, how many bytes the stalled
 // put sent.
-fn tell_heard_bytes(is_end: bool, bytes: &[u8], sent: usize, came: &mut Told) {
+fn tell_far_bytes(is_end: bool, bytes: &[u8], sent: usize, came: &mut Told) {
     if !is_end {
         return came.text("open");
     }
@@ -252,10 +252,10 @@ pub fn put_counted<L: Link>(link: &mut L, bytes: &[u8]) -> usize {
     }
 }
 
-// Reports what a read into `buf` came to, as `ended` says: the bytes that came, or, if their moment isn't after `YEAR_2023`, that moment;
+// Reports what a read into `buf` came to, `read`: the bytes that came, or, if their moment isn't after `YEAR_2023`, that moment;
 // and if no bytes came, a word.
-fn tell_came(ended: Came, buf: &[u8], came: &mut Told) {
-    match ended {
+fn tell_came(read: Came, buf: &[u8], came: &mut Told) {
+    match read {
         Came::Bytes(n, moment) if moment.utc > YEAR_2023 => {
             came.bytes(buf.get(..n).unwrap_or(b""))
         }

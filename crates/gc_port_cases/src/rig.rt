@@ -55,7 +55,7 @@ impl<'a, 'b, 'c> StandIn for Rig<'a, 'b, 'c> {
     // How long links have rested so far. `Err`: `done` is in use.
     fn elapsed(&self) -> io::Result<Duration> {
         let Ok(done) = self.done.try_borrow() else {
-            return Err(in_use());
+            return in_use();
         };
         Ok(Duration::from_millis(done.rested))
     }
@@ -76,7 +76,7 @@ impl<'a, 'b, 'c> StandIn for Rig<'a, 'b, 'c> {
     // further handle of it can be had, or `done` is in use.
     fn connect(&self) -> io::Result<TcpStream> {
         let Ok(mut done) = self.done.try_borrow_mut() else {
-            return Err(in_use());
+            return in_use();
         };
         let at = done.tried;
         done.tried = at.saturating_add(1);

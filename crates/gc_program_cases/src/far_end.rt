@@ -54,7 +54,7 @@ impl Seen {
 /// Makes a connection, and returns both ends, the station's first. They are a pair of Unix sockets, because what is written to one
 /// can be read at the other at once. No read of either waits. `Err`: the system gives no pair, or can't set an end so that no read
 /// of it waits.
-pub fn both_ends(net: &impl Net) -> io::Result<(TcpStream, TcpStream)> {
+pub fn paired_ends(net: &impl Net) -> io::Result<(TcpStream, TcpStream)> {
     let ends = UnixStream::pair(net)?;
     unblock_both(&ends)?;
     Ok(streams_of(ends))
@@ -128,9 +128,10 @@ impl<'a, 'b> FarEnd<'a, 'b> {
         }
     }
 
-    // The moment of the clock. If the station has waited in a read before it asks for the moment, which is so if its time-out is above
-    // `NO_WAIT`, that wait is played first. `Err`: more than `until` milliseconds have passed, or the station's time-out can't be read.
-    fn moment(&self, seen: &mut Seen) -> io::Result<Duration> {
+    // How much time has passed. Before that the station's wait is played, if it has waited in a read before it asks for the
+    // moment: that is so if its time-out is above `NO_WAIT`. `Err`: more than `until` milliseconds have passed, or the station's
+    // time-out can't be read.
+    fn elapsed_after_wait(&self, seen: &mut Seen) -> io::Result<Duration> {
         let patience = self.patience()?;
         if patience > NO_WAIT {
             self.wait(seen, patience);
@@ -190,12 +191,11 @@ impl<'a> Write for Changing<'a> {
 }
 
 impl<'a, 'b> StandIn for FarEnd<'a, 'b> {
-    // How much time has passed. If the station has waited in a read before it asks, that wait is played first (`moment`). `Err`: as of
-    // `moment`, or `seen` is in use.
+    // How much time has passed, with the station's wait (`elapsed_after_wait`). `Err`: as of that, or `seen` is in use.
     fn elapsed(&self) -> io::Result<Duration> {
         match self.seen.try_borrow_mut() {
-            Ok(mut seen) => self.moment(&mut seen),
-            Err(_) => Err(in_use()),
+            Ok(mut seen) => self.elapsed_after_wait(&mut seen),
+            Err(_) => in_use(),
         }
     }
 
@@ -204,7 +204,7 @@ impl<'a, 'b> StandIn for FarEnd<'a, 'b> {
     fn since_1970(&self) -> io::Result<Duration> {
         match self.seen.try_borrow() {
             Ok(seen) => Ok(Duration::from_millis(BEGIN.saturating_add(seen.elapsed))),
-            Err(_) => Err(in_use()),
+            Err(_) => in_use(),
         }
     }
 
@@ -220,7 +220,7 @@ impl<'a, 'b> StandIn for FarEnd<'a, 'b> {
     // `seen` is in use.
     fn connect(&self) -> io::Result<TcpStream> {
         let Ok(mut seen) = self.seen.try_borrow_mut() else {
-            return Err(in_use());
+            return in_use();
         };
         seen.tried = seen.tried.saturating_add(1);
         if u64::from(seen.tried) <= self.refused {
@@ -232,7 +232,7 @@ impl<'a, 'b> StandIn for FarEnd<'a, 'b> {
     // Notes the file's path, unless `seen` is in use, and opens nothing: it always fails.
     fn open(&self, path: &str) -> io::Result<File> {
         let Ok(mut seen) = self.seen.try_borrow_mut() else {
-            return Err(in_use());
+            return in_use();
         };
         seen.files.text(path);
         seen.files.text("\n");

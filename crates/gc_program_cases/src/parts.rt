@@ -10,7 +10,7 @@
 //! A case has at most sixteen lines of each of the first three, and one of each other.
 
 use gc_cases::{Case, Told, bytes_of};
-use std::alloc::Global;
+use std::alloc::{AllocError, Global};
 
 // The most texts that a case has under one key. Further ones aren't looked for.
 const MOST_PARTS: usize = 16;
@@ -19,70 +19,112 @@ const MOST_PARTS: usize = 16;
 /// in one line under `wrong`, a key that no case has. Such a line comes also if memory ran out for a part or for the messages.
 /// Messages that aren't UTF-8 count as `no text`.
 pub fn tell_parts(alloc: Global, case: &Case<'_>, output: &str, told: &Told, wrong: &mut Told) {
-    let mut missing = Told::new(alloc);
+    let mut missing = Missing {
+        alloc,
+        case: *case,
+        parts: Told::new(alloc),
+    };
     let messages = str::from_utf8(told.as_bytes()).unwrap_or("no text");
-    add_all(alloc, case, output, messages, &mut missing);
-    if !missing.is("") {
-        missing.text(messages);
-    }
+    missing.add_all(output, messages);
     if told.is_lacking() {
-        missing.lack();
+        missing.parts.lack();
     }
-    case.tell_told("wrong", &missing, wrong);
+    case.tell_told("wrong", &missing.parts, wrong);
 }
 
-// Adds to `missing` each part that the case asks for and that the output or the messages lack.
-fn add_all(alloc: Global, case: &Case<'_>, output: &str, messages: &str, missing: &mut Told) {
-    add_missing(alloc, case, "has", output, missing);
-    add_missing(alloc, case, "tells", messages, missing);
-    add_missing(alloc, case, "counts", messages, missing);
-    add_ends(alloc, case, messages.as_bytes(), missing);
-    add_length(case, messages.len() as u64, missing);
+/// Whether a case asks for parts of the messages, by texts in them. The number of their bytes (`length`) is no such part.
+pub fn asks_for_parts(case: &Case<'_>) -> bool {
+    ["tells", "counts", "begins", "ends"]
+        .iter()
+        .any(|key| case.value(key) != "")
 }
 
-// Adds to `missing` each value under `key` whose text doesn't occur in what came, or under `counts` not as often as the value says.
-fn add_missing(alloc: Global, case: &Case<'_>, key: &str, came: &str, missing: &mut Told) {
-    for place in 0..MOST_PARTS {
-        let Some(value) = case.value_at(key, place) else {
-            break;
-        };
-        if !is_met(alloc, key, value, came, missing) {
-            add_part(key, value, missing);
+// The parts that a case asks for and that aren't in what came, as far as they were looked for.
+#[derive(Drop)]
+struct Missing<'a> {
+    alloc: Global,
+    case: Case<'a>,
+    parts: Told,
+}
+
+impl<'a> Missing<'a> {
+    // Adds each part that the case asks for and that the output or the messages lack, and, if there is any, the messages after them.
+    fn add_all(&mut self, output: &str, messages: &str) {
+        self.add_texts("has", output);
+        self.add_texts("tells", messages);
+        self.add_texts("counts", messages);
+        self.add_ends(messages.as_bytes());
+        self.add_length(messages.len() as u64);
+        if !self.parts.is("") {
+            self.parts.text(messages);
         }
     }
-}
 
-// Whether the text in `value` occurs in what came: under the key `counts` as often as the value says, and under any other at least once. If
-// memory runs out, `missing` notes that it lacks a part.
-fn is_met(alloc: Global, key: &str, value: &str, came: &str, missing: &mut Told) -> bool {
-    if key == "counts" {
-        return is_counted(alloc, value, came, missing);
+    // Adds each value under `key` whose text doesn't occur in what came, or under `counts` not as often as the value says. If memory
+    // runs out for one, `parts` notes that it lacks a part.
+    fn add_texts(&mut self, key: &str, came: &str) {
+        for place in 0..MOST_PARTS {
+            let Some(value) = self.case.value_at(key, place) else {
+                break;
+            };
+            match self.is_met(key, value, came) {
+                Ok(true) => {}
+                Ok(false) => self.add_part(key, value),
+                Err(_) => self.parts.lack(),
+            }
+        }
     }
-    count_of(alloc, value, came, missing) > 0
-}
 
-// Adds a part that is lacking: its key, and its value.
-fn add_part(key: &str, value: &str, missing: &mut Told) {
-    missing.text(key);
-    missing.text(" ");
-    missing.text(value);
-    missing.text(" ");
-}
+    // Whether the text in `value` occurs in what came: under the key `counts` as often as the value says, and under any other at
+    // least once. `Err`: memory ran out.
+    fn is_met(&self, key: &str, value: &str, came: &str) -> Result<bool, AllocError> {
+        if key == "counts" {
+            return self.is_counted(value, came);
+        }
+        Ok(self.count_of(value, came)? > 0)
+    }
 
-// Whether the text in `value`, after its first word, occurs in the messages as often as that word says; `false` if that word is
-// no number, or no space follows it. If memory runs out, `missing` notes that it lacks a part.
-fn is_counted(alloc: Global, value: &str, messages: &str, missing: &mut Told) -> bool {
-    let (count, text) = value.split_once(' ').unwrap_or(("", value));
-    count.parse::<usize>().ok() == Some(count_of(alloc, text, messages, missing))
-}
+    // Adds a part that is lacking: its key, and its value.
+    fn add_part(&mut self, key: &str, value: &str) {
+        self.parts.text(key);
+        self.parts.text(" ");
+        self.parts.text(value);
+        self.parts.text(" ");
+    }
 
-// How often the text that a value spells occurs in what came. If memory runs out, it returns 0, and `missing` notes that it lacks a part.
-fn count_of(alloc: Global, value: &str, came: &str, missing: &mut Told) -> usize {
-    match bytes_of(alloc, value) {
-        Ok(bytes) => count_in(bytes.as_slice(), came),
-        Err(_) => {
-            missing.lack();
-            0
+    // Whether the text in `value`, after its first word, occurs in the messages as often as that word says; `false` if that word
+    // is no number, or no space follows it. `Err`: memory ran out.
+    fn is_counted(&self, value: &str, messages: &str) -> Result<bool, AllocError> {
+        let (count, text) = value.split_once(' ').unwrap_or(("", value));
+        let found = self.count_of(text, messages)?;
+        Ok(count.parse::<usize>().ok() == Some(found))
+    }
+
+    // How often the text that a value spells occurs in what came. `Err`: memory ran out.
+    fn count_of(&self, value: &str, came: &str) -> Result<usize, AllocError> {
+        let bytes = bytes_of(self.alloc, value)?;
+        Ok(count_in(bytes.as_slice(), came))
+    }
+
+    // Adds `begins` if the messages begin otherwise than the case says, and `ends` if they end otherwise. If memory runs out for one
+    // of these texts, `parts` notes that it lacks a part, and neither is added.
+    fn add_ends(&mut self, messages: &[u8]) {
+        let Ok(begin) = bytes_of(self.alloc, self.case.value("begins")) else {
+            return self.parts.lack();
+        };
+        let Ok(end) = bytes_of(self.alloc, self.case.value("ends")) else {
+            return self.parts.lack();
+        };
+        self.parts
+            .either(messages.starts_with(begin.as_slice()), "", "begins ");
+        self.parts
+            .either(messages.ends_with(end.as_slice()), "", "ends ");
+    }
+
+    // Adds `length` if the messages have another number of bytes (`length`) than the case says, if it says one.
+    fn add_length(&mut self, length: u64) {
+        if !self.case.is("length", "") && self.case.number("length", u64::MAX) != length {
+            self.parts.text("length ");
         }
     }
 }
@@ -92,25 +134,5 @@ fn count_in(bytes: &[u8], came: &str) -> usize {
     match str::from_utf8(bytes) {
         Ok(text) => came.matches(text).count(),
         Err(_) => 0,
-    }
-}
-
-// Adds `begins` if the messages begin otherwise than the case says, and `ends` if they end otherwise. If memory runs out for
-// one of these texts, `missing` notes that it lacks a part, and neither is added.
-fn add_ends(alloc: Global, case: &Case<'_>, messages: &[u8], missing: &mut Told) {
-    let Ok(begin) = bytes_of(alloc, case.value("begins")) else {
-        return missing.lack();
-    };
-    let Ok(end) = bytes_of(alloc, case.value("ends")) else {
-        return missing.lack();
-    };
-    missing.either(messages.starts_with(begin.as_slice()), "", "begins ");
-    missing.either(messages.ends_with(end.as_slice()), "", "ends ");
-}
-
-// Adds `length` if the messages have another number of bytes (`length`) than the case says, if it says one.
-fn add_length(case: &Case<'_>, length: u64, missing: &mut Told) {
-    if !case.is("length", "") && case.number("length", u64::MAX) != length {
-        missing.text("length ");
     }
 }

@@ -15,7 +15,7 @@
 //!     silent 500             of a far end: after this many milliseconds nothing is answered any more
 //!     until 9000             of a far end: after this many milliseconds its monotonic clock can't be read any more
 
-use crate::far_end::{FarEnd, Seen, both_ends};
+use crate::far_end::{FarEnd, Seen, paired_ends};
 use crate::said::{Said, tell_seen};
 use gc_cases::{Case, CaseRuntime, Player, Told, input_of, port_of};
 use gc_console::{Oddities, Standard, Streams, run_program};
@@ -102,7 +102,7 @@ impl<'a, 'b> Run<'a, 'b> {
         seen: &RefCell<Seen>,
         said: &mut Said,
     ) {
-        if let Ok(ends) = both_ends(rt) {
+        if let Ok(ends) = paired_ends(rt) {
             self.run(&far_end_of(&self.case, answer, &ends, seen), said);
         }
     }

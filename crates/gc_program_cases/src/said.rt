@@ -5,7 +5,7 @@
 //! case has is compared.
 
 use crate::far_end::Seen;
-use crate::parts::tell_parts;
+use crate::parts::{asks_for_parts, tell_parts};
 use crate::room::Room;
 use gc_cases::{Case, Told};
 use std::alloc::Global;
@@ -119,13 +119,6 @@ fn append_without_waits(messages: &str, told: &mut Told) {
             told.text("\n");
         }
     }
-}
-
-// Whether a case asks for parts of the messages, by texts in them. The number of their bytes (`length`) is no such part.
-fn asks_for_parts(case: &Case<'_>) -> bool {
-    ["tells", "begins", "ends", "counts"]
-        .iter()
-        .any(|key| case.value(key) != "")
 }
 
 /// Reports each key of the case under which it has something else than what came at the far end. Keys that it doesn't have are

@@ -8,9 +8,9 @@ use Rattle.gc_texts.specs.declared.name.Name.{Name}
 use Rattle.gc_texts.specs.Endings.{End}
 use Rattle.gc_texts.specs.Names.{name_text}
 use Rattle.gc_texts.specs.Stamps.{stamp_text}
-use Rattle.gc_rows.specs.JsonLines.{json_members, string_text, members_text}
+use Rattle.gc_rows.specs.JsonLines.{members_after_run, string_text, members_text}
 use Rattle.gc_rows.specs.Records.{record_text, ending_text}
-use Rattle.gc_rows.specs.Rows.{row_of, row_fields, field_text, behind_commas}
+use Rattle.gc_rows.specs.Rows.{row_of, row_fields, field_text, fields_behind_commas}
 use Rattle.gc_rows.specs.declared.record.Form.{Form}
 use Rattle.gc_rows.specs.declared.record.Form.TheVariants.{Lines, Csv, Columns, Json}
 use Rattle.gc_rows.specs.declared.when.When.{When}
@@ -38,7 +38,7 @@ brace_ends = record { some = refl; is = refl }
 -- a row ends in a line feed
 row_ends : (fields : List (List ℕ)) → EndsInLineFeed (row_of fields)
 row_ends [] = feed_ends
-row_ends (first ∷ others) = ends_behind (field_text first ++ behind_commas others) (codes "\n") feed_ends
+row_ends (first ∷ others) = ends_behind (field_text first ++ fields_behind_commas others) (codes "\n") feed_ends
 
 -- the text of a record ends in a line feed, in each form
 record_ends : (form : Form) (when : When) (name : List ℕ) (command : Wish) (end : End) → EndsInLineFeed (record_text form when name command end)
@@ -47,7 +47,7 @@ record_ends Lines when name command end =
 record_ends Csv when name command end = row_ends (row_fields false when name command end)
 record_ends Columns when name command end = row_ends (row_fields true when name command end)
 record_ends Json when name command end =
-    ends_behind (codes "{\"run\":" ++ string_text (stamp_text when.run) ++ members_text (json_members when name command end)) (codes "}\n") brace_ends
+    ends_behind (codes "{\"run\":" ++ string_text (stamp_text when.run) ++ members_text (members_after_run when name command end)) (codes "}\n") brace_ends
 
 -- the text of a record ends in a line feed
 pub text_whole : (layout : Layout) (names : List Name) (r : Record) → whole (text_in layout names r) ≡ text_in layout names r

@@ -32,18 +32,17 @@ use Rattle.gc_field.specs.Begin.{AreTurns, begins}
 use Rattle.gc_field.specs.Begun.{WasMadeOn, ids_begun}
 use Rattle.gc_field.specs.ChainWitness.{points}
 use Rattle.gc_field.specs.Field.{ArePossible, Move, moved, moves, seen}
-use Rattle.gc_field.specs.Instrument.{IsAnInstrument, AnyState}
-use Rattle.gc_field.specs.Instrument as instrument
+use Rattle.gc_field.specs.Instrument.{IsAnInstrument, AnyState, never_kept}
 use Rattle.gc_field.specs.Shown.{AreShownAs, shown}
 use Rattle.gc_field.specs.Witness.{at, replies}
 use Rattle.gc_field.proofs.Witness.{asked_each, units, none_here}
 use Rattle.gc_promise.specs.Eventful.{IsEventful, acts, anew_acts, anew_turns, at_start, begins_acts, begins_turns, breaks_acts, breaks_moves}
-use Rattle.gc_promise.specs.Eventful.{chain_acts, chain_moves, commands, first_stretch, given_up, last_stretch, left_by_first, plan, pointed, records, reporting, runs, scope, tally}
+use Rattle.gc_promise.specs.Eventful.{chain_acts, chain_moves, commands, executed_moves, first_stretch, given_up, heard_moves, last_stretch, left_by_first, plan, pointed_reply, records, reporting, runs, scope, sent_moves, tally}
 use Rattle.gc_promise.proofs.TrueReadings.{patched, patched_same}
 use Rattle.gc_field.proofs.Instruments.{keeps_none}
 
 -- `reporting` is an instrument
-reporting_is : IsAnInstrument reporting AnyState instrument.nothing
+reporting_is : IsAnInstrument reporting AnyState never_kept
 reporting_is = keeps_none (List ℕ) reporting (λ line. refl) (λ s id call good small. reply_heard 0 id 0 s (lit< tt) small (lit< tt)) (λ s id call. refl)
 
 -- What the station sees of the line.
@@ -92,18 +91,18 @@ anew_are = refl
 -- What happens on the line is possible.
 
 -- the turns of the first synchronization are possible
-begins_possible : AreTurns reporting AnyState instrument.nothing begins_turns (begins at_start)
+begins_possible : AreTurns reporting AnyState never_kept begins_turns (begins at_start)
 unfolding is_elsewhere is_near header_at reply_at digits rounded
 begins_possible = (tt, (refl, (tt, (tt, (tt, (tt, (tt, (tt, (tt, (tt, (tt, (tt, ((tt, refl), units 24)))))))))))))
 
 -- the turns of the second synchronization are possible
-anew_possible : AreTurns reporting AnyState instrument.nothing anew_turns (begins left_by_first)
+anew_possible : AreTurns reporting AnyState never_kept anew_turns (begins left_by_first)
 unfolding is_elsewhere is_near header_at reply_at digits rounded
 anew_possible = (tt, (tt, (tt, (tt, (tt, ((tt, refl), units 26))))))
 
 -- these moves are possible in this world
 abbrev PossibleFrom : World (ById Asked) (List ℕ) → List (Move (List ℕ)) → Type 0
-PossibleFrom w ms = ArePossible reporting AnyState instrument.nothing (by_ids WINDOW reporting) ms w
+PossibleFrom w ms = ArePossible reporting AnyState never_kept (by_ids WINDOW reporting) ms w
 
 -- possible moves, with moves after them that are possible in the world that they leave, are possible as one list
 possible_on : (w : World (ById Asked) (List ℕ)) (earlier later : List (Move (List ℕ))) → PossibleFrom w earlier → PossibleFrom (moved reporting (by_ids WINDOW reporting) earlier w) later
@@ -120,11 +119,11 @@ breaks_possible = (tt, (tt, (tt, (tt, (tt, (tt, (tt, (tt, (tt, (tt, ((9, _, refl
 chain_possible : PossibleFrom (ids_begun last_stretch.from) chain_moves
 unfolding is_elsewhere is_near header_at reply_at digits rounded
 chain_possible =
-    possible_on (ids_begun last_stretch.from) (take 27 chain_moves) (drop 27 chain_moves)
+    possible_on (ids_begun last_stretch.from) sent_moves (executed_moves ++ heard_moves)
     (tt, (tt, (tt, (tt, (tt, (tt, (tt, (tt, (tt, (tt, (tt, (tt, (tt, (tt, (tt, ((8, _, refl), units 11))))))))))))))))
-    (possible_on (moved reporting (by_ids WINDOW reporting) (take 27 chain_moves) (ids_begun last_stretch.from)) (take 16 (drop 27 chain_moves)) (drop 43 chain_moves)
-    ((tt, refl), (tt, ((tt, refl), (tt, ((tt, refl), (tt, (tt, (tt, (tt, (tt, (tt, (tt, (tt, (tt, (refl, ((8, _, refl), tt))))))))))))))))
-    ((9, _, refl), ((10, _, refl), ((11, _, refl), ((11, _, refl), ((12, _, refl), (tt, (tt, (tt, ((tt, refl), (tt, (tt, (tt, (tt, ((13, _, refl), ((15, _, refl), tt))))))))))))))))
+    (possible_on (moved reporting (by_ids WINDOW reporting) sent_moves (ids_begun last_stretch.from)) executed_moves heard_moves
+    ((tt, refl), (tt, ((tt, refl), (tt, ((tt, refl), (tt, (tt, (tt, (tt, (tt, (tt, (tt, (tt, (tt, tt))))))))))))))
+    (refl, ((8, _, refl), ((9, _, refl), ((10, _, refl), ((11, _, refl), ((11, _, refl), ((12, _, refl), (tt, (tt, (tt, ((tt, refl), (tt, (tt, (tt, (tt, ((13, _, refl), ((15, _, refl), tt))))))))))))))))))
 
 -- What the run shows.
 
@@ -136,7 +135,7 @@ chained (suc (suc p)) above upto = absurd (omega (arith, upto))
 
 -- the reply to command 0 in the first cycle was made on executing the request of command 0, which is request 8, the client's
 -- first one, and reaches the instrument at the fourth move
-made : WasMadeOn WINDOW reporting first_stretch.from breaks_moves 8 points pointed
+made : WasMadeOn WINDOW reporting first_stretch.from breaks_moves 8 points pointed_reply
 unfolding is_elsewhere is_near header_at reply_at digits rounded
 made = record { front = take 3 breaks_moves; later = drop 4 breaks_moves; split = refl; id = 0; rest = []; reaches = refl; executed = refl; reply = refl }
 

@@ -9,7 +9,7 @@ use Rattle.std.specs.Str.{bytes_eq}
 use Rattle.std.proofs.lemmas.Bool.{cond_both, eqb-true}
 use Rattle.json.specs.Find.{get_member, later_or}
 use Rattle.json.specs.Json as json
-use Rattle.gc_lines.specs.Numbers.{IsNumber}
+use Rattle.gc_lines.specs.Numbers.{IsSmallNumber}
 use Rattle.gc_values.specs.Digits.{AreDigits}
 use Rattle.gc_values.specs.Whole.{signed_text}
 use Rattle.gc_values.specs.Written.{written}
@@ -30,7 +30,7 @@ use Rattle.gc_texts.specs.Logs.{escaped}
 use Rattle.gc_texts.specs.Stamps.{stamp_text}
 use Rattle.gc_texts.specs.declared.wish.Wish.{Wish}
 use Rattle.gc_texts.specs.declared.quality.Quality.{Quality}
-use Rattle.gc_rows.specs.JsonLines.{Member, Text, ending_members, item_members, json_members, last_members, members_after_ending, quantity_members, attempt_members, values_members, command_members, when_members, without_zeros, quality_members}
+use Rattle.gc_rows.specs.JsonLines.{Member, Text, ending_members, item_members, members_after_run, last_members, members_after_ending, quantity_members, attempt_members, values_members, command_members, when_members, without_zeros, quality_members}
 use Rattle.gc_rows.specs.Items.{split_items}
 use Rattle.gc_rows.specs.Laws.{record_read}
 use Rattle.gc_rows.specs.Quantities.{column_of, quantity_names, quantity_text}
@@ -41,59 +41,59 @@ use Rattle.gc_rows.proofs.ProcedureQuantities.{have_their_names}
 use Rattle.gc_station.proofs.Lists.{all_at}
 use Rattle.gc_promise.specs.Fields.{quantity_in, under}
 use Rattle.gc_promise.specs.Objects.{text_of}
-use Rattle.gc_promise.proofs.Names.{IsAnswerTo, texts_of, word_plain}
-use Rattle.gc_promise.proofs.Plain.{IsPlain, decimal_plain, digits_plain, plain_both}
+use Rattle.gc_promise.proofs.Names.{IsAnswerTo, value_texts, word_plain}
+use Rattle.gc_promise.proofs.Plain.{NeedsNoEscape, decimal_plain, digits_plain, plain_both}
 use Rattle.gc_promise.proofs.Apart.{find, later_none, find_both, LacksAll, early_names, quantities_apart, quality_apart, quality_without, lacks_both, attempt_apart, attempt_without, items_without, quality_found, moment_unqualified, ending_apart, ending_without, command_apart, command_without, moment_without, moment_found, moments_found, sent_found, command_found, outcome_found, line_found}
 
 -- A code without its zeros is the same number.
 
 -- digits that are the number n are that number also without their leading zeros
-pub zeros_gone : (ds : List ℕ) (n : ℕ) → IsNumber ds n → IsNumber (without_zeros ds) n
+pub zeros_gone : (ds : List ℕ) (n : ℕ) → IsSmallNumber ds n → IsSmallNumber (without_zeros ds) n
 zeros_gone [] n is = is
 zeros_gone (b ∷ []) n is = is
 zeros_gone (b ∷ c ∷ rest) n is =
-    cond_both (b == 48) (without_zeros (c ∷ rest)) (b ∷ c ∷ rest) (λ (l : List ℕ). IsNumber l n)
+    cond_both (b == 48) (without_zeros (c ∷ rest)) (b ∷ c ∷ rest) (λ (l : List ℕ). IsSmallNumber l n)
     (λ zero_first. zeros_gone (c ∷ rest) n (behind_zero (eqb-true b 48 zero_first) is)) (λ other. is) where
       -- a number without a zero before it is the same number
-      behind_zero : b ≡ 48 → IsNumber (b ∷ c ∷ rest) n → IsNumber (c ∷ rest) n
+      behind_zero : b ≡ 48 → IsSmallNumber (b ∷ c ∷ rest) n → IsSmallNumber (c ∷ rest) n
       behind_zero e h =
-          let at_zero : IsNumber (48 ∷ c ∷ rest) n = subst (λ (x : ℕ). IsNumber (x ∷ c ∷ rest) n) e h in
+          let at_zero : IsSmallNumber (48 ∷ c ∷ rest) n = subst (λ (x : ℕ). IsSmallNumber (x ∷ c ∷ rest) n) e h in
           record { some = omega arith; few = let few = at_zero.few in omega (arith, few); digits = at_zero.digits.1; value = at_zero.value; bound = at_zero.bound }
 
 -- Numbers are unchanged.
 
 -- escaping changes nothing in a minus sign, if there is one
-minus_plain : (negative : Bool) → IsPlain (minus_where negative)
+minus_plain : (negative : Bool) → NeedsNoEscape (minus_where negative)
 minus_plain true = refl
 minus_plain false = refl
 
 -- escaping changes nothing in a text in the form of a whole number
-whole_plain : (text : List ℕ) → HasWholeForm text → IsPlain text
+whole_plain : (text : List ℕ) → HasWholeForm text → NeedsNoEscape text
 whole_plain text form =
-    subst IsPlain (sym form.text_is)
+    subst NeedsNoEscape (sym form.text_is)
     (plain_both (minus_where form.negative) form.digits (minus_plain form.negative) (digits_plain form.digits form.digits_are.are_digits))
 
 -- escaping changes nothing in a point (46) and digits after it
-point_plain : (ds : List ℕ) → AreDigits ds → IsPlain (46 ∷ ds)
+point_plain : (ds : List ℕ) → AreDigits ds → NeedsNoEscape (46 ∷ ds)
 point_plain ds are = ap (λ (l : List ℕ). 46 ∷ l) (digits_plain ds are)
 
 -- escaping changes nothing in a text in the form of a decimal
-fraction_plain : (text : List ℕ) → HasDecimalForm text → IsPlain text
+fraction_plain : (text : List ℕ) → HasDecimalForm text → NeedsNoEscape text
 fraction_plain text form =
-    subst IsPlain (sym form.text_is)
+    subst NeedsNoEscape (sym form.text_is)
     (plain_both (minus_where form.negative) (form.whole ++ 46 ∷ form.fraction) (minus_plain form.negative)
     (plain_both form.whole (46 ∷ form.fraction) (digits_plain form.whole form.whole_is.are_digits) (point_plain form.fraction form.fraction_is.are_digits)))
 
 -- escaping changes nothing in the text of a whole number
-pub signed_plain : (n : ℤ) → IsPlain (signed_text n)
+pub signed_plain : (n : ℤ) → NeedsNoEscape (signed_text n)
 signed_plain n = whole_plain (signed_text n) ((whole_text_once n (signed_text n)).0 refl).0
 
 -- escaping changes nothing in the text of a decimal
-pub double_plain : (d : Decimal) → IsPlain (quantity_text (value.Double d))
+pub double_plain : (d : Decimal) → NeedsNoEscape (quantity_text (value.Double d))
 double_plain d = fraction_plain (written d.digits d.scale) ((decimal_text_once d (written d.digits d.scale)).0 refl).0
 
 -- where escaping changes nothing in any of these texts, it changes nothing in the one under a name
-under_plain : (name : List ℕ) (names texts : List (List ℕ)) → AllByRecursion IsPlain texts → under name names texts ≡ escaped (under name names texts)
+under_plain : (name : List ℕ) (names texts : List (List ℕ)) → AllByRecursion NeedsNoEscape texts → under name names texts ≡ escaped (under name names texts)
 under_plain name [] texts are = refl
 under_plain name (n ∷ names) [] are = refl
 under_plain name (n ∷ names) (t ∷ texts) are =
@@ -105,7 +105,7 @@ under_plain name (n ∷ names) (t ∷ texts) are =
 -- parameters of the reply, as its line has them
 abbrev AreUnder : Call → Answer → (came name : List ℕ) → Type 0
 AreUnder call answer came name =
-    text_of (find name (values_members (column_of call answer) (answer_fields answer).values came)) ≡ under name (names_from (column_of call answer) (answer_fields answer).values) (texts_of answer)
+    text_of (find name (values_members (column_of call answer) (answer_fields answer).values came)) ≡ under name (names_from (column_of call answer) (answer_fields answer).values) (value_texts answer)
 
 -- `AreUnder` holds of a whole number, under each name of a quantity
 long_under : (call : Call) (n : ℤ) (came : List ℕ) → AllByRecursion (AreUnder call (Long n) came) quantity_names
@@ -149,7 +149,7 @@ name_under bytes came =
     (refl, (refl, (refl, (refl, (refl, (refl, (refl, (refl, (refl, (refl, (refl, (refl, (refl, (refl, (refl, (refl, (refl, (refl, (refl, (refl, (refl, (refl, (refl, (refl, tt))))))))))))))))))))))))
 
 -- escaping changes nothing in the texts of an answer that isn't an instrument's name
-texts_plain : (answer : Answer) → ((name : List ℕ) → answer ≡ Name name → ⊥) → AllByRecursion IsPlain (texts_of answer)
+texts_plain : (answer : Answer) → ((name : List ℕ) → answer ≡ Name name → ⊥) → AllByRecursion NeedsNoEscape (value_texts answer)
 texts_plain Nothing other = tt
 texts_plain (Short n) other = (signed_plain n, tt)
 texts_plain (Version release version subversion) other = (signed_plain release, (signed_plain version, (signed_plain subversion, tt)))
@@ -170,13 +170,13 @@ module _ (call : Call) (name : List ℕ) (k : ℕ) (is : slice_get quantity_name
   abbrev IsUnder : Answer → List ℕ → Type 0
   IsUnder answer came =
       text_of (find name (values_members (column_of call answer) (answer_fields answer).values came))
-      ≡ escaped (under name (names_from (column_of call answer) (answer_fields answer).values) (texts_of answer))
+      ≡ escaped (under name (names_from (column_of call answer) (answer_fields answer).values) (value_texts answer))
 
   -- `IsUnder` holds of each answer that isn't an instrument's name
   number_under : (answer : Answer) (came : List ℕ) → ((bytes : List ℕ) → answer ≡ Name bytes → ⊥) → IsUnder answer came
   number_under answer came other =
       all_at (AreUnder call answer came) quantity_names k name (answer_under call answer came other) is
-      ∙ under_plain name (names_from (column_of call answer) (answer_fields answer).values) (texts_of answer) (texts_plain answer other)
+      ∙ under_plain name (names_from (column_of call answer) (answer_fields answer).values) (value_texts answer) (texts_plain answer other)
 
   -- `IsUnder` holds of each answer
   is_under : (answer : Answer) (came : List ℕ) → IsUnder answer came
@@ -200,7 +200,7 @@ module _ (call : Call) (name : List ℕ) (k : ℕ) (is : slice_get quantity_name
 pub member_stands : (asked : Asked) (name : List ℕ) (k : ℕ) → slice_get quantity_names k ≡ Some name → (quality : Quality) (answer : Answer) (line : List ℕ) → IsAnswerTo asked answer
     → text_of (find name (quantity_members asked (Answered quality (Some answer) line))) ≡ escaped (quantity_in asked (Answers answer) name)
 member_stands (Table call) name k is quality answer line of =
-    is_under call name k is answer (values_of line) ∙ ap (λ (names : List (List ℕ)). escaped (under name names (texts_of answer))) (have_their_names call answer of)
+    is_under call name k is answer (values_of line) ∙ ap (λ (names : List (List ℕ)). escaped (under name names (value_texts answer))) (have_their_names call answer of)
 member_stands (Raw raw) name k is quality answer line of =
     let items = item_members (split_items (values_of line)) in
     ap text_of (all_at (λ (n : List ℕ). find n items ≡ None) quantity_names k name (items_without (split_items (values_of line))) is)
@@ -238,7 +238,7 @@ module _ (when : When) (text : List ℕ) (command : Wish) (end : End) where
 
   -- all members of the record's object, as a reader gives them
   abbrev members_of : json.Members
-  members_of = record_read when.run (json_members when text command end)
+  members_of = record_read when.run (members_after_run when text command end)
 
   -- the text under a name in the object of this record
   abbrev pub at_member : List ℕ → List ℕ

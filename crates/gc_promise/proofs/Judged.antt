@@ -11,7 +11,7 @@ use Rattle.gc_texts.specs.declared.codes.Codes.{Codes}
 use Rattle.gc_texts.specs.declared.quality.Quality.{Quality}
 use Rattle.gc_texts.specs.declared.quality.Quality.TheVariants as quality
 use Rattle.gc_texts.proofs.ZeroReplies.{zero_reads}
-use Rattle.gc_station.specs.Qualities.{answer_in, IsRefusal, IsOfQuality}
+use Rattle.gc_station.specs.Qualities.{answer_in, IsRefusedReading, IsOfQuality}
 use Rattle.gc_station.specs.Scopes.{AreReadings}
 use Rattle.gc_promise.specs.Fields.{quality_in, quantity_source}
 
@@ -26,8 +26,8 @@ value_if_some (reading.Unreadable fault) answer e = cc
 pub no_value_if_none : (told : Reading) → answer_in told ≡ None → (answer : Answer) → told ≡ reading.Value answer → ⊥
 no_value_if_none told none answer is = let bad : Some answer ≡ None = sym (ap answer_in is) ∙ none in cc
 
--- a reading that is a refusal (`IsRefusal`) has the quality `Refused`, and no answer
-refused_in : (accepted : Codes) (x : Reading) → IsRefusal accepted x → (quality_in accepted x ≡ quality.Refused) × (answer_in x ≡ None)
+-- a reading that is a refusal (`IsRefusedReading`) has the quality `Refused`, and no answer
+refused_in : (accepted : Codes) (x : Reading) → IsRefusedReading accepted x → (quality_in accepted x ≡ quality.Refused) × (answer_in x ≡ None)
 refused_in accepted (reading.Value answer) is = absurd is
 refused_in accepted (reading.Refused code) is = (ap (λ b. if b then quality.Warning else quality.Refused) is, refl)
 refused_in accepted (reading.ComFault code) is = (refl, refl)
@@ -65,6 +65,6 @@ module _ (reads : Asked → List ℕ → Reading) (are : AreReadings reads) (acc
       record { quality_is = sym warned; values_are = has ∙ ap answer_in same }
   judged quality.Refused values (none, refusal) =
       let is : reads call line ≡ said = line_says said is_said in
-      let both = refused_in accepted said (subst (IsRefusal accepted) is refusal) in
+      let both = refused_in accepted said (subst (IsRefusedReading accepted) is refusal) in
       let same : told ≡ said = sym (quantity_reading_is quality.Refused both.0 refl) ∙ is in
       record { quality_is = sym both.0; values_are = none ∙ sym (ap answer_in same ∙ both.1) }

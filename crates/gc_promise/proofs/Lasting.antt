@@ -8,8 +8,8 @@ use Rattle.gc_catalogue.specs.declared.answer.Reading.{Reading}
 use Rattle.gc_catalogue.specs.declared.asked.Asked.{Asked}
 use Rattle.gc_files.specs.Failing.{Sides, Event, Ran, Failed, feeds, settled, same_sides, sides_after, runs_of, Occur, IsFound, IsTrusted}
 use Rattle.gc_files.specs.Files.{Step, Life, content, MayLeave}
-use Rattle.gc_files.specs.Rows.{whole, table, cuts_none, appended}
-use Rattle.gc_files.specs.Runs.{synced, Run, lines, IsRun, life_after, rows_of, AreRowCounts, HasRows}
+use Rattle.gc_files.specs.Rows.{whole, opened_table, cuts_none, appended}
+use Rattle.gc_files.specs.Runs.{synced, Run, row_lines, IsRun, rows_of, AreRowCounts, HasRows}
 use Rattle.gc_files.specs.Sinks.{steps_in, taken_in, is_durable}
 use Rattle.gc_files.proofs.Adding.{appended_two}
 use Rattle.gc_files.proofs.Failing.{tables_outlast_failures}
@@ -29,9 +29,9 @@ use Rattle.gc_words.specs.declared.settings.Settings.{Settings}
 use Rattle.gc_measuring.specs.declared.stop.Stop.{Stop}
 use Rattle.gc_lines.specs.declared.ports.Source.{Ghosts as Source}
 use Rattle.gc_lines.specs.declared.ports.Sink.{Ghosts as Sink}
-use Rattle.gc_measuring.specs.Measuring.{PortsSeen, Measures, survey_of, Survey, text_in, front_text, RunsAfterFront}
+use Rattle.gc_measuring.specs.Measuring.{PortsSeen, Measures, most_turns, survey_of, Survey, text_by, front_text, RunsAfterFront}
 use Rattle.std.proofs.lemmas.Option.{same_Some}
-use Rattle.gc_promise.specs.Lasting.{HasRunOfFile, AppendsAreRuns, RunMoment, IsRunMoment, rows_by, AreLeft, OpensFile, RowsOutlastCrashes, doubted_by, Ending, Stopped, Unsynced, MayEnd, sides_ended, doubt_of, sides_begun, RowsOutlastFailures}
+use Rattle.gc_promise.specs.Lasting.{HasRunOfFile, AppendsAreRuns, RunMoment, IsRunMoment, rows_by, AreLeft, OpensFile, RowsOutlastCrashes, doubted_by, RunEnd, Stopped, Unsynced, MayEnd, sides_ended, doubt_of, life_begun, sides_begun, RowsOutlastFailures}
 use Rattle.gc_promise.specs.Tables.{scope_of}
 use Rattle.gc_promise.proofs.Ended.{text_whole}
 use Rattle.gc_promise.proofs.Pieces.{pieces, rows_left, whole_rest}
@@ -54,13 +54,12 @@ between_is survey between headed front =
 -- had taken no bytes, and then had taken those of `file`, either no act was made, or there is a run of that file (`HasRunOfFile`)
 found : {R : Type 0} (station : Settings) (given : List ℕ) (old new : PortsSeen) (end : Result Tally Stop) (told : List Act) (file : Followed R)
     → station.layout.headed ≡ true → old.acts ≡ Some [] → new.acts ≡ Some told → old.taken ≡ Some [] → new.taken ≡ Some (bytes_in file)
-    → Measures given station 18446744073709551615 old new end → (new.turns ≡ old.turns) ⊎ HasRunOfFile file new.acts old.turns new.turns
+    → Measures given station most_turns old new end → (new.turns ≡ old.turns) ⊎ HasRunOfFile file new.acts old.turns new.turns
 found station given old new end told file headed none acts fresh took (inl (stop, is, refuses, unused)) = inl unused.turns
-found station given old new end told file headed none acts fresh took (inr (setup, tasks, names, gives, inl front)) = inl front.turns
-found station given old new end told file headed none acts fresh took (inr (setup, tasks, names, gives, inr behind)) = inr (record {
-  run = record { survey = survey_of station 18446744073709551615 setup tasks names; old = old; new = new; end = end; recorded = told; file = file };
-  is = record { headed = headed; none = none; acts = acts; fresh = fresh; took = took; ran = behind };
-  of_file = refl;
+found station given old new end told file headed none acts fresh took (inr (all, gives, inl front)) = inl front.turns
+found station given old new end told file headed none acts fresh took (inr (all, gives, inr behind)) = inr (record {
+  run = record { survey = survey_of station most_turns all; old = old; new = new; result = end; recorded = told };
+  is = record { is_run = record { none = none; acts = acts; ran = behind }; headed = headed; fresh = fresh; took = took };
   by_acts = acts;
   before = refl;
   after = refl;
@@ -84,11 +83,11 @@ module _ {R : Type 0} (m : RunMoment R) (is : IsRunMoment m) (reads : Asked → 
 
   -- the text of a record, as the moment's run writes it
   abbrev text : Record → List ℕ
-  text = text_in m.run.survey.layout m.run.survey.names
+  text = text_by m.run.survey
 
   -- the moment's run, by its contract
-  abbrev ran : RunsAfterFront m.run.survey m.run.old m.run.new m.run.end
-  ran = is.run.ran
+  abbrev ran : RunsAfterFront m.run.survey m.run.old m.run.new m.run.result
+  ran = is.run.is_run.ran
 
   -- no bytes came before the run's rows
   none_between : ran.between ≡ Some []
@@ -96,11 +95,11 @@ module _ {R : Type 0} (m : RunMoment R) (is : IsRunMoment m) (reads : Asked → 
 
   -- the run kept up: at each of its turns, what the acts before it settled was kept
   keeps : KeepsUp m.run.survey.plan m.run.survey.tasks scope text (Some []) (Some m.run.recorded) (Some []) m.run.old.turns m.run.new.turns (close_at_output ran.end)
-  keeps = rw (← is.run.none, ← is.run.acts, ← none_between) (ran.keeps.0 reads are)
+  keeps = rw (← is.run.is_run.none, ← is.run.is_run.acts, ← none_between) (ran.keeps.0 reads are)
 
   -- what the file and those before it took in the end is what the run wrote (`Ran`)
-  took : runs.Ran m.run.survey.plan m.run.survey.tasks scope text (Some []) (Some m.run.recorded) (Some []) (Some (bytes_in m.run.file)) ran.end
-  took = rw (← is.run.none, ← is.run.acts, ← is.run.took, ← none_between) (ran.ran.0 reads are)
+  took : runs.Ran m.run.survey.plan m.run.survey.tasks scope text (Some []) (Some m.run.recorded) (Some []) (Some (bytes_in m.file)) ran.end
+  took = rw (← is.run.is_run.none, ← is.run.is_run.acts, ← is.run.took, ← none_between) (ran.ran.0 reads are)
 
   -- at the moment's turn, which is one of the run's, all that the acts before it settled was kept (`IsKeptAt`)
   seen : IsKeptAt m.run.survey.plan m.run.survey.tasks scope text (Some []) (Some []) [] m.turn
@@ -113,8 +112,8 @@ module _ {R : Type 0} (m : RunMoment R) (is : IsRunMoment m) (reads : Asked → 
   settled_by = seen_at m.run.survey.plan m.run.survey.tasks scope text m.turn seen.front m.done (bytes_in m.was) seen.kept is.seen.done is.seen.taken
 
   -- what the file and those before it took in the end is a front of the rows of what acts of the run settled (`Fronted`)
-  end : Fronted m.run.survey.plan m.run.survey.tasks scope text m.run.recorded (bytes_in m.run.file)
-  end = fronted m.run.survey.plan m.run.survey.tasks scope text m.run.recorded (bytes_in m.run.file) ran.end took
+  end : Fronted m.run.survey.plan m.run.survey.tasks scope text m.run.recorded (bytes_in m.file)
+  end = fronted m.run.survey.plan m.run.survey.tasks scope text m.run.recorded (bytes_in m.file) ran.end took
 
   -- the rows of what any acts settle end in a line feed, unless there is none
   rows_whole : (acts : List Act) → whole (rows_by m.run.survey reads acts) ≡ rows_by m.run.survey reads acts
@@ -143,14 +142,14 @@ module _ {R : Type 0} (m : RunMoment R) (is : IsRunMoment m) (reads : Asked → 
   taken_whole = whole_rest earlier_bytes taken (rw (settled_by) (rows_whole m.done))
 
   -- the calls of the file in the end are those at the turn, those since, and a rest
-  calls_are : steps_in m.run.file.rows ≡ (steps_in m.was.rows ++ since) ++ is.reached.rest
+  calls_are : steps_in m.file.rows ≡ (steps_in m.was.rows ++ since) ++ is.reached.rest
   calls_are = is.reached.ends ∙ ap (λ (l : List Step). l ++ is.reached.rest) is.reached.begins
 
   -- all rows that the run may write are those of earlier files, those that the file had taken at the turn, and a rest
   all_is : rows_by m.run.survey reads end.acts ≡ earlier_bytes ++ (taken ++ rest)
   all_is =
-      let file : bytes_in m.run.file ≡ earlier_bytes ++ (taken ++ (appended since ++ appended is.reached.rest)) =
-      ap (λ (l : List Step). appended l ++ taken_in m.run.file.rows) is.reached.left
+      let file : bytes_in m.file ≡ earlier_bytes ++ (taken ++ (appended since ++ appended is.reached.rest)) =
+      ap (λ (l : List Step). appended l ++ taken_in m.file.rows) is.reached.left
       ∙ ap (λ (l : List ℕ). earlier_bytes ++ l)
       (ap appended calls_are ∙ appended_two (steps_in m.was.rows ++ since) is.reached.rest
       ∙ ap (λ (l : List ℕ). l ++ appended is.reached.rest) (appended_two (steps_in m.was.rows) since)
@@ -172,7 +171,7 @@ module _ {R : Type 0} (m : RunMoment R) (is : IsRunMoment m) (reads : Asked → 
       m.was.rows.kept (not-true m.was.rows.unkept isnt)
 
   -- `AreLeft` holds of the first `count` lines of `taken` and `rest`, if these are at least as many as the lines of `taken`
-  left_of : (count : ℕ) → feeds taken ≤ count → AreLeft m reads (lines (take count (pieces (taken ++ rest))))
+  left_of : (count : ℕ) → feeds taken ≤ count → AreLeft m reads (row_lines (take count (pieces (taken ++ rest))))
   left_of count least =
       let l = rows_left taken rest count taken_whole rest_whole least in
       record {
@@ -198,7 +197,7 @@ module _ {R : Type 0} (m : RunMoment R) (is : IsRunMoment m) (reads : Asked → 
   -- with the calls of an opening of a file that held these bytes, `run` is a run as the laws on files of rows have one
   runs_so : (head held : List ℕ) (steps : List Step) → OpensFile head held steps → IsRun head held (run steps)
   runs_so head held steps opens =
-      let none : cuts_none ((steps_in m.was.rows ++ since) ++ is.reached.rest) ≡ true = subst (λ (l : List Step). cuts_none l ≡ true) calls_are m.run.file.rows.only_appends in
+      let none : cuts_none ((steps_in m.was.rows ++ since) ++ is.reached.rest) ≡ true = subst (λ (l : List Step). cuts_none l ≡ true) calls_are m.file.rows.only_appends in
       subst (λ (calls : List Step). IsRun head held (run_by steps calls taken (taken ++ rest))) (sym is.reached.begins)
       (is_run head held steps (steps_in m.was.rows) since rest opens kept taken_whole rest_whole (cuts_first (steps_in m.was.rows ++ since) is.reached.rest none)
       (record {
@@ -210,14 +209,13 @@ module _ {R : Type 0} (m : RunMoment R) (is : IsRunMoment m) (reads : Asked → 
 -- the law on crashes: after one, the file's table is the one that was there at first, rows of the earlier runs, and the rows
 -- that are left of this run
 pub rows_outlast_crashes : {R : Type 0} → RowsOutlastCrashes R
-rows_outlast_crashes m is reads are head first heads earlier happen steps opens found may =
-    let life = life_after (settled first) earlier in
-    let one_run : Run = run m is reads are steps in
-    let now = runs_so m is reads are head (content life) steps opens in
-    let all = happen_two head (settled first) earlier (one_run ∷ []) happen (now, tt, tt) in
-    let there = subst (λ (l : Life). MayLeave l.start l.steps found) (sym (life_two (settled first) earlier (one_run ∷ []))) may in
-    let p = splits_at_run head (table head first) found earlier [] one_run (tables_last head first heads (earlier ++ one_run ∷ []) all found there) in
-    (p.counts, lines (take p.count one_run.rows), p.first, left_of m is reads are p.count p.least, p.is ∙ no_rows_of_none p.counts' p.others _)
+rows_outlast_crashes m is reads are x was =
+    let one_run : Run = run m is reads are x.opening in
+    let now = runs_so m is reads are x.head (content (life_begun x)) x.opening was.opens in
+    let all = happen_two x.head (settled x.first) x.earlier (one_run ∷ []) was.happened (now, tt, tt) in
+    let there = subst (λ (l : Life). MayLeave l.start l.steps x.found) (sym (life_two (settled x.first) x.earlier (one_run ∷ []))) was.is_found in
+    let p = splits_at_run x.head (opened_table x.head x.first) x.found x.earlier [] one_run (tables_last x.head x.first was.is_head (x.earlier ++ one_run ∷ []) all x.found there) in
+    (p.counts, row_lines (take p.count one_run.rows), p.first, left_of m is reads are p.count p.least, p.is ∙ no_rows_of_none p.counts' p.others _)
   where
     -- the rows of an empty list of runs are empty, so appending them changes nothing
     no_rows_of_none : (counts : List ℕ) → AreRowCounts [] counts → (l : List ℕ) → l ++ rows_of [] counts ≡ l
@@ -225,7 +223,7 @@ rows_outlast_crashes m is reads are head first heads earlier happen steps opens 
     no_rows_of_none (n ∷ counts) cs l = absurd cs
 
 -- how the run ends, as an event
-abbrev event_of : Run → Ending → Event
+abbrev event_of : Run → RunEnd → Event
 event_of run Stopped = Ran run
 event_of run (Unsynced read disk) = Failed run read disk
 
@@ -243,13 +241,13 @@ rows_outlast_failures m is reads are x was =
     let there =
     subst (λ (s : Sides). IsFound s x.found) (sym (sides_two (same_sides (settled x.first)) x.earlier (event ∷ x.later) ∙ event_sides sides one_run x.ending x.later)) was.is_found in
     let has = tables_outlast_failures x.head x.first was.is_head (x.earlier ++ event ∷ x.later) all x.found there in
-    let p = splits_at_run x.head (table x.head x.first) x.found (runs_of x.earlier) (runs_of x.later) one_run
-    (subst (λ (rs : List Run). HasRows x.head (table x.head x.first) rs x.found)
+    let p = splits_at_run x.head (opened_table x.head x.first) x.found (runs_of x.earlier) (runs_of x.later) one_run
+    (subst (λ (rs : List Run). HasRows x.head (opened_table x.head x.first) rs x.found)
     (runs_two x.earlier (event ∷ x.later) ∙ ap (λ (rs : List Run). runs_of x.earlier ++ rs) (event_runs one_run x.ending x.later)) has) in
-    (p.counts, lines (take p.count one_run.rows), p.counts', p.first, left_of m is reads are p.count p.least, p.others, p.is)
+    (p.counts, row_lines (take p.count one_run.rows), p.counts', p.first, left_of m is reads are p.count p.least, p.others, p.is)
   where
     -- a run that ends in this way, in a file that isn't in doubt, and events that may occur after that, may occur as events
-    occurs : (head : List ℕ) (sides : Sides) (doubted : Bool) (run : Run) (ending : Ending) (later : List Event) → doubted ≡ false → IsRun head (content sides.read) run
+    occurs : (head : List ℕ) (sides : Sides) (doubted : Bool) (run : Run) (ending : RunEnd) (later : List Event) → doubted ≡ false → IsRun head (content sides.read) run
         → MayEnd sides run.steps ending → Occur IsTrusted head (sides_ended sides run.steps ending) (doubt_of ending) later
         → Occur IsTrusted head sides doubted (event_of run ending ∷ later)
     occurs head sides doubted run Stopped later trusted is ends then_ =
@@ -258,12 +256,12 @@ rows_outlast_failures m is reads are x was =
 
     -- the sides of a file after a run that ends in this way, as an event, and later events are those after the later events on
     -- the sides that the run's calls and its ending leave
-    event_sides : (sides : Sides) (run : Run) (ending : Ending) (later : List Event)
+    event_sides : (sides : Sides) (run : Run) (ending : RunEnd) (later : List Event)
         → sides_after sides (event_of run ending ∷ later) ≡ sides_after (sides_ended sides run.steps ending) later
     event_sides sides run Stopped later = refl
     event_sides sides run (Unsynced read disk) later = refl
 
     -- the runs of events that begin with this run are this run and those of the later events
-    event_runs : (run : Run) (ending : Ending) (later : List Event) → runs_of (event_of run ending ∷ later) ≡ run ∷ runs_of later
+    event_runs : (run : Run) (ending : RunEnd) (later : List Event) → runs_of (event_of run ending ∷ later) ≡ run ∷ runs_of later
     event_runs run Stopped later = refl
     event_runs run (Unsynced read disk) later = refl

@@ -15,7 +15,7 @@ use Rattle.gc_catalogue.specs.Asked.{IsAskedReading}
 use Rattle.gc_lines.specs.Replies.{ReplyFields}
 use Rattle.gc_catalogue.specs.declared.call.Call.{Call}
 use Rattle.gc_catalogue.specs.declared.call.Call.TheVariants.{GetFace, GetPrism}
-use Rattle.gc_values.specs.ValueFault.{fault_number}
+use Rattle.gc_values.specs.ValueFault.{value_fault_number}
 use Rattle.gc_texts.specs.Endings.{End, Answered, Unreadable, Elsewhere, Late, Lost, Skipped, Missed, word_of, fault_of, line_of, quality_of, quality_text}
 use Rattle.gc_texts.specs.Logs.{escaped}
 use Rattle.gc_texts.specs.Stamps.{stamp_text}
@@ -31,13 +31,13 @@ use Rattle.gc_rows.proofs.ProcedureQuantities.{have_their_names, quantities_fill
 use Rattle.gc_station.proofs.Lists.{all_at}
 use Rattle.gc_promise.specs.Fields.{under, quantity_in}
 use Rattle.gc_promise.specs.Tables.{header}
-use Rattle.gc_promise.proofs.Plain.{IsPlain, decimal_plain, moment_plain}
+use Rattle.gc_promise.proofs.Plain.{NeedsNoEscape, decimal_plain, moment_plain}
 use Rattle.std.proofs.lemmas.Bool.{not-false, or_parts}
 
 -- A row of a table.
 
 -- the word of an outcome appears unchanged in a field
-pub word_plain : (end : End) → IsPlain (word_of end)
+pub word_plain : (end : End) → NeedsNoEscape (word_of end)
 word_plain (Answered quality answer line) = refl
 word_plain (Unreadable line fault) = refl
 word_plain (Elsewhere line) = refl
@@ -47,7 +47,7 @@ word_plain Skipped = refl
 word_plain Missed = refl
 
 -- the word of a quality, or the empty text if there is none, appears unchanged in a field
-pub quality_plain : (o : Option Quality) → IsPlain (quality_text o)
+pub quality_plain : (o : Option Quality) → NeedsNoEscape (quality_text o)
 quality_plain (Some quality.Fine) = refl
 quality_plain (Some quality.Warning) = refl
 quality_plain (Some quality.Refused) = refl
@@ -222,7 +222,7 @@ module _ (when : When) (text : List ℕ) (command : Wish) where
       by_parts (codes "answered") [] (com_of line) (code_of line) (values_of line)
       (quantity_fields command.call (Answered quality answer line) ++ last_fields when (Answered quality answer line))
   behind_others (Unreadable line fault) =
-      by_parts (codes "unreadable") (decimal (fault_number fault)) (com_of line) (code_of line) (values_of line) (replicate 24 [] ++ [] ∷ decimal when.stamp.turn.attempt ∷ [])
+      by_parts (codes "unreadable") (decimal (value_fault_number fault)) (com_of line) (code_of line) (values_of line) (replicate 24 [] ++ [] ∷ decimal when.stamp.turn.attempt ∷ [])
   behind_others (Elsewhere line) = by_parts (codes "elsewhere") [] (com_of line) (code_of line) (values_of line) (replicate 24 [] ++ [] ∷ decimal when.stamp.turn.attempt ∷ [])
   behind_others Late = by_parts (codes "late") [] [] [] [] (replicate 24 [] ++ [] ∷ decimal when.stamp.turn.attempt ∷ [])
   behind_others Lost = by_parts (codes "lost") [] [] [] [] (replicate 24 [] ++ [] ∷ decimal when.stamp.turn.attempt ∷ [])
@@ -230,15 +230,15 @@ module _ (when : When) (text : List ℕ) (command : Wish) where
   behind_others Missed = by_parts (codes "missed") [] [] [] [] (replicate 24 [] ++ [] ∷ decimal when.stamp.turn.attempt ∷ [])
 
 -- the texts of an answer's values, in order
-abbrev pub texts_of : Answer → List (List ℕ)
-texts_of answer = map quantity_text (answer_fields answer).values
+abbrev pub value_texts : Answer → List (List ℕ)
+value_texts answer = map quantity_text (answer_fields answer).values
 
 -- where the texts of an answer to this call are put into the columns of quantities, the field under `name` is the text, escaped,
 -- that has this name among the answer's quantities; it is empty if none has
 abbrev AreUnderTheirNames : Call → Answer → (name : List ℕ) → Type 0
 AreUnderTheirNames call answer name =
-    under name quantity_names (map escaped (spread (column_of call answer) (texts_of answer)))
-    ≡ escaped (under name (names_from (column_of call answer) (answer_fields answer).values) (texts_of answer))
+    under name quantity_names (map escaped (spread (column_of call answer) (value_texts answer)))
+    ≡ escaped (under name (names_from (column_of call answer) (answer_fields answer).values) (value_texts answer))
 
 -- `AreUnderTheirNames` holds of a whole number that answers this call, with each name of a quantity
 long_under_its_name : (call : Call) (n : ℤ) → AllByRecursion (AreUnderTheirNames call (Long n)) quantity_names
@@ -299,7 +299,7 @@ columns_told : (asked : Asked) (answer : Answer) (name : List ℕ) (k : ℕ) →
     → under name quantity_names (map escaped (answer_columns asked answer)) ≡ escaped (quantity_in asked (Value answer) name)
 columns_told (Table call) answer name k is of =
     all_at (AreUnderTheirNames call answer) quantity_names k name (answer_under_its_names call answer) is
-    ∙ ap (λ (names : List (List ℕ)). escaped (under name names (texts_of answer))) (have_their_names call answer of)
+    ∙ ap (λ (names : List (List ℕ)). escaped (under name names (value_texts answer))) (have_their_names call answer of)
 columns_told (Raw raw) answer name k is of = blank_under name k is
 
 module _ (when : When) (text : List ℕ) (command : Wish) (name : List ℕ) (k : ℕ) (is : slice_get quantity_names k ≡ Some name) where

@@ -1,12 +1,12 @@
 -- Lines of JSON that a station wrote of a run in the field: their members are their own, that is, what is in the line of an
 -- answer was made by the instrument on executing the very request of the line's cycle and place.
-use Rattle.std.proofs.Common.{◌≡◌, ℕ, ◌<◌, true, List, [], ◌∷◌, ◌++◌, map, Option, Some, None, Result, if◌then◌else◌, refl, sym, ap, ◌∙◌, subst, append-nil}
+use Rattle.std.proofs.Common.{◌≡◌, ℕ, ◌<◌, true, List, [], ◌∷◌, ◌++◌, map, Option, Some, None, if◌then◌else◌, refl, sym, ap, ◌∙◌, subst, append-nil}
 use Rattle.std.specs.Prelude.{codes, slice_get, All, Bool, false, ◌==◌}
 use Rattle.std.specs.List.{AllByRecursion, flat_map}
 use Rattle.std.proofs.lemmas.Bool.{cond_both}
 use Rattle.std.proofs.lemmas.List.{length-map}
 use Rattle.std.proofs.lemmas.List.Elements.{All-from_recursion}
-use Rattle.gc_lines.specs.Numbers.{IsNumber}
+use Rattle.gc_lines.specs.Numbers.{IsSmallNumber}
 use Rattle.gc_lines.specs.Replies.{ReplyFields}
 use Rattle.gc_catalogue.specs.Asked.{IsAskedReading}
 use Rattle.gc_catalogue.specs.declared.answer.Answer.{Answer}
@@ -22,7 +22,7 @@ use Rattle.gc_texts.specs.Stamps.{stamp_text}
 use Rattle.gc_texts.specs.declared.wish.Wish.{Wish}
 use Rattle.gc_texts.specs.declared.name.Name.{Name}
 use Rattle.gc_texts.specs.declared.quality.Quality.{Quality}
-use Rattle.gc_rows.specs.JsonLines.{json_members, members_text, string_text}
+use Rattle.gc_rows.specs.JsonLines.{members_after_run, members_text, string_text}
 use Rattle.gc_rows.specs.Laws.{record_read}
 use Rattle.gc_rows.specs.Quantities.{quantity_names}
 use Rattle.gc_rows.specs.Records.{head_text, record_text}
@@ -32,30 +32,23 @@ use Rattle.gc_rows.specs.declared.record.Form.TheVariants.{Json}
 use Rattle.gc_rows.specs.declared.when.When.{When}
 use Rattle.gc_rows.proofs.JsonLines.{feed_apart, reads_as}
 use Rattle.gc_rows.proofs.Members.{have_plain_members}
-use Rattle.gc_links.specs.Acts.{Act}
 use Rattle.gc_station.specs.Qualities.{answer_in}
 use Rattle.gc_station.specs.Records.{Record, texts_of}
 use Rattle.gc_station.specs.Scopes.{AreReadings}
-use Rattle.gc_station.specs.declared.tally.Tally.{Tally}
-use Rattle.gc_measuring.specs.Measuring.{Survey, front_text, text_in}
-use Rattle.gc_measuring.specs.declared.stop.Stop.{Stop}
+use Rattle.gc_measuring.specs.Measuring.{Survey, front_text, text_by}
 use Rattle.gc_field.specs.World.{Ends}
-use Rattle.gc_field.specs.Begin.{UnderWay}
-use Rattle.gc_field.specs.Beginnings as field
 use Rattle.gc_field.specs.Instrument.{IsAnInstrument, AnyState}
-use Rattle.gc_field.specs.Runs.{IsInField}
-use Rattle.gc_field.specs.Shown.{stretches}
 use Rattle.gc_world.proofs.Places.{get_seen}
 use Rattle.gc_promise.specs.Fields.{quantity_in}
 use Rattle.gc_files.specs.Runs as rows
 use Rattle.gc_promise.specs.Objects.{AreOfBytes, AreOwnObjects, IsOwnObject, IsTyped, ObjectsAreTheirOwn}
-use Rattle.gc_promise.specs.Tables.{acts_of, parts_in, records_in, scope_of}
+use Rattle.gc_promise.specs.Tables.{FieldRun, IsFieldRun, acts_in_field, records_in}
 use Rattle.gc_promise.proofs.Finding.{at_member, member_attempt, member_cycle, member_outcome, member_place, member_procedure, member_quality, member_quantity, member_rc, member_rc_com, member_sent, member_stands, member_target, member_values, zeros_gone}
 use Rattle.gc_promise.proofs.Judged.{no_value_if_none, value_if_some}
 use Rattle.gc_promise.proofs.Names.{answer_to}
 use Rattle.gc_values.proofs.Every.{every_front as all_front}
 use Rattle.gc_promise.proofs.Tabled.{nothing_in}
-use Rattle.gc_promise.proofs.Taken.{Took, run_took}
+use Rattle.gc_promise.proofs.Taken.{run_took}
 use Rattle.gc_promise.proofs.Unbroken.{line_unbroken}
 use Rattle.gc_promise.proofs.Written.{HasItsTexts, all_written, target_in, when_in, written_own}
 
@@ -112,8 +105,8 @@ module _ (survey : Survey) (r : Record) where
           attempt = member_attempt when text r.command r.end;
         };
         quality = member_quality when text r.command r.end;
-        rc_com = λ line n answered is. subst (λ (t : List ℕ). IsNumber t n) (sym (member_rc_com when text r.command r.end line answered)) (zeros_gone (com_of line) n is);
-        rc = λ line n answered is. subst (λ (t : List ℕ). IsNumber t n) (sym (member_rc when text r.command r.end line answered)) (zeros_gone (code_of line) n is);
+        rc_com = λ line n answered is. subst (λ (t : List ℕ). IsSmallNumber t n) (sym (member_rc_com when text r.command r.end line answered)) (zeros_gone (com_of line) n is);
+        rc = λ line n answered is. subst (λ (t : List ℕ). IsSmallNumber t n) (sym (member_rc when text r.command r.end line answered)) (zeros_gone (code_of line) n is);
         values = λ line answered. member_values when text r.command r.end line answered;
         quantities = λ shows fields told is_told quality values line is has name quantity.
             stands when text r.command name quantity.0 quantity.1 fields told is_told r.end quality values line is has;
@@ -124,14 +117,14 @@ module _ (survey : Survey) (r : Record) where
 
 -- the line of a record without its line feed
 abbrev line_text : When → List ℕ → Wish → End → List ℕ
-line_text when text command end = (codes "{\"run\":" ++ string_text (stamp_text when.run)) ++ (members_text (json_members when text command end) ++ codes "}")
+line_text when text command end = (codes "{\"run\":" ++ string_text (stamp_text when.run)) ++ (members_text (members_after_run when text command end) ++ codes "}")
 
 -- the text of a record is its line and a line feed
 line_ends : (when : When) (text : List ℕ) (command : Wish) (end : End) → record_text Json when text command end ≡ line_text when text command end ++ 10 ∷ []
-line_ends when text command end = feed_apart (codes "{\"run\":" ++ string_text (stamp_text when.run)) (members_text (json_members when text command end))
+line_ends when text command end = feed_apart (codes "{\"run\":" ++ string_text (stamp_text when.run)) (members_text (members_after_run when text command end))
 
 -- if each text is a line and a line feed, the texts joined are the lines joined, each with its line feed
-each_line : {X : Type 0} (text line : X → List ℕ) → ((x : X) → text x ≡ line x ++ 10 ∷ []) → (xs : List X) → flat_map text xs ≡ rows.lines (map line xs)
+each_line : {X : Type 0} (text line : X → List ℕ) → ((x : X) → text x ≡ line x ++ 10 ∷ []) → (xs : List X) → flat_map text xs ≡ rows.row_lines (map line xs)
 each_line says_text line one [] = refl
 each_line says_text line one (x ∷ xs) = ap (λ (l : List ℕ). l ++ flat_map says_text xs) (one x) ∙ ap (λ (l : List ℕ). (line x ++ 10 ∷ []) ++ l) (each_line says_text line one xs)
 
@@ -146,38 +139,41 @@ no_front : (headed : Bool) (form : Form) → form ≡ Json → (if headed then [
 no_front true form is = refl
 no_front false form is = ap head_text is
 
-module _ {State : Type 0} (ends : Ends State) (kept : State → Option KeptReply) (is : IsAnInstrument ends AnyState kept) (survey : Survey) (form : survey.layout.form ≡ Json)
-    (reads : Asked → List ℕ → Reading) (are : AreReadings reads) (acts : List Act) (u : UnderWay State) (rs : List (field.Run State))
-    (there : IsInField ends AnyState kept survey.plan survey.tasks (scope_of survey reads) acts u rs) (small : AreOfBytes survey (records_in survey reads acts)) where
-  -- the line of a record in this survey, without its line feed
-  abbrev line_in_survey : Record → List ℕ
-  line_in_survey r = line_text (when_in survey r) (target_in survey r) r.command r.end
+module _ {State : Type 0} (ends : Ends State) (kept : State → Option KeptReply) (is : IsAnInstrument ends AnyState kept) (reads : Asked → List ℕ → Reading) (are : AreReadings reads)
+    (x : FieldRun State) (was : IsFieldRun ends kept reads x) (form : x.run.survey.layout.form ≡ Json) (small : AreOfBytes x.run.survey (records_in x.run.survey reads (acts_in_field x))) where
+  -- what the run measures
+  abbrev survey : Survey
+  survey = x.run.survey
 
-  -- the text of a record in this survey is its line and a line feed
-  one_line : (r : Record) → text_in survey.layout survey.names r ≡ line_in_survey r ++ 10 ∷ []
+  -- the line of a record of the run, without its line feed
+  abbrev line_of_record : Record → List ℕ
+  line_of_record r = line_text (when_in survey r) (target_in survey r) r.command r.end
+
+  -- the text of a record of the run is its line and a line feed
+  one_line : (r : Record) → text_by survey r ≡ line_of_record r ++ 10 ∷ []
   one_line r =
       let when = when_in survey r in
       let text = target_in survey r in
       ap (λ (f : Form). record_text f when text r.command r.end) form ∙ line_ends when text r.command r.end
 
   -- the line of each record that was written whole is its own object
-  each_own : (written others : List Record) → records_in survey reads acts ≡ written ++ others → (n : ℕ) (r : Record) → slice_get written n ≡ Some r
-      → IsOwnObject ends AnyState kept (line_in_survey r) survey.tasks (parts_in survey reads acts) (stretches ends u rs) r
+  each_own : (written others : List Record) → records_in survey reads (acts_in_field x) ≡ written ++ others → (n : ℕ) (r : Record) → slice_get written n ≡ Some r
+      → IsOwnObject ends AnyState kept reads x (line_of_record r) r
   each_own written others order n r got =
       let when = when_in survey r in
       let text = target_in survey r in
-      let bounds = all_written (IsTyped survey.layout.run) (records_in survey reads acts) written others order
+      let bounds = all_written (IsTyped survey.layout.run) (records_in survey reads (acts_in_field x)) written others order
       small.each n r got in
       let members = have_plain_members when text r.command r.end bounds.0 (name_bytes r.command.target survey.names small.names) bounds.1 bounds.2 in
       record {
-        members = record_read when.run (json_members when text r.command r.end);
-        reads_as = reads_as when.run (json_members when text r.command r.end) small.run members;
-        own = written_own ends kept is survey reads are acts u rs there true (at survey r) r (object_stands survey r) written others order n got;
+        members = record_read when.run (members_after_run when text r.command r.end);
+        reads_as = reads_as when.run (members_after_run when text r.command r.end) small.run members;
+        own = written_own ends kept is survey reads are (acts_in_field x) x.in_flight x.happened was.in_field true (at survey r) r (object_stands survey r) written others order n got;
       }
 
   -- the lines of records in the types of the program have no line feed
   all_unbroken : (rs : List Record) → AllByRecursion (IsTyped survey.layout.run) rs
-      → AllByRecursion (Lacks 10) (map line_in_survey rs)
+      → AllByRecursion (Lacks 10) (map line_of_record rs)
   all_unbroken [] bounds = tt
   all_unbroken (r ∷ rs) bounds =
       let when = when_in survey r in
@@ -185,35 +181,32 @@ module _ {State : Type 0} (ends : Ends State) (kept : State → Option KeptReply
       let members = have_plain_members when text r.command r.end bounds.0.0 (name_bytes r.command.target survey.names small.names) bounds.0.1 bounds.0.2 in
       (line_unbroken when text r.command r.end bounds.0.2 members, all_unbroken rs bounds.1)
 
-  -- where a sink took the run's records (`Took`), what it took after what it had are the run's own objects
-  objected : (result : Result Tally Stop) (had : List ℕ) (has : Option (List ℕ))
-      → Took (text_in survey.layout survey.names) (records_in survey reads acts) result (had ++ front_text survey.layout) has
-      → AreOwnObjects ends AnyState kept survey reads acts (parts_in survey reads acts) (stretches ends u rs) result had has
-  objected result had has took =
+  -- what the sink took are the run's own objects
+  objected : AreOwnObjects ends AnyState kept reads x
+  objected =
+      let took = run_took ends kept reads are x was in
       let written = took.are.written in
-      let nothing_first : had ++ front_text survey.layout ≡ had = ap (λ (l : List ℕ). had ++ l) (no_front survey.layout.headed survey.layout.form form) ∙ append-nil had in
+      let nothing_first : x.had ++ front_text survey.layout ≡ x.had = ap (λ (l : List ℕ). x.had ++ l) (no_front survey.layout.headed survey.layout.form form) ∙ append-nil x.had in
       record {
-        lines = map line_in_survey written;
+        lines = map line_of_record written;
         torn = took.torn;
-        took = took.is ∙ ap (λ (l : List ℕ). Some (l ++ (texts_of (text_in survey.layout survey.names) written ++ took.torn))) nothing_first
-            ∙ ap (λ (l : List ℕ). Some (had ++ (l ++ took.torn))) (each_line (text_in survey.layout survey.names) line_in_survey one_line written);
+        took = took.is ∙ ap (λ (l : List ℕ). Some (l ++ (texts_of (text_by survey) written ++ took.torn))) nothing_first
+            ∙ ap (λ (l : List ℕ). Some (x.had ++ (l ++ took.torn))) (each_line (text_by survey) line_of_record one_line written);
         are = took.are;
         unbroken =
             all_unbroken written
             (all_front (IsTyped survey.layout.run) written took.are.unwritten
             (subst (AllByRecursion (IsTyped survey.layout.run)) took.are.order small.each));
-        as_many = length-map written line_in_survey;
+        as_many = length-map written line_of_record;
         each = λ n line e.
-            let x = get_seen line_in_survey written n line e in (
-              x.0,
-              x.1,
-              subst (λ (l : List ℕ). IsOwnObject ends AnyState kept l survey.tasks (parts_in survey reads acts) (stretches ends u rs) x.0) x.2
-                  (each_own written took.are.unwritten took.are.order n x.0 x.1),
+            let seen = get_seen line_of_record written n line e in (
+              seen.0,
+              seen.1,
+              subst (λ (l : List ℕ). IsOwnObject ends AnyState kept reads x l seen.0) seen.2
+                  (each_own written took.are.unwritten took.are.order n seen.0 seen.1),
             );
       }
 
 -- what a sink took of a run are its own objects
 pub objects_own : {State : Type 0} → ObjectsAreTheirOwn State
-objects_own ends kept is reads are run was form small =
-    objected ends kept is run.survey form reads are (acts_of run) run.in_flight run.happened was.in_field small run.result run.had run.new.taken
-    (run_took ends kept reads are run was)
+objects_own ends kept is reads are x was form small = objected ends kept is reads are x was form small

@@ -3,7 +3,7 @@
 use Rattle.std.proofs.Common.{◌≡◌, ℕ, ◌<◌, Bool, true, false, List, [], ◌∷◌, length, Option, Some, Result, Ok, Err, refl, sym, subst, ap, ◌∙◌, arith}
 use Rattle.std.specs.Prelude.{codes}
 use Rattle.std.specs.List.{AllByRecursion}
-use Rattle.gc_lines.specs.Numbers.{IsNumber}
+use Rattle.gc_lines.specs.Numbers.{IsSmallNumber}
 use Rattle.gc_lines.specs.Readers.{reply_at}
 use Rattle.gc_lines.specs.Replies.{ReplyFields, IsReply}
 use Rattle.gc_lines.specs.declared.fault.LineFault.{LineFault}
@@ -62,13 +62,13 @@ in_table false when name command end = refl
 in_table true when name command end = refl
 
 -- the fields of a record's row
-abbrev pub fields_of : Layout → Bool → List Name → Record → List (List ℕ)
-fields_of layout columns names r = row_fields columns (when_of layout.run r) (name_text r.command.target names) r.command r.end
+abbrev pub record_fields : Layout → Bool → List Name → Record → List (List ℕ)
+record_fields layout columns names r = row_fields columns (when_of layout.run r) (name_text r.command.target names) r.command r.end
 
 -- if this line, a reply, ended the record's command in time, the fields of the record's row say what the record and the line
 -- say
 says : (layout : Layout) (columns : Bool) (names : List Name) (r : Record) (line : List ℕ) → line_of r.end ≡ Some line
-    → (reply : ReplyFields) × IsReply line reply → FieldsSay (fields_of layout columns names r) r line
+    → (reply : ReplyFields) × IsReply line reply → FieldsSay (record_fields layout columns names r) r line
 says layout columns names r line answered reply =
     let when = when_of layout.run r in
     let name = name_text r.command.target names in
@@ -81,8 +81,8 @@ says layout columns names r line answered reply =
       says = record {
         reply = reply.0;
         is_reply = reply.1;
-        rc_com = subst (λ (t : List ℕ). IsNumber t reply.0.rc_com) (sym rc_com) said.rc_com;
-        rc = subst (λ (t : List ℕ). IsNumber t reply.0.rc) (sym rc) said.rc;
+        rc_com = subst (λ (t : List ℕ). IsSmallNumber t reply.0.rc_com) (sym rc_com) said.rc_com;
+        rc = subst (λ (t : List ℕ). IsSmallNumber t reply.0.rc) (sym rc) said.rc;
       };
       values = values ∙ said.values;
     }
@@ -93,7 +93,7 @@ module _ {State : Type 0} (ends : Ends State) (kept : State → Option KeptReply
   one_own : (r : Record) → IsOwnAnswer ends AnyState kept commands ps ss r → AnswerIsJustified plan commands scope acts r → IsOwnIfAnswered ends AnyState kept layout names commands ps ss r
   one_own r own came line answered =
       let justified = came line answered in
-      let fields = fields_of layout columns names r in
+      let fields = record_fields layout columns names r in
       let row : text_in layout names r ≡ row_of fields =
       ap (λ f. record_text f (when_of layout.run r) (name_text r.command.target names) r.command r.end) form
       ∙ in_table columns (when_of layout.run r) (name_text r.command.target names) r.command r.end in
@@ -114,6 +114,6 @@ module _ {State : Type 0} (ends : Ends State) (kept : State → Option KeptReply
 
 -- in a run in the field, the row of each record whose command a reply in time ended is its own
 pub rows_own : {State : Type 0} → RowsAreTheirOwn State
-rows_own ends kept is layout columns names form plan commands scope acts u rs field =
-    let faithful = run_faithful ends AnyState kept is plan commands scope acts u rs field in
-    each_own ends kept layout columns names form plan commands scope acts _ _ _ faithful.own (answers_true plan commands scope acts field.runs)
+rows_own ends kept is layout columns names form u x field =
+    let faithful = run_faithful ends AnyState kept is u x field in
+    each_own ends kept layout columns names form x.plan x.commands x.scope x.acts _ _ _ faithful.own (answers_true x.plan x.commands x.scope x.acts field.runs)

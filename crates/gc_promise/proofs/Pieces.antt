@@ -6,8 +6,8 @@ use Rattle.std.proofs.Math.Seq.{take-append-add}
 use Rattle.std.proofs.lemmas.Bool.{cases_Bool, eqb-true}
 use Rattle.std.proofs.lemmas.List.{take_at, take-append-drop}
 use Rattle.gc_files.specs.Failing.{feeds}
-use Rattle.gc_files.specs.Rows.{has_feed, whole, line, IsFront}
-use Rattle.gc_files.specs.Runs.{lines, AreRows}
+use Rattle.gc_files.specs.Rows.{has_feed, whole, row_line, IsFront}
+use Rattle.gc_files.specs.Runs.{row_lines, AreRows}
 use Rattle.gc_files.proofs.Whole.{whole_none}
 use Rattle.gc_field.proofs.BeginWords.{cons_not_nil}
 
@@ -68,7 +68,7 @@ feed_behind_first : (b : ℕ) (bs : List ℕ) → (b == 10) ≡ false → has_fe
 feed_behind_first b bs isnt some = subst (λ t. (if t then true else has_feed bs) ≡ true) isnt some
 
 -- if there is a line, the bytes of the lines with a byte put before the first one are that byte and the bytes of the lines
-onto_lines : (b : ℕ) (rows : List (List ℕ)) → IsOneOrMore rows → lines (onto_first b rows) ≡ b ∷ lines rows
+onto_lines : (b : ℕ) (rows : List (List ℕ)) → IsOneOrMore rows → row_lines (onto_first b rows) ≡ b ∷ row_lines rows
 onto_lines b [] some = let wrong : [] ≡ some.row ∷ some.others = some.is in cc
 onto_lines b (row ∷ rows) some = refl
 
@@ -84,7 +84,7 @@ onto_length b [] some = let wrong : [] ≡ some.row ∷ some.others = some.is in
 onto_length b (row ∷ rows) some = refl
 
 -- the pieces of whole bytes, each with a line feed after it, are these bytes
-pub pieces_whole : (xs : List ℕ) → whole xs ≡ xs → lines (pieces xs) ≡ xs
+pub pieces_whole : (xs : List ℕ) → whole xs ≡ xs → row_lines (pieces xs) ≡ xs
 pieces_whole [] is = refl
 pieces_whole (b ∷ bs) is =
     let t = tail_whole b bs is in
@@ -114,9 +114,9 @@ pieces_count (b ∷ bs) is =
     ]
 
 -- the bytes of two lists of lines, one after the other, are those of the first and then those of the second
-pub lines_two : (xs ys : List (List ℕ)) → lines (xs ++ ys) ≡ lines xs ++ lines ys
+pub lines_two : (xs ys : List (List ℕ)) → row_lines (xs ++ ys) ≡ row_lines xs ++ row_lines ys
 lines_two [] ys = refl
-lines_two (row ∷ xs) ys = ap (λ (l : List ℕ). line row ++ l) (lines_two xs ys) ∙ sym (append_assoc (line row) (lines xs) (lines ys))
+lines_two (row ∷ xs) ys = ap (λ (l : List ℕ). row_line row ++ l) (lines_two xs ys) ∙ sym (append_assoc (row_line row) (row_lines xs) (row_lines ys))
 
 -- `rows`, which are left of the bytes `all`, are `taken` and perhaps more, and a front of all
 pub record AreLeftOf (taken all rows : List ℕ) : Type 0 where
@@ -126,20 +126,20 @@ pub record AreLeftOf (taken all rows : List ℕ) : Type 0 where
 
 -- where `taken` and `rest` are whole, and n is at least the count of lines of `taken`, `AreLeftOf` holds of the first n lines of
 -- both together
-pub rows_left : (taken rest : List ℕ) (n : ℕ) → whole taken ≡ taken → whole rest ≡ rest → feeds taken ≤ n → AreLeftOf taken (taken ++ rest) (lines (take n (pieces (taken ++ rest))))
+pub rows_left : (taken rest : List ℕ) (n : ℕ) → whole taken ≡ taken → whole rest ≡ rest → feeds taken ≤ n → AreLeftOf taken (taken ++ rest) (row_lines (take n (pieces (taken ++ rest))))
 rows_left taken rest n taken_whole rest_whole least =
     let m = n - feeds taken in
     let at : n ≡ length (pieces taken) + m = omega (arith, least, pieces_count taken taken_whole) in
     let cut : take n (pieces (taken ++ rest)) ≡ pieces taken ++ take m (pieces rest) =
     ap (take n) (pieces_two taken rest taken_whole) ∙ ap (λ k. take k (pieces taken ++ pieces rest)) at ∙ take-append-add (pieces taken) (pieces rest) m in
     record {
-      more = lines (take m (pieces rest));
-      has = ap lines cut ∙ lines_two (pieces taken) (take m (pieces rest)) ∙ ap (λ (l : List ℕ). l ++ lines (take m (pieces rest))) (pieces_whole taken taken_whole);
+      more = row_lines (take m (pieces rest));
+      has = ap row_lines cut ∙ lines_two (pieces taken) (take m (pieces rest)) ∙ ap (λ (l : List ℕ). l ++ row_lines (take m (pieces rest))) (pieces_whole taken taken_whole);
       own = record {
-        rest = lines (drop m (pieces rest));
+        rest = row_lines (drop m (pieces rest));
         split = ap (λ (l : List ℕ). taken ++ l)
-            (sym (pieces_whole rest rest_whole) ∙ ap lines (sym (take-append-drop m (pieces rest))) ∙ lines_two (take m (pieces rest)) (drop m (pieces rest)))
-            ∙ sym (append_assoc taken (lines (take m (pieces rest))) (lines (drop m (pieces rest))));
+            (sym (pieces_whole rest rest_whole) ∙ ap row_lines (sym (take-append-drop m (pieces rest))) ∙ lines_two (take m (pieces rest)) (drop m (pieces rest)))
+            ∙ sym (append_assoc taken (row_lines (take m (pieces rest))) (row_lines (drop m (pieces rest))));
       };
     }
 
@@ -148,6 +148,6 @@ pub pieces_fit : (taken rest : List ℕ) → whole taken ≡ taken → feeds tak
 pieces_fit taken rest is = omega (arith, pieces_count taken is, ap length (pieces_two taken rest is), length-append (pieces taken) (pieces rest))
 
 -- the first pieces, as many as the whole front `taken` has line feeds, are that front
-pub pieces_front : (taken rest : List ℕ) → whole taken ≡ taken → lines (take (feeds taken) (pieces (taken ++ rest))) ≡ taken
+pub pieces_front : (taken rest : List ℕ) → whole taken ≡ taken → row_lines (take (feeds taken) (pieces (taken ++ rest))) ≡ taken
 pieces_front taken rest is =
-    ap lines (ap (take (feeds taken)) (pieces_two taken rest is) ∙ take_at (pieces taken) (pieces rest) (feeds taken) (pieces_count taken is)) ∙ pieces_whole taken is
+    ap row_lines (ap (take (feeds taken)) (pieces_two taken rest is) ∙ take_at (pieces taken) (pieces rest) (feeds taken) (pieces_count taken is)) ∙ pieces_whole taken is

@@ -14,8 +14,8 @@ use Rattle.gc_rows.proofs.Members.{digits_are}
 use Rattle.gc_texts.proofs.LogStamps.{date_within}
 
 -- escaping changes nothing in this text
-abbrev pub IsPlain : List ℕ → Type 0
-IsPlain text = escaped text ≡ text
+abbrev pub NeedsNoEscape : List ℕ → Type 0
+NeedsNoEscape text = escaped text ≡ text
 
 -- a digit is printed as it is
 digit_plain : (d : ℕ) → 48 ≤ d → d ≤ 57 → escape d ≡ d ∷ []
@@ -26,12 +26,12 @@ digit_plain d low high =
     ap (λ b. cond b (d ∷ []) (92 ∷ 120 ∷ hex_digit (d / 16) ∷ hex_digit (d % 16) ∷ [])) shown
 
 -- bytes that are digits, by `AreDigits`, are printed as they are
-pub digits_plain : (ds : List ℕ) → AreDigits ds → IsPlain ds
+pub digits_plain : (ds : List ℕ) → AreDigits ds → NeedsNoEscape ds
 digits_plain [] are = refl
 digits_plain (d ∷ ds) are = ap (λ l. l ++ escaped ds) (digit_plain d are.0.0 are.0.1) ∙ ap (λ l. d ∷ l) (digits_plain ds are.1)
 
 -- bytes that are digits, by `AllDigits`, are printed as they are
-pub number_plain : (ds : List ℕ) → AllDigits 10 ds → IsPlain ds
+pub number_plain : (ds : List ℕ) → AllDigits 10 ds → NeedsNoEscape ds
 number_plain ds are = digits_plain ds (digits_are ds are)
 
 -- the last place of a number is printed as a digit
@@ -54,25 +54,25 @@ unfolding digits
 decimal_digits n = onto_digits 64 n [] tt
 
 -- the decimal of any number is printed as it is
-pub decimal_plain : (n : ℕ) → IsPlain (decimal n)
+pub decimal_plain : (n : ℕ) → NeedsNoEscape (decimal n)
 decimal_plain n = digits_plain (decimal n) (decimal_digits n)
 
 -- bytes that appear unchanged in a field, and others after them, do so together
-pub plain_both : (xs ys : List ℕ) → IsPlain xs → IsPlain ys → IsPlain (xs ++ ys)
+pub plain_both : (xs ys : List ℕ) → NeedsNoEscape xs → NeedsNoEscape ys → NeedsNoEscape (xs ++ ys)
 plain_both xs ys x y = flat_map-append escape xs ys ∙ ap (λ (l : List ℕ). l ++ escaped ys) x ∙ ap (λ (l : List ℕ). xs ++ l) y
 
 -- the two digits of a number below 100 appear unchanged in a field
-two_plain : (n : ℕ) → n < 100 → IsPlain (two_digits n)
+two_plain : (n : ℕ) → n < 100 → NeedsNoEscape (two_digits n)
 two_plain n few = digits_plain (two_digits n) ((omega arith, omega (arith, few, div-add-mod n 10)), ((omega arith, omega arith), tt))
 
 -- the three digits of a number below 1000 appear unchanged in a field
-three_plain : (n : ℕ) → n < 1000 → IsPlain (three_digits n)
+three_plain : (n : ℕ) → n < 1000 → NeedsNoEscape (three_digits n)
 three_plain n few =
     digits_plain (three_digits n)
     ((omega arith, omega (arith, few, div-add-mod n 100)), ((omega arith, omega (arith, div-add-mod (n % 100) 10)), ((omega arith, omega arith), tt)))
 
 -- a date whose month is at most 12, and whose day at most 31, appears unchanged in a field
-date_plain : (year month day : ℕ) → month ≤ 12 → day ≤ 31 → IsPlain (decimal year ++ codes "-" ++ two_digits month ++ codes "-" ++ two_digits day)
+date_plain : (year month day : ℕ) → month ≤ 12 → day ≤ 31 → NeedsNoEscape (decimal year ++ codes "-" ++ two_digits month ++ codes "-" ++ two_digits day)
 date_plain year month day m d =
     plain_both (decimal year ++ codes "-" ++ two_digits month ++ codes "-") (two_digits day)
     (plain_both (decimal year ++ codes "-" ++ two_digits month) (codes "-")
@@ -80,7 +80,7 @@ date_plain year month day m d =
     (two_plain day (omega (arith, d)))
 
 -- a time of day, in milliseconds below those of 24 hours, appears unchanged in a field
-time_plain : (millis : ℕ) → millis < 86400000 → IsPlain (time_text millis)
+time_plain : (millis : ℕ) → millis < 86400000 → NeedsNoEscape (time_text millis)
 time_plain millis few =
     let hours = two_digits (millis / 3_600_000) in
     let minutes = two_digits (millis / 60_000 % 60) in
@@ -93,7 +93,7 @@ time_plain millis few =
     (plain_both seconds (46 ∷ rest) (two_plain (millis / 1_000 % 60) (omega arith)) (plain_both (46 ∷ []) rest refl (three_plain (millis % 1_000) (omega arith)))))))
 
 -- a stamp appears unchanged in a field
-stamp_plain : (utc : ℕ) → IsPlain (stamp_text utc)
+stamp_plain : (utc : ℕ) → NeedsNoEscape (stamp_text utc)
 stamp_plain utc =
     let days = utc / 86_400_000 in
     let date = date_text (date_of days) in
@@ -103,6 +103,6 @@ stamp_plain utc =
     (plain_both date (codes "T") (date_plain (date_of days).year (date_of days).month (date_of days).day within.month within.day) refl) (time_plain (utc % 86_400_000) (omega arith))) refl
 
 -- a moment, or none, appears unchanged in a field
-pub moment_plain : (o : Option ℕ) → IsPlain (moment_text o)
+pub moment_plain : (o : Option ℕ) → NeedsNoEscape (moment_text o)
 moment_plain None = refl
 moment_plain (Some utc) = stamp_plain utc

@@ -4,7 +4,7 @@ use Rattle.std.proofs.lemmas.List.{take-append-drop}
 use Rattle.std.specs.Io.KnownBytes.{Appends}
 use Rattle.gc_files.specs.Rows.{whole, IsFront}
 use Rattle.gc_files.proofs.Whole.{whole_more}
-use Rattle.gc_links.specs.Acts.{Act, Closed, Tells}
+use Rattle.gc_links.specs.Acts.{Act, Closed, AddsActs}
 use Rattle.gc_texts.specs.declared.fault.RunFault.{RunFault}
 use Rattle.gc_texts.specs.declared.fault.RunFault.TheVariants.{Output}
 use Rattle.gc_texts.specs.declared.tasks.Task.{Task}
@@ -49,7 +49,7 @@ module _ (plan : Plan) (commands : List Task) (scope : Scope) (text : Record →
   pub seen_at : (turn : Snapshot) (front done : List Act) (bytes : List ℕ) → IsKept plan commands scope text (Some []) (Some []) front turn
       → turn.acts ≡ Some done → turn.taken ≡ Some bytes → bytes ≡ texts_of text (state_after plan commands scope done).records
   seen_at turn front done bytes kept told taken =
-      let is : done ≡ front = subst (λ (t : Option (List Act)). Tells (Some []) t front) told kept.tells in
+      let is : done ≡ front = subst (λ (t : Option (List Act)). AddsActs (Some []) t front) told kept.tells in
       let took : bytes ≡ texts_of text (state_after plan commands scope front).records =
       subst (λ (t : Option (List ℕ)). Appends (Some []) t (texts_of text (state_after plan commands scope front).records)) taken kept.took in
       took ∙ ap (λ (acts : List Act). texts_of text (state_after plan commands scope acts).records) (sym is)

@@ -5,9 +5,9 @@ use Rattle.std.proofs.Common.{◌≡◌, inl, inr, ℕ, ◌≤◌, Bool, true, f
 use Rattle.std.proofs.lemmas.Bool.{cases_Bool}
 use Rattle.gc_files.specs.Failing.{Sides, Event, Ran, Failed, Copied, Crashed, feeds, settled, same_sides, done_by, sides_after, runs_of, Occur, IsTrusted}
 use Rattle.gc_files.specs.Files.{Step, Append, Cut, Sync, Life, has_sync, content}
-use Rattle.gc_files.specs.Rows.{whole, table, start_of, mended, cuts_none, appended, IsFront}
+use Rattle.gc_files.specs.Rows.{whole, opened_table, head_written, mended, cuts_none, appended, IsFront}
 use Rattle.gc_files.specs.Rows as opening
-use Rattle.gc_files.specs.Runs.{synced, Run, lines, IsRun, WereKept, OpensAndWrites, Happen, life_after, life_once_ended, rows_of, AreRowCounts, HasRows}
+use Rattle.gc_files.specs.Runs.{synced, Run, row_lines, IsRun, WereKept, OpensAndWrites, Happen, life_after, life_once_ended, rows_of, AreRowCounts, HasRows}
 use Rattle.gc_files.proofs.Killing.{calls_opened}
 use Rattle.gc_files.proofs.Moments.{two_steps, mend_synced, no_sync}
 use Rattle.gc_files.proofs.Whole.{whole_more}
@@ -71,24 +71,24 @@ cuts_first (Cut size ∷ xs) ys none = let wrong : false ≡ true = none in cc
 abbrev pub run_by : (steps calls : List Step) (taken all : List ℕ) → Run
 run_by steps calls taken all = record { rows = pieces all; steps = steps ++ calls; kept = feeds taken; left = None }
 
-module _ (head held : List ℕ) (steps was since : List Step) (rest : List ℕ) (opened : opening.MendedAndPut held steps (start_of head held))
+module _ (head held : List ℕ) (steps was since : List Step) (rest : List ℕ) (opened : opening.MendedAndPut held steps (head_written head held))
     (kept : synced was ≡ appended was) (is_whole : whole (appended was) ≡ appended was) where
   -- if a sync is among the calls `was`, what was at the start and all that these calls appended is a front of what is synced,
   -- whatever calls follow
-  synced_all : has_sync was ≡ true → IsFront (start_of head held ++ appended was) (synced (steps ++ (was ++ since)))
+  synced_all : has_sync was ≡ true → IsFront (head_written head held ++ appended was) (synced (steps ++ (was ++ since)))
   synced_all some =
-      let all : synced (steps ++ (was ++ since)) ≡ start_of head held ++ synced (was ++ since) =
+      let all : synced (steps ++ (was ++ since)) ≡ head_written head held ++ synced (was ++ since) =
       ap (λ (xs : List Step). synced (xs ++ (was ++ since))) opened.split ∙ ap synced (append_assoc (mended held) opened.later (was ++ since))
       ∙ ap (λ (xs : List Step). synced (xs ++ (opened.later ++ (was ++ since)))) (sym (two_steps held)) ∙ mend_synced held 2 (opened.later ++ (was ++ since))
       ∙ synced_behind opened.later (was ++ since) (has_first was since some) ∙ ap (λ (l : List ℕ). l ++ synced (was ++ since)) opened.puts.all in
-      subst (λ (l : List ℕ). IsFront (start_of head held ++ appended was) l) (sym all)
-      (front_behind (start_of head held) (appended was) (synced (was ++ since)) (subst (λ (l : List ℕ). IsFront l (synced (was ++ since))) kept (synced_more was since)))
+      subst (λ (l : List ℕ). IsFront (head_written head held ++ appended was) l) (sym all)
+      (front_behind (head_written head held) (appended was) (synced (was ++ since)) (subst (λ (l : List ℕ). IsFront l (synced (was ++ since))) kept (synced_more was since)))
 
   -- all rows that the calls `was` appended count as kept
   were_kept : WereKept head held (pieces (appended was ++ rest)) (feeds (appended was)) (steps ++ (was ++ since))
   were_kept = elim (cases_Bool (has_sync was)) [
     | inl some ↦
-        inr (subst (λ (l : List ℕ). IsFront (start_of head held ++ l) (synced (steps ++ (was ++ since)))) (sym (pieces_front (appended was) rest is_whole)) (synced_all some))
+        inr (subst (λ (l : List ℕ). IsFront (head_written head held ++ l) (synced (steps ++ (was ++ since)))) (sym (pieces_front (appended was) rest is_whole)) (synced_all some))
     | inr isnt ↦ inl (ap feeds (sym kept ∙ no_sync was isnt))
   ]
 
@@ -133,7 +133,7 @@ pub record SplitsAtRun (head before found : List ℕ) (earlier later : List Run)
   pub few : count ≤ length run.rows
   pub counts' : List ℕ
   pub others : AreRowCounts later counts'
-  pub is : table head found ≡ ((before ++ rows_of earlier counts) ++ lines (take count run.rows)) ++ rows_of later counts'
+  pub is : opened_table head found ≡ ((before ++ rows_of earlier counts) ++ row_lines (take count run.rows)) ++ rows_of later counts'
 
 -- a table with the rows of runs splits at each of the runs: into rows of the runs before it, of the run, and of those after it
 pub splits_at_run : (head before found : List ℕ) (earlier later : List Run) (run : Run) → HasRows head before (earlier ++ run ∷ later) found → SplitsAtRun head before found earlier later run
@@ -146,13 +146,13 @@ splits_at_run head before found [] later run (n ∷ counts, cs, is) = record {
   few = cs.1;
   counts' = counts;
   others = cs.2;
-  is = is ∙ sym (append_assoc before (lines (take n run.rows)) (rows_of later counts))
-      ∙ ap (λ (l : List ℕ). (l ++ lines (take n run.rows)) ++ rows_of later counts) (sym (append-nil before));
+  is = is ∙ sym (append_assoc before (row_lines (take n run.rows)) (rows_of later counts))
+      ∙ ap (λ (l : List ℕ). (l ++ row_lines (take n run.rows)) ++ rows_of later counts) (sym (append-nil before));
 }
 splits_at_run head before found (r ∷ earlier) later run ([], cs, is) = absurd cs
 splits_at_run head before found (r ∷ earlier) later run (n ∷ counts, cs, is) =
-    let p = splits_at_run head (before ++ lines (take n r.rows)) found earlier later run
-    (counts, cs.2, is ∙ sym (append_assoc before (lines (take n r.rows)) (rows_of (earlier ++ run ∷ later) counts))) in
+    let p = splits_at_run head (before ++ row_lines (take n r.rows)) found earlier later run
+    (counts, cs.2, is ∙ sym (append_assoc before (row_lines (take n r.rows)) (rows_of (earlier ++ run ∷ later) counts))) in
     record {
       counts = n ∷ p.counts;
       first = (cs.0, cs.1, p.first);
@@ -161,7 +161,7 @@ splits_at_run head before found (r ∷ earlier) later run (n ∷ counts, cs, is)
       few = p.few;
       counts' = p.counts';
       others = p.others;
-      is = p.is ∙ ap (λ (l : List ℕ). (l ++ lines (take p.count run.rows)) ++ rows_of later p.counts') (append_assoc before (lines (take n r.rows)) (rows_of earlier p.counts));
+      is = p.is ∙ ap (λ (l : List ℕ). (l ++ row_lines (take p.count run.rows)) ++ rows_of later p.counts') (append_assoc before (row_lines (take n r.rows)) (rows_of earlier p.counts));
     }
 
 -- the sides of a file after two lists of events are what the second makes of the sides after the first

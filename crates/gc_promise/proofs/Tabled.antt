@@ -1,10 +1,10 @@
 -- A table that a station wrote of a run in the field: its rows are their own, that is, what is in a row of an answer was
 -- made by the instrument on executing the very request of the row's cycle and place.
-use Rattle.std.proofs.Common.{◌≡◌, ℕ, Bool, true, false, List, [], ◌∷◌, ◌++◌, map, Option, Some, None, Result, if◌then◌else◌, refl, sym, ap, ◌∙◌, subst, arith, append_assoc}
+use Rattle.std.proofs.Common.{◌≡◌, ℕ, Bool, true, false, List, [], ◌∷◌, ◌++◌, map, Option, Some, None, if◌then◌else◌, refl, sym, ap, ◌∙◌, subst, arith, append_assoc}
 use Rattle.std.specs.Prelude.{codes, slice_get}
 use Rattle.std.proofs.lemmas.Bool.{false≢true}
 use Rattle.std.proofs.lemmas.List.{length-map}
-use Rattle.gc_lines.specs.Numbers.{IsNumber}
+use Rattle.gc_lines.specs.Numbers.{IsSmallNumber}
 use Rattle.gc_lines.specs.Replies.{ReplyFields}
 use Rattle.gc_catalogue.specs.Asked.{IsAskedReading}
 use Rattle.gc_catalogue.specs.declared.answer.Answer.{Answer}
@@ -21,28 +21,21 @@ use Rattle.gc_rows.specs.Records.{first_names, head_text, last_names, record_tex
 use Rattle.gc_rows.specs.Rows.{code_of, com_of, row_of}
 use Rattle.gc_rows.specs.declared.record.Form.{Form}
 use Rattle.gc_rows.specs.declared.when.When.{When}
-use Rattle.gc_links.specs.Acts.{Act}
 use Rattle.gc_station.specs.Qualities.{answer_in}
 use Rattle.gc_station.specs.Records.{Record, texts_of}
 use Rattle.gc_station.specs.Scopes.{AreReadings}
-use Rattle.gc_station.specs.declared.tally.Tally.{Tally}
-use Rattle.gc_measuring.specs.Measuring.{Survey, front_text, text_in}
-use Rattle.gc_measuring.specs.declared.stop.Stop.{Stop}
+use Rattle.gc_measuring.specs.Measuring.{Survey, front_text, text_by}
 use Rattle.gc_field.specs.World.{Ends}
-use Rattle.gc_field.specs.Begin.{UnderWay}
-use Rattle.gc_field.specs.Beginnings as field
 use Rattle.gc_field.specs.Instrument.{IsAnInstrument, AnyState}
-use Rattle.gc_field.specs.Runs.{IsInField}
-use Rattle.gc_field.specs.Shown.{stretches}
 use Rattle.gc_world.proofs.Places.{get_seen}
-use Rattle.gc_promise.specs.Fields.{IsOwn, IsQuantity, quantity_in, under}
-use Rattle.gc_promise.specs.Tables.{AreReadAs, IsOwnTable, TablesAreTheirOwn, acts_of, head_rows, header, parts_in, records_in, scope_of, table_form}
+use Rattle.gc_promise.specs.Fields.{IsQuantity, quantity_in, under}
+use Rattle.gc_promise.specs.Tables.{AreReadAs, FieldRun, IsFieldRun, IsOwnIn, IsOwnTable, TablesAreTheirOwn, acts_in_field, head_rows, header, records_in, table_form}
 use Rattle.gc_promise.proofs.Judged.{no_value_if_none, value_if_some}
 use Rattle.gc_promise.proofs.Names.{answer_to, none_answered, none_else, quantity_stands, under_attempt, under_cycle, under_outcome, under_place, under_procedure, under_quality, under_rc, under_rc_com, under_sent, under_target, under_values, row_at}
-use Rattle.gc_promise.proofs.Owning.{fields_of, in_table, two_fields}
+use Rattle.gc_promise.proofs.Owning.{record_fields, in_table, two_fields}
 use Rattle.gc_promise.proofs.Plain.{number_plain}
 use Rattle.gc_promise.proofs.Reading.{both_read, each_reads, none_read, row_reads}
-use Rattle.gc_promise.proofs.Taken.{Took, run_took}
+use Rattle.gc_promise.proofs.Taken.{run_took}
 use Rattle.gc_promise.proofs.Written.{HasItsTexts, target_in, when_in, written_own}
 
 -- Quantities.
@@ -71,7 +64,7 @@ module _ (when : When) (text : List ℕ) (command : Wish) (name : List ℕ) (k :
 module _ (survey : Survey) (columns : Bool) (r : Record) where
   -- the row of the record, as a reader gives it
   abbrev row : List (List ℕ)
-  row = map escaped (fields_of survey.layout columns survey.names r)
+  row = map escaped (record_fields survey.layout columns survey.names r)
 
   -- the field of the record's row under a name
   abbrev at : List ℕ → List ℕ
@@ -113,8 +106,8 @@ module _ (survey : Survey) (columns : Bool) (r : Record) where
         };
         quality = under_quality when text r.command r.end columns;
         rc_com = λ line n answered is.
-            subst (λ (t : List ℕ). IsNumber t n) (sym (under_rc_com when text r.command r.end line answered columns ∙ number_plain (com_of line) is.digits)) is;
-        rc = λ line n answered is. subst (λ (t : List ℕ). IsNumber t n) (sym (under_rc when text r.command r.end line answered columns ∙ number_plain (code_of line) is.digits)) is;
+            subst (λ (t : List ℕ). IsSmallNumber t n) (sym (under_rc_com when text r.command r.end line answered columns ∙ number_plain (com_of line) is.digits)) is;
+        rc = λ line n answered is. subst (λ (t : List ℕ). IsSmallNumber t n) (sym (under_rc when text r.command r.end line answered columns ∙ number_plain (code_of line) is.digits)) is;
         values = λ line answered. under_values when text r.command r.end line answered columns;
         quantities = quantity_at columns;
         none = no_quantity_at columns;
@@ -131,54 +124,55 @@ head_reads false columns form is = subst (λ (f : Form). AreReadAs (head_text f)
   names_read false = row_reads (first_names ++ last_names) (omega arith)
   names_read true = row_reads (first_names ++ (quantity_names ++ last_names)) (omega arith)
 
-module _ {State : Type 0} (ends : Ends State) (kept : State → Option KeptReply) (is : IsAnInstrument ends AnyState kept) (survey : Survey) (columns : Bool)
-    (form : survey.layout.form ≡ table_form columns) (reads : Asked → List ℕ → Reading) (are : AreReadings reads) (acts : List Act) (u : UnderWay State) (rs : List (field.Run State))
-    (there : IsInField ends AnyState kept survey.plan survey.tasks (scope_of survey reads) acts u rs) where
+module _ {State : Type 0} (ends : Ends State) (kept : State → Option KeptReply) (is : IsAnInstrument ends AnyState kept) (reads : Asked → List ℕ → Reading) (are : AreReadings reads)
+    (x : FieldRun State) (was : IsFieldRun ends kept reads x) (columns : Bool) (form : x.run.survey.layout.form ≡ table_form columns) where
+  -- what the run measures
+  abbrev survey : Survey
+  survey = x.run.survey
+
   -- the text of a record is read as its row
-  one_reads : (r : Record) → AreReadAs (text_in survey.layout survey.names r) (row survey columns r ∷ [])
+  one_reads : (r : Record) → AreReadAs (text_by survey r) (row survey columns r ∷ [])
   one_reads r =
       let when = when_in survey r in
       let text = target_in survey r in
-      let is_row : text_in survey.layout survey.names r ≡ row_of (fields_of survey.layout columns survey.names r) =
+      let is_row : text_by survey r ≡ row_of (record_fields survey.layout columns survey.names r) =
       ap (λ (f : Form). record_text f when text r.command r.end) form ∙ in_table columns when text r.command r.end in
-      subst (λ (t : List ℕ). AreReadAs t (row survey columns r ∷ [])) (sym is_row) (row_reads (fields_of survey.layout columns survey.names r) (two_fields columns when text r.command r.end))
+      subst (λ (t : List ℕ). AreReadAs t (row survey columns r ∷ [])) (sym is_row) (row_reads (record_fields survey.layout columns survey.names r) (two_fields columns when text r.command r.end))
 
   -- the row of each record that was written whole is its own
-  each_own : (written others : List Record) → records_in survey reads acts ≡ written ++ others → (n : ℕ) (r : Record) → slice_get written n ≡ Some r
-      → IsOwn ends AnyState kept columns (at survey columns r) survey.tasks (parts_in survey reads acts) (stretches ends u rs) r
-  each_own written others order n r got = written_own ends kept is survey reads are acts u rs there columns (at survey columns r) r (row_stands survey columns r) written others order n got
+  each_own : (written others : List Record) → records_in survey reads (acts_in_field x) ≡ written ++ others → (n : ℕ) (r : Record) → slice_get written n ≡ Some r
+      → IsOwnIn ends AnyState kept columns (at survey columns r) reads x r
+  each_own written others order n r got =
+      written_own ends kept is survey reads are (acts_in_field x) x.in_flight x.happened was.in_field columns (at survey columns r) r (row_stands survey columns r) written others order n got
 
-  -- where a sink took the run's records (`Took`), what it took after what it had is the run's own table
-  tabled : (result : Result Tally Stop) (had : List ℕ) (has : Option (List ℕ))
-      → Took (text_in survey.layout survey.names) (records_in survey reads acts) result (had ++ front_text survey.layout) has
-      → IsOwnTable ends AnyState kept survey columns reads acts (parts_in survey reads acts) (stretches ends u rs) result had has
-  tabled result had has took =
+  -- what the sink took is the run's own table
+  tabled : IsOwnTable ends AnyState kept columns reads x
+  tabled =
+      let took = run_took ends kept reads are x was in
       let front = front_text survey.layout in
       let written = took.are.written in
-      let texts = texts_of (text_in survey.layout survey.names) written in
+      let texts = texts_of (text_by survey) written in
       let whole : AreReadAs (front ++ texts) (head_rows survey.layout columns ++ map (row survey columns) written) =
       both_read front texts (head_rows survey.layout columns) (map (row survey columns) written) (head_reads survey.layout.headed columns survey.layout.form form)
-      (each_reads (text_in survey.layout survey.names) (row survey columns) one_reads written) in
+      (each_reads (text_by survey) (row survey columns) one_reads written) in
       record {
         bytes = front ++ texts;
         torn = took.torn;
-        took = took.is ∙ ap Some (append_assoc had front (texts ++ took.torn) ∙ ap (λ (l : List ℕ). had ++ l) (sym (append_assoc front texts took.torn)));
+        took = took.is ∙ ap Some (append_assoc x.had front (texts ++ took.torn) ∙ ap (λ (l : List ℕ). x.had ++ l) (sym (append_assoc front texts took.torn)));
         are = took.are;
         rows = map (row survey columns) written;
         reads_as = whole;
         behind = λ held earlier first. both_read held (front ++ texts) earlier (head_rows survey.layout columns ++ map (row survey columns) written) first whole;
         as_many = length-map written (row survey columns);
         each = λ n fields e.
-            let x = get_seen (row survey columns) written n fields e in (
-              x.0,
-              x.1,
-              subst (λ (f : List (List ℕ)). IsOwn ends AnyState kept columns (λ name. under name (header columns) f) survey.tasks (parts_in survey reads acts) (stretches ends u rs) x.0) x.2
-                  (each_own written took.are.unwritten took.are.order n x.0 x.1),
+            let seen = get_seen (row survey columns) written n fields e in (
+              seen.0,
+              seen.1,
+              subst (λ (f : List (List ℕ)). IsOwnIn ends AnyState kept columns (λ name. under name (header columns) f) reads x seen.0) seen.2
+                  (each_own written took.are.unwritten took.are.order n seen.0 seen.1),
             );
       }
 
 -- what a sink took of a run is its own table
 pub tables_own : {State : Type 0} → TablesAreTheirOwn State
-tables_own ends kept is reads are run was columns form =
-    tabled ends kept is run.survey columns form reads are (acts_of run) run.in_flight run.happened was.in_field run.result run.had run.new.taken
-    (run_took ends kept reads are run was)
+tables_own ends kept is reads are x was columns form = tabled ends kept is reads are x was columns form

@@ -13,13 +13,13 @@ use Rattle.gc_station.specs.Runs.{Ran, state_after}
 use Rattle.gc_station.specs.Scopes.{Scope, AreReadings}
 use Rattle.gc_station.specs.declared.plan.Plan.{Plan}
 use Rattle.gc_station.specs.declared.tally.Tally.{Tally}
-use Rattle.gc_measuring.specs.Measuring.{front_text, text_in}
+use Rattle.gc_measuring.specs.Measuring.{front_text, text_by}
 use Rattle.gc_measuring.specs.Stops.{end_of_run}
 use Rattle.gc_measuring.specs.declared.stop.Stop.{Stop}
 use Rattle.gc_measuring.specs.declared.stop.Stop.TheVariants.{Run}
 use Rattle.gc_instrument.specs.State.{KeptReply}
 use Rattle.gc_field.specs.World.{Ends}
-use Rattle.gc_promise.specs.Tables.{AreWritten, FieldRun, IsFieldRun, acts_measured, acts_of, records_in, scope_of}
+use Rattle.gc_promise.specs.Tables.{AreWritten, FieldRun, IsFieldRun, acts_in_field, acts_measured, records_in, scope_of}
 use Rattle.gc_catalogue.proofs.Joining.{without_last}
 
 -- what is appended to known bytes comes after them
@@ -80,19 +80,20 @@ module _ (text : Record → List ℕ) where
 -- what a sink took of a run in the field is what was written of its records, after what the sink had and what comes before the
 -- records
 pub run_took : {State : Type 0} (ends : Ends State) (kept : State → Option KeptReply) (reads : Asked → List ℕ → Reading) → AreReadings reads
-    → (run : FieldRun State) → IsFieldRun ends kept reads run
-    → Took (text_in run.survey.layout run.survey.names) (records_in run.survey reads (acts_of run)) run.result (run.had ++ front_text run.survey.layout) run.new.taken
-run_took ends kept reads are run was =
+    → (x : FieldRun State) → IsFieldRun ends kept reads x
+    → Took (text_by x.run.survey) (records_in x.run.survey reads (acts_in_field x)) x.run.result (x.had ++ front_text x.run.survey.layout) x.run.new.taken
+run_took ends kept reads are x was =
+    let run = x.run in
     let survey = run.survey in
-    let b = was.measured in
-    let text = text_in survey.layout survey.names in
+    let b = was.is_run.ran in
+    let text = text_by survey in
     let scope = scope_of survey reads in
-    let start = run.had ++ front_text survey.layout in
+    let start = x.had ++ front_text survey.layout in
     let between : b.between ≡ Some start =
-    appended_to_known run.had (front_text survey.layout) b.between (subst (λ (x : Option (List ℕ)). Appends x b.between (front_text survey.layout)) was.took b.front) in
+    appended_to_known x.had (front_text survey.layout) b.between (subst (λ (t : Option (List ℕ)). Appends t b.between (front_text survey.layout)) was.took b.front) in
     let ran : Ran survey.plan survey.tasks scope text (Some []) (Some run.recorded) (Some start) run.new.taken b.end =
-    subst (λ (x : Option (List ℕ)). Ran survey.plan survey.tasks scope text (Some []) (Some run.recorded) x run.new.taken b.end) between
-    (subst (λ (x : Option (List Act)). Ran survey.plan survey.tasks scope text (Some []) x b.between run.new.taken b.end) was.acts
-    (subst (λ (x : Option (List Act)). Ran survey.plan survey.tasks scope text x run.new.acts b.between run.new.taken b.end) was.none (b.ran.0 reads are))) in
+    subst (λ (t : Option (List ℕ)). Ran survey.plan survey.tasks scope text (Some []) (Some run.recorded) t run.new.taken b.end) between
+    (subst (λ (t : Option (List Act)). Ran survey.plan survey.tasks scope text (Some []) t b.between run.new.taken b.end) was.is_run.acts
+    (subst (λ (t : Option (List Act)). Ran survey.plan survey.tasks scope text t run.new.acts b.between run.new.taken b.end) was.is_run.none (b.ran.0 reads are))) in
     subst (λ (r : Result Tally Stop). Took text (records_in survey reads (acts_measured r run.recorded)) r start run.new.taken) (sym b.is)
     (ran_took text survey.plan survey.tasks scope run.recorded start run.new.taken b.end ran)

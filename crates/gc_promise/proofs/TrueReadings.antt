@@ -29,7 +29,7 @@ use Rattle.gc_catalogue.specs.declared.call.Call.TheVariants.{InstrumentNo, Posi
 use Rattle.gc_catalogue.specs.Asked.{IsAskedReading}
 use Rattle.gc_client.specs.Settlements.{ReadsBy}
 use Rattle.gc_station.specs.Scopes.{AreReadings}
-use Rattle.gc_promise.specs.Eventful.{at_target, elsewhere, empty, measured, numbered, pointed}
+use Rattle.gc_promise.specs.Eventful.{at_target, elsewhere_reply, empty_reply, measured_reply, numbered_reply, pointed_reply}
 
 -- what the reply to command 2 says
 abbrev away : Answer
@@ -50,34 +50,34 @@ module _ (call : Call) where
       record { reply = replied id params; is_reply = reply_found line (replied id params) reads; is_reading = (refl, refl, record { of_call = sym of_call; values = values }) }
 
   -- of a call with no values in its answers, the reply to command 0 says nothing but that the call was carried out
-  pointed_says : (call_fields call).answer ≡ shape.Nothing → ReadsBy IsAskedReading (Table call) pointed (Value Nothing)
+  pointed_says : (call_fields call).answer ≡ shape.Nothing → ReadsBy IsAskedReading (Table call) pointed_reply (Value Nothing)
   unfolding header_at reply_at digits
-  pointed_says of_call = value_says pointed [] 0 Nothing refl of_call (no_params [] [] refl refl)
+  pointed_says of_call = value_says pointed_reply [] 0 Nothing refl of_call (no_params [] [] refl refl)
 
   -- of a call that asks for angles and a distance, the reply to command 1 says those at target 7
-  measured_says : (call_fields call).answer ≡ shape.Measured → ReadsBy IsAskedReading (Table call) measured (Value at_target)
+  measured_says : (call_fields call).answer ≡ shape.Measured → ReadsBy IsAskedReading (Table call) measured_reply (Value at_target)
   unfolding header_at reply_at digits rounded
   measured_says of_call =
-      value_says measured (codes "2.25,1.625,110.0625") 1 at_target refl of_call (written_reads (answer_fields at_target).values (tt, (tt, (tt, tt))))
+      value_says measured_reply (codes "2.25,1.625,110.0625") 1 at_target refl of_call (written_reads (answer_fields at_target).values (tt, (tt, (tt, tt))))
 
   -- of a call that asks for angles and a distance, the reply to command 2 says those of `away`, where target 8 doesn't stand
-  elsewhere_says : (call_fields call).answer ≡ shape.Measured → ReadsBy IsAskedReading (Table call) elsewhere (Value away)
+  elsewhere_says : (call_fields call).answer ≡ shape.Measured → ReadsBy IsAskedReading (Table call) elsewhere_reply (Value away)
   unfolding header_at reply_at digits rounded
-  elsewhere_says of_call = value_says elsewhere (codes "0.5,1.5,87.25") 2 away refl of_call (written_reads (answer_fields away).values (tt, (tt, (tt, tt))))
+  elsewhere_says of_call = value_says elsewhere_reply (codes "0.5,1.5,87.25") 2 away refl of_call (written_reads (answer_fields away).values (tt, (tt, (tt, tt))))
 
   -- of a call that asks for a whole number, the reply to command 3 says the number 31
-  numbered_says : (call_fields call).answer ≡ shape.Long → ReadsBy IsAskedReading (Table call) numbered (Value (Long (pos 31)))
+  numbered_says : (call_fields call).answer ≡ shape.Long → ReadsBy IsAskedReading (Table call) numbered_reply (Value (Long (pos 31)))
   unfolding header_at reply_at digits
   numbered_says of_call =
-      value_says numbered (codes "31") 3 (Long (pos 31)) refl of_call (written_reads (value.Long (pos 31) ∷ []) ((omega (arith, ints), omega (arith, ints)), tt))
+      value_says numbered_reply (codes "31") 3 (Long (pos 31)) refl of_call (written_reads (value.Long (pos 31) ∷ []) ((omega (arith, ints), omega (arith, ints)), tt))
 
   -- of a call that asks for a whole number, the reply to command 4 doesn't read: it has too few values
-  empty_says : (call_fields call).answer ≡ shape.Long → ReadsBy IsAskedReading (Table call) empty (Unreadable Count)
+  empty_says : (call_fields call).answer ≡ shape.Long → ReadsBy IsAskedReading (Table call) empty_reply (Unreadable Count)
   unfolding header_at reply_at digits
   empty_says of_call =
       record {
         reply = replied 4 [];
-        is_reply = reply_found empty (replied 4 []) refl;
+        is_reply = reply_found empty_reply (replied 4 []) refl;
         is_reading = (refl, refl, (Long (pos 0), sym of_call, faulty_items [] (0, refl) (wrong_count refl (omega arith) (λ e. absurd (omega (arith, e))))));
       }
 
@@ -87,9 +87,9 @@ saying line reading says x = if pointwise nat_eq line x then reading else says x
 
 -- the function with these readings put before it, for the calls that have them
 abbrev pub patched : (Asked → List ℕ → Reading) → Asked → List ℕ → Reading
-patched reads (Table (Position hz v pos_mode atr_mode dummy)) = saying pointed (Value Nothing) (reads (Table (Position hz v pos_mode atr_mode dummy)))
-patched reads (Table (SimpleMea wait mode)) = saying measured (Value at_target) (saying elsewhere (Value away) (reads (Table (SimpleMea wait mode))))
-patched reads (Table InstrumentNo) = saying numbered (Value (Long (pos 31))) (saying empty (Unreadable Count) (reads (Table InstrumentNo)))
+patched reads (Table (Position hz v pos_mode atr_mode dummy)) = saying pointed_reply (Value Nothing) (reads (Table (Position hz v pos_mode atr_mode dummy)))
+patched reads (Table (SimpleMea wait mode)) = saying measured_reply (Value at_target) (saying elsewhere_reply (Value away) (reads (Table (SimpleMea wait mode))))
+patched reads (Table InstrumentNo) = saying numbered_reply (Value (Long (pos 31))) (saying empty_reply (Unreadable Count) (reads (Table InstrumentNo)))
 patched reads call = reads call
 
 -- if a function gives this reading of the line anyway, to put the reading before it changes nothing
@@ -106,14 +106,14 @@ module _ (reads : Asked → List ℕ → Reading) (are : AreReadings reads) wher
   patched_of_call : (call : Asked) → patched reads call ≡ reads call
   patched_of_call (Table (Position hz v pos_mode atr_mode dummy)) =
       let call = Table (Position hz v pos_mode atr_mode dummy) in
-      said_so pointed (Value Nothing) (reads call) (are call pointed (Value Nothing) (pointed_says (Position hz v pos_mode atr_mode dummy) refl))
+      said_so pointed_reply (Value Nothing) (reads call) (are call pointed_reply (Value Nothing) (pointed_says (Position hz v pos_mode atr_mode dummy) refl))
   patched_of_call (Table (SimpleMea wait mode)) =
       let call = Table (SimpleMea wait mode) in
-      ap (saying measured (Value at_target)) (said_so elsewhere (Value away) (reads call) (are call elsewhere (Value away) (elsewhere_says (SimpleMea wait mode) refl)))
-      ∙ said_so measured (Value at_target) (reads call) (are call measured (Value at_target) (measured_says (SimpleMea wait mode) refl))
+      ap (saying measured_reply (Value at_target)) (said_so elsewhere_reply (Value away) (reads call) (are call elsewhere_reply (Value away) (elsewhere_says (SimpleMea wait mode) refl)))
+      ∙ said_so measured_reply (Value at_target) (reads call) (are call measured_reply (Value at_target) (measured_says (SimpleMea wait mode) refl))
   patched_of_call (Table InstrumentNo) =
-      ap (saying numbered (Value (Long (pos 31)))) (said_so empty (Unreadable Count) (reads (Table InstrumentNo)) (are (Table InstrumentNo) empty (Unreadable Count) (empty_says InstrumentNo refl)))
-      ∙ said_so numbered (Value (Long (pos 31))) (reads (Table InstrumentNo)) (are (Table InstrumentNo) numbered (Value (Long (pos 31))) (numbered_says InstrumentNo refl))
+      ap (saying numbered_reply (Value (Long (pos 31)))) (said_so empty_reply (Unreadable Count) (reads (Table InstrumentNo)) (are (Table InstrumentNo) empty_reply (Unreadable Count) (empty_says InstrumentNo refl)))
+      ∙ said_so numbered_reply (Value (Long (pos 31))) (reads (Table InstrumentNo)) (are (Table InstrumentNo) numbered_reply (Value (Long (pos 31))) (numbered_says InstrumentNo refl))
   patched_of_call call = refl
 
   -- `patched` of a function that gives what replies say is the function itself

@@ -12,7 +12,7 @@ use Rattle.gc_lines.specs.Readers.{header_at, reply_at}
 use Rattle.gc_rows.specs.Laws.{IsEndOfBytes, IsReplyOfBytes}
 use Rattle.gc_rows.specs.declared.record.Form.TheVariants.{Json}
 use Rattle.gc_station.specs.Records.{Record}
-use Rattle.gc_promise.specs.Eventful.{chained_record, elsewhere, empty, measured, number_record, numbered, pointed, points_record, records}
+use Rattle.gc_promise.specs.Eventful.{chained_record, elsewhere_reply, empty_reply, measured_reply, number_record, numbered_reply, pointed_reply, points_record, records}
 use Rattle.gc_promise.specs.Objects.{AreOfBytes, IsTyped}
 use Rattle.gc_promise.specs.Witness.{survey}
 use Rattle.gc_promise.proofs.TrueReadings.{replied}
@@ -23,29 +23,29 @@ of_bytes line params id reads small =
     (replied id params, reply_found line (replied id params) reads, λ k d within. ltb-true _ 256 (AllPass-from_list_all (λ b. nat_lt b 256) line small k d within))
 
 -- the reply to command 0 is of bytes
-pointed_of_bytes : IsReplyOfBytes pointed
+pointed_of_bytes : IsReplyOfBytes pointed_reply
 unfolding header_at reply_at digits
-pointed_of_bytes = of_bytes pointed [] 0 refl refl
+pointed_of_bytes = of_bytes pointed_reply [] 0 refl refl
 
 -- the reply to command 1 is of bytes
-measured_of_bytes : IsReplyOfBytes measured
+measured_of_bytes : IsReplyOfBytes measured_reply
 unfolding header_at reply_at digits
-measured_of_bytes = of_bytes measured (codes "2.25,1.625,110.0625") 1 refl refl
+measured_of_bytes = of_bytes measured_reply (codes "2.25,1.625,110.0625") 1 refl refl
 
 -- the reply to command 2 is of bytes
-elsewhere_of_bytes : IsReplyOfBytes elsewhere
+elsewhere_of_bytes : IsReplyOfBytes elsewhere_reply
 unfolding header_at reply_at digits
-elsewhere_of_bytes = of_bytes elsewhere (codes "0.5,1.5,87.25") 2 refl refl
+elsewhere_of_bytes = of_bytes elsewhere_reply (codes "0.5,1.5,87.25") 2 refl refl
 
 -- the reply to command 3 is of bytes
-numbered_of_bytes : IsReplyOfBytes numbered
+numbered_of_bytes : IsReplyOfBytes numbered_reply
 unfolding header_at reply_at digits
-numbered_of_bytes = of_bytes numbered (codes "31") 3 refl refl
+numbered_of_bytes = of_bytes numbered_reply (codes "31") 3 refl refl
 
 -- the reply to command 4 is of bytes
-empty_of_bytes : IsReplyOfBytes empty
+empty_of_bytes : IsReplyOfBytes empty_reply
 unfolding header_at reply_at digits
-empty_of_bytes = of_bytes empty [] 4 refl refl
+empty_of_bytes = of_bytes empty_reply [] 4 refl refl
 
 -- the ending of command 0 is of bytes (`IsEndOfBytes`)
 points_end : IsEndOfBytes points_record.end
@@ -60,8 +60,8 @@ number_end : IsEndOfBytes number_record.end
 number_end = (numbered_of_bytes, ((omega (arith, ints), omega (arith, ints)), tt))
 
 -- the endings of all records of this run are of bytes
-ends : AllByRecursion (λ (r : Record). IsEndOfBytes r.end) records
-ends = (tt, (tt, (tt, (tt, (tt, (tt, (tt, (tt, (tt, (tt, (tt, (tt, (tt, (tt, (points_end, (chained_end, (elsewhere_of_bytes, (number_end, (empty_of_bytes, (tt, (tt, tt)))))))))))))))))))))
+all_of_bytes : AllByRecursion (λ (r : Record). IsEndOfBytes r.end) records
+all_of_bytes = (tt, (tt, (tt, (tt, (tt, (tt, (tt, (tt, (tt, (tt, (tt, (tt, (tt, (tt, (points_end, (chained_end, (elsewhere_of_bytes, (number_end, (empty_of_bytes, (tt, (tt, tt)))))))))))))))))))))
 
 -- whether a number is below 2^64
 abbrev is_small : ℕ → Bool
@@ -113,4 +113,4 @@ typed (r ∷ rs) e h =
 
 -- the records of the eventful run are of bytes and of numbers of 64 bits
 pub of_types : AreOfBytes (survey Json) records
-of_types = record { run = lit< tt; names = tt; each = typed records refl ends }
+of_types = record { run = lit< tt; names = tt; each = typed records refl all_of_bytes }

@@ -3,7 +3,7 @@ use Rattle.std.proofs.Common.{◌≡◌, ◌≢◌, ℕ, ◌+◌, ◌/◌, ◌%�
 use Rattle.std.specs.Prelude.{codes, nat_lt}
 use Rattle.std.specs.List.{AllByRecursion, flat_map}
 use Rattle.std.proofs.lemmas.Bool.{cond_both}
-use Rattle.gc_values.specs.ValueFault.{fault_number}
+use Rattle.gc_values.specs.ValueFault.{value_fault_number}
 use Rattle.gc_values.specs.declared.value.Value.{Value}
 use Rattle.gc_values.specs.declared.value.Value.TheVariants as value
 use Rattle.gc_catalogue.specs.Answers.{answer_fields}
@@ -15,7 +15,7 @@ use Rattle.gc_texts.specs.Endings.{End, Answered, Unreadable, Elsewhere, Late, L
 use Rattle.gc_texts.specs.Logs.{escape, escaped, hex_digit, is_unescaped}
 use Rattle.gc_texts.specs.Stamps.{stamp_text}
 use Rattle.gc_texts.specs.declared.wish.Wish.{Wish}
-use Rattle.gc_rows.specs.JsonLines.{Member, Text, Number, Texts, behind_backslash, comma_where, ending_members, item_members, json_members, last_members, list_text, member_text, members_text, members_after_ending, answer_members, attempt_members, quantity_members, reply_members, sent_members, string_text, strings_text, value_members, values_members, command_members, when_members, without_zeros, quality_members}
+use Rattle.gc_rows.specs.JsonLines.{Member, Text, Number, Texts, behind_backslash, comma_where, ending_members, item_members, members_after_run, last_members, list_text, member_text, members_text, members_after_ending, answer_members, attempt_members, quantity_members, reply_members, sent_members, string_text, strings_text, value_members, values_members, command_members, when_members, without_zeros, quality_members}
 use Rattle.gc_rows.specs.Items.{split_items}
 use Rattle.gc_rows.specs.Laws.{IsEndOfBytes, IsPlainMember, IsPlainName, IsReplyOfBytes}
 use Rattle.gc_rows.specs.Quantities.{column_of, quantity_name, quantity_text}
@@ -25,7 +25,7 @@ use Rattle.gc_rows.proofs.Columns.{lacks_both, reply_columns}
 use Rattle.gc_texts.specs.Cuts.{before, behind}
 use Rattle.gc_station.proofs.Lists.{all_append}
 use Rattle.gc_promise.proofs.Finding.{double_plain, signed_plain, zeros_gone}
-use Rattle.gc_promise.proofs.Plain.{IsPlain, decimal_plain, number_plain}
+use Rattle.gc_promise.proofs.Plain.{NeedsNoEscape, decimal_plain, number_plain}
 
 -- Texts.
 
@@ -49,7 +49,7 @@ escaped_lacks [] = tt
 escaped_lacks (b ∷ bs) = lacks_both 10 (escape b) (escaped bs) (byte_lacks b) (escaped_lacks bs)
 
 -- a text in which escaping changes nothing has no line feed
-plain_lacks : (text : List ℕ) → IsPlain text → Lacks 10 text
+plain_lacks : (text : List ℕ) → NeedsNoEscape text → Lacks 10 text
 plain_lacks text is = subst (Lacks 10) is (escaped_lacks text)
 
 -- a text without a line feed still has none once each double quote and backslash in it has a backslash before it
@@ -97,7 +97,7 @@ name_lacks (b ∷ bs) is = ((λ e. let low = is.0.0 in omega (arith, e, low)), n
 -- escaping changes nothing in the digits of a member that is a number; other members have no digits
 abbrev HasPlainDigits : Member → Type 0
 HasPlainDigits (Text name bytes) = Unit {0}
-HasPlainDigits (Number name digits) = IsPlain digits
+HasPlainDigits (Number name digits) = NeedsNoEscape digits
 HasPlainDigits (Texts name texts) = Unit {0}
 
 -- a plain name with the comma and the quotes around it, and a colon after these, has no line feed
@@ -145,7 +145,7 @@ reply_plain line is =
 ending_plain : (end : End) → IsEndOfBytes end → AllByRecursion HasPlainDigits (ending_members end)
 ending_plain (Answered quality (Some answer) line) is = (tt, reply_plain line is.0)
 ending_plain (Answered quality None line) is = (tt, reply_plain line is)
-ending_plain (Unreadable line fault) is = (tt, (decimal_plain (fault_number fault), reply_plain line is))
+ending_plain (Unreadable line fault) is = (tt, (decimal_plain (value_fault_number fault), reply_plain line is))
 ending_plain (Elsewhere line) is = (tt, reply_plain line is)
 ending_plain Late is = (tt, tt)
 ending_plain Lost is = (tt, tt)
@@ -153,7 +153,7 @@ ending_plain Skipped is = (tt, tt)
 ending_plain Missed is = (tt, tt)
 
 -- escaping changes nothing in the text of a truth value
-boolean_plain : (b : Bool) → IsPlain (quantity_text (value.Bool b))
+boolean_plain : (b : Bool) → NeedsNoEscape (quantity_text (value.Bool b))
 boolean_plain true = refl
 boolean_plain false = refl
 
@@ -200,7 +200,7 @@ last_plain when end =
     (decimal_plain when.stamp.turn.attempt, tt)
 
 -- all members of a record have plain digits, if its ending is of bytes
-members_plain : (when : When) (name : List ℕ) (command : Wish) (end : End) → IsEndOfBytes end → AllByRecursion HasPlainDigits (json_members when name command end)
+members_plain : (when : When) (name : List ℕ) (command : Wish) (end : End) → IsEndOfBytes end → AllByRecursion HasPlainDigits (members_after_run when name command end)
 members_plain when name command end is =
     let rest = ending_members end ++ members_after_ending when command.call end in
     all_append HasPlainDigits (when_members when) (command_members command name ++ rest) (when_plain when)
@@ -209,12 +209,12 @@ members_plain when name command end is =
     (all_append HasPlainDigits (quantity_members command.call end) (last_members when end) (quantities_plain command.call end) (last_plain when end))))
 
 -- if a record's ending is of bytes, and its members are plain, its line, without the line feed at its end, has no line feed
-pub line_unbroken : (when : When) (name : List ℕ) (command : Wish) (end : End) → IsEndOfBytes end → AllByRecursion IsPlainMember (json_members when name command end)
-    → Lacks 10 ((codes "{\"run\":" ++ string_text (stamp_text when.run)) ++ (members_text (json_members when name command end) ++ codes "}"))
+pub line_unbroken : (when : When) (name : List ℕ) (command : Wish) (end : End) → IsEndOfBytes end → AllByRecursion IsPlainMember (members_after_run when name command end)
+    → Lacks 10 ((codes "{\"run\":" ++ string_text (stamp_text when.run)) ++ (members_text (members_after_run when name command end) ++ codes "}"))
 line_unbroken when name command end is are =
     let front : Lacks 10 (codes "{\"run\":") =
     ((λ e. omega (arith, e)), ((λ e. omega (arith, e)), ((λ e. omega (arith, e)), ((λ e. omega (arith, e)), ((λ e. omega (arith, e)), ((λ e. omega (arith, e)), ((λ e. omega (arith, e)), tt))))))) in
-    lacks_both 10 (codes "{\"run\":" ++ string_text (stamp_text when.run)) (members_text (json_members when name command end) ++ codes "}")
+    lacks_both 10 (codes "{\"run\":" ++ string_text (stamp_text when.run)) (members_text (members_after_run when name command end) ++ codes "}")
     (lacks_both 10 (codes "{\"run\":") (string_text (stamp_text when.run)) front (string_lacks (stamp_text when.run)))
-    (lacks_both 10 (members_text (json_members when name command end)) (codes "}") (members_lack (json_members when name command end) are (members_plain when name command end is))
+    (lacks_both 10 (members_text (members_after_run when name command end)) (codes "}") (members_lack (members_after_run when name command end) are (members_plain when name command end is))
     ((λ e. omega (arith, e)), tt))

@@ -10,18 +10,17 @@ use Rattle.gc_rows.specs.declared.record.Form.TheVariants.{Json}
 use Rattle.gc_texts.specs.Stamps.{days_after}
 use Rattle.gc_station.specs.Keeping.{Snapshot}
 use Rattle.gc_station.specs.declared.cause.Cause.TheVariants.{Done}
-use Rattle.gc_station.specs.Model.{opening}
-use Rattle.gc_station.specs.Parts.{parts_of}
 use Rattle.gc_station.specs.Records.{Record}
 use Rattle.gc_station.specs.Scopes.{AreReadings}
 use Rattle.gc_station.proofs.Readings.{for_readings}
 use Rattle.gc_measuring.specs.Measuring.{RunsAfterFront, text_in}
-use Rattle.gc_field.specs.Instrument.{AnyState, nothing}
+use Rattle.gc_field.specs.Instrument.{AnyState, never_kept}
+use Rattle.gc_field.specs.Runs.{program_parts}
 use Rattle.gc_field.specs.Shown.{stretches}
-use Rattle.gc_promise.specs.Eventful.{acts, at_start, commands, elsewhere, empty, measured, numbered, plan, pointed, runs, scope, tally, reporting}
+use Rattle.gc_promise.specs.Eventful.{acts, at_start, commands, elsewhere_reply, empty_reply, measured_reply, numbered_reply, pointed_reply, program, runs, tally, reporting}
 use Rattle.gc_promise.specs.Rows.{IsOwnIfAnswered}
-use Rattle.gc_promise.specs.Tables.{FieldRun, IsFieldRun, table_form}
-use Rattle.gc_promise.specs.Witness.{HasOwnRows, SomeRowIsItsOwn, survey, in_a_table, layout_in, ports_at, taken}
+use Rattle.gc_promise.specs.Tables.{IsFieldRun, table_form}
+use Rattle.gc_promise.specs.Witness.{HasOwnRows, SomeRowIsItsOwn, survey, in_a_table, layout_in, ports_at, run_in, taken}
 use Rattle.gc_promise.proofs.Eventful.{eventful, ran_whole}
 use Rattle.gc_promise.proofs.Owning.{rows_own}
 use Rattle.gc_promise.proofs.Tabled.{tables_own}
@@ -32,7 +31,7 @@ use Rattle.gc_promise.specs.Objects.{AreOfBytes}
 
 -- the row of each of these records whose command a reply in time ended is its own
 abbrev HaveOwnRows : (Asked → List ℕ → Reading) → List Record → Type 0
-HaveOwnRows reads = AllByRecursion (IsOwnIfAnswered reporting AnyState nothing in_a_table [] commands (parts_of plan commands (opening plan (scope reads)) acts) (stretches reporting at_start runs))
+HaveOwnRows reads = AllByRecursion (IsOwnIfAnswered reporting AnyState never_kept in_a_table [] commands (program_parts (program reads)) (stretches reporting at_start runs))
 
 -- what is seen at each act of the eventful run, where its records are written in this form
 abbrev turns_in : Form → List Snapshot
@@ -50,41 +49,29 @@ is_measured form =
       keeps = for_readings _ (keeps_whole (text_in (layout_in form) []));
     }
 
--- the eventful run, with its records written in this form
-abbrev run_in : Form → FieldRun (List ℕ)
-run_in form =
-    record {
-      survey = survey form;
-      old = ports_at [] [] [];
-      new = ports_at acts (taken form) (turns_in form);
-      result = Ok tally;
-      recorded = acts;
-      had = [];
-      in_flight = at_start;
-      happened = runs;
-    }
-
 -- in each form, the eventful run is one in the field
-is_field_run : (reads : Asked → List ℕ → Reading) → AreReadings reads → (form : Form) → IsFieldRun reporting nothing reads (run_in form)
-is_field_run reads are form = record { measured = is_measured form; none = refl; acts = refl; took = refl; in_field = (eventful reads are).field }
+is_field_run : (reads : Asked → List ℕ → Reading) → AreReadings reads → (form : Form) → IsFieldRun reporting never_kept reads (run_in form (turns_in form))
+is_field_run reads are form = record { is_run = record { none = refl; acts = refl; ran = is_measured form }; took = refl; in_field = (eventful reads are).field }
 
 -- `HasOwnRows` holds of the eventful run, with every function that gives what each reply says of its call
 own_rows : (reads : Asked → List ℕ → Reading) → AreReadings reads → HasOwnRows reads
 unfolding digits days_after
 own_rows reads are =
     let run = eventful reads are in
-    let all = rows_own reporting nothing run.is_instrument in_a_table false [] refl plan commands (scope reads) acts at_start runs run.field in
+    let all = rows_own reporting never_kept run.is_instrument in_a_table false [] refl at_start (program reads) run.field in
     let each = subst (HaveOwnRows reads) run.written all in
     let answers = each.1.1.1.1.1.1.1.1.1.1.1.1.1.1 in
     record {
       run = run;
-      points = (refl, answers.0 pointed refl);
-      chained = (refl, answers.1.0 measured refl);
-      elsewhere = (refl, answers.1.1.0 elsewhere refl);
-      number = (refl, answers.1.1.1.0 numbered refl);
-      unreadable = (refl, answers.1.1.1.1.0 empty refl);
-      tables = λ columns. tables_own reporting nothing run.is_instrument reads are (run_in (table_form columns)) (is_field_run reads are (table_form columns)) columns refl;
-      objects = objects_own reporting nothing run.is_instrument reads are (run_in Json) (is_field_run reads are Json) refl (subst (AreOfBytes (survey Json)) (sym run.written) of_types);
+      points = (refl, answers.0 pointed_reply refl);
+      chained = (refl, answers.1.0 measured_reply refl);
+      elsewhere = (refl, answers.1.1.0 elsewhere_reply refl);
+      number = (refl, answers.1.1.1.0 numbered_reply refl);
+      unreadable = (refl, answers.1.1.1.1.0 empty_reply refl);
+      turns = turns_in;
+      tables = λ columns.
+          tables_own reporting never_kept run.is_instrument reads are (run_in (table_form columns) (turns_in (table_form columns))) (is_field_run reads are (table_form columns)) columns refl;
+      objects = objects_own reporting never_kept run.is_instrument reads are (run_in Json (turns_in Json)) (is_field_run reads are Json) refl (subst (AreOfBytes (survey Json)) (sym run.written) of_types);
     }
 
 -- the eventful run meets all that the law on rows asks, and its rows are their own

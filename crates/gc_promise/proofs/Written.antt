@@ -2,7 +2,7 @@
 use Rattle.std.proofs.Common.{◌≡◌, inl, inr, ℕ, Bool, true, List, [], ◌++◌, get_or, Option, Some, refl, sym, ap, ◌∙◌, subst, arith}
 use Rattle.std.specs.Prelude.{codes, slice_get}
 use Rattle.std.specs.List.{AllByRecursion}
-use Rattle.gc_lines.specs.Numbers.{IsNumber}
+use Rattle.gc_lines.specs.Numbers.{IsSmallNumber}
 use Rattle.gc_lines.specs.Replies.{ReplyFields, IsReply}
 use Rattle.gc_values.proofs.Every.{every_front as all_front}
 use Rattle.gc_catalogue.specs.Asked.{IsAskedReading}
@@ -40,7 +40,7 @@ use Rattle.gc_field.specs.Shown.{Stretch, stretches}
 use Rattle.gc_field.proofs.Joining.{run_faithful}
 use Rattle.std.proofs.lemmas.Option.{same_Some}
 use Rattle.gc_promise.specs.Fields.{IsOwn, IsQuantity, IsRowOf, IsOutcomeOfReply, HasReply, quality_in, quantity_in, quantity_source}
-use Rattle.gc_promise.specs.Tables.{parts_in, records_in, scope_of}
+use Rattle.gc_promise.specs.Tables.{parts_in, program_of, records_in, scope_of}
 use Rattle.gc_promise.proofs.Judged.{IsJudged, judged}
 use Rattle.gc_promise.proofs.Owning.{a_reply}
 use Rattle.gc_promise.proofs.Setting.{never_sent, set_to}
@@ -60,20 +60,20 @@ abbrev pub first_of : List ℕ → ℕ
 first_of word = get_or word 0 0
 
 -- a word that begins with none of the letters a, u and e is no outcome of a reply
-pub no_reply : (word : List ℕ) → (first_of word ≡ 97 → ⊥) → (first_of word ≡ 117 → ⊥) → (first_of word ≡ 101 → ⊥) → IsOutcomeOfReply word → ⊥
-no_reply word a u e (inl is) = a (ap first_of is)
-no_reply word a u e (inr (inl is)) = u (ap first_of is)
-no_reply word a u e (inr (inr is)) = e (ap first_of is)
+pub no_outcome_of_reply : (word : List ℕ) → (first_of word ≡ 97 → ⊥) → (first_of word ≡ 117 → ⊥) → (first_of word ≡ 101 → ⊥) → IsOutcomeOfReply word → ⊥
+no_outcome_of_reply word a u e (inl is) = a (ap first_of is)
+no_outcome_of_reply word a u e (inr (inl is)) = u (ap first_of is)
+no_outcome_of_reply word a u e (inr (inr is)) = e (ap first_of is)
 
 -- if the outcome is that of a reply, a reply in time ended the command
-pub line_in : (end : End) → IsOutcomeOfReply (word_of end) → (line : List ℕ) × (line_of end ≡ Some line)
-line_in (Answered quality answer line) is = (line, refl)
-line_in (Unreadable line fault) is = (line, refl)
-line_in (Elsewhere line) is = (line, refl)
-line_in Late is = absurd (no_reply (codes "late") (λ e. omega (arith, e)) (λ e. omega (arith, e)) (λ e. omega (arith, e)) is)
-line_in Lost is = absurd (no_reply (codes "lost") (λ e. omega (arith, e)) (λ e. omega (arith, e)) (λ e. omega (arith, e)) is)
-line_in Skipped is = absurd (no_reply (codes "skipped") (λ e. omega (arith, e)) (λ e. omega (arith, e)) (λ e. omega (arith, e)) is)
-line_in Missed is = absurd (no_reply (codes "missed") (λ e. omega (arith, e)) (λ e. omega (arith, e)) (λ e. omega (arith, e)) is)
+pub reply_ended : (end : End) → IsOutcomeOfReply (word_of end) → (line : List ℕ) × (line_of end ≡ Some line)
+reply_ended (Answered quality answer line) is = (line, refl)
+reply_ended (Unreadable line fault) is = (line, refl)
+reply_ended (Elsewhere line) is = (line, refl)
+reply_ended Late is = absurd (no_outcome_of_reply (codes "late") (λ e. omega (arith, e)) (λ e. omega (arith, e)) (λ e. omega (arith, e)) is)
+reply_ended Lost is = absurd (no_outcome_of_reply (codes "lost") (λ e. omega (arith, e)) (λ e. omega (arith, e)) (λ e. omega (arith, e)) is)
+reply_ended Skipped is = absurd (no_outcome_of_reply (codes "skipped") (λ e. omega (arith, e)) (λ e. omega (arith, e)) (λ e. omega (arith, e)) is)
+reply_ended Missed is = absurd (no_outcome_of_reply (codes "missed") (λ e. omega (arith, e)) (λ e. omega (arith, e)) (λ e. omega (arith, e)) is)
 
 -- a word that doesn't begin with the letter a isn't `answered`
 pub not_answered : (word : List ℕ) → (first_of word ≡ 97 → ⊥) → word ≡ codes "answered" → ⊥
@@ -111,8 +111,8 @@ all_written P xs written others order all n x is = all_at P written n x (all_fro
 pub record HasItsTexts (has_quantities : Bool) (at : List ℕ → List ℕ) (r : Record) : Type 0 where
   pub is_of : IsRowOf at r
   pub quality : at (codes "quality") ≡ quality_text (quality_of r.end)
-  pub rc_com : (line : List ℕ) (n : ℕ) → line_of r.end ≡ Some line → IsNumber (com_of line) n → IsNumber (at (codes "rc_com")) n
-  pub rc : (line : List ℕ) (n : ℕ) → line_of r.end ≡ Some line → IsNumber (code_of line) n → IsNumber (at (codes "rc")) n
+  pub rc_com : (line : List ℕ) (n : ℕ) → line_of r.end ≡ Some line → IsSmallNumber (com_of line) n → IsSmallNumber (at (codes "rc_com")) n
+  pub rc : (line : List ℕ) (n : ℕ) → line_of r.end ≡ Some line → IsSmallNumber (code_of line) n → IsSmallNumber (at (codes "rc")) n
   pub values : (line : List ℕ) → line_of r.end ≡ Some line → at (codes "values") ≡ escaped (values_of line)
   pub quantities :
       has_quantities ≡ true → (fields : ReplyFields) (told : Reading) → IsAskedReading r.command.call fields told → (q : Quality) (answer : Option Answer) (line : List ℕ)
@@ -165,7 +165,7 @@ module _ (survey : Survey) (reads : Asked → List ℕ → Reading) (are : AreRe
         clock = set_to at survey.tasks r of has.is_of.command.sent;
         unsent = never_sent at survey.tasks r of has.is_of.command.sent;
         replied = λ is.
-            let replied = line_in r.end (subst IsOutcomeOfReply has.is_of.command.outcome is) in
+            let replied = reply_ended r.end (subst IsOutcomeOfReply has.is_of.command.outcome is) in
             let justified = came replied.0 replied.1 in
             (replied.0, says replied.0 replied.1 (a_reply replied.0 _ justified.id) listed, own replied.0 replied.1);
         without = λ shows other name quantity. has.none shows (λ answers. other (has.is_of.command.outcome ∙ answers)) name quantity;
@@ -174,13 +174,13 @@ module _ (survey : Survey) (reads : Asked → List ℕ → Reading) (are : AreRe
 
 module _ {State : Type 0} (ends : Ends State) (kept : State → Option KeptReply) (is : IsAnInstrument ends AnyState kept) (survey : Survey)
     (reads : Asked → List ℕ → Reading) (are : AreReadings reads) (acts : List Act) (u : UnderWay State) (rs : List (field.Run State))
-    (there : IsInField ends AnyState kept survey.plan survey.tasks (scope_of survey reads) acts u rs) where
+    (there : IsInField ends AnyState kept u (program_of survey reads acts rs)) where
   -- a row or an object that has its texts (`HasItsTexts`) is its own, if its record is among the first of the run's records
   -- (`written`)
   pub written_own : (has_quantities : Bool) (at : List ℕ → List ℕ) (r : Record) → HasItsTexts has_quantities at r → (written others : List Record) → records_in survey reads acts ≡ written ++ others
       → (n : ℕ) → slice_get written n ≡ Some r → IsOwn ends AnyState kept has_quantities at survey.tasks (parts_in survey reads acts) (stretches ends u rs) r
   written_own has_quantities at r has written others order n got =
-      let faithful = run_faithful ends AnyState kept is survey.plan survey.tasks (scope_of survey reads) acts u rs there in
+      let faithful = run_faithful ends AnyState kept is u (program_of survey reads acts rs) there in
       own_if survey reads are has_quantities at r has ends kept acts (parts_in survey reads acts) (stretches ends u rs)
       (all_written (IsOwnAnswer ends AnyState kept survey.tasks (parts_in survey reads acts) (stretches ends u rs)) (records_in survey reads acts) written others order faithful.own n r got)
       (all_written (AnswerIsJustified survey.plan survey.tasks (scope_of survey reads) acts) (records_in survey reads acts) written others order

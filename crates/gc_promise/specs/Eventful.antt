@@ -36,15 +36,15 @@ use Rattle.gc_station.specs.declared.plan.Plan.{Plan}
 use Rattle.gc_station.specs.declared.tally.Tally.{Tally}
 use Rattle.gc_field.specs.World.{Ends, Up_deliver, Up_lose, Up_repeat, Down_lose, Down_repeat}
 use Rattle.gc_field.specs.Begin as turn
-use Rattle.gc_field.specs.Begin.{Turn, Asks, Reaches, UnderWay, left_by_turns}
+use Rattle.gc_field.specs.Begin.{SyncTurn, Asks, Reaches, UnderWay, left_by_turns}
 use Rattle.gc_field.specs.Beginnings.{Run, left_by_run}
 use Rattle.gc_field.specs.BeginsAnew.{put_all, send_all}
 use Rattle.gc_field.specs.Begun.{WasMadeOn}
 use Rattle.gc_field.specs.ChainWitness.{hz, v, points, reads_all, first_reply}
 use Rattle.gc_field.specs.Drifting.{tells_its_state}
 use Rattle.gc_field.specs.Field.{Move, Sends, Tells, Comes, Foreign, OnLine, Anew, Changes}
-use Rattle.gc_field.specs.Instrument.{IsAnInstrument, AnyState, nothing}
-use Rattle.gc_field.specs.Runs.{IsInField, world}
+use Rattle.gc_field.specs.Instrument.{IsAnInstrument, AnyState, never_kept}
+use Rattle.gc_field.specs.Runs.{IsInField, Program, program_records, world}
 use Rattle.gc_field.specs.Shown.{Stretch}
 use Rattle.gc_field.specs.Witness.{null_lines, at, eight_answered, exchanged, replies, run_and_end}
 
@@ -64,8 +64,8 @@ plan = record { width = 7; deadline = 100; every = 150; cycles = 3; quiet = 10; 
 
 -- the turn of a command at this place, in the first attempt: a command that is chained is the second of its chain, and any other
 -- the first
-abbrev pub turn_at : ℕ → Bool → command.Turn
-turn_at place chained = record { place = place; attempt = 1; link = if chained then 1 else 0 }
+abbrev pub turn_of_place : ℕ → Bool → command.Turn
+turn_of_place place chained = record { place = place; attempt = 1; link = if chained then 1 else 0 }
 
 -- a command with a deadline of 50 ms, whose chain isn't sent again: its place, its target, what it asks, whether it is chained to
 -- the one before it, and where its target is, if its answer is compared with that
@@ -78,22 +78,22 @@ task place target call chained near =
       near = near;
       accepted = no_codes;
       again = no_again;
-      turn = turn_at place chained;
+      turn = turn_of_place place chained;
       others = 0;
       now = false;
     }
 
 -- where a target is: in this direction, within a hundredth of a radian
-abbrev pub near_at : ℕ → (hz v : Decimal) → Option Near
-near_at target hz v = Some (record { target = target; place = record { hz = hz; v = v }; tolerance = decimal (pos 1) 2 refl })
+abbrev pub near_place : ℕ → (hz v : Decimal) → Option Near
+near_place target hz v = Some (record { target = target; place = record { hz = hz; v = v }; tolerance = decimal (pos 1) 2 refl })
 
 -- the seven commands, numbered from 0: to point the telescope at target 7; chained to that, to read angles and distance there; to
 -- read them at target 8; and for each of four targets, to read the instrument's number
 abbrev pub commands : List Task
 commands =
     task 0 7 points false None
-    ∷ task 1 7 reads_all true (near_at 7 hz v)
-    ∷ task 2 8 reads_all false (near_at 8 (decimal (pos 125) 2 refl) (decimal (pos 15) 1 refl))
+    ∷ task 1 7 reads_all true (near_place 7 hz v)
+    ∷ task 2 8 reads_all false (near_place 8 (decimal (pos 125) 2 refl) (decimal (pos 15) 1 refl))
     ∷ map (λ target. task (2 + target) target (Table InstrumentNo) false None) (1 ∷ 2 ∷ 3 ∷ 4 ∷ [])
 
 -- the request line of command 0. The number of a command is its id, in the first cycle and in the third
@@ -117,24 +117,24 @@ abbrev pub null_line : ℕ → List ℕ
 null_line id = codes "%R1Q,0," ++ (48 + id) ∷ codes ":"
 
 -- the reply to command 0 in the third cycle, `%R1P,0,0:0`: without parameters, as the simulator's to its first command
-abbrev pub pointed : List ℕ
-pointed = first_reply
+abbrev pub pointed_reply : List ℕ
+pointed_reply = first_reply
 
 -- the reply to command 1 in the third cycle: angles and distance, where target 7 stands
-abbrev pub measured : List ℕ
-measured = codes "%R1P,0,1:0,2.25,1.625,110.0625"
+abbrev pub measured_reply : List ℕ
+measured_reply = codes "%R1P,0,1:0,2.25,1.625,110.0625"
 
 -- the reply to command 2 in the third cycle: angles and distance, where target 8 doesn't stand
-abbrev pub elsewhere : List ℕ
-elsewhere = codes "%R1P,0,2:0,0.5,1.5,87.25"
+abbrev pub elsewhere_reply : List ℕ
+elsewhere_reply = codes "%R1P,0,2:0,0.5,1.5,87.25"
 
 -- the reply to command 3 in the third cycle: a number
-abbrev pub numbered : List ℕ
-numbered = codes "%R1P,0,3:0,31"
+abbrev pub numbered_reply : List ℕ
+numbered_reply = codes "%R1P,0,3:0,31"
 
 -- the reply to command 4 in the third cycle, without the number that it should have
-abbrev pub empty : List ℕ
-empty = codes "%R1P,0,4:0"
+abbrev pub empty_reply : List ℕ
+empty_reply = codes "%R1P,0,4:0"
 
 -- the scope of this run: at most two hundred acts, and what each reply says of its call
 abbrev pub scope : (Asked → List ℕ → Reading) → Scope
@@ -184,7 +184,7 @@ begins_acts =
 
 -- the line repeats the old request: one copy reaches the instrument, and the other is lost. The line repeats the reply to the
 -- first copy, and both replies are lost; so is the reply to the first null procedure. The instrument starts again
-abbrev pub begins_turns : List (Turn (List ℕ))
+abbrev pub begins_turns : List (SyncTurn (List ℕ))
 begins_turns =
     Asks
     ∷ turn.Foreign (null_line 6)
@@ -280,7 +280,7 @@ anew_acts =
     ++ exchanged 380 (drop 2 null_lines) (drop 2 replies) []
 
 -- both requests of before reach the instrument. The request of the third null procedure is lost, and is sent again
-abbrev pub anew_turns : List (Turn (List ℕ))
+abbrev pub anew_turns : List (SyncTurn (List ℕ))
 anew_turns =
     Asks
     ∷ Reaches
@@ -288,13 +288,9 @@ anew_turns =
     ∷ turn.Comes
     ∷ Asks
     ∷ turn.Changes []
-    ∷ Reaches
-    ∷ Reaches
-    ∷ Reaches
-    ∷ turn.Comes
-    ∷ turn.Comes
-    ∷ turn.Comes
-    ∷ Asks
+    ∷ replicate 3 Reaches
+    ++ replicate 3 turn.Comes
+    ++ Asks
     ∷ turn.Up_lose 0
     ∷ drop 6 eight_answered
 
@@ -309,60 +305,62 @@ abbrev pub chain_acts : List Act
 chain_acts =
     map (λ now. Told (at now)) (replicate 9 385)
     ++ puts 385 (point_line ∷ [])
-    ++ gave 390 (pointed ∷ [])
+    ++ gave 390 (pointed_reply ∷ [])
     ∷ puts 390 (measure_line ∷ four_lines)
     ++ Cut (with_end last_line) 5
     ∷ connects_again 390 400
     ++ Silent (at 410)
-    ∷ gave 415 (codes "?" ∷ pointed ∷ measured ∷ elsewhere ∷ numbered ∷ numbered ∷ empty ∷ [])
+    ∷ gave 415 (codes "?" ∷ pointed_reply ∷ measured_reply ∷ elsewhere_reply ∷ numbered_reply ∷ numbered_reply ∷ empty_reply ∷ [])
     ∷ Silent (at 440)
     ∷ puts 440 (null_line 7 ∷ [])
     ++ gave 445 (codes "%R1P,0,5:0,31" ∷ codes "%R1P,0,7:0,31" ∷ [])
     ∷ Closed
     ∷ []
 
--- the line repeats the request of command 0, which is executed twice. The instrument changes by itself before it executes
--- commands 1, 2, 3 and 5, as by a hand that turns it, and starts again before it executes command 4. The line repeats the reply
--- to command 3, and loses the request of command 6
-abbrev pub chain_moves : List (Move (List ℕ))
-chain_moves =
+-- the seven commands are sent; the line repeats the request of command 0, which is executed twice
+abbrev pub sent_moves : List (Move (List ℕ))
+sent_moves =
     map Tells (replicate 9 385)
     ++ Sends 7 points 435
     ∷ Tells 385
-    ∷ OnLine (Up_repeat 0)
-    ∷ OnLine Up_deliver
-    ∷ OnLine Up_deliver
-    ∷ Tells 390
-    ∷ Comes pointed
+    ∷ map OnLine (Up_repeat 0 ∷ Up_deliver ∷ Up_deliver ∷ [])
+    ++ Tells 390
+    ∷ Comes pointed_reply
     ∷ Sends 7 reads_all 440
     ∷ Tells 390
     ∷ Sends 8 reads_all 440
     ∷ Tells 390
     ∷ sends_all 390 440 (1 ∷ 2 ∷ 3 ∷ [])
     ++ Sends 4 (Table InstrumentNo) 440
-    ∷ Changes (codes "2.25,1.625,110.0625")
-    ∷ OnLine Up_deliver
-    ∷ Changes (codes "0.5,1.5,87.25")
-    ∷ OnLine Up_deliver
-    ∷ Changes (codes "31")
-    ∷ OnLine Up_deliver
-    ∷ OnLine (Down_repeat 3)
+    ∷ []
+
+-- the instrument changes by itself before it executes commands 1, 2 and 3, as by a hand that turns it, and starts again before it
+-- executes command 4; the line repeats the reply to command 3
+abbrev pub executed_moves : List (Move (List ℕ))
+executed_moves =
+    flat_map (λ text. Changes text ∷ OnLine Up_deliver ∷ []) (codes "2.25,1.625,110.0625" ∷ codes "0.5,1.5,87.25" ∷ codes "31" ∷ [])
+    ++ OnLine (Down_repeat 3)
     ∷ Anew
     ∷ OnLine Up_deliver
     ∷ map Tells (390 ∷ 400 ∷ 400 ∷ 410 ∷ 415 ∷ [])
-    ++ Foreign (codes "?")
-    ∷ map Comes (pointed ∷ measured ∷ elsewhere ∷ numbered ∷ numbered ∷ empty ∷ [])
+
+-- the replies come, behind a line that is none; a null procedure is sent. The instrument changes before it executes command 5, and the
+-- line loses the request of command 6
+abbrev pub heard_moves : List (Move (List ℕ))
+heard_moves =
+    Foreign (codes "?")
+    ∷ map Comes (pointed_reply ∷ measured_reply ∷ elsewhere_reply ∷ numbered_reply ∷ numbered_reply ∷ empty_reply ∷ [])
     ++ Tells 440
     ∷ Sends 0 (Table NullProc) 540
     ∷ Tells 440
     ∷ Changes (codes "31")
-    ∷ OnLine Up_deliver
-    ∷ OnLine (Up_lose 0)
-    ∷ OnLine Up_deliver
-    ∷ Tells 445
-    ∷ Comes (codes "%R1P,0,5:0,31")
-    ∷ Comes (codes "%R1P,0,7:0,31")
-    ∷ []
+    ∷ map OnLine (Up_deliver ∷ Up_lose 0 ∷ Up_deliver ∷ [])
+    ++ Tells 445
+    ∷ map Comes (codes "%R1P,0,5:0,31" ∷ codes "%R1P,0,7:0,31" ∷ [])
+
+-- what happens on the line, and at the instrument, during `chain_acts`
+abbrev pub chain_moves : List (Move (List ℕ))
+chain_moves = sent_moves ++ (executed_moves ++ heard_moves)
 
 -- The whole run.
 
@@ -382,6 +380,10 @@ first_run = record { turns = begins_turns; moves = breaks_moves }
 abbrev pub runs : List (Run (List ℕ))
 runs = first_run ∷ run_and_end anew_turns chain_moves
 
+-- the run as a program
+abbrev pub program : (Asked → List ℕ → Reading) → Program (List ℕ)
+program reads = record { plan = plan; commands = commands; scope = scope reads; acts = acts; runs = runs }
+
 -- what is in flight when the station resynchronizes
 abbrev pub left_by_first : UnderWay (List ℕ)
 left_by_first = left_by_run WINDOW reporting at_start first_run
@@ -398,14 +400,14 @@ last_stretch = record { from = left_by_turns reporting anew_turns left_by_first;
 
 -- the record of a command of this cycle and place, for this target and with this call: it was sent at the moment `sent`, if it
 -- was, and ended at the moment `utc`, which for a missed command is when its cycle was due
-abbrev pub record_of : Option ℕ → (utc cycle place target : ℕ) → Asked → End → Record
-record_of sent utc cycle place target call end =
+abbrev pub ended_record : Option ℕ → (utc cycle place target : ℕ) → Asked → End → Record
+ended_record sent utc cycle place target call end =
     record {
       sent = sent;
       utc = utc;
       cycle = cycle;
       place = place;
-      turn = turn_at place (place == 1);
+      turn = turn_of_place place (place == 1);
       command = record { target = target; call = call };
       end = end;
     }
@@ -416,48 +418,48 @@ at_target = Measured hz v (decimal (pos 1100625) 4 refl)
 
 -- the record of command 0 in the third cycle: answered, without values
 abbrev pub points_record : Record
-points_record = record_of (Some 385) 390 3 0 7 points (end.Answered Fine (Some Nothing) pointed)
+points_record = ended_record (Some 385) 390 3 0 7 points (end.Answered Fine (Some Nothing) pointed_reply)
 
 -- the record of command 1 in the third cycle: answered, with what was measured at target 7
 abbrev pub chained_record : Record
-chained_record = record_of (Some 390) 415 3 1 7 reads_all (end.Answered Fine (Some at_target) measured)
+chained_record = ended_record (Some 390) 415 3 1 7 reads_all (end.Answered Fine (Some at_target) measured_reply)
 
 -- the record of command 2 in the third cycle: elsewhere
 abbrev pub elsewhere_record : Record
-elsewhere_record = record_of (Some 390) 415 3 2 8 reads_all (end.Elsewhere elsewhere)
+elsewhere_record = ended_record (Some 390) 415 3 2 8 reads_all (end.Elsewhere elsewhere_reply)
 
 -- the record of command 3 in the third cycle: answered, with a number
 abbrev pub number_record : Record
-number_record = record_of (Some 390) 415 3 3 1 (Table InstrumentNo) (end.Answered Fine (Some (Long (pos 31))) numbered)
+number_record = ended_record (Some 390) 415 3 3 1 (Table InstrumentNo) (end.Answered Fine (Some (Long (pos 31))) numbered_reply)
 
 -- the record of command 4 in the third cycle: unreadable
 abbrev pub unreadable_record : Record
-unreadable_record = record_of (Some 390) 415 3 4 2 (Table InstrumentNo) (end.Unreadable empty Count)
+unreadable_record = ended_record (Some 390) 415 3 4 2 (Table InstrumentNo) (end.Unreadable empty_reply Count)
 
 -- all records of the run, in order
 abbrev pub records : List Record
 records =
-    record_of (Some 40) 95 1 0 7 points end.Lost
-    ∷ record_of None 95 1 1 7 reads_all end.Skipped
-    ∷ record_of (Some 95) 345 1 2 8 reads_all end.Lost
-    ∷ record_of (Some 95) 345 1 3 1 (Table InstrumentNo) end.Lost
-    ∷ record_of (Some 95) 345 1 4 2 (Table InstrumentNo) end.Lost
-    ∷ record_of (Some 95) 345 1 5 3 (Table InstrumentNo) end.Lost
-    ∷ record_of (Some 95) 345 1 6 4 (Table InstrumentNo) end.Lost
-    ∷ record_of None 190 2 0 7 points end.Missed
-    ∷ record_of None 190 2 1 7 reads_all end.Missed
-    ∷ record_of None 190 2 2 8 reads_all end.Missed
-    ∷ record_of None 190 2 3 1 (Table InstrumentNo) end.Missed
-    ∷ record_of None 190 2 4 2 (Table InstrumentNo) end.Missed
-    ∷ record_of None 190 2 5 3 (Table InstrumentNo) end.Missed
-    ∷ record_of None 190 2 6 4 (Table InstrumentNo) end.Missed
+    ended_record (Some 40) 95 1 0 7 points end.Lost
+    ∷ ended_record None 95 1 1 7 reads_all end.Skipped
+    ∷ ended_record (Some 95) 345 1 2 8 reads_all end.Lost
+    ∷ ended_record (Some 95) 345 1 3 1 (Table InstrumentNo) end.Lost
+    ∷ ended_record (Some 95) 345 1 4 2 (Table InstrumentNo) end.Lost
+    ∷ ended_record (Some 95) 345 1 5 3 (Table InstrumentNo) end.Lost
+    ∷ ended_record (Some 95) 345 1 6 4 (Table InstrumentNo) end.Lost
+    ∷ ended_record None 190 2 0 7 points end.Missed
+    ∷ ended_record None 190 2 1 7 reads_all end.Missed
+    ∷ ended_record None 190 2 2 8 reads_all end.Missed
+    ∷ ended_record None 190 2 3 1 (Table InstrumentNo) end.Missed
+    ∷ ended_record None 190 2 4 2 (Table InstrumentNo) end.Missed
+    ∷ ended_record None 190 2 5 3 (Table InstrumentNo) end.Missed
+    ∷ ended_record None 190 2 6 4 (Table InstrumentNo) end.Missed
     ∷ points_record
     ∷ chained_record
     ∷ elsewhere_record
     ∷ number_record
     ∷ unreadable_record
-    ∷ record_of (Some 390) 445 3 5 3 (Table InstrumentNo) end.Late
-    ∷ record_of (Some 390) 445 3 6 4 (Table InstrumentNo) end.Lost
+    ∷ ended_record (Some 390) 445 3 5 3 (Table InstrumentNo) end.Late
+    ∷ ended_record (Some 390) 445 3 6 4 (Table InstrumentNo) end.Lost
     ∷ []
 
 -- how many commands ended in each of the seven ways; no chain is sent again
@@ -475,16 +477,16 @@ connections (_ ∷ acts) = connections acts
 -- where `reads` gives what replies say of their calls: `reporting` is an instrument, and the run is one in the field, which is
 -- over after these acts and has these records
 pub record IsEventful (reads : Asked → List ℕ → Reading) : Type 0 where
-  pub is_instrument : IsAnInstrument reporting AnyState nothing
-  pub field : IsInField reporting AnyState nothing plan commands (scope reads) acts at_start runs
+  pub is_instrument : IsAnInstrument reporting AnyState never_kept
+  pub field : IsInField reporting AnyState never_kept at_start (program reads)
   pub over : is_over (state_after plan commands (scope reads) acts).progress ≡ true
-  pub written : (state_after plan commands (scope reads) acts).records ≡ records
+  pub written : program_records (program reads) ≡ records
   -- commands end in each of the seven ways
   pub counted : tally_of records ≡ tally
   -- command 1 is sent only once command 0 was answered well
   pub chained : AreChained commands 0 1
   -- a reply is lost: in the first cycle, too, the instrument made this line on executing the request of command 0
-  pub made : WasMadeOn WINDOW reporting first_stretch.from first_stretch.moves 8 points pointed
+  pub made : WasMadeOn WINDOW reporting first_stretch.from first_stretch.moves 8 points pointed_reply
   -- the station resynchronizes where seven requests wait that have all timed out. Two requests and a reply are in flight then
   pub begins_anew : IsResynchronizing plan commands (scope reads) given_up (Told (at 345))
   pub up : left_by_first.up ≡ record { id = 6; call = Table InstrumentNo } ∷ record { id = 0; call = Table NullProc } ∷ []

@@ -4,7 +4,7 @@
 use Rattle.std.specs.Prelude.{◌≡◌, ◌⊎◌, ℕ, Bool, true, false, List, [], ◌∷◌, map, Some, nat_eq, if◌then◌else◌, slice_get, codes, Option}
 use Rattle.std.specs.Cmp.Lexicographic.{pointwise}
 use Rattle.std.specs.Fmt.{decimal}
-use Rattle.gc_lines.specs.Numbers.{IsNumber}
+use Rattle.gc_lines.specs.Numbers.{IsSmallNumber}
 use Rattle.gc_lines.specs.Replies.{ReplyFields, IsReply}
 use Rattle.gc_catalogue.specs.Answers.{answer_fields}
 use Rattle.gc_catalogue.specs.Calls.{call_fields}
@@ -62,8 +62,8 @@ pub record IsRowOf (at : List ℕ → List ℕ) (r : Record) : Type 0 where
 pub record SaysCodes (at : List ℕ → List ℕ) (line : List ℕ) : Type 0 where
   pub reply : ReplyFields
   pub is_reply : IsReply line reply
-  pub rc_com : IsNumber (at (codes "rc_com")) reply.rc_com
-  pub rc : IsNumber (at (codes "rc")) reply.rc
+  pub rc_com : IsSmallNumber (at (codes "rc_com")) reply.rc_com
+  pub rc : IsSmallNumber (at (codes "rc")) reply.rc
 
 -- the row of a command that sets the clock: the request asked for the moment that is under `sent`, cut to seconds
 pub record IsSetTo (at : List ℕ → List ℕ) (r : Record) : Type 0 where

@@ -1,11 +1,11 @@
 -- What is left of the rows of a run that was killed, over crashes of the machine, or after a sync that failed: this project's
 -- own.
-use Rattle.std.specs.Prelude.{◌≡◌, ◌⊎◌, ℕ, Bool, true, false, List, [], ◌∷◌, ◌++◌, Option, Some, Result}
+use Rattle.std.specs.Prelude.{◌≡◌, ◌⊎◌, ℕ, Bool, true, false, List, [], ◌∷◌, ◌++◌, Option, Some}
 use Rattle.gc_catalogue.specs.declared.answer.Reading.{Reading}
 use Rattle.gc_catalogue.specs.declared.asked.Asked.{Asked}
 use Rattle.gc_files.specs.Failing.{Sides, Event, Ran, Failed, Copied, Crashed, settled, same_sides, done_by, Loses, sides_after, runs_of, Occur, IsFound, IsTrusted}
 use Rattle.gc_files.specs.Files.{Step, Life, content, later_by, MayLeave}
-use Rattle.gc_files.specs.Rows.{start_of, table, IsFront}
+use Rattle.gc_files.specs.Rows.{head_written, opened_table, IsFront}
 use Rattle.gc_files.specs.Rows as opening
 use Rattle.gc_files.specs.Runs.{Run, IsHead, Happen, life_after, rows_of, AreRowCounts}
 use Rattle.gc_files.specs.Sinks.{steps_in, taken_in, is_durable, asks_sync}
@@ -17,41 +17,24 @@ use Rattle.gc_messages.specs.declared.following.Followed.{Followed}
 use Rattle.gc_station.specs.Keeping.{Snapshot}
 use Rattle.gc_station.specs.Records.{texts_of}
 use Rattle.gc_station.specs.Scopes.{AreReadings}
-use Rattle.gc_station.specs.declared.tally.Tally.{Tally}
-use Rattle.gc_measuring.specs.Measuring.{PortsSeen, Survey, text_in, RunsAfterFront}
+use Rattle.gc_measuring.specs.Measuring.{Survey, text_by}
 use Rattle.gc_measuring.specs.Telling.{AppendingRun, ReportsAppended, views_by}
-use Rattle.gc_measuring.specs.declared.stop.Stop.{Stop}
 use Rattle.gc_words.specs.declared.settings.Settings.{Settings}
-use Rattle.gc_promise.specs.Tables.{records_in}
+use Rattle.gc_promise.specs.Tables.{IsStationRun, StationRun, records_in}
 
--- a run that appends to a file: what it measures, what was seen at its start and at its end, how it ended, the acts that its
--- link recorded, and the file that it left
-pub record RunOfFile (R : Type 0) : Type 0 where
-  pub survey : Survey
-  pub old : PortsSeen
-  pub new : PortsSeen
-  pub end : Result Tally Stop
-  pub recorded : List Act
-  pub file : Followed R
-
--- a run of a file, as clause `told` of `append_at` says it of the file that it hands back: the output has its header already; the
--- link had recorded nothing before the run, and `recorded` are the acts that it has recorded since; what was taken since then is
--- what was appended to the file since it was opened; and what was seen before and after is that of a run of the survey
--- (`RunsAfterFront`)
-pub record IsRunOfFile {R : Type 0} (run : RunOfFile R) : Type 0 where
+-- a run of a file, as clause `told` of `append_at` says it of the file that it hands back: a run of a station (`IsStationRun`),
+-- whose output has its header already, and took what was appended to the file since it was opened
+pub record IsRunOfFile {R : Type 0} (run : StationRun) (file : Followed R) : Type 0 where
+  pub is_run : IsStationRun run
   pub headed : run.survey.layout.headed ≡ true
-  pub none : run.old.acts ≡ Some []
-  pub acts : run.new.acts ≡ Some run.recorded
   pub fresh : run.old.taken ≡ Some []
-  pub took : run.new.taken ≡ Some (bytes_in run.file)
-  pub ran : RunsAfterFront run.survey run.old run.new run.end
+  pub took : run.new.taken ≡ Some (bytes_in file)
 
 -- there is a run of this file (`IsRunOfFile`) after which its link has recorded these acts; `turns` and `turns'` are what had
 -- been seen of link and file at each act so far, before the run and after it
 pub record HasRunOfFile {R : Type 0} (file : Followed R) (acts : Option (List Act)) (turns turns' : List Snapshot) : Type 0 where
-  pub run : RunOfFile R
-  pub is : IsRunOfFile run
-  pub of_file : run.file ≡ file
+  pub run : StationRun
+  pub is : IsRunOfFile run file
   pub by_acts : acts ≡ Some run.recorded
   pub before : run.old.turns ≡ turns
   pub after : run.new.turns ≡ turns'
@@ -67,10 +50,12 @@ AppendsAreRuns {S = S} {R = R} source sink K E =
     (status : ℕ) → whole.before.acts ≡ Some [] → whole.file ≡ Some file → ReportsAppended (views_by source sink lasts shown) has_log station whole status
     → (whole.after.turns ≡ whole.before.turns) ⊎ HasRunOfFile file whole.after.acts whole.before.turns whole.after.turns
 
--- a moment of a run that appends to a file, at an act or after it: what was seen at that act (`turn`), the acts that were done
--- before it, the file as it was then, and the calls that this file had had by the moment, since it was opened
+-- a moment of a run that appends to a file, at an act or after it: the run and the file that it left; what was seen at that act
+-- (`turn`), the acts that were done before it, the file as it was then, and the calls that this file had had by the moment, since
+-- it was opened
 pub record RunMoment (R : Type 0) : Type 0 where
-  pub run : RunOfFile R
+  pub run : StationRun
+  pub file : Followed R
   pub turn : Snapshot
   pub done : List Act
   pub was : Followed R
@@ -90,21 +75,21 @@ pub record IsSeen {R : Type 0} (m : RunMoment R) : Type 0 where
 -- the moment's calls begin with those that the file had at the moment's act, and are the first of those that it has in the end.
 -- The rows didn't go on in another file in between
 pub record IsReached {R : Type 0} (m : RunMoment R) : Type 0 where
-  pub left : m.run.file.earlier.steps ≡ m.was.earlier.steps
+  pub left : m.file.earlier.steps ≡ m.was.earlier.steps
   pub since : List Step
   pub begins : m.calls ≡ steps_in m.was.rows ++ since
   pub rest : List Step
-  pub ends : steps_in m.run.file.rows ≡ m.calls ++ rest
+  pub ends : steps_in m.file.rows ≡ m.calls ++ rest
 
 -- this is a moment of a run that appends to a file which syncs
 pub record IsRunMoment {R : Type 0} (m : RunMoment R) : Type 0 where
-  pub run : IsRunOfFile m.run
+  pub run : IsRunOfFile m.run m.file
   pub seen : IsSeen m
   pub reached : IsReached m
 
 -- the rows of all records that these acts settle, in order, as the run writes them
 abbrev pub rows_by : Survey → (Asked → List ℕ → Reading) → List Act → List ℕ
-rows_by survey reads acts = texts_of (text_in survey.layout survey.names) (records_in survey reads acts)
+rows_by survey reads acts = texts_of (text_by survey) (records_in survey reads acts)
 
 -- `left` has the rows that are left of a run, after a moment. `settled`: the rows that the run had written by the moment's act,
 -- into this file and into others before it, are those of all records that the acts of `done` settled. `has`: all that this file
@@ -121,23 +106,40 @@ pub record AreLeft {R : Type 0} (m : RunMoment R) (reads : Asked → List ℕ �
 -- the calls of an opening of a file that held these bytes: a torn row, if there was one, was cut off, and the head was written if
 -- there was no whole row
 abbrev pub OpensFile : (head held : List ℕ) → List Step → Type 0
-OpensFile head held steps = opening.MendedAndPut held steps (start_of head held)
+OpensFile head held steps = opening.MendedAndPut held steps (head_written head held)
 
 -- these bytes are what a crash may leave of a file that had this life and then these steps
 abbrev pub MayBeLeft : Life → List Step → List ℕ → Type 0
 MayBeLeft life steps left = MayLeave life.start (life.steps ++ steps) left
 
--- a run that appends to a file which syncs (`IsRunMoment`) is killed at any moment, or the machine crashes, and earlier runs may
--- have ended so, too. Whatever that leaves of the file (`found`), the next start makes of it the table that was there at first,
--- after it rows of the earlier runs, and then the rows that are left of this run: for every head of a table (`IsHead`), where
--- `reads` gives what replies say of their calls (`AreReadings`)
+-- what happened to a file until a run was killed, or the machine crashed: the head of its table; what the file held at first, all
+-- of it on the disk; the earlier runs; the calls by which the run opened the file; and what was found at last
+pub record CrashHistory : Type 0 where
+  pub head : List ℕ
+  pub first : List ℕ
+  pub earlier : List Run
+  pub opening : List Step
+  pub found : List ℕ
+
+-- the life of the file when the run began
+abbrev pub life_begun : CrashHistory → Life
+life_begun x = life_after (settled x.first) x.earlier
+
+-- all this may happen if a run that made these calls after its opening is killed, or the machine crashes: earlier runs may have
+-- ended so, too
+pub record IsCrashHistory (calls : List Step) (x : CrashHistory) : Type 0 where
+  pub is_head : IsHead x.head
+  pub happened : Happen x.head (settled x.first) x.earlier
+  pub opens : OpensFile x.head (content (life_begun x)) x.opening
+  pub is_found : MayBeLeft (life_begun x) (x.opening ++ calls) x.found
+
+-- a run that appends to a file which syncs (`IsRunMoment`) is killed at any moment, or the machine crashes (`IsCrashHistory`).
+-- Whatever is found then, the next start makes of it the table that was there at first, after it rows of the earlier runs, and
+-- then the rows that are left of this run: where `reads` gives what replies say of their calls (`AreReadings`)
 abbrev pub RowsOutlastCrashes : Type 0 → Type 0
-RowsOutlastCrashes R = (m : RunMoment R) → IsRunMoment m → (reads : Asked → List ℕ → Reading) → AreReadings reads
-    → (head first : List ℕ) → IsHead head → (earlier : List Run) → Happen head (settled first) earlier
-    → (opening : List Step) → OpensFile head (content (life_after (settled first) earlier)) opening
-    → (found : List ℕ) → MayBeLeft (life_after (settled first) earlier) (opening ++ m.calls) found
-    → (counts : List ℕ) × (left : List ℕ) × AreRowCounts earlier counts × AreLeft m reads left
-    × (table head found ≡ (table head first ++ rows_of earlier counts) ++ left)
+RowsOutlastCrashes R = (m : RunMoment R) → IsRunMoment m → (reads : Asked → List ℕ → Reading) → AreReadings reads → (x : CrashHistory) → IsCrashHistory m.calls x
+    → (counts : List ℕ) × (left : List ℕ) × AreRowCounts x.earlier counts × AreLeft m reads left
+    × (opened_table x.head x.found ≡ (opened_table x.head x.first ++ rows_of x.earlier counts) ++ left)
 
 -- Over failed syncs, too.
 
@@ -154,23 +156,23 @@ doubted_by doubted (Crashed left ∷ events) = doubted_by false events
 
 -- how a run ends: its calls are done, and no more; or one more was a sync that failed, after which a read returns `read` and
 -- the disk holds `disk`
-pub data Ending : Type 0 where
-  Stopped : Ending
-  Unsynced : (read disk : List ℕ) → Ending
+pub data RunEnd : Type 0 where
+  Stopped : RunEnd
+  Unsynced : (read disk : List ℕ) → RunEnd
 
 -- a run may end in this way after these calls. If a sync failed, `read` is what such a sync may leave of what a read returned
 -- before, and `disk` what it may leave of what the disk held
-abbrev pub MayEnd : Sides → List Step → Ending → Type 0
+abbrev pub MayEnd : Sides → List Step → RunEnd → Type 0
 MayEnd sides steps Stopped = Unit {0}
 MayEnd sides steps (Unsynced read disk) = Loses (later_by steps sides.read) read × Loses (later_by steps sides.disk) disk
 
 -- the state of a file after these calls and this ending: what a read returns, and what the disk holds
-abbrev pub sides_ended : Sides → List Step → Ending → Sides
+abbrev pub sides_ended : Sides → List Step → RunEnd → Sides
 sides_ended sides steps Stopped = done_by steps sides
 sides_ended sides steps (Unsynced read disk) = record { read = settled read; disk = settled disk }
 
 -- whether a file is in doubt after this ending
-abbrev pub doubt_of : Ending → Bool
+abbrev pub doubt_of : RunEnd → Bool
 doubt_of Stopped = false
 doubt_of (Unsynced read disk) = true
 
@@ -181,7 +183,7 @@ pub record FileHistory : Type 0 where
   pub first : List ℕ
   pub earlier : List Event
   pub opening : List Step
-  pub ending : Ending
+  pub ending : RunEnd
   pub later : List Event
   pub found : List ℕ
 
@@ -211,4 +213,4 @@ pub record IsFileHistory (calls : List Step) (x : FileHistory) : Type 0 where
 abbrev pub RowsOutlastFailures : Type 0 → Type 0
 RowsOutlastFailures R = (m : RunMoment R) → IsRunMoment m → (reads : Asked → List ℕ → Reading) → AreReadings reads → (x : FileHistory) → IsFileHistory m.calls x
     → (counts : List ℕ) × (left : List ℕ) × (counts' : List ℕ) × AreRowCounts (runs_of x.earlier) counts × AreLeft m reads left × AreRowCounts (runs_of x.later) counts'
-    × (table x.head x.found ≡ ((table x.head x.first ++ rows_of (runs_of x.earlier) counts) ++ left) ++ rows_of (runs_of x.later) counts')
+    × (opened_table x.head x.found ≡ ((opened_table x.head x.first ++ rows_of (runs_of x.earlier) counts) ++ left) ++ rows_of (runs_of x.later) counts')

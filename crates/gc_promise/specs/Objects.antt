@@ -1,7 +1,6 @@
 -- What a station wrote of a run in the field as lines of JSON, as they are read: this project's own. Texts are taken to be
--- bytes, and numbers to have 64 bits, as those of the program do. A part is what a station sees of its run from one
--- synchronization to the next, and a stretch what happens on the line meanwhile, once it has synchronized.
-use Rattle.std.specs.Prelude.{◌≡◌, ℕ, ◌<◌, ◌^◌, true, List, [], ◌++◌, length, All, Option, Some, Result, slice_get}
+-- bytes, and numbers to have 64 bits, as those of the program do.
+use Rattle.std.specs.Prelude.{◌≡◌, ℕ, ◌<◌, ◌^◌, true, List, [], ◌++◌, length, Option, Some, slice_get}
 use Rattle.std.specs.List.{AllByRecursion}
 use Rattle.json.specs.Find.{get_member}
 use Rattle.json.specs.Json as json
@@ -11,22 +10,16 @@ use Rattle.gc_catalogue.specs.declared.asked.Asked.{Asked}
 use Rattle.gc_instrument.specs.State.{KeptReply}
 use Rattle.gc_files.specs.Runs as rows
 use Rattle.gc_texts.specs.Cuts.{Lacks}
+use Rattle.gc_texts.specs.Logs.{AreBytes}
 use Rattle.gc_texts.specs.declared.name.Name.{Name}
-use Rattle.gc_texts.specs.declared.tasks.Task.{Task}
 use Rattle.gc_rows.specs.Laws.{IsEndOfBytes, FitsIn64Bits}
 use Rattle.gc_rows.specs.declared.record.Form.TheVariants.{Json}
-use Rattle.gc_links.specs.Acts.{Act}
-use Rattle.gc_station.specs.Parts.{Part}
 use Rattle.gc_station.specs.Records.{Record}
 use Rattle.gc_station.specs.Scopes.{AreReadings}
-use Rattle.gc_station.specs.declared.tally.Tally.{Tally}
-use Rattle.gc_measuring.specs.Measuring.{Survey, text_in, when_of}
-use Rattle.gc_measuring.specs.declared.stop.Stop.{Stop}
+use Rattle.gc_measuring.specs.Measuring.{Survey, when_of}
 use Rattle.gc_field.specs.World.{Ends}
 use Rattle.gc_field.specs.Instrument.{IsAnInstrument, AnyState}
-use Rattle.gc_field.specs.Shown.{Stretch, stretches}
-use Rattle.gc_promise.specs.Fields.{IsOwn}
-use Rattle.gc_promise.specs.Tables.{AreWritten, FieldRun, IsFieldRun, acts_of, parts_in, records_in}
+use Rattle.gc_promise.specs.Tables.{AreWrittenIn, FieldRun, IsFieldRun, IsOwnIn, acts_in_field, records_in}
 
 -- the record, of a run that began at the moment `run`, is in the types of the program: the numbers that are written of it have 64
 -- bits, and its texts are bytes
@@ -36,7 +29,7 @@ IsTyped run r = FitsIn64Bits (when_of run r) × (r.command.target < 2 ^ 64) × I
 -- the records of a run of this survey are in the types of the program (`IsTyped`), and so are the run's beginning and its names
 pub record AreOfBytes (survey : Survey) (records : List Record) : Type 0 where
   pub run : survey.layout.run < 2 ^ 64
-  pub names : AllByRecursion (λ (name : Name). All (λ b. b < 256) name.text.items) survey.names
+  pub names : AllByRecursion (λ (name : Name). AreBytes name.text.items) survey.names
   pub each : AllByRecursion (IsTyped survey.layout.run) records
 
 -- the digits of a number or the bytes of a string; empty if there is neither
@@ -46,24 +39,25 @@ text_of (Some (json.string bytes)) = bytes
 text_of _ = []
 
 module _ {State : Type 0} (ends : Ends State) (Good : State → Type 0) (kept : State → Option KeptReply) where
-  -- a line is a record's own object: the toolchain's reader of JSON takes it for an object, whose members are the record's own
-  pub record IsOwnObject (line : List ℕ) (commands : List Task) (ps : List Part) (ss : List (Stretch State)) (r : Record) : Type 0 where
-    pub members : json.Members
-    pub reads_as : document line ≡ Some (json.object members)
-    pub own : IsOwn ends Good kept true (λ name. text_of (get_member name members)) commands ps ss r
+  module _ (reads : Asked → List ℕ → Reading) (x : FieldRun State) where
+    -- a line is the own object of a record of run `x`: the toolchain's reader of JSON takes it for an object, whose members are
+    -- the record's own
+    pub record IsOwnObject (line : List ℕ) (r : Record) : Type 0 where
+      pub members : json.Members
+      pub reads_as : document line ≡ Some (json.object members)
+      pub own : IsOwnIn ends Good kept true (λ name. text_of (get_member name members)) reads x r
 
-  module _ (survey : Survey) (reads : Asked → List ℕ → Reading) (acts : List Act) (ps : List Part) (ss : List (Stretch State)) where
-    -- what a sink took of a run, after what it had: lines, in none of which is a line feed, and which are the run's records, one
-    -- for one and in order, each its own: all of them, or, if the output failed, maybe only the first ones, and then a part of
-    -- the next one
-    pub record AreOwnObjects (result : Result Tally Stop) (had : List ℕ) (has : Option (List ℕ)) : Type 0 where
+    -- what the sink of run `x` took, after what it had: lines, in none of which is a line feed, and which are the run's records,
+    -- one for one and in order, each its own: all of them, or, if the output failed, maybe only the first ones, and then a part
+    -- of the next one
+    pub record AreOwnObjects : Type 0 where
       pub lines : List (List ℕ)
       pub torn : List ℕ
-      pub took : has ≡ Some (had ++ (rows.lines lines ++ torn))
-      pub are : AreWritten (text_in survey.layout survey.names) (records_in survey reads acts) result torn
+      pub took : x.run.new.taken ≡ Some (x.had ++ (rows.row_lines lines ++ torn))
+      pub are : AreWrittenIn reads x torn
       pub unbroken : AllByRecursion (Lacks 10) lines
       pub as_many : length lines ≡ length are.written
-      pub each : (n : ℕ) (line : List ℕ) → slice_get lines n ≡ Some line → (r : Record) × (slice_get are.written n ≡ Some r) × IsOwnObject line survey.tasks ps ss r
+      pub each : (n : ℕ) (line : List ℕ) → slice_get lines n ≡ Some line → (r : Record) × (slice_get are.written n ≡ Some r) × IsOwnObject line r
 
 -- what a sink took of a run in the field (`IsFieldRun`) are the run's own objects, if its records are in the types of the program
 -- (`AreOfBytes`): where `reads` gives what replies say of their calls (`AreReadings`), for any instrument, all that a station
@@ -71,7 +65,6 @@ module _ {State : Type 0} (ends : Ends State) (Good : State → Type 0) (kept : 
 abbrev pub ObjectsAreTheirOwn : Type 0 → Type 0
 ObjectsAreTheirOwn State =
     (ends : Ends State) (kept : State → Option KeptReply) → IsAnInstrument ends AnyState kept →
-    (reads : Asked → List ℕ → Reading) → AreReadings reads → (run : FieldRun State) → IsFieldRun ends kept reads run →
-    run.survey.layout.form ≡ Json → AreOfBytes run.survey (records_in run.survey reads (acts_of run)) →
-    AreOwnObjects ends AnyState kept run.survey reads (acts_of run) (parts_in run.survey reads (acts_of run)) (stretches ends run.in_flight run.happened)
-    run.result run.had run.new.taken
+    (reads : Asked → List ℕ → Reading) → AreReadings reads → (x : FieldRun State) → IsFieldRun ends kept reads x →
+    x.run.survey.layout.form ≡ Json → AreOfBytes x.run.survey (records_in x.run.survey reads (acts_in_field x)) →
+    AreOwnObjects ends AnyState kept reads x

@@ -13,20 +13,14 @@ use Rattle.gc_texts.specs.declared.name.Name.{Name}
 use Rattle.gc_texts.specs.declared.tasks.Task.{Task}
 use Rattle.gc_rows.specs.Records as rows
 use Rattle.gc_rows.specs.Rows.{row_of}
-use Rattle.gc_links.specs.Acts.{Act}
-use Rattle.gc_station.specs.Links.{parts}
 use Rattle.gc_station.specs.Parts.{Part}
 use Rattle.gc_station.specs.Records.{Record}
-use Rattle.gc_station.specs.Runs.{state_after}
-use Rattle.gc_station.specs.Scopes.{Scope}
-use Rattle.gc_station.specs.declared.plan.Plan.{Plan}
 use Rattle.gc_words.specs.declared.layout.Layout.{Layout}
 use Rattle.gc_measuring.specs.Measuring.{text_in}
 use Rattle.gc_field.specs.World.{Ends}
 use Rattle.gc_field.specs.Begin.{UnderWay}
-use Rattle.gc_field.specs.Beginnings.{Run}
 use Rattle.gc_field.specs.Instrument.{IsAnInstrument, AnyState}
-use Rattle.gc_field.specs.Runs.{IsInField, IsItsOwn}
+use Rattle.gc_field.specs.Runs.{IsInField, IsItsOwn, Program, program_parts, program_records}
 use Rattle.gc_field.specs.Shown.{Stretch, stretches}
 use Rattle.gc_promise.specs.Fields.{SaysCodes, SaysCommand, under}
 use Rattle.gc_promise.specs.Tables.{table_form}
@@ -43,19 +37,20 @@ pub record FieldsSay (fields : List (List ℕ)) (r : Record) (line : List ℕ) :
   pub values : column (codes "values") fields ≡ says.reply.params
 
 module _ {State : Type 0} (ends : Ends State) (Good : State → Type 0) (kept : State → Option KeptReply) where
-  -- the row of a record in a table is its own: a reader of comma-separated values gives it back as its fields, `escaped` as the
-  -- row has them, whatever stands after it; the fields say what the line of the record's reply says; and that line was made by
-  -- the instrument on executing the request of the record's cycle and place
-  pub record IsRowOfLine (layout : Layout) (names : List Name) (commands : List Task) (ps : List Part) (ss : List (Stretch State)) (r : Record) (line : List ℕ) : Type 0 where
-    pub fields : List (List ℕ)
-    pub row : text_in layout names r ≡ row_of fields
-    pub reads_back : (behind : List ℕ) → next_record default_config StartRecord [] [] (text_in layout names r ++ behind) ≡ Some (map escaped fields, StartRecord, behind)
-    pub says : FieldsSay fields r line
-    pub own : IsItsOwn ends Good kept commands ps ss r line
+  module _ (layout : Layout) (names : List Name) (commands : List Task) (ps : List Part) (ss : List (Stretch State)) where
+    -- the row of a record in a table is its own: a reader of comma-separated values gives it back as its fields, `escaped` as the
+    -- row has them, whatever stands after it; the fields say what the line of the record's reply says; and that line was made by
+    -- the instrument on executing the request of the record's cycle and place
+    pub record IsRowOfLine (r : Record) (line : List ℕ) : Type 0 where
+      pub fields : List (List ℕ)
+      pub row : text_in layout names r ≡ row_of fields
+      pub reads_back : (behind : List ℕ) → next_record default_config StartRecord [] [] (text_in layout names r ++ behind) ≡ Some (map escaped fields, StartRecord, behind)
+      pub says : FieldsSay fields r line
+      pub own : IsItsOwn ends Good kept commands ps ss r line
 
-  -- if a reply in time ended the record's command (`line_of`), its row is its own
-  abbrev pub IsOwnIfAnswered : Layout → List Name → List Task → List Part → List (Stretch State) → Record → Type 0
-  IsOwnIfAnswered layout names commands ps ss r = (line : List ℕ) → line_of r.end ≡ Some line → IsRowOfLine layout names commands ps ss r line
+    -- if a reply in time ended the record's command (`line_of`), its row is its own
+    abbrev pub IsOwnIfAnswered : Record → Type 0
+    IsOwnIfAnswered r = (line : List ℕ) → line_of r.end ≡ Some line → IsRowOfLine r line
 
 -- the row of each record whose command a reply in time ended is its own: for any instrument, every layout of a table, all names
 -- of targets, every plan, all commands, every run of the station in the field (`IsInField`), and all that the line and the
@@ -64,5 +59,5 @@ abbrev pub RowsAreTheirOwn : Type 0 → Type 0
 RowsAreTheirOwn State =
     (ends : Ends State) (kept : State → Option KeptReply) → IsAnInstrument ends AnyState kept →
     (layout : Layout) (columns : Bool) (names : List Name) → layout.form ≡ table_form columns →
-    (plan : Plan) (commands : List Task) (scope : Scope) (acts : List Act) (u : UnderWay State) (rs : List (Run State)) → IsInField ends AnyState kept plan commands scope acts u rs →
-    AllByRecursion (IsOwnIfAnswered ends AnyState kept layout names commands (parts plan commands scope acts) (stretches ends u rs)) (state_after plan commands scope acts).records
+    (u : UnderWay State) (x : Program State) → IsInField ends AnyState kept u x →
+    AllByRecursion (IsOwnIfAnswered ends AnyState kept layout names x.commands (program_parts x) (stretches ends u x.runs)) (program_records x)

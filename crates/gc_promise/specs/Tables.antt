@@ -20,15 +20,15 @@ use Rattle.gc_station.specs.Runs.{state_after}
 use Rattle.gc_station.specs.Scopes.{Scope, AreReadings}
 use Rattle.gc_station.specs.declared.tally.Tally.{Tally}
 use Rattle.gc_words.specs.declared.layout.Layout.{Layout}
-use Rattle.gc_measuring.specs.Measuring.{Survey, PortsSeen, RunsAfterFront, text_in}
+use Rattle.gc_measuring.specs.Measuring.{Survey, PortsSeen, RunsAfterFront, text_by}
 use Rattle.gc_measuring.specs.declared.stop.Stop.{Stop}
 use Rattle.gc_measuring.specs.declared.stop.Stop.TheVariants.{Run}
 use Rattle.gc_field.specs.World.{Ends}
 use Rattle.gc_field.specs.Begin.{UnderWay}
 use Rattle.gc_field.specs.Beginnings as field
 use Rattle.gc_field.specs.Instrument.{IsAnInstrument, AnyState}
-use Rattle.gc_field.specs.Runs.{IsInField}
-use Rattle.gc_field.specs.Shown.{Stretch, stretches}
+use Rattle.gc_field.specs.Runs.{IsInField, Program}
+use Rattle.gc_field.specs.Shown.{stretches}
 use Rattle.gc_promise.specs.Fields.{under, IsOwn}
 
 -- A run.
@@ -50,39 +50,51 @@ records_in survey reads acts = (state_after survey.plan survey.tasks (scope_of s
 abbrev pub parts_in : Survey → (Asked → List ℕ → Reading) → List Act → List Part
 parts_in survey reads acts = parts survey.plan survey.tasks (scope_of survey reads) acts
 
--- a run of a station in the field: what it measures, what was seen of its ports at its start and at its end, how it ended, the
--- acts that its link recorded, the bytes that its sink had before, what was in flight at its start, and what happened from there
--- on, from one synchronization to the next
-pub record FieldRun (State : Type 0) : Type 0 where
+-- a run of this survey by these acts, on whose line this happened, as a program
+abbrev pub program_of : {State : Type 0} → Survey → (Asked → List ℕ → Reading) → List Act → List (field.Run State) → Program State
+program_of survey reads acts happened = record { plan = survey.plan; commands = survey.tasks; scope = scope_of survey reads; acts = acts; runs = happened }
+
+-- a run of a station: what it measures, what was seen of its ports at its start and at its end, how it ended, and the acts that
+-- its link recorded
+pub record StationRun : Type 0 where
   pub survey : Survey
   pub old : PortsSeen
   pub new : PortsSeen
   pub result : Result Tally Stop
   pub recorded : List Act
+
+-- the run is one as the contract of a station has it (`RunsAfterFront`), and its link had recorded no act before
+pub record IsStationRun (run : StationRun) : Type 0 where
+  pub none : run.old.acts ≡ Some []
+  pub acts : run.new.acts ≡ Some run.recorded
+  pub ran : RunsAfterFront run.survey run.old run.new run.result
+
+-- a run of a station in the field, with the bytes that its sink had before, what was in flight at its start, and what happened
+-- from there on, from one synchronization to the next
+pub record FieldRun (State : Type 0) : Type 0 where
+  pub run : StationRun
   pub had : List ℕ
   pub in_flight : UnderWay State
   pub happened : List (field.Run State)
 
 -- the acts of a run in the field (`acts_measured`)
-abbrev pub acts_of : {State : Type 0} → FieldRun State → List Act
-acts_of run = acts_measured run.result run.recorded
+abbrev pub acts_in_field : {State : Type 0} → FieldRun State → List Act
+acts_in_field x = acts_measured x.run.result x.run.recorded
 
--- where `reads` gives what replies say of their calls, the run is one as the contract of a station has it (`RunsAfterFront`), and
--- one in the field (`IsInField`). Its link had recorded no act before, and its sink had taken the bytes `had`
-pub record IsFieldRun {State : Type 0} (ends : Ends State) (kept : State → Option KeptReply) (reads : Asked → List ℕ → Reading) (run : FieldRun State) : Type 0 where
-  pub measured : RunsAfterFront run.survey run.old run.new run.result
-  pub none : run.old.acts ≡ Some []
-  pub acts : run.new.acts ≡ Some run.recorded
-  pub took : run.old.taken ≡ Some run.had
-  pub in_field : IsInField ends AnyState kept run.survey.plan run.survey.tasks (scope_of run.survey reads) (acts_of run) run.in_flight run.happened
+-- where `reads` gives what replies say of their calls, the run is one of a station (`IsStationRun`), and one in the field
+-- (`IsInField`). Its sink had taken the bytes `had` before
+pub record IsFieldRun {State : Type 0} (ends : Ends State) (kept : State → Option KeptReply) (reads : Asked → List ℕ → Reading) (x : FieldRun State) : Type 0 where
+  pub is_run : IsStationRun x.run
+  pub took : x.run.old.taken ≡ Some x.had
+  pub in_field : IsInField ends AnyState kept x.in_flight (program_of x.run.survey reads (acts_in_field x) x.happened)
 
 -- What a sink took.
 
 -- these bytes are a front of the text of the first of these records, maybe empty, but not all of the text; if there is no record,
 -- they are empty
-abbrev pub IsTorn : (Record → List ℕ) → List Record → List ℕ → Type 0
-IsTorn text [] torn = torn ≡ []
-IsTorn text (next ∷ later) torn = (rest : List ℕ) × (text next ≡ torn ++ rest) × (0 < length rest)
+abbrev pub IsPartOfNext : (Record → List ℕ) → List Record → List ℕ → Type 0
+IsPartOfNext text [] torn = torn ≡ []
+IsPartOfNext text (next ∷ later) torn = (rest : List ℕ) × (text next ≡ torn ++ rest) × (0 < length rest)
 
 -- the records of a run that were written whole, and the bytes that were written after these (`torn`): all records were written,
 -- unless the output failed; then `torn` is a part of the next one
@@ -91,7 +103,17 @@ pub record AreWritten (text : Record → List ℕ) (records : List Record) (resu
   pub unwritten : List Record
   pub order : records ≡ written ++ unwritten
   pub all : (result ≡ Err (Run Output) → ⊥) → unwritten ≡ []
-  pub part : IsTorn text unwritten torn
+  pub part : IsPartOfNext text unwritten torn
+
+-- `AreWritten` holds of the records of run `x`, where `reads` gives what replies say of their calls
+abbrev pub AreWrittenIn : {State : Type 0} → (reads : Asked → List ℕ → Reading) → (x : FieldRun State) → (torn : List ℕ) → Type 0
+AreWrittenIn reads x torn = AreWritten (text_by x.run.survey) (records_in x.run.survey reads (acts_in_field x)) x.run.result torn
+
+-- a row or an object of run `x`, in which `at` gives the text under each name, is this record's own (`IsOwn`)
+abbrev pub IsOwnIn : {State : Type 0} → (ends : Ends State) → (Good : State → Type 0) → (kept : State → Option KeptReply) → (has_quantities : Bool) → (at : List ℕ → List ℕ)
+    → (reads : Asked → List ℕ → Reading) → (x : FieldRun State) → Record → Type 0
+IsOwnIn ends Good kept has_quantities at reads x r =
+    IsOwn ends Good kept has_quantities at x.run.survey.tasks (parts_in x.run.survey reads (acts_in_field x)) (stretches ends x.in_flight x.happened) r
 
 -- Tables.
 
@@ -115,22 +137,21 @@ abbrev pub AreReadAs : List ℕ → List (List (List ℕ)) → Type 0
 AreReadAs bytes rows = (behind : List ℕ) → records default_config (bytes ++ behind) ≡ rows ++ records default_config behind
 
 module _ {State : Type 0} (ends : Ends State) (Good : State → Type 0) (kept : State → Option KeptReply) where
-  module _ (survey : Survey) (columns : Bool) (reads : Asked → List ℕ → Reading) (acts : List Act) (ps : List Part) (ss : List (Stretch State)) where
-    -- what a sink took of a run, after what it had: a table, whose rows after the header are the run's records, one for one and
-    -- in order, each its own: all of them, or, if the output failed, maybe only the first ones, and then a part of the next one.
-    -- `behind` is said of the file of --append: after earlier bytes, which a reader takes for `earlier`, the reader goes on with
-    -- the table's rows
-    pub record IsOwnTable (result : Result Tally Stop) (had : List ℕ) (has : Option (List ℕ)) : Type 0 where
-      pub bytes : List ℕ
-      pub torn : List ℕ
-      pub took : has ≡ Some (had ++ (bytes ++ torn))
-      pub are : AreWritten (text_in survey.layout survey.names) (records_in survey reads acts) result torn
-      pub rows : List (List (List ℕ))
-      pub reads_as : AreReadAs bytes (head_rows survey.layout columns ++ rows)
-      pub behind : (held : List ℕ) (earlier : List (List (List ℕ))) → AreReadAs held earlier → AreReadAs (held ++ bytes) (earlier ++ (head_rows survey.layout columns ++ rows))
-      pub as_many : length rows ≡ length are.written
-      pub each : (n : ℕ) (row : List (List ℕ)) → slice_get rows n ≡ Some row
-          → (r : Record) × (slice_get are.written n ≡ Some r) × IsOwn ends Good kept columns (λ name. under name (header columns) row) survey.tasks ps ss r
+  -- what the sink of run `x` took, after what it had: a table, whose rows after the header are the run's records, one for one and
+  -- in order, each its own: all of them, or, if the output failed, maybe only the first ones, and then a part of the next one.
+  -- `behind` is said of the file of --append: after earlier bytes, which a reader takes for `earlier`, the reader goes on with
+  -- the table's rows
+  pub record IsOwnTable (columns : Bool) (reads : Asked → List ℕ → Reading) (x : FieldRun State) : Type 0 where
+    pub bytes : List ℕ
+    pub torn : List ℕ
+    pub took : x.run.new.taken ≡ Some (x.had ++ (bytes ++ torn))
+    pub are : AreWrittenIn reads x torn
+    pub rows : List (List (List ℕ))
+    pub reads_as : AreReadAs bytes (head_rows x.run.survey.layout columns ++ rows)
+    pub behind : (held : List ℕ) (earlier : List (List (List ℕ))) → AreReadAs held earlier → AreReadAs (held ++ bytes) (earlier ++ (head_rows x.run.survey.layout columns ++ rows))
+    pub as_many : length rows ≡ length are.written
+    pub each : (n : ℕ) (row : List (List ℕ)) → slice_get rows n ≡ Some row
+        → (r : Record) × (slice_get are.written n ≡ Some r) × IsOwnIn ends Good kept columns (λ name. under name (header columns) row) reads x r
 
 -- what a sink took of a run in the field (`IsFieldRun`) is the run's own table: where `reads` gives what replies say of their
 -- calls (`AreReadings`), for any instrument, all that a station measures and writes as a table, and all that the line and the
@@ -138,7 +159,6 @@ module _ {State : Type 0} (ends : Ends State) (Good : State → Type 0) (kept : 
 abbrev pub TablesAreTheirOwn : Type 0 → Type 0
 TablesAreTheirOwn State =
     (ends : Ends State) (kept : State → Option KeptReply) → IsAnInstrument ends AnyState kept →
-    (reads : Asked → List ℕ → Reading) → AreReadings reads → (run : FieldRun State) → IsFieldRun ends kept reads run →
-    (columns : Bool) → run.survey.layout.form ≡ table_form columns →
-    IsOwnTable ends AnyState kept run.survey columns reads (acts_of run) (parts_in run.survey reads (acts_of run)) (stretches ends run.in_flight run.happened)
-    run.result run.had run.new.taken
+    (reads : Asked → List ℕ → Reading) → AreReadings reads → (x : FieldRun State) → IsFieldRun ends kept reads x →
+    (columns : Bool) → x.run.survey.layout.form ≡ table_form columns →
+    IsOwnTable ends AnyState kept columns reads x

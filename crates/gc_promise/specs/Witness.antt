@@ -6,19 +6,18 @@ use Rattle.gc_rows.specs.declared.record.Form.{Form}
 use Rattle.gc_rows.specs.declared.record.Form.TheVariants.{Csv, Json}
 use Rattle.gc_links.specs.Acts.{Act}
 use Rattle.gc_station.specs.Keeping.{Snapshot}
-use Rattle.gc_station.specs.Model.{opening}
-use Rattle.gc_station.specs.Parts.{parts_of}
 use Rattle.gc_station.specs.Records.{Record, texts_of}
 use Rattle.gc_station.specs.Scopes.{ForReadings}
 use Rattle.gc_words.specs.declared.layout.Layout.{Layout}
 use Rattle.gc_measuring.specs.Measuring.{Survey, PortsSeen, RunsAfterFront, text_in}
-use Rattle.gc_field.specs.Instrument.{AnyState, nothing}
+use Rattle.gc_field.specs.Instrument.{AnyState, never_kept}
+use Rattle.gc_field.specs.Runs.{program_parts}
 use Rattle.gc_field.specs.Shown.{stretches}
-use Rattle.gc_promise.specs.Eventful.{IsEventful, acts, at_start, commands, plan, records, reporting, runs, scope, tally}
-use Rattle.gc_promise.specs.Eventful.{chained_record, elsewhere, elsewhere_record, empty, measured, number_record, numbered, pointed, points_record, unreadable_record}
+use Rattle.gc_promise.specs.Eventful.{IsEventful, acts, at_start, commands, plan, program, records, reporting, runs, tally}
+use Rattle.gc_promise.specs.Eventful.{chained_record, elsewhere_record, elsewhere_reply, empty_reply, measured_reply, number_record, numbered_reply, pointed_reply, points_record, unreadable_record}
 use Rattle.gc_promise.specs.Rows.{IsRowOfLine}
 use Rattle.gc_promise.specs.Objects.{AreOwnObjects}
-use Rattle.gc_promise.specs.Tables.{IsOwnTable, table_form}
+use Rattle.gc_promise.specs.Tables.{FieldRun, IsOwnTable, table_form}
 
 -- records in this form, of a run that began at moment 0, for an output that has its header already
 abbrev pub layout_in : Form → Layout
@@ -62,31 +61,39 @@ abbrev pub ports_at : List Act → List ℕ → List Snapshot → PortsSeen
 ports_at recorded taken turns =
     record { input = record { remaining = None; reads = 0; ended = true; failed = false }; acts = Some recorded; taken = Some taken; messages = None; turns = turns }
 
+-- the run as one in the field, written in this form; `turns` is what was seen at each act
+abbrev pub run_in : Form → (turns : List Snapshot) → FieldRun (List ℕ)
+run_in form turns =
+    record {
+      run = record { survey = survey form; old = ports_at [] [] []; new = ports_at acts (taken form) turns; result = Ok tally; recorded = acts };
+      had = [];
+      in_flight = at_start;
+      happened = runs;
+    }
+
 module _ (reads : Asked → List ℕ → Reading) where
   -- the row of a record is this text, and its own, with this line as its reply
   abbrev pub IsOwnText : Record → (row line : List ℕ) → Type 0
   IsOwnText r row line =
       (text_in in_a_table [] r ≡ row)
-      × IsRowOfLine reporting AnyState nothing in_a_table [] commands (parts_of plan commands (opening plan (scope reads)) acts)
+      × IsRowOfLine reporting AnyState never_kept in_a_table [] commands (program_parts (program reads))
       (stretches reporting at_start runs) r line
 
   -- the run is eventful, and the row of each command that a reply in time settled is its own: of both commands of the chain, of
   -- the one that was measured elsewhere, of a number, and of one whose values don't read
   pub record HasOwnRows : Type 0 where
     pub run : IsEventful reads
-    pub points : IsOwnText points_record points_row pointed
-    pub chained : IsOwnText chained_record chained_row measured
-    pub elsewhere : IsOwnText elsewhere_record elsewhere_row elsewhere
-    pub number : IsOwnText number_record number_row numbered
-    pub unreadable : IsOwnText unreadable_record unreadable_row empty
-    -- and so is the table that its sink took, with a column for each quantity or without
-    pub tables : (columns : Bool)
-        → IsOwnTable reporting AnyState nothing (survey (table_form columns)) columns reads acts (parts_of plan commands (opening plan (scope reads)) acts) (stretches reporting at_start runs)
-        (Ok tally) [] (Some (taken (table_form columns)))
+    pub points : IsOwnText points_record points_row pointed_reply
+    pub chained : IsOwnText chained_record chained_row measured_reply
+    pub elsewhere : IsOwnText elsewhere_record elsewhere_row elsewhere_reply
+    pub number : IsOwnText number_record number_row numbered_reply
+    pub unreadable : IsOwnText unreadable_record unreadable_row empty_reply
+    -- what was seen at each act, where the run was written in a form
+    pub turns : Form → List Snapshot
+    -- the table that its sink took is its own, too, with a column for each quantity or without
+    pub tables : (columns : Bool) → IsOwnTable reporting AnyState never_kept columns reads (run_in (table_form columns) (turns (table_form columns)))
     -- and so are its lines of JSON
-    pub objects :
-        AreOwnObjects reporting AnyState nothing (survey Json) reads acts (parts_of plan commands (opening plan (scope reads)) acts) (stretches reporting at_start runs)
-        (Ok tally) [] (Some (taken Json))
+    pub objects : AreOwnObjects reporting AnyState never_kept reads (run_in Json (turns Json))
 
 -- `HasOwnRows` holds for every function that gives what each reply says of its call, and there is such a function. In each form
 -- the run is one as a station's contract has it: its link recorded these acts, and its sink took the texts of its records

@@ -47,7 +47,7 @@ pub fn some_row_is_its_own()
 {}
 
 /// What clause `told` of `append_at` says of the file that it returns comes to this: either no act was made, or the file, the
-/// acts and what was seen at each of them are a run of a file (`RunOfFile`), of which `rows_outlast_crashes` and
+/// acts and what was seen at each of them are a run of a file (`IsRunOfFile`), of which `rows_outlast_crashes` and
 /// `rows_outlast_failures` speak.
 pub fn appends_are_runs_of_files<'a, S: Source, K, E, R: Files<File = File> + 'a>()
     ensures { AppendsAreRuns S.Source ⟦<Followed<'a, R> as Sink>⟧ K E }

@@ -6,7 +6,7 @@ use Rattle.gc_lines.specs.Lines.{with_end}
 use Rattle.gc_links.specs.Acts.{Act, Put, Gave}
 use Rattle.gc_links.specs.declared.link.Moment.{Moment}
 use Rattle.gc_scenes.specs.SceneState.{SceneState, scene_restarted, at_moment}
-use Rattle.gc_rehearsal.specs.Carrying.{Lines, Happening, Call, Reaches, Restarts, Passes, Repeats_up, Repeats_down, Loses_up, Loses_down, Loses_front, Does, IsQuiet, Leads, LeadAll, acts_of, HasComeTo}
+use Rattle.gc_rehearsal.specs.Carrying.{Lines, Happening, Acts, Reaches, Restarts, Passes, Repeats_up, Repeats_down, Loses_up, Loses_down, Loses_front, ActLeads, IsQuiet, Leads, LeadAll, acts_of, HasComeTo}
 use Rattle.gc_rehearsal.specs.Queues.{texts, lines_of, MayAddLine, MayRepeat, MayHandOver}
 use Rattle.gc_rehearsal.specs.declared.carried.Traffic.{Traffic}
 use Rattle.gc_rehearsal.specs.declared.flight.Flight.{Flight}
@@ -19,7 +19,7 @@ lead_on (g ∷ hs) h l m n all one = (all.0, all.1, lead_on hs h all.0 m n all.2
 -- the acts of events and one more are those of the events, and then that of the last, if it is an act
 acts_on : (hs : List Happening) (h : Happening) → acts_of (hs ++ h ∷ []) ≡ acts_of hs ++ acts_of (h ∷ [])
 acts_on [] h = refl
-acts_on (Call act ∷ hs) h = ap (λ l. act ∷ l) (acts_on hs h)
+acts_on (Acts act ∷ hs) h = ap (λ l. act ∷ l) (acts_on hs h)
 acts_on (Reaches ∷ hs) h = acts_on hs h
 acts_on (Restarts ∷ hs) h = acts_on hs h
 acts_on (Passes moment ∷ hs) h = acts_on hs h
@@ -55,19 +55,19 @@ one_more_unseen acts h l m none c one = subst (λ x. HasComeTo x m) (ap (λ x. a
 pub nothing_happened : (state : SceneState) → state.base.kept ≡ None → HasComeTo [] (lines [] [] state)
 nothing_happened state none = record { start = state; happened = []; none = none; acts_are = refl; leads = refl }
 
--- a quiet act leaves the lines as they are
-quiet_does : (act : Act) (l : Lines) → IsQuiet act → Does l act l
-quiet_does (Put bytes) l q = absurd q
-quiet_does (Gave bytes moment) l q = absurd q
-quiet_does act l q = refl
+-- a quiet act leads from lines to the same lines
+quiet_leads : (act : Act) (l : Lines) → IsQuiet act → ActLeads l act l
+quiet_leads (Put bytes) l q = absurd q
+quiet_leads (Gave bytes moment) l q = absurd q
+quiet_leads act l q = refl
 
 -- where acts have come to the lines `l`, these acts, and a quiet one after them, have come to `l`
 pub noted : (acts : List Act) (act : Act) (l : Lines) → IsQuiet act → HasComeTo acts l → HasComeTo (acts ++ act ∷ []) l
-noted acts act l q c = one_more_happened acts (Call act) l l c (quiet_does act l q)
+noted acts act l q c = one_more_happened acts (Acts act) l l c (quiet_leads act l q)
 
 -- where acts have come to the lines `l`, these acts, and a write after them whose bytes don't arrive, have come to `l`
 pub put_lost : (acts : List Act) (bytes : List ℕ) (l : Lines) → HasComeTo acts l → HasComeTo (acts ++ Put bytes ∷ []) l
-put_lost acts bytes l c = one_more_happened acts (Call (Put bytes)) l l c (inl refl)
+put_lost acts bytes l c = one_more_happened acts (Acts (Put bytes)) l l c (inl refl)
 
 -- where acts have come to lines, these acts, and a write of these bytes after them, have come to the lines after the write: the
 -- queue up is the same, or has the written line at its back (`MayAddLine`)
@@ -79,7 +79,7 @@ put_may_arrive acts bytes up up' down state (inl same) c =
 put_may_arrive acts bytes up up' down state (inr x) c =
     let l = lines (texts up) down state in
     let new = ap texts x.2 ∙ map_push (λ (f : Flight). f.line.items) up x.0 in
-    one_more_happened acts (Call (Put bytes)) l (lines (texts up') down state) c (inr (x.0.line.items, x.1, ap (λ q. lines q down state) new))
+    one_more_happened acts (Acts (Put bytes)) l (lines (texts up') down state) c (inr (x.0.line.items, x.1, ap (λ q. lines q down state) new))
 
 -- acts that have come to lines have also come to those in which the last request may be there twice (`MayRepeat`)
 pub repeats_up : (acts : List Act) (up up' : List Flight) (down : List (List ℕ)) (state : SceneState) → MayRepeat up up'
@@ -140,5 +140,5 @@ pub gives : (acts : List Act) (bytes : List ℕ) (moment : Moment)
     → down ≡ flight ∷ down' → bytes ≡ with_end flight.line.items
     → HasComeTo acts (lines up (texts down) state) → HasComeTo (acts ++ Gave bytes moment ∷ []) (lines up (texts down') state)
 gives acts bytes moment up down down' flight state front is c =
-    one_more_happened acts (Call (Gave bytes moment)) (lines up (texts down) state) (lines up (texts down') state) c
+    one_more_happened acts (Acts (Gave bytes moment)) (lines up (texts down) state) (lines up (texts down') state) c
     (flight.line.items, texts down', ap texts front, is, refl)

@@ -1,5 +1,5 @@
 -- What the functions of a queue of lines find: the line in bytes that end in CR LF, and the last line of the queue.
-use Rattle.std.proofs.Common.{◌≡◌, inl, inr, ℕ, suc, ◌-◌, ◌<◌, true, List, [], ◌∷◌, ◌++◌, drop, length, take, get_or, nat_eq, refl, sym, ◌∙◌, ap, arith}
+use Rattle.std.proofs.Common.{◌≡◌, inl, inr, ℕ, suc, ◌-◌, ◌<◌, true, List, [], ◌∷◌, ◌++◌, drop, length, take, get_or, nat_eq, sym, ◌∙◌, ap, arith}
 use Rattle.std.proofs.Math.Seq.{take-length, take-suc}
 use Rattle.std.proofs.lemmas.List.{map_push, take-append-drop}
 use Rattle.std.specs.Cmp.Lexicographic.{pointwise, same_text}

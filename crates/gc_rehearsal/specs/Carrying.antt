@@ -16,7 +16,7 @@ pub record Lines : Type 0 where
 -- one event on a line
 pub data Happening : Type 0 where
   -- a call of the link, with its result
-  Call : (act : Act) → Happening
+  Acts : (act : Act) → Happening
   -- the request in front is handed to the instrument; its reply, if there is one, is sent or lost
   Reaches : Happening
   -- the instrument restarts
@@ -34,20 +34,20 @@ pub data Happening : Type 0 where
 
 -- a write of these bytes leads from the lines `l` to the lines `m`: nothing of them arrives, or they are a line with its CR LF, which is
 -- sent up
-abbrev pub IsPut : (l : Lines) → (bytes : List ℕ) → (m : Lines) → Type 0
-IsPut l bytes m = (m ≡ l) ⊎ ((line : List ℕ) × (bytes ≡ with_end line) × (m ≡ record l { up = l.up ++ line ∷ [] }))
+abbrev pub PutLeads : (l : Lines) → (bytes : List ℕ) → (m : Lines) → Type 0
+PutLeads l bytes m = (m ≡ l) ⊎ ((line : List ℕ) × (bytes ≡ with_end line) × (m ≡ record l { up = l.up ++ line ∷ [] }))
 
 -- a read of these bytes leads from the lines `l` to the lines `m`: they are the reply in front, whole, with its CR LF
-abbrev pub IsGiven : (l : Lines) → (bytes : List ℕ) → (m : Lines) → Type 0
-IsGiven l bytes m =
+abbrev pub GiveLeads : (l : Lines) → (bytes : List ℕ) → (m : Lines) → Type 0
+GiveLeads l bytes m =
     (line : List ℕ) × (rest : List (List ℕ)) × (l.down ≡ line ∷ rest) × (bytes ≡ with_end line) × (m ≡ record l { down = rest })
 
--- an act of the link leads from the lines `l` to the lines `m`: a whole write by `IsPut`, a read of bytes by `IsGiven`, and any other act
--- changes nothing
-abbrev pub Does : (l : Lines) → Act → (m : Lines) → Type 0
-Does l (Put bytes) m = IsPut l bytes m
-Does l (Gave bytes moment) m = IsGiven l bytes m
-Does l other m = m ≡ l
+-- an act of the link leads from the lines `l` to the lines `m`: a whole write by `PutLeads`, a read of bytes by `GiveLeads`, and any
+-- other act changes nothing
+abbrev pub ActLeads : (l : Lines) → Act → (m : Lines) → Type 0
+ActLeads l (Put bytes) m = PutLeads l bytes m
+ActLeads l (Gave bytes moment) m = GiveLeads l bytes m
+ActLeads l other m = m ≡ l
 
 -- an act that changes nothing on the line: neither a whole write nor a read of bytes
 abbrev pub IsQuiet : Act → Type 0
@@ -75,7 +75,7 @@ IsRepeated lines new = (front : List (List ℕ)) × (line : List ℕ) × (lines 
 
 -- an event leads from the lines `l` to the lines `m`
 abbrev pub Leads : (l : Lines) → Happening → (m : Lines) → Type 0
-Leads l (Call act) m = Does l act m
+Leads l (Acts act) m = ActLeads l act m
 Leads l Reaches m = HasReached l m
 Leads l Restarts m = m ≡ record l { state = scene_restarted l.state }
 Leads l (Passes moment) m = m ≡ record l { state = at_moment moment l.state }
@@ -93,7 +93,7 @@ LeadAll l (h ∷ hs) m = (n : Lines) × Leads l h n × LeadAll n hs m
 -- the acts of the link among these events
 abbrev pub acts_of : List Happening → List Act
 acts_of [] = []
-acts_of (Call act ∷ hs) = act ∷ acts_of hs
+acts_of (Acts act ∷ hs) = act ∷ acts_of hs
 acts_of (other ∷ hs) = acts_of hs
 
 -- these acts are those of a line that keeps order, on which nothing was in flight at first, and whose instrument stored no reply then; it

@@ -25,20 +25,21 @@ pub(crate) struct Stored {
 }
 
 impl Stored {
-    // Returns the request that `reply` answers; the instrument has just sent `reply` on `request`. `was_stored` says whether the
-    // instrument had stored a reply with the id of `request` before, and `is_stored` whether it has now. If it had, and `reply`
-    // is the line noted here, the stored reply was sent again, and answers the request that it was made on (`origin`). Otherwise
-    // `reply` answers `request`; and if a reply with this id is stored now, and none was before, both are noted here.
-    fn note(&mut self, reply: &Line, request: Origin, was_stored: bool, is_stored: bool) -> Origin {
-        if was_stored {
-            if self.line.as_slice() == reply.as_slice() {
-                return self.origin.copy();
-            }
-        } else if is_stored {
-            self.line = line_from(reply.as_slice());
-            self.origin = request.copy();
+    // Stores a reply that the instrument made on this request.
+    fn store(&mut self, reply: &Line, request: &Origin) {
+        self.line = line_from(reply.as_slice());
+        self.origin = request.copy();
+    }
+
+    // The request that `reply` answers, which the instrument has just sent on `request`. If the instrument had stored a reply with the
+    // id of `request` before (`was_stored`), and `reply` is that one, it was sent again, and answers the request that it was made on.
+    // Otherwise `reply` answers `request`.
+    fn answered_by(&self, reply: &Line, request: Origin, was_stored: bool) -> Origin {
+        if was_stored && self.line.as_slice() == reply.as_slice() {
+            self.origin.copy()
+        } else {
+            request
         }
-        request
     }
 }
 
@@ -57,7 +58,7 @@ impl Traffic {
     // Takes the first request in flight, and hands it to the instrument. Its reply, if it makes one, is put at the back of those in
     // flight or is lost, as `send` does it. Returns whether the instrument made a reply, also one that is lost; `false` if no
     // request is in flight.
-    fn hand_over(&mut self, lost: bool, arrives: u64) -> bool
+    fn hand_over(&mut self, arrives: Option<u64>) -> bool
         ensures { MayHandOver self.old self.new }
     {
         let Some(request) = self.up.pop_front() else {
@@ -72,11 +73,11 @@ impl Traffic {
         {
             return false;
         }
-        let is_stored = has_stored(&self.instrument, id);
-        let answered = self
-            .stored
-            .note(&reply, request.origin, was_stored, is_stored);
-        send(&mut self.down, reply, lost, arrives, &answered);
+        if !was_stored && has_stored(&self.instrument, id) {
+            self.stored.store(&reply, &request.origin);
+        }
+        let answered = self.stored.answered_by(&reply, request.origin, was_stored);
+        send(&mut self.down, reply, arrives, answered);
         true
     }
 }
@@ -216,12 +217,12 @@ impl Carried {
     }
 
     /// Hands the next request to the instrument. Its reply, if it makes one, is sent, and arrives at the moment `arrives`, in
-    /// milliseconds since the line was made. The reply is lost if `lost`, if there is a CR or an LF in it, or if memory is
+    /// milliseconds since the line was made. The reply is lost for `None`, if there is a CR or an LF in it, or if memory is
     /// refused for it. Returns whether the instrument made a reply, also one that is lost; `false` if no request is in flight.
-    pub fn reach(&mut self, lost: bool, arrives: u64) -> bool
+    pub fn reach(&mut self, arrives: Option<u64>) -> bool
         ensures { self.new ≡ self.old }
     {
-        self.traffic.hand_over(lost, arrives)
+        self.traffic.hand_over(arrives)
     }
 
     /// Reads the next reply, whole and with its CR LF, into the front of `buf`, at this moment, and returns it. `None`: no reply
@@ -259,13 +260,13 @@ fn has_stored(instrument: &SceneInstrument, id: Option<u8>) -> bool {
 }
 
 // Puts a reply to the request `origin`, which arrives at the moment `arrives`, at the back of the queue `down`. The reply is lost
-// if `lost`, if it is no line because there is a CR or an LF in it, or if memory is refused for it.
-fn send(down: &mut VecDeque<Flight>, reply: Line, lost: bool, arrives: u64, origin: &Origin)
+// for `None`, if it is no line because there is a CR or an LF in it, or if memory is refused for it.
+fn send(down: &mut VecDeque<Flight>, reply: Line, arrives: Option<u64>, origin: Origin)
     ensures { MaySend down.old.items reply.items down.new.items }
 {
-    if lost {
+    let Some(arrives) = arrives else {
         return;
-    }
+    };
     if !is_plain(reply.as_slice()) {
         return;
     }
@@ -274,7 +275,7 @@ fn send(down: &mut VecDeque<Flight>, reply: Line, lost: bool, arrives: u64, orig
         Flight {
             line: reply,
             arrives,
-            origin: origin.copy(),
+            origin,
         },
     );
 }

@@ -26,8 +26,9 @@ pub trait Chance {
     /// request that reaches the instrument, about its reply, even if it makes none.
     fn fate(&mut self) -> Fate;
 
-    /// How many bytes of a request are sent before the connection closes. As many as the request has, or more, count as all but one.
-    fn cut(&mut self) -> usize;
+    /// Where a request is cut: how many of its bytes are sent before the connection closes. As many as the request has, or more, count
+    /// as all but one.
+    fn cut_place(&mut self) -> usize;
 
     /// Whether the lines in flight in one direction outlive a close and arrive later; else all of them are lost. Called twice
     /// each time the station closes the link: for the requests, and then for the replies.

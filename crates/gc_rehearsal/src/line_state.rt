@@ -106,28 +106,20 @@ impl LineState {
     /// moments (`None`: none is in flight). Of events at the same moment a request is first, then the end, and then a reply.
     /// Replies and the end come only on a connection that the station hasn't closed.
     pub fn next(&self, request: Option<u64>, reply: Option<u64>, limit: u64) -> Next {
-        let mut at = limit;
-        let mut next = Next::Nothing;
-        if self.is_open {
-            if let Some(moment) = reply {
-                if moment <= at {
-                    at = moment;
-                    next = Next::Reply(moment);
-                }
-            }
-            if let Some(moment) = self.ends {
-                if moment <= at {
-                    at = moment;
-                    next = Next::End(moment);
-                }
-            }
+        let (reply, end) = if self.is_open {
+            (reply, self.ends)
+        } else {
+            (None, None)
+        };
+        let reply = up_to(limit, reply);
+        let end = up_to(reply.unwrap_or(limit), end);
+        let request = up_to(end.or(reply).unwrap_or(limit), request);
+        match (request, end, reply) {
+            (Some(moment), _, _) => Next::Request(moment),
+            (None, Some(moment), _) => Next::End(moment),
+            (None, None, Some(moment)) => Next::Reply(moment),
+            (None, None, None) => Next::Nothing,
         }
-        if let Some(moment) = request {
-            if moment <= at {
-                next = Next::Request(moment);
-            }
-        }
-        next
     }
 
     // Schedules a line that is sent now with this fate: returns the moment at which it arrives, unless it is lost. The moment
@@ -146,29 +138,32 @@ impl LineState {
         self.from_now(fate.delay).max(last).max(self.held)
     }
 
-    /// Schedules a request that is sent now with this fate: returns the moment at which it arrives, unless it is lost, and counts
-    /// the request as written whole, and its fate.
-    pub fn schedule_request(&mut self, fate: Fate) -> u64 {
+    /// Schedules a request that is sent now with this fate, and counts the request as written whole, and its fate. Returns the moment at
+    /// which it arrives; `None`: it is lost.
+    pub fn schedule_request(&mut self, fate: Fate) -> Option<u64> {
         let arrives = self.schedule(fate, self.last_request);
-        if !fate.lost {
-            self.last_request = arrives;
-        }
         self.counts.requests = self.counts.requests.saturating_add(1);
-        arrives
+        if fate.lost {
+            return None;
+        }
+        self.last_request = arrives;
+        Some(arrives)
     }
 
-    /// Schedules a reply that is sent now with this fate: returns the moment at which it arrives, unless it is lost, and counts
-    /// its fate. If the fate closes the connection, the other end closes it at that moment, unless it is to close it earlier or
-    /// there is no connection. It is called for each request that reaches the instrument, also if the instrument makes no reply.
-    pub fn schedule_reply(&mut self, fate: Fate) -> u64 {
+    /// Schedules a reply that is sent now with this fate, and counts its fate. Returns the moment at which it arrives; `None`: it is
+    /// lost. If the fate closes the connection, the other end closes it when the reply arrives or, if it is lost, would have arrived,
+    /// unless it is to close it earlier or there is no connection. It is called for each request that reaches the instrument, also if
+    /// the instrument makes no reply.
+    pub fn schedule_reply(&mut self, fate: Fate) -> Option<u64> {
         let arrives = self.schedule(fate, self.last_reply);
-        if !fate.lost {
-            self.last_reply = arrives;
-        }
         if fate.closes {
             self.end_at(arrives);
         }
-        arrives
+        if fate.lost {
+            return None;
+        }
+        self.last_reply = arrives;
+        Some(arrives)
     }
 
     /// Lets the other end close the connection now, in the middle of a request, and counts the close. Without a connection
@@ -243,4 +238,9 @@ impl LineState {
             self.missing_truths = self.missing_truths.saturating_add(1);
         }
     }
+}
+
+// This moment, unless it comes after the moment `limit`.
+fn up_to(limit: u64, moment: Option<u64>) -> Option<u64> {
+    moment.filter(|moment| *moment <= limit)
 }

@@ -8,7 +8,7 @@ ghost use Rattle.gc_rehearsal.specs.Reading.{MayRead, Reads};
 use crate::carried::Carried;
 use crate::chance::{Chance, Fate};
 use crate::counts::Counts;
-use crate::flight::Written;
+use crate::flight::{Written, len_with_end};
 use crate::line_state::{LineState, Next};
 use crate::truth::Truth;
 use gc_lines::PortFailed;
@@ -119,7 +119,7 @@ impl<C> Rehearsed<C> {
             self.state.count_lost();
             return None;
         };
-        let n = flight.line.len() + 2;
+        let n = len_with_end(&flight.line);
         self.state.keep_truth(flight);
         Some(Came::Bytes(n, moment))
     }
@@ -164,7 +164,7 @@ impl<C: Chance> Rehearsed<C> {
         self.carried.pass(self.state.now);
         let fate = self.chance.fate();
         let arrives = self.state.schedule_reply(fate);
-        let answered = self.carried.reach(fate.lost, arrives);
+        let answered = self.carried.reach(arrives);
         if answered && fate.repeated && !fate.lost {
             self.carried.repeat_reply();
         }
@@ -185,17 +185,17 @@ impl<C: Chance> Rehearsed<C> {
         }
     }
 
-    // Sends a whole request with this fate. If that loses it, nothing arrives. Otherwise it arrives at the moment `arrives`, and if
+    // Sends a whole request with this fate, and counts it. If the fate loses it, nothing arrives. Otherwise it arrives once, and if
     // the fate repeats it, a second time directly after that, unless memory is refused for the second one. Bytes that aren't a
     // line with its CR LF don't arrive, nor does a line of more than 512 bytes without that, or one for which memory is refused;
     // the fate then repeats the last request that is in flight, if there is one.
-    fn send(&mut self, bytes: &[u8], fate: Fate, arrives: u64)
+    fn send(&mut self, bytes: &[u8], fate: Fate)
         ensures { self.new.carried ≡ self.old.carried ++ Put bytes.now ∷ [] }
     {
-        if fate.lost {
+        let Some(arrives) = self.state.schedule_request(fate) else {
             self.carried.put_nothing(bytes);
             return;
-        }
+        };
         let written = Written {
             request: self.state.counts.requests.saturating_sub(1),
             sent: self.state.now,
@@ -213,7 +213,7 @@ impl<C: Chance> Rehearsed<C> {
         ensures tells { self.new.carried ≡ self.old.carried ++ Cut bytes.now result ∷ [] }
         ensures part { result < length bytes.now }
     {
-        let n = self.chance.cut().min(bytes.len() - 1);
+        let n = self.chance.cut_place().min(bytes.len() - 1);
         self.state.cut();
         self.carried.note(&Note::Cut(bytes, n));
         n
@@ -230,8 +230,7 @@ impl<C: Chance> Rehearsed<C> {
         if fate.closes {
             return Err(self.cut(bytes));
         }
-        let arrives = self.state.schedule_request(fate);
-        self.send(bytes, fate, arrives);
+        self.send(bytes, fate);
         Ok(())
     }
 

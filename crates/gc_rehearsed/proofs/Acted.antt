@@ -26,16 +26,16 @@ use Rattle.gc_station.specs.Model.{lines_completed}
 use Rattle.gc_station.specs.Parts as part
 use Rattle.gc_station.specs.Parts.{Part, client_after, course_at}
 use Rattle.gc_world.specs.Clients.{by_ids}
-use Rattle.gc_field.specs.Asking.{IsAskedFor, IsTaken, MeansSyncSteps}
+use Rattle.gc_field.specs.Asking.{IsAskedFor, IsHeardOrDiscarded, MeansSyncSteps}
 use Rattle.gc_field.specs.Begin as begin
-use Rattle.gc_field.specs.Begin.{InFlight, Model, leaves, turns}
+use Rattle.gc_field.specs.Begin.{InFlight, SyncModel, leaves, turns}
 use Rattle.gc_field.specs.Beginnings.{on_line}
 use Rattle.gc_field.specs.Field as field
 use Rattle.gc_field.specs.Meaning.{IsHeard, IsDiscarded}
 use Rattle.gc_field.specs.SceneField.{scene_ends}
 use Rattle.gc_field.specs.Shown.{first_heard, shows}
 use Rattle.gc_field.specs.World.{Numbered, Request, down_delivered, requested, with_settled, without}
-use Rattle.gc_rehearsal.specs.Carrying.{Lines, Does, IsGiven, IsPut}
+use Rattle.gc_rehearsal.specs.Carrying.{Lines, ActLeads, GiveLeads, PutLeads}
 use Rattle.gc_rehearsed.proofs.Courses.{FromBegin, FromClient, SceneWorld, after_move, move_first, steps_move, steps_turn, turn_first}
 use Rattle.gc_rehearsed.proofs.Steps.{Holds, IsLineOf, IsOneLine, Lose_down, Lose_up, flow, one_less, one_more, stepped, without_last, dropped}
 use Rattle.gc_field.proofs.BeginJoin.{IsSmall, small_left}
@@ -78,13 +78,13 @@ ids_left word (line ∷ others) ids = ids_left (left_by word (heard line)) other
 
 -- what an act comes to while the station synchronizes: from the state b the turns of the act lead to one with these lines in
 -- flight and these ids unanswered, and whatever follows from there follows from b after these turns
-abbrev pub TurnsTo : Model SceneState → List part.SyncStep → List ℕ → Lines → Type 0
+abbrev pub TurnsTo : SyncModel SceneState → List part.SyncStep → List ℕ → Lines → Type 0
 TurnsTo b turns word n =
     (show : List part.SyncStep) (steps : List (client.Step Asked)) (others : List Part) (m : Lines) (done : Bool)
-    → ((c : Model SceneState) → Holds (leaves c) n → c.left ≡ word → FromBegin c show steps others m done) → FromBegin b (turns ++ show) steps others m done
+    → ((c : SyncModel SceneState) → Holds (leaves c) n → c.left ≡ word → FromBegin c show steps others m done) → FromBegin b (turns ++ show) steps others m done
 
 -- an act that leaves the line as it is comes to no turns
-turns_none : (b : Model SceneState) (word : List ℕ) (l n : Lines) → b.left ≡ word → Holds (leaves b) l → n ≡ l → TurnsTo b [] word n
+turns_none : (b : SyncModel SceneState) (word : List ℕ) (l n : Lines) → b.left ≡ word → Holds (leaves b) l → n ≡ l → TurnsTo b [] word n
 turns_none b word l n left holds same show steps others m done on = on b (subst (Holds (leaves b)) (sym same) holds) left
 
 -- the null procedure with this id, as a request
@@ -92,15 +92,15 @@ abbrev asked_next : ℕ → Request
 asked_next id = record { id = id; call = Table NullProc }
 
 -- the state of a synchronization once it has sent the null procedure with this id
-abbrev once_asked : Model SceneState → ℕ → Model SceneState
+abbrev once_asked : SyncModel SceneState → ℕ → SyncModel SceneState
 once_asked b id = record b { up = b.up ++ record { old = false; line = asked_next id } ∷ [] }
 
 -- where all unanswered ids are below 8, an act that sends the null procedure of the first of them comes to the turn `Asks`,
 -- whether the line loses the request or not
-turns_asks : (b : Model SceneState) (asked : ℕ) (rest : List ℕ) (line : List ℕ) (l n : Lines) → b.left ≡ asked ∷ rest → IsSmall (asked ∷ rest)
+turns_asks : (b : SyncModel SceneState) (asked : ℕ) (rest : List ℕ) (line : List ℕ) (l n : Lines) → b.left ≡ asked ∷ rest → IsSmall (asked ∷ rest)
     → line ≡ request_line (Some asked) NullProc → Holds (leaves b) l → (n ≡ l) ⊎ (n ≡ record l { up = l.up ++ line ∷ [] }) → TurnsTo b (part.Asks ∷ []) (asked ∷ rest) n
 turns_asks b asked rest line l n left ids is holds came show steps others m done on =
-    turn_first b begin.Asks show steps others m done tt (subst (λ (x : Model SceneState). FromBegin x show steps others m done) (sym out) (by_came came)) where
+    turn_first b begin.Asks show steps others m done tt (subst (λ (x : SyncModel SceneState). FromBegin x show steps others m done) (sym out) (by_came came)) where
       -- what the turn `Asks` leads to
       out : turns scene_ends b begin.Asks ≡ once_asked b asked
       out = ap (λ word. begin.asks b word) left
@@ -127,8 +127,8 @@ turns_asks b asked rest line l n left ids is holds came show steps others m done
           (subst (λ q. Holds (flow q (leaves b).down b.state) n) (sym up_is) (one_more (leaves b) l n (asked_next asked) line holds of_line more)) left
 
 -- an act that puts bytes, whole or in part, while the station synchronizes comes to the steps that the act means (`IsAskedFor`)
-turns_put : (b : Model SceneState) (word : List ℕ) (bytes : List ℕ) (ts : List part.SyncStep) (l n : Lines) → b.left ≡ word → IsSmall word → Holds (leaves b) l
-    → IsAskedFor word bytes ts → IsPut l bytes n → (word ≡ [] → ⊥) → TurnsTo b ts word n
+turns_put : (b : SyncModel SceneState) (word : List ℕ) (bytes : List ℕ) (ts : List part.SyncStep) (l n : Lines) → b.left ≡ word → IsSmall word → Holds (leaves b) l
+    → IsAskedFor word bytes ts → PutLeads l bytes n → (word ≡ [] → ⊥) → TurnsTo b ts word n
 turns_put b word bytes ts l n left ids holds (inl feed) (inl same) some = subst (λ (t : List part.SyncStep). TurnsTo b t word n) (sym feed.1) (turns_none b word l n left holds same)
 turns_put b word bytes ts l n left ids holds (inl feed) (inr sent) some = absurd (feed_no_line sent.0 (sym feed.0 ∙ sent.1))
 turns_put b [] bytes ts l n left ids holds (inr asks) put some = absurd (some refl)
@@ -140,18 +140,18 @@ turns_put b (asked ∷ rest) bytes ts l n left ids holds (inr asks) (inr sent) s
     (turns_asks b asked rest sent.0 l n left ids (same_line sent.0 (request_line (Some asked) NullProc) (sym sent.1 ∙ asks.0)) holds (inr sent.2))
 
 -- the state of a synchronization once the front one of these replies came
-abbrev once_came : Model SceneState → InFlight (List ℕ) → List (InFlight (List ℕ)) → Model SceneState
+abbrev once_came : SyncModel SceneState → InFlight (List ℕ) → List (InFlight (List ℕ)) → SyncModel SceneState
 once_came b x q = record b { down = q; left = left_by b.left (heard x.line) }
 
 -- an act that brings a reply while the station synchronizes comes to the turn that hears it
-turns_comes : (b : Model SceneState) (word : List ℕ) (q : List (InFlight (List ℕ))) (line : List ℕ) (rest : List (List ℕ)) (l n : Lines) → b.down ≡ q → b.left ≡ word → Holds (leaves b) l
+turns_comes : (b : SyncModel SceneState) (word : List ℕ) (q : List (InFlight (List ℕ))) (line : List ℕ) (rest : List (List ℕ)) (l n : Lines) → b.down ≡ q → b.left ≡ word → Holds (leaves b) l
     → l.down ≡ line ∷ rest → n ≡ record l { down = rest } → TurnsTo b (part.Hears line ∷ []) (left_by word (heard line)) n
 turns_comes b word [] line rest l n is left holds front new show steps others m done on =
     let none : [] ≡ line ∷ rest = sym (ap (λ (d : List (InFlight (List ℕ))). map (λ x. x.line) d) is) ∙ holds.down ∙ front in
     absurd (cons_not_nil line rest (sym none))
 turns_comes b word (x ∷ q) line rest l n is left holds front new show steps others m done on =
     subst (λ (t : List part.SyncStep). FromBegin b (t ++ show) steps others m done) (shows_is ∙ ap (λ z. part.Hears z ∷ []) lines_are.0)
-    (turn_first b begin.Comes show steps others m done tt (subst (λ (c : Model SceneState). FromBegin c show steps others m done) (sym came) (on (once_came b x q) holds_next left_next))) where
+    (turn_first b begin.Comes show steps others m done tt (subst (λ (c : SyncModel SceneState). FromBegin c show steps others m done) (sym came) (on (once_came b x q) holds_next left_next))) where
       -- the front reply in flight in the field is that on the line, and so are those after it
       lines_are : (x.line ≡ line) × (map (λ (y : InFlight (List ℕ)). y.line) q ≡ rest)
       lines_are = first_and_rest (λ (y : InFlight (List ℕ)). y.line) b.down x q line rest is (holds.down ∙ front)
@@ -174,16 +174,16 @@ turns_comes b word (x ∷ q) line rest l n is left holds front new show steps ot
           subst (Holds (leaves (once_came b x q))) (sym new) (one_less (leaves b) (map (λ (y : InFlight (List ℕ)). y.line) q) l line rest holds front lines_are.1)
 
 -- a reply that comes while the station synchronizes, and is discarded, comes to no turn of the station: the line loses it
-turns_drops : (b : Model SceneState) (word : List ℕ) (line : List ℕ) (rest : List (List ℕ)) (l n : Lines) → b.left ≡ word → Holds (leaves b) l
+turns_drops : (b : SyncModel SceneState) (word : List ℕ) (line : List ℕ) (rest : List (List ℕ)) (l n : Lines) → b.left ≡ word → Holds (leaves b) l
     → l.down ≡ line ∷ rest → n ≡ record l { down = rest } → TurnsTo b [] word n
 turns_drops b word line rest l n left holds front new show steps others m done on =
     steps_turn (Lose_down zero ∷ []) b show steps others m done (tt, tt)
     (λ c e k. on c (subst (λ u. Holds u n) (sym e) (subst (Holds (stepped (leaves b) (Lose_down zero))) (sym new) (dropped (leaves b) l line rest holds front))) (k ∙ left))
 
 -- a read that gave bytes while the station synchronizes leaves no bytes of an unfinished line if there were none, and comes to
--- the turns that the read means (`IsTaken`)
-turns_gave : (b : Model SceneState) (word : List ℕ) (piece : List ℕ) (ts : List part.SyncStep) (behind : List ℕ) (l n : Lines) → b.left ≡ word → Holds (leaves b) l
-    → IsTaken [] piece ts behind → IsGiven l piece n → (behind ≡ []) × TurnsTo b ts (unanswered_after word (heard_in ts)) n
+-- the turns that the read means (`IsHeardOrDiscarded`)
+turns_gave : (b : SyncModel SceneState) (word : List ℕ) (piece : List ℕ) (ts : List part.SyncStep) (behind : List ℕ) (l n : Lines) → b.left ≡ word → Holds (leaves b) l
+    → IsHeardOrDiscarded [] piece ts behind → GiveLeads l piece n → (behind ≡ []) × TurnsTo b ts (unanswered_after word (heard_in ts)) n
 turns_gave b word piece ts behind l n left holds (inl taken) given =
     let one = (subst (AllByRecursion IsOneLine) given.2 holds.one).0 in
     let ts_is : ts ≡ part.Hears given.0 ∷ [] = taken.0 ∙ ap (λ bytes. map part.Hears (lines_completed [] bytes)) given.3 ∙ ap (map part.Hears) (one_line given.0 one) in
@@ -194,7 +194,7 @@ turns_gave b word piece ts behind l n left holds (inr taken) given =
 
 -- an act that means no turn, and leaves the line as it is, comes to no turns; it leaves no bytes of an unfinished line if there
 -- were none
-turns_quiet : (b : Model SceneState) (word : List ℕ) (ts : List part.SyncStep) (behind rest : List ℕ) (l n : Lines) → b.left ≡ word → Holds (leaves b) l
+turns_quiet : (b : SyncModel SceneState) (word : List ℕ) (ts : List part.SyncStep) (behind rest : List ℕ) (l n : Lines) → b.left ≡ word → Holds (leaves b) l
     → (ts ≡ []) × (behind ≡ rest) → rest ≡ [] → n ≡ l → (behind ≡ []) × TurnsTo b ts (unanswered_after word (heard_in ts)) n
 turns_quiet b word ts behind rest l n left holds means empty same =
     (means.1 ∙ empty, subst (λ (t : List part.SyncStep). TurnsTo b t (unanswered_after word (heard_in t)) n) (sym means.0) (turns_none b word l n left holds same))
@@ -206,8 +206,8 @@ put_left word bytes ts (inr asks) = ap (λ (t : List part.SyncStep). unanswered_
 
 -- an act while the station synchronizes leaves no bytes of an unfinished line if there were none, and comes to the turns that
 -- the act means (`MeansSyncSteps`)
-pub turns_act : (b : Model SceneState) (word : List ℕ) (act : Act) (ts : List part.SyncStep) (behind : List ℕ) (l n : Lines) → b.left ≡ word → IsSmall word → Holds (leaves b) l
-    → (word ≡ [] → ⊥) → MeansSyncSteps word [] act ts behind → Does l act n → (behind ≡ []) × TurnsTo b ts (unanswered_after word (heard_in ts)) n
+pub turns_act : (b : SyncModel SceneState) (word : List ℕ) (act : Act) (ts : List part.SyncStep) (behind : List ℕ) (l n : Lines) → b.left ≡ word → IsSmall word → Holds (leaves b) l
+    → (word ≡ [] → ⊥) → MeansSyncSteps word [] act ts behind → ActLeads l act n → (behind ≡ []) × TurnsTo b ts (unanswered_after word (heard_in ts)) n
 turns_act b word (Put bytes) ts behind l n left ids holds some means does =
     (means.1, subst (λ w. TurnsTo b ts w n) (sym (put_left word bytes ts means.0)) (turns_put b word bytes ts l n left ids holds means.0 does some))
 turns_act b word (Cut bytes count) ts behind l n left ids holds some means does =
@@ -292,7 +292,7 @@ moves_drops w c line rest l n is holds front new steps others m done on =
 -- a read that gave bytes, of which the client hears the lines or which the station discards, leaves no bytes of an unfinished
 -- line if there were none, and comes to the steps that the read means
 pub moves_gave : (w : SceneWorld) (c : ById Asked) (piece : List ℕ) (moment : Moment) (ss : List (client.Step Asked)) (behind : List ℕ) (l n : Lines) → w.client ≡ c → Holds (on_line w.wire) l
-    → IsHeard [] piece moment ss behind ⊎ IsDiscarded [] moment ss behind → IsGiven l piece n → (behind ≡ []) × MovesTo w ss (client_after c ss) n
+    → IsHeard [] piece moment ss behind ⊎ IsDiscarded [] moment ss behind → GiveLeads l piece n → (behind ≡ []) × MovesTo w ss (client_after c ss) n
 moves_gave w c piece moment ss behind l n is holds (inl heard) given =
     let one = (subst (AllByRecursion IsOneLine) given.2 holds.one).0 in
     let lines_are : lines_completed [] piece ≡ given.0 ∷ [] = ap (lines_completed []) given.3 ∙ one_line given.0 one in

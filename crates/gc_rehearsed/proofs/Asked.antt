@@ -1,6 +1,6 @@
 -- What commands ask: their numbers lie in their types, and so do those of the date that a clock is set to, whatever the moment
 -- is.
-use Rattle.std.proofs.Common.{ℕ, zero, suc, ◌≤◌, ◌/◌, true, min, arith}
+use Rattle.std.proofs.Common.{ℕ, ◌≤◌, ◌/◌, min, arith}
 use Rattle.std.proofs.lemmas.Bool.{cond_both}
 use Rattle.gc_catalogue.specs.Asked.{IsAskedFitting}
 use Rattle.gc_catalogue.specs.declared.asked.Asked.TheVariants.{Table}

@@ -11,13 +11,13 @@ use Rattle.gc_station.specs.Parts as part
 use Rattle.gc_station.specs.Parts.{Part, nothing}
 use Rattle.gc_world.specs.Clients.{by_ids}
 use Rattle.gc_field.specs.Begin as begin
-use Rattle.gc_field.specs.Begin.{AreTurns, IsTurn, Model, UnderWay, begins, leaves, turned, turns}
+use Rattle.gc_field.specs.Begin.{AreTurns, IsTurn, SyncModel, UnderWay, begins, leaves, turned, turns}
 use Rattle.gc_field.specs.Beginnings.{ArePossibleIf, AreRuns, Run, killed_if, left_by_run, left_by_runs, left_if, on_line}
 use Rattle.gc_field.specs.Begun.{ids_begun}
 use Rattle.gc_field.specs.Field.{Move, ArePossible, IsPossible, moved, moves, seen}
 use Rattle.gc_field.specs.InARow.{AreFewKilledWithTurns, killed_by, killed_over}
 use Rattle.gc_rehearsed.specs.Rehearsals.{unbegun}
-use Rattle.gc_field.specs.SceneField.{RetainedReads, scene_ends, scene_kept}
+use Rattle.gc_field.specs.SceneField.{KeptReplyReads, scene_ends, scene_kept}
 use Rattle.gc_field.specs.Shown.{AreShownAs, shown, shows}
 use Rattle.gc_field.specs.World.{Numbered, World}
 use Rattle.gc_rehearsal.specs.Carrying.{Lines}
@@ -44,7 +44,7 @@ after_moves ms w = moved scene_ends (by_ids WINDOW scene_ends) ms w
 -- one
 pub record Later (u : UnderWay SceneState) (rs : List (Run SceneState)) (ps : List Part) (m : Lines) (done : Bool) : Type 0 where
   pub show : AreShownAs scene_ends u rs ps
-  pub may : AreRuns WINDOW scene_ends RetainedReads scene_kept u rs
+  pub may : AreRuns WINDOW scene_ends KeptReplyReads scene_kept u rs
   pub holds : Holds (left_by_runs WINDOW scene_ends u rs) m
   pub few : AreFewKilledWithTurns scene_ends 0 u rs
   pub ends : killed_over scene_ends 0 u rs ≤ unbegun 0 done
@@ -58,14 +58,14 @@ IsLastUnlessBegun (asked ∷ word) done rs = (rs ≡ []) × (done ≡ false)
 -- from the state b of a synchronization on: possible turns show `turns`, and possible moves after them `steps`; later runs show
 -- the other parts, and lead to the lines m, and there are none if the turns leave ids unanswered. `done` says, as in `Later`,
 -- whether the station has synchronized at the end
-pub record FromBegin (b : Model SceneState) (turns : List part.SyncStep) (steps : List (client.Step Asked)) (others : List Part) (m : Lines) (done : Bool) : Type 0 where
-  pub ts : List (begin.Turn SceneState)
+pub record FromBegin (b : SyncModel SceneState) (turns : List part.SyncStep) (steps : List (client.Step Asked)) (others : List Part) (m : Lines) (done : Bool) : Type 0 where
+  pub ts : List (begin.SyncTurn SceneState)
   pub ms : List (Move SceneState)
   pub rs : List (Run SceneState)
   pub show : shown scene_ends ts b ≡ turns
   pub see : seen ms ≡ steps
-  pub are : AreTurns scene_ends RetainedReads scene_kept ts b
-  pub may : ArePossibleIf WINDOW scene_ends RetainedReads scene_kept (turned scene_ends ts b).left (turned scene_ends ts b) ms
+  pub are : AreTurns scene_ends KeptReplyReads scene_kept ts b
+  pub may : ArePossibleIf WINDOW scene_ends KeptReplyReads scene_kept (turned scene_ends ts b).left (turned scene_ends ts b) ms
   pub later : Later (left_if WINDOW scene_ends (turned scene_ends ts b).left (turned scene_ends ts b) ms) rs others m done
   pub rest : IsLastUnlessBegun (turned scene_ends ts b).left done rs
 
@@ -75,15 +75,15 @@ pub record FromClient (w : SceneWorld) (steps : List (client.Step Asked)) (other
   pub ms : List (Move SceneState)
   pub rs : List (Run SceneState)
   pub see : seen ms ≡ steps
-  pub may : ArePossible scene_ends RetainedReads scene_kept (by_ids WINDOW scene_ends) ms w
+  pub may : ArePossible scene_ends KeptReplyReads scene_kept (by_ids WINDOW scene_ends) ms w
   pub later : Later (on_line (after_moves ms w).wire) rs others m done
 
 -- One thing more before what follows.
 
 -- if t is a possible turn in the state b, and `FromBegin` holds from the state after t, it holds from b, with what t shows
 -- before the turns `xs`
-pub turn_first : (b : Model SceneState) (t : begin.Turn SceneState) (xs : List part.SyncStep) (steps : List (client.Step Asked)) (others : List Part) (m : Lines) (done : Bool)
-    → IsTurn RetainedReads scene_kept b t → FromBegin (turns scene_ends b t) xs steps others m done → FromBegin b (shows b t ++ xs) steps others m done
+pub turn_first : (b : SyncModel SceneState) (t : begin.SyncTurn SceneState) (xs : List part.SyncStep) (steps : List (client.Step Asked)) (others : List Part) (m : Lines) (done : Bool)
+    → IsTurn KeptReplyReads scene_kept b t → FromBegin (turns scene_ends b t) xs steps others m done → FromBegin b (shows b t ++ xs) steps others m done
 turn_first b t xs steps others m done is f = record {
   ts = t ∷ f.ts;
   ms = f.ms;
@@ -99,8 +99,8 @@ turn_first b t xs steps others m done is f = record {
 
 -- if `xs` are possible steps from what b has in flight, and `FromBegin` holds from each state with what they leave in flight
 -- and with the unanswered ids of b, it holds from b: the steps show nothing
-pub steps_turn : (xs : List Step) (b : Model SceneState) (show : List part.SyncStep) (steps : List (client.Step Asked)) (others : List Part) (m : Lines) (done : Bool) → AreSteps xs (leaves b)
-    → ((c : Model SceneState) → leaves c ≡ all_stepped xs (leaves b) → c.left ≡ b.left → FromBegin c show steps others m done) → FromBegin b show steps others m done
+pub steps_turn : (xs : List Step) (b : SyncModel SceneState) (show : List part.SyncStep) (steps : List (client.Step Asked)) (others : List Part) (m : Lines) (done : Bool) → AreSteps xs (leaves b)
+    → ((c : SyncModel SceneState) → leaves c ≡ all_stepped xs (leaves b) → c.left ≡ b.left → FromBegin c show steps others m done) → FromBegin b show steps others m done
 steps_turn [] b show steps others m done are on = on b refl refl
 steps_turn (x ∷ xs) b show steps others m done are on =
     let one = leaves_turn b x in
@@ -111,7 +111,7 @@ steps_turn (x ∷ xs) b show steps others m done are on =
 
 -- if x is a possible move in the world w, and `FromClient` holds from the world after x, it holds from w, with what the client
 -- sees of x before the other steps
-pub move_first : (w : SceneWorld) (x : Move SceneState) (steps : List (client.Step Asked)) (others : List Part) (m : Lines) (done : Bool) → IsPossible RetainedReads scene_kept w x
+pub move_first : (w : SceneWorld) (x : Move SceneState) (steps : List (client.Step Asked)) (others : List Part) (m : Lines) (done : Bool) → IsPossible KeptReplyReads scene_kept w x
     → FromClient (after_move w x) steps others m done → FromClient w (seen (x ∷ []) ++ steps) others m done
 move_first w x steps others m done is f = record { ms = x ∷ f.ms; rs = f.rs; see = seen_append (x ∷ []) f.ms ∙ ap (λ l. seen (x ∷ []) ++ l) f.see; may = (is, f.may); later = f.later }
 
@@ -142,7 +142,7 @@ pub begins_line : (u : UnderWay SceneState) → leaves (begins u) ≡ u
 begins_line u = ap (λ q. flow q (leaves (begins u)).down u.state) (same_lines u.up) ∙ ap (λ q. flow u.up q u.state) (same_lines u.down)
 
 -- if all ids are answered, `FromClient` of the client that has synchronized gives `FromBegin`, which shows no further turns
-pub begun_from : (b : Model SceneState) (show : List part.SyncStep) (steps : List (client.Step Asked)) (others : List Part) (m : Lines) (done : Bool) → b.left ≡ [] → show ≡ []
+pub begun_from : (b : SyncModel SceneState) (show : List part.SyncStep) (steps : List (client.Step Asked)) (others : List Part) (m : Lines) (done : Bool) → b.left ≡ [] → show ≡ []
     → FromClient (ids_begun (leaves b)) steps others m done → FromBegin b show steps others m done
 begun_from b show steps others m done none quiet f = record {
   ts = [];
@@ -151,14 +151,14 @@ begun_from b show steps others m done none quiet f = record {
   show = sym quiet;
   see = f.see;
   are = tt;
-  may = subst (λ left. ArePossibleIf WINDOW scene_ends RetainedReads scene_kept left b f.ms) (sym none) f.may;
+  may = subst (λ left. ArePossibleIf WINDOW scene_ends KeptReplyReads scene_kept left b f.ms) (sym none) f.may;
   later = subst (λ left. Later (left_if WINDOW scene_ends left b f.ms) f.rs others m done) (sym none) f.later;
   rest = subst (λ left. IsLastUnlessBegun left done f.rs) (sym none) tt;
 }
 
 -- how many are killed in a row once the run r has followed `n` that were: none, if it has synchronized (no id is left); else at
 -- most n + 1, and no run follows it, and the station hasn't synchronized at the end (`done`)
-killed_first : (n : ℕ) (u : UnderWay SceneState) (r : Run SceneState) (left : List ℕ) (ts : List (begin.Turn SceneState)) (done : Bool) (rs : List (Run SceneState))
+killed_first : (n : ℕ) (u : UnderWay SceneState) (r : Run SceneState) (left : List ℕ) (ts : List (begin.SyncTurn SceneState)) (done : Bool) (rs : List (Run SceneState))
     → (turned scene_ends ts (begins u)).left ≡ left → r.turns ≡ ts → IsLastUnlessBegun left done rs
     → ((left ≡ []) × (killed_by scene_ends n u r ts ≡ 0)) ⊎ ((rs ≡ []) × (done ≡ false) × (killed_by scene_ends n u r ts ≤ n + 1))
 killed_first n u r [] [] done rs e same rest = absurd (cons_not_nil _ _ e)
@@ -208,7 +208,8 @@ one_few false = omega arith
 
 -- `FromBegin` of a synchronization over what is in flight in the world w, which shows the part p and then `others`, gives
 -- `FromClient` from w, with no steps, and with p and then `others` as other parts
-pub ended_from : (w : SceneWorld) (p : Part) (others : List Part) (m : Lines) (done : Bool) → FromBegin (begins (on_line w.wire)) p.sync_steps p.steps others m done → FromClient w [] (p ∷ others) m done
+pub ended_from : (w : SceneWorld) (p : Part) (others : List Part) (m : Lines) (done : Bool) → FromBegin (begins (on_line w.wire)) p.sync_steps p.steps others m done
+    → FromClient w [] (p ∷ others) m done
 ended_from w p others m done f =
     let few = few_from 0 (on_line w.wire) p.sync_steps p.steps others m done f (one_few done) in
     record {
@@ -247,7 +248,7 @@ ends_client w m done holds = record { ms = []; rs = []; see = refl; may = tt; la
 
 -- where some ids aren't answered, and the lines m are in flight, `FromBegin` holds with no turns, no steps and no further parts,
 -- and with a station that hasn't synchronized at the end
-pub ends_begin : (b : Model SceneState) (m : Lines) → (b.left ≡ [] → ⊥) → Holds (leaves b) m → FromBegin b [] [] [] m false
+pub ends_begin : (b : SyncModel SceneState) (m : Lines) → (b.left ≡ [] → ⊥) → Holds (leaves b) m → FromBegin b [] [] [] m false
 ends_begin b m some holds = by_left b.left refl where
   -- the lemma above, by the ids that are left
   by_left : (left : List ℕ) → b.left ≡ left → FromBegin b [] [] [] m false
@@ -259,7 +260,7 @@ ends_begin b m some holds = by_left b.left refl where
     show = refl;
     see = refl;
     are = tt;
-    may = subst (λ left. ArePossibleIf WINDOW scene_ends RetainedReads scene_kept left b []) (sym e) refl;
+    may = subst (λ left. ArePossibleIf WINDOW scene_ends KeptReplyReads scene_kept left b []) (sym e) refl;
     later = subst (λ left. Later (left_if WINDOW scene_ends left b []) [] [] m false) (sym e) (record { show = tt; may = tt; holds = holds; few = tt; ends = omega arith });
     rest = subst (λ left. IsLastUnlessBegun left false []) (sym e) (refl, refl);
   }

@@ -16,12 +16,12 @@ use Rattle.gc_field.specs.Begin as begin
 use Rattle.gc_field.specs.Begin.{UnderWay, begins, leaves, none_under_way}
 use Rattle.gc_field.specs.Beginnings.{HasRisingIds, Run, left_by_runs}
 use Rattle.gc_field.specs.InARow.{AreInARow, killed_over}
-use Rattle.gc_field.specs.SceneField.{RetainedReads, scene_ends, scene_kept}
+use Rattle.gc_field.specs.SceneField.{KeptReplyReads, scene_ends, scene_kept}
 use Rattle.gc_field.specs.Shown.{AreShownAs}
 use Rattle.gc_field.proofs.InARow.{in_a_row, run}
 use Rattle.gc_field.proofs.SceneField.{scene_is_an_instrument}
 use Rattle.gc_field.proofs.BeginJoin.{word_small}
-use Rattle.gc_rehearsal.specs.Carrying.{Lines, Happening, Call, Does, IsQuiet, LeadAll, acts_of}
+use Rattle.gc_rehearsal.specs.Carrying.{Lines, Happening, Acts, ActLeads, IsQuiet, LeadAll, acts_of}
 use Rattle.gc_rehearsed.specs.Rehearsals.{FewEndUnbegun, RunsAndStops, RehearsalsInARowAreFaithful, RehearsedStation, has_begun_at_its_end, programs, acts_of_all, unbegun}
 use Rattle.gc_rehearsed.proofs.Courses.{FromBegin, begins_line, few_from, steps_turn}
 use Rattle.gc_rehearsed.proofs.Rehearsed.{OnBegin, first_and_others, first_part, none_kept, other_parts, shows_the_run}
@@ -45,10 +45,10 @@ record CutHappenings (hs : List Happening) (xs ys : List Act) (l m : Lines) : Ty
 cut : (hs : List Happening) (xs ys : List Act) (l m : Lines) → acts_of hs ≡ xs ++ ys → LeadAll l hs m → CutHappenings hs xs ys l m
 cut hs [] ys l m e all = record { front = []; back = hs; middle = l; fronts = refl; backs = e; leads = refl; later = all }
 cut [] (x ∷ xs) ys l m e all = absurd (cons_not_nil x (xs ++ ys) (sym e))
-cut (Call act ∷ hs) (x ∷ xs) ys l m e all =
+cut (Acts act ∷ hs) (x ∷ xs) ys l m e all =
     let rest = cut hs xs ys all.0 m (cons_tail act x (acts_of hs) (xs ++ ys) e) all.2 in
     record {
-      front = Call act ∷ rest.front;
+      front = Acts act ∷ rest.front;
       back = rest.back;
       middle = rest.middle;
       fronts = ap (λ a. a ∷ acts_of rest.front) (cons_head act x (acts_of hs) (xs ++ ys) e) ∙ ap (λ told. x ∷ told) rest.fronts;
@@ -63,18 +63,18 @@ cut (h ∷ hs) (x ∷ xs) ys l m e all =
 -- Between two stations.
 
 -- a quiet act leaves the line as it is
-quiet_same : (act : Act) (l n : Lines) → IsQuiet act → Does l act n → n ≡ l
+quiet_same : (act : Act) (l n : Lines) → IsQuiet act → ActLeads l act n → n ≡ l
 quiet_same (Put bytes) l n quiet does = absurd quiet
 quiet_same (Gave bytes moment) l n quiet does = absurd quiet
 quiet_same act l n quiet does = does
 
 -- if all acts of what happens on the line between two stations are quiet, and `FromBegin` holds from each state with the lines
 -- that this leads to in flight and with the unanswered ids of b, it holds from b
-idle_first : (hs : List Happening) (b : begin.Model SceneState) (l n : Lines) (show : List part.SyncStep) (steps : List (client.Step Asked)) (more : List Part) (m : Lines) (done : Bool)
+idle_first : (hs : List Happening) (b : begin.SyncModel SceneState) (l n : Lines) (show : List part.SyncStep) (steps : List (client.Step Asked)) (more : List Part) (m : Lines) (done : Bool)
     → AllByRecursion IsQuiet (acts_of hs) → Holds (leaves b) l → LeadAll l hs n
-    → ((c : begin.Model SceneState) → Holds (leaves c) n → c.left ≡ b.left → FromBegin c show steps more m done) → FromBegin b show steps more m done
+    → ((c : begin.SyncModel SceneState) → Holds (leaves c) n → c.left ≡ b.left → FromBegin c show steps more m done) → FromBegin b show steps more m done
 idle_first [] b l n show steps more m done quiet holds all on = on b (subst (Holds (leaves b)) (sym all) holds) refl
-idle_first (Call act ∷ hs) b l n show steps more m done quiet holds all on =
+idle_first (Acts act ∷ hs) b l n show steps more m done quiet holds all on =
     idle_first hs b all.0 n show steps more m done quiet.1 (subst (Holds (leaves b)) (sym (quiet_same act l all.0 quiet.0 all.1)) holds) all.2 on
 idle_first (h ∷ hs) b l n show steps more m done quiet holds all on =
     let xs = happens (leaves b) l all.0 h (λ act e. cc) holds all.1 in
@@ -87,7 +87,7 @@ idle_first (h ∷ hs) b l n show steps more m done quiet holds all on =
 record AreInTheField (n : ℕ) (u : UnderWay SceneState) (xs : List RehearsedStation) : Type 0 where
   runs : List (List (Run SceneState))
   each : length runs ≡ length xs
-  field : AreInARow scene_ends RetainedReads scene_kept n u (programs xs runs)
+  field : AreInARow scene_ends KeptReplyReads scene_kept n u (programs xs runs)
 
 -- if `FewEndUnbegun` holds of stations before which `n` in a row ended while they synchronized, it holds with k in place of n,
 -- where k is at most n
@@ -153,5 +153,5 @@ stations_are_faithful xs of_line lives few =
       runs = goes.runs;
       each = goes.each;
       field = goes.field;
-      faithful = in_a_row scene_ends RetainedReads scene_kept scene_is_an_instrument.instrument u (record { ids = tt; good = good }) (none_rising c.start) (programs xs goes.runs) goes.field;
+      faithful = in_a_row scene_ends KeptReplyReads scene_kept scene_is_an_instrument.instrument u (record { ids = tt; good = good }) (none_rising c.start) (programs xs goes.runs) goes.field;
     }

@@ -32,9 +32,9 @@ use Rattle.gc_field.specs.Begin.{begins, leaves, none_under_way}
 use Rattle.gc_field.specs.Asking.{MeansSyncSteps}
 use Rattle.gc_field.specs.Beginnings.{on_line}
 use Rattle.gc_field.specs.Begun.{ids_begun}
-use Rattle.gc_field.specs.Runs.{IsInField, IsMeant}
+use Rattle.gc_field.specs.Runs.{IsInField, IsMeant, Program}
 use Rattle.gc_field.specs.Meaning.{IsHeard, IsDiscarded}
-use Rattle.gc_field.specs.SceneField.{RetainedReads, scene_ends, scene_kept}
+use Rattle.gc_field.specs.SceneField.{KeptReplyReads, scene_ends, scene_kept}
 use Rattle.gc_world.specs.Exchange.{ReadsWithItsId}
 use Rattle.gc_field.specs.Shown.{AreShownAs}
 use Rattle.gc_field.proofs.Joining.{run_faithful}
@@ -42,7 +42,7 @@ use Rattle.gc_field.proofs.Meant.{is_meant}
 use Rattle.gc_field.proofs.SceneField.{scene_is_an_instrument}
 use Rattle.gc_field.proofs.BeginJoin.{IsSmall, word_small}
 use Rattle.gc_field.proofs.BeginWords.{cons_not_nil}
-use Rattle.gc_rehearsal.specs.Carrying.{Lines, Happening, Call, Does, IsPut, LeadAll, acts_of}
+use Rattle.gc_rehearsal.specs.Carrying.{Lines, Happening, Acts, ActLeads, PutLeads, LeadAll, acts_of}
 use Rattle.gc_rehearsed.specs.Rehearsals.{AreAskable, IsAskable, RehearsalsAreFaithful}
 use Rattle.gc_rehearsed.proofs.Acted.{MovesTo, TurnsTo, feed_no_line, ids_left, moves_gave, moves_moment, moves_none, moves_sends, same_line, turns_act}
 use Rattle.gc_rehearsed.proofs.Courses.{FromBegin, FromClient, SceneWorld, begins_line, begun_from, begun_line, ended_from, ended_over, ends_begin, ends_client, steps_move, steps_turn}
@@ -67,7 +67,7 @@ first_and_others [] some = absurd some
 first_and_others (p ∷ ps) some = refl
 
 -- `FromBegin` by parts: from the state b of a synchronization on, its run shows the first part, and later runs the others
-abbrev pub OnBegin : begin.Model SceneState → Lines → List Part → Bool → Type 0
+abbrev pub OnBegin : begin.SyncModel SceneState → Lines → List Part → Bool → Type 0
 OnBegin b m ps done = FromBegin b (first_part ps).sync_steps (first_part ps).steps (other_parts ps) m done
 
 -- `FromClient` by parts: from the world w on, its client's run shows the steps of the first part, and later runs the others
@@ -77,8 +77,8 @@ OnClient w m ps done = FromClient w (first_part ps).steps (other_parts ps) m don
 -- if an act comes to the steps of the synchronization in its part p (`TurnsTo`), which has no steps of the client, and `OnBegin`
 -- holds of the later parts from each state that these steps may lead to, it holds from b of the later parts with p as the front of
 -- the first one (`in_front`)
-begin_first : (b : begin.Model SceneState) (p : Part) (word : List ℕ) (n m : Lines) (ps : List Part) (done : Bool) → HasSome ps → p.steps ≡ [] → TurnsTo b p.sync_steps word n
-    → ((c : begin.Model SceneState) → Holds (leaves c) n → c.left ≡ word → OnBegin c m ps done) → OnBegin b m (in_front p false ps) done
+begin_first : (b : begin.SyncModel SceneState) (p : Part) (word : List ℕ) (n m : Lines) (ps : List Part) (done : Bool) → HasSome ps → p.steps ≡ [] → TurnsTo b p.sync_steps word n
+    → ((c : begin.SyncModel SceneState) → Holds (leaves c) n → c.left ≡ word → OnBegin c m ps done) → OnBegin b m (in_front p false ps) done
 begin_first b p word n m [] done some none to on = absurd some
 begin_first b p word n m (q ∷ ps) done some none to on =
     subst (λ (ss : List (client.Step Asked)). FromBegin b (p.sync_steps ++ q.sync_steps) (ss ++ q.steps) ps m done) (sym none) (to q.sync_steps q.steps ps m done on)
@@ -126,7 +126,7 @@ module _ (plan : Plan) (commands : List Task) (askable : AreAskable commands) wh
   -- an act that puts bytes, whole or in part, once the station has synchronized, comes to the steps that it means
   moves_put : (s : Model) (bytes : List ℕ) (w : SceneWorld) (l n : Lines) → Invariant plan commands s → w.client ≡ s.client → Holds (on_line w.wire) l
       → (let p = put_part plan commands s (action_at plan s) in MarksAsk commands p.marks (sent_by s.client p.steps))
-      → meant.IsPut s bytes (put_part plan commands s (action_at plan s)) → IsPut l bytes n
+      → meant.IsPut s bytes (put_part plan commands s (action_at plan s)) → PutLeads l bytes n
       → MovesTo w (put_part plan commands s (action_at plan s)).steps (client_after s.client (put_part plan commands s (action_at plan s)).steps) n
   moves_put s bytes w l n fine is holds of (inl feed) (inl same) =
       subst (λ (p : Part). MovesTo w p.steps (client_after s.client p.steps) n) (sym feed.1) (moves_none w s.client l n is holds same)
@@ -137,7 +137,7 @@ module _ (plan : Plan) (commands : List Task) (askable : AreAskable commands) wh
       (subst (MarksAsk commands (x.mark ∷ [])) (sent_one s.client x.target x.call x.deadline x.room) one).0 in
       subst (λ (p : Part). MovesTo w p.steps (client_after s.client p.steps) n) (sym x.part) (by_came came fits) where
         -- the steps that the send comes to, by whether the request is lost or is in flight
-        by_came : IsPut l bytes n → IsAskedFitting x.call
+        by_came : PutLeads l bytes n → IsAskedFitting x.call
             → MovesTo w (client.Send x.target x.call x.deadline ∷ []) (client_after s.client (client.Send x.target x.call x.deadline ∷ [])) n
         by_came (inl same) fits = moves_sends w s.client x.target x.call x.deadline (asked_line (Some s.client.next) x.call) l n is x.room fine.digit fits refl holds (inl same)
         by_came (inr sent) fits =
@@ -157,7 +157,7 @@ module _ (plan : Plan) (commands : List Task) (askable : AreAskable commands) wh
   -- an act once the station has synchronized leaves no bytes of an unfinished line if there were none, and comes to the steps
   -- of the act's part
   moves_act : (s : Model) (act : Act) (w : SceneWorld) (l n : Lines) → Invariant plan commands s → Performs commands s (action_at plan s) act
-      → (begun : has_begun s.progress ≡ true) → (empty : s.rest ≡ []) → w.client ≡ s.client → Holds (on_line w.wire) l → Does l act n
+      → (begun : has_begun s.progress ≡ true) → (empty : s.rest ≡ []) → w.client ≡ s.client → Holds (on_line w.wire) l → ActLeads l act n
       → ((after plan commands s act).rest ≡ [])
       × MovesTo w (client_part plan commands s (action_at plan s) act).steps (client_after s.client (client_part plan commands s (action_at plan s) act).steps) n
   moves_act s (Put bytes) w l n fine obeys begun rest is holds does = (
@@ -227,7 +227,7 @@ module _ (plan : Plan) (commands : List Task) (askable : AreAskable commands) wh
   goes_idly : (hs : List Happening) (w : SceneWorld) (l m : Lines) (steps : List (client.Step Asked)) (more : List Part) (done : Bool) → acts_of hs ≡ [] → Holds (on_line w.wire) l → LeadAll l hs m
       → ((v : SceneWorld) → Holds (on_line v.wire) m → FromClient v steps more m done) → FromClient w steps more m done
   goes_idly [] w l m steps more done none holds all on = on w (subst (Holds (on_line w.wire)) (sym all) holds)
-  goes_idly (Call act ∷ hs) w l m steps more done none holds all on = absurd (cons_not_nil act (acts_of hs) none)
+  goes_idly (Acts act ∷ hs) w l m steps more done none holds all on = absurd (cons_not_nil act (acts_of hs) none)
   goes_idly (h ∷ hs) w l m steps more done none holds all on =
       let xs = happens (on_line w.wire) l all.0 h (λ act e. cc) holds all.1 in
       steps_move xs.steps w steps more m done xs.are (λ v e k. goes_idly hs v all.0 m steps more done none (subst (λ u. Holds u all.0) (sym e) xs.holds) all.2 on)
@@ -248,7 +248,7 @@ module _ (plan : Plan) (commands : List Task) (askable : AreAskable commands) wh
   -- happens on the line shows the parts of the station's run by these acts
   abbrev FromBeginOf : List Happening → Lines → Type 0
   FromBeginOf hs m =
-      (s : Model) (b : begin.Model SceneState) (l : Lines) → Invariant plan commands s → s.rest ≡ [] → has_begun s.progress ≡ false → b.left ≡ s.progress.word
+      (s : Model) (b : begin.SyncModel SceneState) (l : Lines) → Invariant plan commands s → s.rest ≡ [] → has_begun s.progress ≡ false → b.left ≡ s.progress.word
       → IsSmall s.progress.word → Holds (leaves b) l → LeadAll l hs m → Runs plan commands s (acts_of hs)
       → OnBegin b m (parts_of plan commands s (acts_of hs)) (has_begun (after_all plan commands s (acts_of hs)).progress)
 
@@ -261,7 +261,7 @@ module _ (plan : Plan) (commands : List Task) (askable : AreAskable commands) wh
       → OnClient w m (parts_of plan commands s (acts_of hs)) (has_begun (after_all plan commands s (acts_of hs)).progress)
 
   -- if what happens later is `FromBeginOf` and `FromClientOf`, it is `FromBeginOf` with one more act before it
-  act_begin : (act : Act) (hs : List Happening) (m : Lines) → FromBeginOf hs m → FromClientOf hs m → FromBeginOf (Call act ∷ hs) m
+  act_begin : (act : Act) (hs : List Happening) (m : Lines) → FromBeginOf hs m → FromClientOf hs m → FromBeginOf (Acts act ∷ hs) m
   act_begin act hs m later_begin later_client s b l fine rest begins left ids holds all runs =
       let o = action_at plan s in
       let t = after plan commands s act in
@@ -281,7 +281,7 @@ module _ (plan : Plan) (commands : List Task) (askable : AreAskable commands) wh
             (subst (λ r. MeansSyncSteps s.progress.word r act (sync_part s (action_at plan s) act).sync_steps (after plan commands s act).rest) rest means.1) all.1
 
         -- what happens later, from the state after the act, by whether the station has synchronized then (`x`)
-        next : (c : begin.Model SceneState) → Holds (leaves c) all.0 → c.left ≡ (after plan commands s act).progress.word → (x : Bool) → has_begun (after plan commands s act).progress ≡ x
+        next : (c : begin.SyncModel SceneState) → Holds (leaves c) all.0 → c.left ≡ (after plan commands s act).progress.word → (x : Bool) → has_begun (after plan commands s act).progress ≡ x
             → OnBegin c m (parts_of plan commands (after plan commands s act) (acts_of hs)) (has_begun (after_all plan commands (after plan commands s act) (acts_of hs)).progress)
         next c h k false e =
             later_begin (after plan commands s act) c all.0 (invariant_after plan commands s act fine) to.0 e k
@@ -295,7 +295,7 @@ module _ (plan : Plan) (commands : List Task) (askable : AreAskable commands) wh
             (subst (λ v. Holds v all.0) (sym (begun_line (leaves c))) h) all.2 runs.1)
 
   -- if what happens later is `FromBeginOf` and `FromClientOf`, it is `FromClientOf` with one more act before it
-  act_client : (act : Act) (hs : List Happening) (m : Lines) → FromBeginOf hs m → FromClientOf hs m → FromClientOf (Call act ∷ hs) m
+  act_client : (act : Act) (hs : List Happening) (m : Lines) → FromBeginOf hs m → FromClientOf hs m → FromClientOf (Acts act ∷ hs) m
   act_client act hs m later_begin later_client s w l fine rest begun is holds all runs =
       let o = action_at plan s in
       let t = after plan commands s act in
@@ -352,7 +352,7 @@ module _ (plan : Plan) (commands : List Task) (askable : AreAskable commands) wh
         subst (λ d. FromBegin b [] [] [] m d) (sym begins) (ends_begin b m (λ e. some_left s.progress.word begins (sym left ∙ e)) (subst (Holds (leaves b)) (sym all) holds)),
     λ s w l fine rest begun is holds all runs. ends_client w m (has_begun s.progress) (subst (Holds (on_line w.wire)) (sym all) holds),
   )
-  shows_the_run (Call act ∷ hs) m = let later = shows_the_run hs m in (act_begin act hs m later.0 later.1, act_client act hs m later.0 later.1)
+  shows_the_run (Acts act ∷ hs) m = let later = shows_the_run hs m in (act_begin act hs m later.0 later.1, act_client act hs m later.0 later.1)
   shows_the_run (h ∷ hs) m =
       let later = shows_the_run hs m in (
         λ s b l fine rest begins left ids holds all runs.
@@ -363,8 +363,8 @@ module _ (plan : Plan) (commands : List Task) (askable : AreAskable commands) wh
             steps_move xs.steps w _ _ m _ xs.are (λ v e k. later.1 s v all.0 fine rest begun (k ∙ is) (subst (λ u. Holds u all.0) (sym e) xs.holds) all.2 runs),
       )
 
--- if the instrument retains no reply, its state is a good one (`RetainedReads`)
-pub none_kept : (state : SceneState) → state.base.kept ≡ None → RetainedReads state
+-- if the instrument keeps no reply, its state is a good one (`KeptReplyReads`)
+pub none_kept : (state : SceneState) → state.base.kept ≡ None → KeptReplyReads state
 none_kept state none = subst ReadsWithItsId (sym none) tt
 
 -- a run over a rehearsed line is one in the field, and faithful
@@ -379,7 +379,8 @@ rehearsed plan commands scope acts of_line askable runs =
     (record { up = tt; down = refl; one = tt; state = refl; good = good }) c.leads (subst (Runs plan commands s) (sym c.acts_are) runs) in
     let f = subst (λ told. OnBegin (begins u) of_line.0 (parts_of plan commands s told) (has_begun (after_all plan commands s told).progress)) c.acts_are g in
     let parts = first_and_others (parts_of plan commands s acts) (some_parts plan commands s acts) in
-    let field : IsInField scene_ends RetainedReads scene_kept plan commands scope acts u (run f.ts f.ms ∷ f.rs) = record {
+    let program : Program SceneState = record { plan = plan; commands = commands; scope = scope; acts = acts; runs = run f.ts f.ms ∷ f.rs } in
+    let field : IsInField scene_ends KeptReplyReads scene_kept u program = record {
       runs = runs;
       lines = record { ids = tt; good = good };
       none = λ word. word;
@@ -388,7 +389,7 @@ rehearsed plan commands scope acts of_line askable runs =
     } in
     record {
       under_way = u;
-      runs = run f.ts f.ms ∷ f.rs;
+      runs = program.runs;
       field = field;
-      faithful = run_faithful scene_ends RetainedReads scene_kept scene_is_an_instrument.instrument plan commands scope acts u (run f.ts f.ms ∷ f.rs) field;
+      faithful = run_faithful scene_ends KeptReplyReads scene_kept scene_is_an_instrument.instrument u program field;
     }

@@ -7,15 +7,14 @@ use Rattle.gc_catalogue.specs.declared.asked.Asked.{Asked}
 use Rattle.gc_client.specs.declared.window.TheConstants.{WINDOW}
 use Rattle.gc_client.specs.Rule.{ById}
 use Rattle.gc_scenes.specs.SceneState.{SceneState}
-use Rattle.gc_station.specs.Parts as part
 use Rattle.gc_world.specs.Clients.{by_ids}
 use Rattle.gc_world.proofs.Queues.{without_map, doubled_map, without_past, doubled_past}
 use Rattle.gc_field.specs.Begin as begin
-use Rattle.gc_field.specs.Begin.{InFlight, Model, IsTurn, leaves, turns}
+use Rattle.gc_field.specs.Begin.{InFlight, SyncModel, IsTurn, leaves, turns}
 use Rattle.gc_field.specs.Beginnings.{on_line}
 use Rattle.gc_field.specs.Field as field
 use Rattle.gc_field.specs.Field.{Move, IsPossible, moves, seen}
-use Rattle.gc_field.specs.SceneField.{RetainedReads, scene_ends, scene_handed, scene_kept}
+use Rattle.gc_field.specs.SceneField.{KeptReplyReads, scene_ends, scene_handed, scene_kept}
 use Rattle.gc_field.specs.Shown.{shows}
 use Rattle.gc_field.specs.World as world
 use Rattle.gc_field.specs.World.{Numbered, Request, Wire, World, without, doubled, up_delivered, with_up, with_down}
@@ -25,7 +24,7 @@ use Rattle.gc_field.proofs.Shown.{left_reaches}
 -- While a station synchronizes.
 
 -- the turn that a step of the line is
-abbrev pub turn_of : Step → begin.Turn SceneState
+abbrev pub turn_of : Step → begin.SyncTurn SceneState
 turn_of Reach = begin.Reaches
 turn_of (Lose_up k) = begin.Up_lose k
 turn_of (Repeat_up k) = begin.Up_repeat k
@@ -35,7 +34,7 @@ turn_of Start = begin.Anew
 turn_of (Change state) = begin.Changes state
 
 -- what a synchronization leaves in flight once the front request, if there is one, reached the instrument, by `reached`
-leaves_reach : (b : Model SceneState) (q : List (InFlight Request)) → leaves (begin.reaches scene_ends b q) ≡ reached (leaves b) (map (λ x. x.line) q)
+leaves_reach : (b : SyncModel SceneState) (q : List (InFlight Request)) → leaves (begin.reaches scene_ends b q) ≡ reached (leaves b) (map (λ x. x.line) q)
 leaves_reach b [] = refl
 leaves_reach b (x ∷ rest) =
     let h = scene_handed b.state x.line.id x.line.call in
@@ -43,7 +42,7 @@ leaves_reach b (x ∷ rest) =
     ap (λ d. flow (map (λ y. y.line) rest) d h.state) (map-append (λ (y : InFlight (List ℕ)). y.line) b.down (reply ∷ []))
 
 -- a step leaves in flight what its turn leaves
-pub leaves_turn : (b : Model SceneState) (x : Step) → leaves (turns scene_ends b (turn_of x)) ≡ stepped (leaves b) x
+pub leaves_turn : (b : SyncModel SceneState) (x : Step) → leaves (turns scene_ends b (turn_of x)) ≡ stepped (leaves b) x
 leaves_turn b Reach = leaves_reach b b.up
 leaves_turn b (Lose_up k) = ap (λ q. flow q (leaves b).down b.state) (sym (without_map (λ (y : InFlight Request). y.line) k b.up))
 leaves_turn b (Repeat_up k) = ap (λ q. flow q (leaves b).down b.state) (sym (doubled_map (λ (y : InFlight Request). y.line) k b.up))
@@ -53,7 +52,7 @@ leaves_turn b Start = refl
 leaves_turn b (Change state) = refl
 
 -- the turn of a step shows nothing to the station
-pub shows_none : (b : Model SceneState) (x : Step) → shows b (turn_of x) ≡ []
+pub shows_none : (b : SyncModel SceneState) (x : Step) → shows b (turn_of x) ≡ []
 shows_none b Reach = refl
 shows_none b (Lose_up k) = refl
 shows_none b (Repeat_up k) = refl
@@ -63,7 +62,7 @@ shows_none b Start = refl
 shows_none b (Change state) = refl
 
 -- the turn of a step answers no id
-pub left_turn : (b : Model SceneState) (x : Step) → (turns scene_ends b (turn_of x)).left ≡ b.left
+pub left_turn : (b : SyncModel SceneState) (x : Step) → (turns scene_ends b (turn_of x)).left ≡ b.left
 left_turn b Reach = left_reaches scene_ends b b.up
 left_turn b (Lose_up k) = refl
 left_turn b (Repeat_up k) = refl
@@ -73,7 +72,7 @@ left_turn b Start = refl
 left_turn b (Change state) = refl
 
 -- the turn of a possible step is possible
-pub is_turn : (b : Model SceneState) (x : Step) → IsStep (leaves b) x → IsTurn RetainedReads scene_kept b (turn_of x)
+pub is_turn : (b : SyncModel SceneState) (x : Step) → IsStep (leaves b) x → IsTurn KeptReplyReads scene_kept b (turn_of x)
 is_turn b Reach is = tt
 is_turn b (Lose_up k) is = tt
 is_turn b (Repeat_up k) is = tt
@@ -147,7 +146,7 @@ client_move w Start = refl
 client_move w (Change state) = refl
 
 -- the move of a possible step is possible
-pub is_move : (w : World (ById Asked) SceneState) (x : Step) → IsStep (on_line w.wire) x → IsPossible RetainedReads scene_kept w (move_of x)
+pub is_move : (w : World (ById Asked) SceneState) (x : Step) → IsStep (on_line w.wire) x → IsPossible KeptReplyReads scene_kept w (move_of x)
 is_move w Reach is = tt
 is_move w (Lose_up k) is = tt
 is_move w (Repeat_up k) is = tt

@@ -13,10 +13,10 @@ use Rattle.gc_scenes.specs.SceneState.{SceneState, scene_restarted, at_moment}
 use Rattle.std.proofs.lemmas.Option.{same_Some}
 use Rattle.gc_field.specs.Begin.{UnderWay}
 use Rattle.gc_field.specs.Instrument.{MayBecome}
-use Rattle.gc_field.specs.SceneField.{RetainedReads, scene_handed, scene_kept}
+use Rattle.gc_field.specs.SceneField.{KeptReplyReads, scene_handed, scene_kept}
 use Rattle.gc_field.specs.World.{Request, without, doubled}
 use Rattle.gc_field.proofs.SceneField.{scene_is_an_instrument}
-use Rattle.gc_rehearsal.specs.Carrying.{Lines, Happening, Call, Reaches, Restarts, Passes, Repeats_up, Repeats_down, Loses_up, Loses_down, Loses_front, HasReached, Leads, MaySendOut}
+use Rattle.gc_rehearsal.specs.Carrying.{Lines, Happening, Acts, Reaches, Restarts, Passes, Repeats_up, Repeats_down, Loses_up, Loses_down, Loses_front, HasReached, Leads, MaySendOut}
 use Rattle.gc_lines.proofs.Lists.{all_append}
 use Rattle.gc_values.proofs.Every.{every_behind as all_behind}
 
@@ -41,13 +41,13 @@ abbrev pub flow : List Request → List (List ℕ) → SceneState → UnderWay S
 flow up down state = record { up = up; down = down; state = state }
 
 -- what is in flight in the field is what is in flight on the line, with the instrument in the same state; each reply is one
--- line, and what the instrument retains reads with its id
+-- line, and what the instrument keeps reads with its id
 pub record Holds (u : UnderWay SceneState) (l : Lines) : Type 0 where
   pub up : AreLinesOf u.up l.up
   pub down : u.down ≡ l.down
   pub one : AllByRecursion IsOneLine l.down
   pub state : u.state ≡ l.state
-  pub good : RetainedReads u.state
+  pub good : KeptReplyReads u.state
 
 -- Steps.
 
@@ -88,7 +88,7 @@ all_stepped (x ∷ xs) u = all_stepped xs (stepped u x)
 
 -- a step is possible
 abbrev pub IsStep : UnderWay SceneState → Step → Type 0
-IsStep u (Change state) = MayBecome RetainedReads scene_kept u.state state
+IsStep u (Change state) = MayBecome KeptReplyReads scene_kept u.state state
 IsStep u _ = Unit {0}
 
 -- each of these steps is possible when it comes
@@ -159,10 +159,10 @@ lose_all_down up [] state = ([], tt, refl)
 lose_all_down up (x ∷ down) state = let rest = lose_all_down up down state in (Lose_down zero ∷ rest.0, (tt, rest.1), rest.2)
 
 -- if `reply` and `t'` are the reply and the state that the instrument makes of the front request r, the state is a good one
--- (`RetainedReads`), `up'` are the lines of the requests `rs` behind r, each reply of `down` is one line, and `down'` is `down`
+-- (`KeptReplyReads`), `up'` are the lines of the requests `rs` behind r, each reply of `down` is one line, and `down'` is `down`
 -- once `reply` was sent on its way or lost at once (`MaySendOut`), steps lead to `up'`, `down'` and `t'`
 sends_out : (rs : List Request) (down : List (List ℕ)) (s : SceneState) (reply : List ℕ) (r : Request) (up' down' : List (List ℕ)) (t' : SceneState)
-    → reply ≡ (scene_handed s r.id r.call).reply → t' ≡ (scene_handed s r.id r.call).state → RetainedReads (scene_handed s r.id r.call).state
+    → reply ≡ (scene_handed s r.id r.call).reply → t' ≡ (scene_handed s r.id r.call).state → KeptReplyReads (scene_handed s r.id r.call).state
     → AreLinesOf rs up' → AllByRecursion IsOneLine down → MaySendOut down (Some reply) down'
     → Steps (flow (r ∷ rs) down s) (record { up = up'; down = down'; state = t' })
 sends_out rs down s reply r up' down' t' is state good lines one (inl lost) =
@@ -228,8 +228,8 @@ pub dropped : (u : UnderWay SceneState) (l : Lines) (line : List ℕ) (rest : Li
 dropped u l line rest holds front = one_less u (without zero u.down) l line rest holds front (ap (without zero) (holds.down ∙ front))
 
 -- what happens on the line, and is no act, happens by steps
-pub happens : (u : UnderWay SceneState) (l m : Lines) (h : Happening) → ((act : Act) → h ≡ Call act → ⊥) → Holds u l → Leads l h m → Steps u m
-happens u l m (Call act) never holds leads = absurd (never act refl)
+pub happens : (u : UnderWay SceneState) (l m : Lines) (h : Happening) → ((act : Act) → h ≡ Acts act → ⊥) → Holds u l → Leads l h m → Steps u m
+happens u l m (Acts act) never holds leads = absurd (never act refl)
 happens u l m Reaches never holds leads = reaches u.up u.down u.state l m holds leads
 happens u l m Restarts never holds leads = record {
   steps = Start ∷ [];

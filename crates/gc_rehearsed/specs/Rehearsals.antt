@@ -14,9 +14,9 @@ use Rattle.gc_station.specs.Runs.{state_after}
 use Rattle.gc_station.specs.Scopes.{Scope}
 use Rattle.gc_field.specs.Begin.{UnderWay, none_under_way}
 use Rattle.gc_field.specs.Beginnings.{Run}
-use Rattle.gc_field.specs.InARow.{AreFaithful, AreInARow, Program}
-use Rattle.gc_field.specs.Runs.{IsInField, IsRunFaithful}
-use Rattle.gc_field.specs.SceneField.{RetainedReads, scene_ends, scene_kept}
+use Rattle.gc_field.specs.InARow.{AreFaithful, AreInARow}
+use Rattle.gc_field.specs.Runs.{IsInField, IsRunFaithful, Program}
+use Rattle.gc_field.specs.SceneField.{KeptReplyReads, scene_ends, scene_kept}
 use Rattle.gc_rehearsal.specs.Carrying.{IsOfLine, IsQuiet}
 
 -- what a command asks is allowed, whenever it is sent: a call's numbers lie in their types, and a procedure that isn't in the
@@ -28,15 +28,19 @@ IsAskable task = (utc : ℕ) → IsAskedFitting (call_at task utc)
 abbrev pub AreAskable : List Task → Type 0
 AreAskable commands = AllByRecursion IsAskable commands
 
+-- a station's run by these acts as a program of the field, where `runs` is what happens on the line in each part of the run
+abbrev pub as_program : Plan → List Task → Scope → List Act → (runs : List (Run SceneState)) → Program SceneState
+as_program plan commands scope acts runs = record { plan = plan; commands = commands; scope = scope; acts = acts; runs = runs }
+
 -- a run of a station over a rehearsed line, from its first act on, is one in the field: there are runs on a line of the field,
 -- over the instrument of a scene, that show the station what it saw; and the run is faithful
 pub record IsRehearsed (plan : Plan) (commands : List Task) (scope : Scope) (acts : List Act) : Type 0 where
   pub under_way : UnderWay SceneState
   pub runs : List (Run SceneState)
-  pub field : IsInField scene_ends RetainedReads scene_kept plan commands scope acts under_way runs
-  pub faithful : IsRunFaithful scene_ends RetainedReads scene_kept plan commands scope acts under_way runs
+  pub field : IsInField scene_ends KeptReplyReads scene_kept under_way (as_program plan commands scope acts runs)
+  pub faithful : IsRunFaithful scene_ends KeptReplyReads scene_kept under_way (as_program plan commands scope acts runs)
 
--- each run of a station over a rehearsed line on which nothing was in flight before, and whose instrument retained no reply then,
+-- each run of a station over a rehearsed line on which nothing was in flight before, and whose instrument kept no reply then,
 -- is one in the field, and so faithful, if its commands are `IsAskable`: nothing is asked of the line, of the station's moments
 -- or of its plan
 abbrev pub RehearsalsAreFaithful : Type 0
@@ -69,11 +73,11 @@ pub record RunsAndStops (x : RehearsedStation) : Type 0 where
 
 -- these stations as programs of the field, with what happens on the line in each of their runs: as many as there are of both
 abbrev pub programs : List RehearsedStation → List (List (Run SceneState)) → List (Program SceneState)
-programs (x ∷ xs) (rs ∷ rss) = record { plan = x.plan; commands = x.commands; scope = x.scope; acts = x.acts; runs = rs } ∷ programs xs rss
+programs (x ∷ xs) (rs ∷ rss) = as_program x.plan x.commands x.scope x.acts rs ∷ programs xs rss
 programs _ _ = []
 
--- how many stations in a row ended while they synchronized, counted after one that had synchronized at its end (`true`) or hadn't
--- (`false`), where `n` in a row had ended so directly before it
+-- how many stations in a row have ended while they synchronized, with one more station after `n` of them: none, if that one had
+-- synchronized at its end (`true`), and else one more
 abbrev pub unbegun : ℕ → Bool → ℕ
 unbegun n true = 0
 unbegun n false = n + 1
@@ -94,8 +98,8 @@ pub record AreRehearsed (xs : List RehearsedStation) : Type 0 where
   pub start : SceneState
   pub runs : List (List (Run SceneState))
   pub each : length runs ≡ length xs
-  pub field : AreInARow scene_ends RetainedReads scene_kept 0 (none_under_way start) (programs xs runs)
-  pub faithful : AreFaithful scene_ends RetainedReads scene_kept (none_under_way start) (programs xs runs)
+  pub field : AreInARow scene_ends KeptReplyReads scene_kept 0 (none_under_way start) (programs xs runs)
+  pub faithful : AreFaithful scene_ends KeptReplyReads scene_kept (none_under_way start) (programs xs runs)
 
 -- stations that run one after the other over a rehearsed line, on which nothing was in flight before the first (`IsOfLine`), and
 -- which keeps what it likes of what is in flight at a close, are stations in a row in the field, and so each is faithful, as long

@@ -3,7 +3,7 @@
 ghost use Rattle.gc_rehearsed.specs.Rehearsals.{RehearsalsAreFaithful, RehearsalsInARowAreFaithful};
 
 /// Each run of a station over a rehearsed line is one in the field, and so faithful, if nothing was in flight before and the
-/// instrument retained no reply. Whatever the line loses, repeats, holds or closes, and whenever the instrument restarts, each
+/// instrument kept no reply. Whatever the line loses, repeats, holds or closes, and whenever the instrument restarts, each
 /// recorded answer was made on executing the very request of that cycle and place. Nothing is assumed of the line, of the
 /// station's moments or of its plan; of its commands only that what each asks is allowed (`commands_are_askable`).
 pub fn rehearsals_are_faithful()

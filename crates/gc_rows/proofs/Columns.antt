@@ -1,13 +1,13 @@
 -- The columns of a record. A mark is a byte that ends a field, as a comma (44) or a colon (58): what comes before the first
 -- mark of a text and after it, and what that is in the lines of requests and replies.
-use Rattle.std.proofs.Common.{◌≡◌, ◌≢◌, ℕ, ◌+◌, ◌<◌, List, [], ◌∷◌, ◌++◌, Option, Some, None, false, inl, inr, ◌⊎◌, IfSome, refl, sym, ap, subst, ◌∙◌, arith, append_assoc, append-nil}
+use Rattle.std.proofs.Common.{◌≡◌, ◌≢◌, ℕ, ◌+◌, ◌<◌, List, [], ◌∷◌, ◌++◌, Option, Some, None, inl, inr, ◌⊎◌, IfSome, sym, ap, subst, ◌∙◌, arith, append_assoc, append-nil}
 use Rattle.std.specs.Str.Parse.{AllDigits}
 use Rattle.std.specs.Int.{IsInRange}
 use Rattle.std.proofs.lemmas.Str.Parse.{digit_from_value}
 use Rattle.gc_values.proofs.Every.{every_append}
 use Rattle.gc_texts.specs.Cuts.{Lacks}
 use Rattle.gc_lines.specs.Headers.{id_text}
-use Rattle.gc_lines.specs.Numbers.{IsNumber}
+use Rattle.gc_lines.specs.Numbers.{IsSmallNumber}
 use Rattle.gc_lines.specs.Replies.{EndsCode}
 use Rattle.gc_texts.proofs.Fronts.{before_mark, behind_mark, before_none, behind_none}
 use Rattle.gc_rows.specs.Laws.{ColumnsAreFields}
@@ -61,7 +61,7 @@ reply_columns line r is =
     let behind_colon : behind 58 (behind 44 line) ≡ is.code ++ is.tail =
     ap (λ l. behind 58 (behind 44 l)) is.whole ∙ ap (behind 58) joined ∙ behind_mark 58 (is.number ++ id_text r.id) (is.code ++ is.tail) front in
     record {
-      rc_com = subst (λ t. IsNumber t r.rc_com) (sym first) is.is_number;
-      rc = subst (λ t. IsNumber t r.rc) (sym (ap (before 44) behind_colon ∙ code.0)) is.is_code;
+      rc_com = subst (λ t. IsSmallNumber t r.rc_com) (sym first) is.is_number;
+      rc = subst (λ t. IsSmallNumber t r.rc) (sym (ap (before 44) behind_colon ∙ code.0)) is.is_code;
       values = ap (behind 44) behind_colon ∙ code.1;
     }

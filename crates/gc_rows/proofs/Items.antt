@@ -4,15 +4,15 @@ use Rattle.std.proofs.Common.{◌≡◌, ◌<◌, ◌≤◌, ◌+◌, ◌%◌, �
 use Rattle.std.specs.Prelude.{not, nat_lt, ◌&&◌}
 use Rattle.std.specs.List.{AllByRecursion, onto_first}
 use Rattle.std.proofs.lemmas.Bool.{ne_eqb, eqb-true, eq-eqb, cond_both, lt-ltb, le-ltb, false≢true, false_from_ne_true}
-use Rattle.gc_values.specs.Params.{quotes, quoted_after, AreSpaces, HasCommasInQuotes, IsParam, IsPadded, ArePieces, joined, IsParams, bytes_in}
+use Rattle.gc_values.specs.Params.{quotes, quoted_after, AreSpaces, HasCommasInQuotes, IsParam, IsPadded, ArePieces, joined, IsParams, total_length}
 use Rattle.gc_values.specs.declared.fault.ValueFault.{ValueFault}
 use Rattle.gc_values.specs.declared.fault.ValueFault.TheVariants.{OpenQuote, TooMany}
-use Rattle.gc_values.proofs.ItemBytes.{bytes_in_next, bytes_in_front}
+use Rattle.gc_values.proofs.ItemBytes.{total_length_next, total_length_front}
 use Rattle.gc_values.proofs.ParamLists.{IsPiece, pieces_of, params_even}
 use Rattle.gc_values.proofs.Quotes.{quotes-append, quotes-cons}
 use Rattle.gc_values.proofs.Trimming.{param_is_trimmed, trimmed_is}
 use Rattle.gc_values.specs.Pieces.{without_front_spaces, put_before, without_end_spaces}
-use Rattle.gc_rows.specs.Items.{trimmed, pieces, is_blank, items_of, split_items}
+use Rattle.gc_rows.specs.Items.{trimmed, comma_pieces, is_blank, items_of, split_items}
 use Rattle.gc_rows.specs.Laws.{ItemsAreTheGrammars}
 
 -- Spaces at the ends.
@@ -81,10 +81,10 @@ no_end b quoted keeps = by_test (b == 44) refl where
 -- a text `piece` without a comma outside double quotes, and `rest` after it, are cut as `rest` is, with `piece` in front of the
 -- first of its pieces; `quoted` says whether a double quote is open before `piece`
 pieces_with_front : (quoted : Bool) (piece rest : List ℕ) → HasNoOpenComma quoted piece
-    → pieces quoted (piece ++ rest) ≡ before_first piece (pieces (is_open_after quoted piece) rest)
+    → comma_pieces quoted (piece ++ rest) ≡ before_first piece (comma_pieces (is_open_after quoted piece) rest)
 pieces_with_front quoted [] rest keeps = refl
 pieces_with_front quoted (b ∷ bs) rest keeps =
-    ap (λ z. cond z ([] ∷ pieces false (bs ++ rest)) (onto_first b (pieces (quoted_after b quoted) (bs ++ rest)))) (no_end b quoted keeps.0)
+    ap (λ z. cond z ([] ∷ comma_pieces false (bs ++ rest)) (onto_first b (comma_pieces (quoted_after b quoted) (bs ++ rest)))) (no_end b quoted keeps.0)
     ∙ ap (onto_first b) (pieces_with_front (quoted_after b quoted) bs rest keeps.1)
 
 -- one more byte changes whether the number of double quotes is odd exactly as `quoted_after` says
@@ -130,29 +130,29 @@ first_is [] ps = refl
 first_is (b ∷ bs) ps = ap (onto_first b) (first_is bs ps)
 
 -- a piece and a text after it are cut as the text is, with the piece in front of the first of the text's pieces
-cut_behind : (piece rest : List ℕ) → IsPiece piece → pieces false (piece ++ rest) ≡ before_first piece (pieces false rest)
+cut_behind : (piece rest : List ℕ) → IsPiece piece → comma_pieces false (piece ++ rest) ≡ before_first piece (comma_pieces false rest)
 cut_behind piece rest is =
     pieces_with_front false piece rest (keeps_from false [] piece is.keeps refl)
-    ∙ ap (λ quoted. before_first piece (pieces quoted rest)) (closed_where (is_open_after false piece) (quotes piece) (odd_behind false [] piece refl) is.even)
+    ∙ ap (λ quoted. before_first piece (comma_pieces quoted rest)) (closed_where (is_open_after false piece) (quotes piece) (odd_behind false [] piece refl) is.even)
 
 -- one piece or more, joined by commas, are cut into these pieces
-pieces_are : (p : List ℕ) (ps : List (List ℕ)) → AllByRecursion IsPiece (p ∷ ps) → pieces false (joined (p ∷ ps)) ≡ p ∷ ps
+pieces_are : (p : List ℕ) (ps : List (List ℕ)) → AllByRecursion IsPiece (p ∷ ps) → comma_pieces false (joined (p ∷ ps)) ≡ p ∷ ps
 pieces_are p [] are = cut_behind p [] are.0 ∙ first_is p []
 pieces_are p (q ∷ qs) are =
     cut_behind p (44 ∷ joined (q ∷ qs)) are.0 ∙ ap (λ l. before_first p ([] ∷ l)) (pieces_are q qs are.1) ∙ first_is p (q ∷ qs)
 
 -- where `ps` are the parameters `i ∷ is` with any spaces round each, the pieces of `ps`, joined by commas, are these parameters
 -- once they are trimmed
-joined_items : (ps is : List (List ℕ)) (i : List ℕ) → ArePieces ps (i ∷ is) → map trimmed (pieces false (joined ps)) ≡ i ∷ is
+joined_items : (ps is : List (List ℕ)) (i : List ℕ) → ArePieces ps (i ∷ is) → map trimmed (comma_pieces false (joined ps)) ≡ i ∷ is
 joined_items [] is i are = absurd are
 joined_items (p ∷ ps) is i are = ap (map trimmed) (pieces_are p ps (pieces_of (p ∷ ps) (i ∷ is) are)) ∙ items_are (p ∷ ps) (i ∷ is) are
 
 -- the law: the items are those of the grammar
 pub items_are_the_grammars : ItemsAreTheGrammars
-items_are_the_grammars text [] are = ap items_of are.1 ∙ ap (λ z. cond z [] (map trimmed (pieces false (replicate are.0 32)))) (spaces_blank are.0)
+items_are_the_grammars text [] are = ap items_of are.1 ∙ ap (λ z. cond z [] (map trimmed (comma_pieces false (replicate are.0 32)))) (spaces_blank are.0)
 items_are_the_grammars text (item ∷ items) are =
-    ap (λ z. cond z [] (map trimmed (pieces false text))) (not_blank text are.some)
-    ∙ ap (λ t. map trimmed (pieces false t)) are.bytes_are ∙ joined_items are.pieces items item are.pieces_are
+    ap (λ z. cond z [] (map trimmed (comma_pieces false text))) (not_blank text are.some)
+    ∙ ap (λ t. map trimmed (comma_pieces false t)) are.bytes_are ∙ joined_items are.pieces items item are.pieces_are
 
 -- Whether a text splits.
 
@@ -175,53 +175,57 @@ many_are_none text items are many =
     ap (λ z. cond (z && not (nat_lt 16 (length (items_of text)))) (Some (items_of text)) None) (eq-eqb (quotes text % 2) 0 (params_even text items are))
     ∙ ap (λ is. cond (not (nat_lt 16 (length is))) (Some is) None) same ∙ ap (λ z. cond (not z) (Some items) None) (lt-ltb 16 (length items) many)
 
--- Items of bytes.
+-- Items of bytes. That a text is of bytes is said here by recursion (`IsOfBytes`), where `AreBytes` says it by places.
+
+-- a text is of bytes: each of its numbers is below 256
+abbrev pub IsOfBytes : List ℕ → Type 0
+IsOfBytes text = AllByRecursion (λ b. b < 256) text
+
+-- the texts are of bytes
+abbrev pub AreTextsOfBytes : List (List ℕ) → Type 0
+AreTextsOfBytes texts = AllByRecursion IsOfBytes texts
 
 -- a text of bytes is of bytes without the spaces at its front
-front_bytes : (text : List ℕ) → AllByRecursion (λ b. b < 256) text → AllByRecursion (λ b. b < 256) (without_front_spaces text)
+front_bytes : (text : List ℕ) → IsOfBytes text → IsOfBytes (without_front_spaces text)
 front_bytes [] are = tt
-front_bytes (b ∷ bs) are = cond_both (b == 32) (without_front_spaces bs) (b ∷ bs) (AllByRecursion (λ b. b < 256)) (λ _. front_bytes bs are.1) (λ _. are)
+front_bytes (b ∷ bs) are = cond_both (b == 32) (without_front_spaces bs) (b ∷ bs) IsOfBytes (λ _. front_bytes bs are.1) (λ _. are)
 
 -- a byte before a text of bytes makes a text of bytes
-put_before_bytes : (b : ℕ) (text : List ℕ) → b < 256 → AllByRecursion (λ b. b < 256) text → AllByRecursion (λ b. b < 256) (put_before b text)
-put_before_bytes b [] is are = cond_both (b == 32) [] (b ∷ []) (AllByRecursion (λ b. b < 256)) (λ _. tt) (λ _. (is, tt))
+put_before_bytes : (b : ℕ) (text : List ℕ) → b < 256 → IsOfBytes text → IsOfBytes (put_before b text)
+put_before_bytes b [] is are = cond_both (b == 32) [] (b ∷ []) IsOfBytes (λ _. tt) (λ _. (is, tt))
 put_before_bytes b (x ∷ xs) is are = (is, are)
 
 -- a text of bytes is of bytes without the spaces at its end
-end_bytes : (text : List ℕ) → AllByRecursion (λ b. b < 256) text → AllByRecursion (λ b. b < 256) (without_end_spaces text)
+end_bytes : (text : List ℕ) → IsOfBytes text → IsOfBytes (without_end_spaces text)
 end_bytes [] are = tt
 end_bytes (b ∷ bs) are = put_before_bytes b (without_end_spaces bs) are.0 (end_bytes bs are.1)
 
--- the texts are of bytes
-abbrev pub AreOfBytes : List (List ℕ) → Type 0
-AreOfBytes texts = AllByRecursion (λ text. AllByRecursion (λ b. b < 256) text) texts
-
 -- texts of bytes stay so with a byte put in front of the first
-onto_bytes : (b : ℕ) (texts : List (List ℕ)) → b < 256 → AreOfBytes texts → AreOfBytes (onto_first b texts)
+onto_bytes : (b : ℕ) (texts : List (List ℕ)) → b < 256 → AreTextsOfBytes texts → AreTextsOfBytes (onto_first b texts)
 onto_bytes b [] is are = ((is, tt), tt)
 onto_bytes b (t ∷ ts) is are = ((is, are.0), are.1)
 
 -- the pieces of bytes are of bytes
-pieces_bytes : (quoted : Bool) (text : List ℕ) → AllByRecursion (λ b. b < 256) text → AreOfBytes (pieces quoted text)
+pieces_bytes : (quoted : Bool) (text : List ℕ) → IsOfBytes text → AreTextsOfBytes (comma_pieces quoted text)
 pieces_bytes quoted [] are = (tt, tt)
 pieces_bytes quoted (b ∷ bs) are =
-    cond_both ((b == 44) && not quoted) ([] ∷ pieces false bs) (onto_first b (pieces (quoted_after b quoted) bs)) AreOfBytes (λ _. (tt, pieces_bytes false bs are.1))
-    (λ _. onto_bytes b (pieces (quoted_after b quoted) bs) are.0 (pieces_bytes (quoted_after b quoted) bs are.1))
+    cond_both ((b == 44) && not quoted) ([] ∷ comma_pieces false bs) (onto_first b (comma_pieces (quoted_after b quoted) bs)) AreTextsOfBytes (λ _. (tt, pieces_bytes false bs are.1))
+    (λ _. onto_bytes b (comma_pieces (quoted_after b quoted) bs) are.0 (pieces_bytes (quoted_after b quoted) bs are.1))
 
 -- texts of bytes are of bytes without the spaces at their ends
-trimmed_bytes : (texts : List (List ℕ)) → AreOfBytes texts → AreOfBytes (map trimmed texts)
+trimmed_bytes : (texts : List (List ℕ)) → AreTextsOfBytes texts → AreTextsOfBytes (map trimmed texts)
 trimmed_bytes [] are = tt
 trimmed_bytes (t ∷ ts) are = (end_bytes (without_front_spaces t) (front_bytes t are.0), trimmed_bytes ts are.1)
 
 -- the items of bytes are of bytes
-pub items_bytes : (text : List ℕ) → AllByRecursion (λ b. b < 256) text → AreOfBytes (items_of text)
-items_bytes text are = cond_both (is_blank text) [] (map trimmed (pieces false text)) AreOfBytes (λ _. tt) (λ _. trimmed_bytes (pieces false text) (pieces_bytes false text are))
+pub items_bytes : (text : List ℕ) → IsOfBytes text → AreTextsOfBytes (items_of text)
+items_bytes text are = cond_both (is_blank text) [] (map trimmed (comma_pieces false text)) AreTextsOfBytes (λ _. tt) (λ _. trimmed_bytes (comma_pieces false text) (pieces_bytes false text are))
 
 -- Texts one after the other.
 
 -- the first k texts, and the next one, have together at most the bytes of all
-pub bytes_below : (texts : List (List ℕ)) (k : ℕ) → k < length texts → bytes_in (take k texts) + length (get_or texts k []) ≤ bytes_in texts
-bytes_below texts k lt = omega (arith, bytes_in_next texts k lt, bytes_in_front texts (suc k))
+pub bytes_below : (texts : List (List ℕ)) (k : ℕ) → k < length texts → total_length (take k texts) + length (get_or texts k []) ≤ total_length texts
+bytes_below texts k lt = omega (arith, total_length_next texts k lt, total_length_front texts (suc k))
 
 -- if a text has an odd number of double quotes where e is `OpenQuote`, and more than 16 items where e is `TooMany`, and e is one
 -- of these two, the text doesn't split

@@ -2,7 +2,7 @@
 -- writer of JSON, and `document` is its reader.
 use Rattle.std.proofs.Common.{◌≡◌, ◌<◌, ◌≤◌, ◌^◌, ◌==◌, ◌++◌, ◌∷◌, ◌∙◌, [], ℕ, ◌+◌, suc, List, length, drop, get_or, Bool, Some, true, false, inl, inr, refl, sym, ap, subst, arith, append_assoc, append-nil}
 use Rattle.std.specs.Prelude.{◌||◌, codes, max, nat_lt}
-use Rattle.std.specs.List.{All, AllByRecursion, flat_map}
+use Rattle.std.specs.List.{AllByRecursion, flat_map}
 use Rattle.std.proofs.Math.Nat.{zero-max}
 use Rattle.std.proofs.lemmas.Bool.{cases_Bool, lt-ltb}
 use Rattle.std.proofs.lemmas.Grind.{flat_map-append}
@@ -18,9 +18,10 @@ use Rattle.json.proofs.Printed.Strings.{escape_byte_plain}
 use Rattle.json.proofs.Printed.Trees.{document-print}
 use Rattle.gc_rows.specs.JsonLines.{Member, Text, Number, Texts, behind_backslash, string_text, number_member, comma_where, strings_text, list_text, member_text, members_text}
 use Rattle.gc_rows.specs.Laws.{IsPlainName, IsPlainMember, texts_read, members_read, record_read, JsonLinesReadBack}
-use Rattle.gc_texts.specs.Logs.{escaped, IsPrintableByte}
+use Rattle.gc_texts.specs.Logs.{escaped, AreBytes, IsPrintableByte}
 use Rattle.gc_texts.specs.Stamps.{stamp_text}
 use Rattle.gc_texts.proofs.LogStamps.{escaped_prints, stamp_prints}
+use Rattle.gc_rows.proofs.Items.{IsOfBytes}
 
 -- the target, the members of the name and the procedure, appended to `old` one after the other, are `old` and then the members of
 -- a command
@@ -72,7 +73,7 @@ escapes_as [] shown = refl
 escapes_as (b ∷ bs) shown = ap (λ l. l ++ flat_map behind_backslash bs) (escape_as b shown.0) ∙ ap (λ l. escape_byte b ++ l) (escapes_as bs shown.1)
 
 -- bytes, once they are made printable, are escaped as a writer of JSON does it
-string_as : (bytes : List ℕ) → All (λ b. b < 256) bytes → flat_map behind_backslash (escaped bytes) ≡ escape (escaped bytes)
+string_as : (bytes : List ℕ) → AreBytes bytes → flat_map behind_backslash (escaped bytes) ≡ escape (escaped bytes)
 string_as bytes are = escapes_as (escaped bytes) (recursion_from_All IsPrintableByte (escaped bytes) (escaped_prints bytes (recursion_from_All (λ b. b < 256) bytes are)))
 
 -- a writer of JSON leaves a plain name unchanged
@@ -106,7 +107,7 @@ text_as false text others = refl
 
 -- texts of bytes in a list, its closing bracket and what follows are written as a writer of JSON does it; `behind` says whether
 -- another text stands before these
-texts_as : (behind : Bool) (texts : List (List ℕ)) (others : List Token) → AllByRecursion (λ text. All (λ b. b < 256) text) texts
+texts_as : (behind : Bool) (texts : List (List ℕ)) (others : List Token) → AllByRecursion AreBytes texts
     → strings_text behind texts ++ (codes "]" ++ print_from true others) ≡ print_from behind (items_tokens (texts_read texts) ++ others)
 texts_as behind [] others are = closed_as behind others
 texts_as behind (text ∷ texts) others are =
@@ -118,7 +119,7 @@ texts_as behind (text ∷ texts) others are =
     ∙ text_as behind (escaped text) (items_tokens (texts_read texts) ++ others)
 
 -- a list of texts of bytes, and what follows, are written as a writer of JSON does it
-list_as : (texts : List (List ℕ)) (others : List Token) → AllByRecursion (λ text. All (λ b. b < 256) text) texts
+list_as : (texts : List (List ℕ)) (others : List Token) → AllByRecursion AreBytes texts
     → list_text texts ++ print_from true others ≡ print_from false (Token.begin_array ∷ (items_tokens (texts_read texts) ++ others))
 unfolding print_from
 list_as texts others are = ap (λ l. 91 ∷ l) (append_assoc (strings_text false texts) (codes "]") (print_from true others) ∙ texts_as false texts others are)
@@ -170,7 +171,7 @@ members_nest_once (Texts name texts ∷ ms) =
     subst (λ n. max (suc n) (members_depth (members_read ms)) ≤ 1) (sym (flat_texts texts)) (omega (arith, few))
 
 -- printable bytes are below 256
-pub printable_are_bytes : (text : List ℕ) → AllByRecursion IsPrintableByte text → AllByRecursion (λ b. b < 256) text
+pub printable_are_bytes : (text : List ℕ) → AllByRecursion IsPrintableByte text → IsOfBytes text
 printable_are_bytes text shown = all_on IsPrintableByte (λ b. b < 256) text (λ b is. omega (arith, is.1)) shown
 
 -- the moment of a run, of at most 64 bits, is escaped as a writer of JSON does it

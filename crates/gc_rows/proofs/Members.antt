@@ -4,7 +4,7 @@ use Rattle.std.proofs.Common.{zero, suc, ◌≡◌, ◌≢◌, ◌<◌, ◌≤�
 use Rattle.std.specs.Prelude.{codes, nat_lt, not, ◌&&◌}
 use Rattle.std.specs.Char.{is_ascii_digit}
 use Rattle.std.specs.Fmt.{decimal}
-use Rattle.std.specs.List.{All, AllByRecursion, prefix_len}
+use Rattle.std.specs.List.{AllByRecursion, prefix_len}
 use Rattle.std.specs.Str.Parse.{AllDigits}
 use Rattle.std.proofs.lemmas.Bool.{cond_both, ltb-true, eqb-true, eqb-false, not-true, eq-eqb, ne_eqb, false≢true, le-leb, and_from, and_parts}
 use Rattle.std.proofs.lemmas.List.{drop_at}
@@ -22,7 +22,7 @@ use Rattle.gc_catalogue.proofs.Table.{number_fits}
 use Rattle.gc_values.specs.Boolean.{boolean_text}
 use Rattle.gc_values.specs.Digits.{AreDigits}
 use Rattle.gc_values.specs.Params.{quotes}
-use Rattle.gc_values.specs.ValueFault.{fault_number}
+use Rattle.gc_values.specs.ValueFault.{value_fault_number}
 use Rattle.gc_values.specs.Whole.{signed_text}
 use Rattle.gc_values.specs.Written.{written}
 use Rattle.gc_values.specs.WrittenForm.{IsWholePart, HasWholeForm, HasDecimalForm, minus_where}
@@ -31,7 +31,7 @@ use Rattle.gc_values.specs.declared.fault.ValueFault.TheVariants.{Spelling, Rang
 use Rattle.gc_values.specs.declared.value.Value.{Value}
 use Rattle.gc_values.specs.declared.value.Value.TheVariants as value
 use Rattle.gc_values.proofs.OneText.{whole_text_once, decimal_text_once}
-use Rattle.gc_texts.specs.Logs.{IsPrintableByte}
+use Rattle.gc_texts.specs.Logs.{AreBytes, IsPrintableByte}
 use Rattle.gc_texts.specs.Endings.{End, Answered, Unreadable, Elsewhere, Late, Lost, Skipped, Missed, quality_of, quality_text}
 use Rattle.gc_rows.specs.JsonLines.{Text, Number, without_zeros, sent_members, when_members, name_members, command_members, reply_members, ending_members, value_members, values_members, item_members, answer_members, quantity_members, quality_members, attempt_members, last_members}
 use Rattle.gc_rows.specs.Laws.{IsPlainName, IsPlainMember, IsReplyOfBytes, IsAnswerOfBytes, IsEndOfBytes, FitsIn64Bits, ColumnsGiveReply, RecordsHavePlainMembers}
@@ -46,7 +46,7 @@ use Rattle.gc_lines.proofs.Lists.{all_append}
 use Rattle.gc_values.proofs.Every.{every_weaker as all_on}
 use Rattle.gc_rows.specs.Items.{items_of, split_items}
 use Rattle.gc_rows.proofs.Columns.{reply_columns}
-use Rattle.gc_rows.proofs.Items.{AreOfBytes, items_bytes}
+use Rattle.gc_rows.proofs.Items.{IsOfBytes, AreTextsOfBytes, items_bytes}
 use Rattle.gc_rows.proofs.JsonLines.{printable_are_bytes}
 use Rattle.gc_texts.proofs.LogStamps.{stamp_prints}
 
@@ -78,7 +78,7 @@ plain_name (b ∷ bs) e =
     )
 
 -- a name that passes the test `are_fit` is of bytes
-plain_bytes : (name : List ℕ) → are_fit name ≡ true → AllByRecursion (λ b. b < 256) name
+plain_bytes : (name : List ℕ) → are_fit name ≡ true → IsOfBytes name
 plain_bytes [] e = tt
 plain_bytes (b ∷ bs) e =
     let one = (and_parts (is_fit b) (are_fit bs) e).0 in
@@ -106,21 +106,21 @@ text_named : (name : List ℕ) → IsPlainName name → IsPlainName (name ++ cod
 text_named name is = all_append (λ b. (32 ≤ b) × ((b ≢ 34) × (b ≢ 92))) name (codes "_text") is (plain_name (codes "_text") refl)
 
 -- the text of a moment of at most 64 bits is of bytes
-stamp_bytes : (utc : ℕ) → utc < 2 ^ 64 → All (λ b. b < 256) (stamp_text utc)
+stamp_bytes : (utc : ℕ) → utc < 2 ^ 64 → AreBytes (stamp_text utc)
 stamp_bytes utc h = All-from_recursion (λ b. b < 256) (stamp_text utc) (printable_are_bytes (stamp_text utc) (recursion_from_All IsPrintableByte (stamp_text utc) (stamp_prints utc h)))
 
 -- what comes before the first mark in a text of bytes is of bytes
-before_bytes : (mark : ℕ) (bs : List ℕ) → AllByRecursion (λ b. b < 256) bs → AllByRecursion (λ b. b < 256) (before mark bs)
+before_bytes : (mark : ℕ) (bs : List ℕ) → IsOfBytes bs → IsOfBytes (before mark bs)
 before_bytes mark [] h = tt
-before_bytes mark (b ∷ bs) h = cond_both (b == mark) [] (b ∷ before mark bs) (AllByRecursion (λ b. b < 256)) (λ _. tt) (λ _. (h.0, before_bytes mark bs h.1))
+before_bytes mark (b ∷ bs) h = cond_both (b == mark) [] (b ∷ before mark bs) IsOfBytes (λ _. tt) (λ _. (h.0, before_bytes mark bs h.1))
 
 -- what comes after the first mark in a text of bytes is of bytes
-behind_bytes : (mark : ℕ) (bs : List ℕ) → AllByRecursion (λ b. b < 256) bs → AllByRecursion (λ b. b < 256) (behind mark bs)
+behind_bytes : (mark : ℕ) (bs : List ℕ) → IsOfBytes bs → IsOfBytes (behind mark bs)
 behind_bytes mark [] h = tt
-behind_bytes mark (b ∷ bs) h = cond_both (b == mark) bs (behind mark bs) (AllByRecursion (λ b. b < 256)) (λ _. h.1) (λ _. behind_bytes mark bs h.1)
+behind_bytes mark (b ∷ bs) h = cond_both (b == mark) bs (behind mark bs) IsOfBytes (λ _. h.1) (λ _. behind_bytes mark bs h.1)
 
 -- the values of a line of bytes are of bytes
-values_bytes : (line : List ℕ) → All (λ b. b < 256) line → AllByRecursion (λ b. b < 256) (values_of line)
+values_bytes : (line : List ℕ) → AreBytes line → IsOfBytes (values_of line)
 values_bytes line h = behind_bytes 44 (behind 58 (behind 44 line)) (behind_bytes 58 (behind 44 line) (behind_bytes 44 line (recursion_from_All (λ b. b < 256) line h)))
 
 -- if no digit follows `ds`, which are digits, the run of digits at the front of `ds` and `rest` is as long as `ds`
@@ -192,7 +192,7 @@ code_number : (ds : List ℕ) → AllDigits 10 ds → 0 < length ds → IsNumber
 code_number ds digits some = whole_number false (without_zeros ds) (behind_zeros ds (digits_are ds digits) some)
 
 -- the number of a fault has at most 64 bits
-fault_fits : (fault : ValueFault) → fault_number fault < 2 ^ 64
+fault_fits : (fault : ValueFault) → value_fault_number fault < 2 ^ 64
 fault_fits Spelling = omega arith
 fault_fits Range = omega arith
 fault_fits OpenQuote = omega arith
@@ -216,7 +216,7 @@ when_are when is =
     )
 
 -- the member of a name of bytes reads back
-name_are : (name : List ℕ) → All (λ b. b < 256) name → AllByRecursion IsPlainMember (name_members name)
+name_are : (name : List ℕ) → AreBytes name → AllByRecursion IsPlainMember (name_members name)
 name_are [] h = tt
 name_are (b ∷ bs) h = ((plain_name (codes "name") refl, h), tt)
 
@@ -226,7 +226,7 @@ procedure_fits (Table call) = omega (arith, number_fits call)
 procedure_fits (Raw raw) = omega (arith, raw.is.bound)
 
 -- the members of a command's target, its name and the procedure read back, if the name is of bytes and the target has at most 64 bits
-command_are : (command : Wish) (name : List ℕ) → All (λ b. b < 256) name → command.target < 2 ^ 64 → AllByRecursion IsPlainMember (command_members command name)
+command_are : (command : Wish) (name : List ℕ) → AreBytes name → command.target < 2 ^ 64 → AllByRecursion IsPlainMember (command_members command name)
 command_are command name bytes target = (
   (plain_name (codes "target") refl, IsNumber-decimal command.target target),
   all_append IsPlainMember (name_members name) (Number (codes "procedure") (decimal (procedure_of command.call)) ∷ []) (name_are name bytes)
@@ -253,7 +253,7 @@ ending_are : (end : End) → IsEndOfBytes end → AllByRecursion IsPlainMember (
 ending_are (Answered quality (Some answer) line) is = (word_is (codes "outcome") (codes "answered") refl refl, reply_are line is.0)
 ending_are (Answered quality None line) is = (word_is (codes "outcome") (codes "answered") refl refl, reply_are line is)
 ending_are (Unreadable line fault) is =
-    (word_is (codes "outcome") (codes "unreadable") refl refl, ((plain_name (codes "fault") refl, IsNumber-decimal (fault_number fault) (fault_fits fault)), reply_are line is))
+    (word_is (codes "outcome") (codes "unreadable") refl refl, ((plain_name (codes "fault") refl, IsNumber-decimal (value_fault_number fault) (fault_fits fault)), reply_are line is))
 ending_are (Elsewhere line) is = (word_is (codes "outcome") (codes "elsewhere") refl refl, reply_are line is)
 ending_are Late is = (word_is (codes "outcome") (codes "late") refl refl, tt)
 ending_are Lost is = (word_is (codes "outcome") (codes "lost") refl refl, tt)
@@ -268,10 +268,10 @@ HoldsBytes (value.Long z) = Unit {0}
 HoldsBytes (value.Short z) = Unit {0}
 HoldsBytes (value.Byte n) = n < 256
 HoldsBytes (value.Bool b) = Unit {0}
-HoldsBytes (value.Text bytes) = All (λ b. b < 256) bytes
+HoldsBytes (value.Text bytes) = AreBytes bytes
 
 -- the members of a number of JSON, as `digits` and as it came, read back, if their name is plain and what came is of bytes
-number_are : (name digits came : List ℕ) → IsPlainName name → IsNumber digits → AllByRecursion (λ b. b < 256) came
+number_are : (name digits came : List ℕ) → IsPlainName name → IsNumber digits → IsOfBytes came
     → AllByRecursion IsPlainMember (Number name digits ∷ Text (name ++ codes "_text") came ∷ [])
 number_are name digits came named number bytes = ((named, number), ((text_named name named, All-from_recursion (λ b. b < 256) came bytes), tt))
 
@@ -282,7 +282,7 @@ boolean_number false = refl
 boolean_number true = refl
 
 -- the members of a value read back, if their name is plain, and the value (`HoldsBytes`) and its text as it came are of bytes
-value_are : (name : List ℕ) (v : Value) (came : List ℕ) → IsPlainName name → HoldsBytes v → AllByRecursion (λ b. b < 256) came
+value_are : (name : List ℕ) (v : Value) (came : List ℕ) → IsPlainName name → HoldsBytes v → IsOfBytes came
     → AllByRecursion IsPlainMember (value_members name v came)
 value_are name (value.Double d) came named is bytes =
     number_are name (written d.digits d.scale) came named (decimal_form_number (written d.digits d.scale) ((decimal_text_once d (written d.digits d.scale)).0 refl).0) bytes
@@ -293,7 +293,7 @@ value_are name (value.Bool b) came named is bytes = number_are name (boolean_tex
 value_are name (value.Text text) came named is bytes = ((named, is), tt)
 
 -- the members of values read back, if the values (`HoldsBytes`) and their text as it came are of bytes
-values_are : (column : ℕ) (vs : List Value) (came : List ℕ) → AllByRecursion HoldsBytes vs → AllByRecursion (λ b. b < 256) came
+values_are : (column : ℕ) (vs : List Value) (came : List ℕ) → AllByRecursion HoldsBytes vs → IsOfBytes came
     → AllByRecursion IsPlainMember (values_members column vs came)
 values_are column [] came hold bytes = tt
 values_are column (v ∷ vs) came hold bytes =
@@ -316,14 +316,14 @@ answer_holds (Angles hz v) is = (tt, (tt, tt))
 answer_holds (Measured hz v distance) is = (tt, (tt, (tt, tt)))
 answer_holds (MeasuredMode hz v distance mode) is = (tt, (tt, (tt, (tt, tt))))
 
--- of texts of bytes (`AreOfBytes`) each is of bytes by `All`
-all_texts : (texts : List (List ℕ)) → AreOfBytes texts → AllByRecursion (λ text. All (λ b. b < 256) text) texts
+-- of texts of bytes (`AreTextsOfBytes`) each is of bytes by places, too (`AreBytes`)
+all_texts : (texts : List (List ℕ)) → AreTextsOfBytes texts → AllByRecursion AreBytes texts
 all_texts texts are =
-    all_on (λ (text : List ℕ). AllByRecursion (λ (b : ℕ). b < 256) text) (λ (text : List ℕ). All (λ (b : ℕ). b < 256) text) texts
+    all_on IsOfBytes AreBytes texts
     (λ text is. All-from_recursion (λ (b : ℕ). b < 256) text is) are
 
 -- the member of the items of a text of bytes reads back
-items_are : (text : List ℕ) → AllByRecursion (λ b. b < 256) text → AllByRecursion IsPlainMember (item_members (split_items text))
+items_are : (text : List ℕ) → IsOfBytes text → AllByRecursion IsPlainMember (item_members (split_items text))
 items_are text are =
     cond_both ((quotes text % 2 == 0) && not (nat_lt 16 (length (items_of text)))) (Some (items_of text)) None (λ items. AllByRecursion IsPlainMember (item_members items))
     (λ _. ((plain_name (codes "items") refl, all_texts (items_of text) (items_bytes text are)), tt)) (λ _. tt)

@@ -14,9 +14,9 @@ use Rattle.csv.specs.Writing.{default_writer, fields_text, is_blank, needs_byte,
 use Rattle.csv.specs.declared.parser.State.TheVariants.{StartRecord}
 use Rattle.csv.proofs.RoundTrip.{read-write-many}
 use Rattle.gc_rows.specs.Laws.{RowsReadBack, RowsArePrintable}
-use Rattle.gc_texts.specs.Logs.{escaped, IsPrintable, IsPrintableByte}
+use Rattle.gc_texts.specs.Logs.{escaped, AreBytes, IsPrintable, IsPrintableByte}
 use Rattle.gc_rows.specs.Quantities.{quantity_text}
-use Rattle.gc_rows.specs.Rows.{is_special, within_quotes, csv_field, field_text, behind_comma, behind_commas, row_of, spread, value_text}
+use Rattle.gc_rows.specs.Rows.{is_special, within_quotes, csv_field, field_text, behind_comma, fields_behind_commas, row_of, spread, value_behind_comma}
 use Rattle.gc_values.specs.declared.value.Value.{Value}
 use Rattle.gc_texts.proofs.LogStamps.{escaped_prints}
 use Rattle.gc_texts.proofs.Logs.{escaped_injective}
@@ -34,34 +34,34 @@ four_written text front ws hs es qs =
     append_assoc ((front ++ w) ++ h) e q ∙ append_assoc (front ++ w) h (e ++ q) ∙ append_assoc front w (h ++ (e ++ q)) ∙ ap (λ l. front ++ l) (sym joined)
 
 -- empty fields, each after a comma, are as many commas
-blanks_text : (n : ℕ) → behind_commas (replicate n []) ≡ replicate n 44
+blanks_text : (n : ℕ) → fields_behind_commas (replicate n []) ≡ replicate n 44
 blanks_text zero = refl
 blanks_text (suc n) = ap (λ l. 44 ∷ l) (blanks_text n)
 
--- the texts of values as `value_text` has them are the fields of the values' quantities, each after a comma
-values_text : (values : List Value) → flat_map value_text values ≡ behind_commas (map quantity_text values)
+-- the texts of values as `value_behind_comma` has them are the fields of the values' quantities, each after a comma
+values_text : (values : List Value) → flat_map value_behind_comma values ≡ fields_behind_commas (map quantity_text values)
 values_text [] = refl
-values_text (v ∷ vs) = ap (λ l. value_text v ++ l) (values_text vs)
+values_text (v ∷ vs) = ap (λ l. value_behind_comma v ++ l) (values_text vs)
 
 -- after any bytes: `first` commas, the values as quantities, and a comma for each further column are the values in their
 -- columns
 pub spread_text : (old : List ℕ) (first : ℕ) (values : List Value)
-    → ((old ++ replicate first 44) ++ flat_map value_text values) ++ replicate (24 - first - length values) 44
-    ≡ old ++ behind_commas (spread first (map quantity_text values))
+    → ((old ++ replicate first 44) ++ flat_map value_behind_comma values) ++ replicate (24 - first - length values) 44
+    ≡ old ++ fields_behind_commas (spread first (map quantity_text values))
 spread_text old first values =
     let texts = map quantity_text values in
     let front : List (List ℕ) = replicate first [] in
     let left = 24 - first - length values in
     let back : List (List ℕ) = replicate left [] in
-    let joined : behind_commas (front ++ (texts ++ back)) ≡ behind_commas front ++ (behind_commas texts ++ behind_commas back) =
-    flat_map-append behind_comma front (texts ++ back) ∙ ap (λ l. behind_commas front ++ l) (flat_map-append behind_comma texts back) in
-    ap (λ l. ((old ++ l) ++ flat_map value_text values) ++ replicate left 44) (sym (blanks_text first))
-    ∙ ap (λ l. ((old ++ behind_commas front) ++ l) ++ replicate left 44) (values_text values)
-    ∙ ap (λ l. ((old ++ behind_commas front) ++ behind_commas texts) ++ l) (sym (blanks_text left))
-    ∙ append_assoc (old ++ behind_commas front) (behind_commas texts) (behind_commas back)
-    ∙ append_assoc old (behind_commas front) (behind_commas texts ++ behind_commas back)
+    let joined : fields_behind_commas (front ++ (texts ++ back)) ≡ fields_behind_commas front ++ (fields_behind_commas texts ++ fields_behind_commas back) =
+    flat_map-append behind_comma front (texts ++ back) ∙ ap (λ l. fields_behind_commas front ++ l) (flat_map-append behind_comma texts back) in
+    ap (λ l. ((old ++ l) ++ flat_map value_behind_comma values) ++ replicate left 44) (sym (blanks_text first))
+    ∙ ap (λ l. ((old ++ fields_behind_commas front) ++ l) ++ replicate left 44) (values_text values)
+    ∙ ap (λ l. ((old ++ fields_behind_commas front) ++ fields_behind_commas texts) ++ l) (sym (blanks_text left))
+    ∙ append_assoc (old ++ fields_behind_commas front) (fields_behind_commas texts) (fields_behind_commas back)
+    ∙ append_assoc old (fields_behind_commas front) (fields_behind_commas texts ++ fields_behind_commas back)
     ∙ ap (λ l. old ++ l) (sym joined)
-    ∙ ap (λ n. old ++ behind_commas (front ++ (texts ++ replicate (24 - first - n) []))) (sym (length-map values quantity_text))
+    ∙ ap (λ n. old ++ fields_behind_commas (front ++ (texts ++ replicate (24 - first - n) []))) (sym (length-map values quantity_text))
 
 -- `or` of three tests is the same, however they are grouped, and with `false` added twice
 or_same : (x y z : Bool) → ((x || y) || z) ≡ (((x || (y || z)) || false) || false)
@@ -96,16 +96,16 @@ same_field text = elim (cases_Bool (list_any is_special text)) [
 ]
 
 -- fields, each after a comma, are what the writer of comma-separated values writes of their bytes, escaped
-same_fields : (fields : List (List ℕ)) → behind_commas fields ≡ fields_text default_writer (map escaped fields)
+same_fields : (fields : List (List ℕ)) → fields_behind_commas fields ≡ fields_text default_writer (map escaped fields)
 unfolding fields_text
 same_fields [] = refl
-same_fields (f ∷ fs) = ap (λ l. 44 ∷ (l ++ behind_commas fs)) (same_field (escaped f)) ∙ ap (λ l. 44 ∷ (csv.field_text default_writer (escaped f) ++ l)) (same_fields fs)
+same_fields (f ∷ fs) = ap (λ l. 44 ∷ (l ++ fields_behind_commas fs)) (same_field (escaped f)) ∙ ap (λ l. 44 ∷ (csv.field_text default_writer (escaped f) ++ l)) (same_fields fs)
 
 -- a row of two fields or more is what the writer of comma-separated values writes of these fields' bytes, escaped
 same_row : (first second : List ℕ) (others : List (List ℕ)) → row_of (first ∷ second ∷ others) ≡ row_text default_writer (map escaped (first ∷ second ∷ others))
 unfolding is_blank
 same_row first second others =
-    ap (λ l. (l ++ behind_commas (second ∷ others)) ++ 10 ∷ []) (same_field (escaped first))
+    ap (λ l. (l ++ fields_behind_commas (second ∷ others)) ++ 10 ∷ []) (same_field (escaped first))
     ∙ ap (λ l. (csv.field_text default_writer (escaped first) ++ l) ++ 10 ∷ []) (same_fields (second ∷ others))
 
 -- a row of two fields or more reads back as its fields, escaped, and the reader goes on with what is behind the row
@@ -146,7 +146,7 @@ doubled_prints (b ∷ bs) h =
     (doubled_prints bs h.1)
 
 -- the field of any bytes is printable
-field_prints : (bytes : List ℕ) → All (λ b. b < 256) bytes → IsPrintable (field_text bytes)
+field_prints : (bytes : List ℕ) → AreBytes bytes → IsPrintable (field_text bytes)
 field_prints bytes are =
     let text = escaped bytes in
     let shown = escaped_prints bytes (recursion_from_All (λ b. b < 256) bytes are) in
@@ -157,17 +157,17 @@ field_prints bytes are =
     (λ _. shown)
 
 -- fields of any bytes, each after a comma, are printable
-fields_print : (fields : List (List ℕ)) → AllByRecursion (All (λ b. b < 256)) fields → IsPrintable (behind_commas fields)
+fields_print : (fields : List (List ℕ)) → AllByRecursion AreBytes fields → IsPrintable (fields_behind_commas fields)
 fields_print [] are = All-from_recursion IsPrintableByte [] tt
 fields_print (f ∷ fs) are =
-    All-append IsPrintableByte (44 ∷ field_text f) (behind_commas fs)
+    All-append IsPrintableByte (44 ∷ field_text f) (fields_behind_commas fs)
     (All-append IsPrintableByte (44 ∷ []) (field_text f) (one_prints 44 (omega arith, omega arith)) (field_prints f are.0)) (fields_print fs are.1)
 
 -- the law: a row is printable before its line feed
 pub printable : RowsArePrintable
 printable [] are = ([], refl, All-from_recursion IsPrintableByte [] tt)
 printable (first ∷ others) are = (
-  field_text first ++ behind_commas others,
+  field_text first ++ fields_behind_commas others,
   refl,
-  All-append IsPrintableByte (field_text first) (behind_commas others) (field_prints first are.0) (fields_print others are.1),
+  All-append IsPrintableByte (field_text first) (fields_behind_commas others) (field_prints first are.0) (fields_print others are.1),
 )

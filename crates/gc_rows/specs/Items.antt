@@ -12,9 +12,9 @@ trimmed text = without_end_spaces (without_front_spaces text)
 
 -- the pieces of a text, which is cut at each comma outside double quotes; `quoted` says whether a double quote is open before
 -- the text. (`onto_first` puts a byte before the bytes of the first piece.)
-abbrev pub pieces : (quoted : Bool) → List ℕ → List (List ℕ)
-pieces quoted [] = [] ∷ []
-pieces quoted (b ∷ bs) = if (b == 44) && not quoted then [] ∷ pieces false bs else onto_first b (pieces (quoted_after b quoted) bs)
+abbrev pub comma_pieces : (quoted : Bool) → List ℕ → List (List ℕ)
+comma_pieces quoted [] = [] ∷ []
+comma_pieces quoted (b ∷ bs) = if (b == 44) && not quoted then [] ∷ comma_pieces false bs else onto_first b (comma_pieces (quoted_after b quoted) bs)
 
 -- whether a text has no byte but spaces
 abbrev pub is_blank : List ℕ → Bool
@@ -22,7 +22,7 @@ is_blank text = list_all (λ b. b == 32) text
 
 -- the items of a text; there is none if it is blank
 abbrev pub items_of : List ℕ → List (List ℕ)
-items_of text = if is_blank text then [] else map trimmed (pieces false text)
+items_of text = if is_blank text then [] else map trimmed (comma_pieces false text)
 
 -- the items of a text; `None` if its double quotes aren't in pairs, or it has more than 16 items
 abbrev pub split_items : List ℕ → Option (List (List ℕ))

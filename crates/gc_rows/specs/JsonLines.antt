@@ -8,7 +8,7 @@ use Rattle.gc_catalogue.specs.Answers.{answer_fields}
 use Rattle.gc_catalogue.specs.declared.answer.Answer.{Answer}
 use Rattle.gc_catalogue.specs.declared.asked.Asked.{Asked}
 use Rattle.gc_catalogue.specs.declared.asked.Asked.TheVariants.{Table, Raw}
-use Rattle.gc_values.specs.ValueFault.{fault_number}
+use Rattle.gc_values.specs.ValueFault.{value_fault_number}
 use Rattle.gc_values.specs.declared.fault.ValueFault.{ValueFault}
 use Rattle.gc_values.specs.declared.value.Value.{Value}
 use Rattle.gc_values.specs.declared.value.Value.TheVariants as value
@@ -126,7 +126,7 @@ command_members command name =
 -- the member of a fault's number; none if there is no fault
 abbrev pub fault_members : Option ValueFault → List Member
 fault_members None = []
-fault_members (Some fault) = Number (codes "fault") (decimal (fault_number fault)) ∷ []
+fault_members (Some fault) = Number (codes "fault") (decimal (value_fault_number fault)) ∷ []
 
 -- the members of a reply's line: its communication code, its return code, and its values; none if there is no line
 abbrev pub reply_members : Option (List ℕ) → List Member
@@ -189,6 +189,6 @@ abbrev pub members_after_ending : When → Asked → End → List Member
 members_after_ending when asked end = quantity_members asked end ++ last_members when end
 
 -- the members of a record's object after the first, which is `run`
-abbrev pub json_members : When → List ℕ → Wish → End → List Member
-json_members when name command end =
+abbrev pub members_after_run : When → List ℕ → Wish → End → List Member
+members_after_run when name command end =
     when_members when ++ (command_members command name ++ (ending_members end ++ members_after_ending when command.call end))

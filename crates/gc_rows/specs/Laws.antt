@@ -1,5 +1,5 @@
 -- Laws of the rows: this project's own, as the rows are.
-use Rattle.std.specs.Prelude.{◌≡◌, ◌≢◌, ◌<◌, ◌≤◌, ◌^◌, ℕ, List, [], ◌∷◌, ◌++◌, length, map, All, None, Some, IfSome, codes}
+use Rattle.std.specs.Prelude.{◌≡◌, ◌≢◌, ◌<◌, ◌≤◌, ◌^◌, ℕ, List, [], ◌∷◌, ◌++◌, length, map, None, Some, IfSome, codes}
 use Rattle.std.specs.List.{AllByRecursion, flat_map}
 use Rattle.csv.specs.Machine.{next_record}
 use Rattle.csv.specs.Reading.{default_config, records_from}
@@ -11,16 +11,16 @@ use Rattle.gc_texts.specs.Endings.{End, Answered, Unreadable, Elsewhere, Late, L
 use Rattle.gc_catalogue.specs.Answers.{IsFittingAnswer}
 use Rattle.gc_catalogue.specs.declared.answer.Answer.{Answer}
 use Rattle.gc_catalogue.specs.declared.answer.Answer.TheVariants as answers
-use Rattle.gc_lines.specs.Numbers as numbers
+use Rattle.gc_lines.specs.Numbers.{IsSmallNumber}
 use Rattle.gc_values.specs.Params.{IsParams}
 use Rattle.gc_lines.specs.Replies.{ReplyFields, IsReply}
 use Rattle.gc_rows.specs.Quantities.{quantity_names}
 use Rattle.gc_rows.specs.Records.{first_names, last_names, head_text}
 use Rattle.gc_rows.specs.Items.{items_of}
-use Rattle.gc_rows.specs.JsonLines.{Member, Text, Number, Texts, json_line, json_members}
+use Rattle.gc_rows.specs.JsonLines.{Member, Text, Number, Texts, json_line, members_after_run}
 use Rattle.gc_rows.specs.Rows.{com_of, code_of, values_of, row_of}
 use Rattle.gc_rows.specs.declared.record.Form.TheVariants.{Csv, Columns}
-use Rattle.gc_texts.specs.Logs.{escaped, IsPrintable}
+use Rattle.gc_texts.specs.Logs.{AreBytes, escaped, IsPrintable}
 use Rattle.gc_texts.specs.Stamps.{stamp_text}
 use Rattle.gc_texts.specs.declared.wish.Wish.{Wish}
 use Rattle.gc_rows.specs.declared.when.When.{When}
@@ -28,8 +28,8 @@ use Rattle.gc_rows.specs.declared.when.When.{When}
 -- the columns cut from a reply's line give its fields: `rc_com` and `rc` are the numbers of the reply's codes in digits, and `values` its
 -- values as they are
 pub record ColumnsGiveReply (line : List ℕ) (r : ReplyFields) : Type 0 where
-  pub rc_com : numbers.IsNumber (com_of line) r.rc_com
-  pub rc : numbers.IsNumber (code_of line) r.rc
+  pub rc_com : IsSmallNumber (com_of line) r.rc_com
+  pub rc : IsSmallNumber (code_of line) r.rc
   pub values : values_of line ≡ r.params
 
 -- the columns of each reply's line are its fields
@@ -50,12 +50,12 @@ pub record RowsReadBack : Type 0 where
   pub table : (rows : List (List (List ℕ))) → AllByRecursion (λ fields. 1 < length fields) rows
       → records_from default_config (length rows) StartRecord (flat_map row_of rows) ≡ map (map escaped) rows
   pub names : (head_text Csv ≡ row_of (first_names ++ last_names)) × (head_text Columns ≡ row_of (first_names ++ (quantity_names ++ last_names)))
-  pub once : (xs ys : List ℕ) → All (λ b. b < 256) xs → All (λ b. b < 256) ys → escaped xs ≡ escaped ys → xs ≡ ys
+  pub once : (xs ys : List ℕ) → AreBytes xs → AreBytes ys → escaped xs ≡ escaped ys → xs ≡ ys
 
 -- a row whose fields hold bytes is printable, before its line feed
 abbrev pub RowsArePrintable : Type 0
 RowsArePrintable =
-    (fields : List (List ℕ)) → AllByRecursion (All (λ b. b < 256)) fields → (text : List ℕ) × (row_of fields ≡ text ++ codes "\n") × IsPrintable text
+    (fields : List (List ℕ)) → AllByRecursion AreBytes fields → (text : List ℕ) × (row_of fields ≡ text ++ codes "\n") × IsPrintable text
 
 -- a name that appears unchanged in a string: it has no byte below 32, no double quote and no backslash
 abbrev pub IsPlainName : List ℕ → Type 0
@@ -63,9 +63,9 @@ IsPlainName name = AllByRecursion (λ b. (32 ≤ b) × ((b ≢ 34) × (b ≢ 92)
 
 -- a member has a plain name, and its value is bytes, a number of JSON, or texts of bytes
 abbrev pub IsPlainMember : Member → Type 0
-IsPlainMember (Text name bytes) = IsPlainName name × All (λ b. b < 256) bytes
+IsPlainMember (Text name bytes) = IsPlainName name × AreBytes bytes
 IsPlainMember (Number name digits) = IsPlainName name × IsNumber digits
-IsPlainMember (Texts name texts) = IsPlainName name × AllByRecursion (λ text. All (λ b. b < 256) text) texts
+IsPlainMember (Texts name texts) = IsPlainName name × AllByRecursion AreBytes texts
 
 -- texts as a reader of JSON gives them back as items of a list: each a string, whose bytes are escaped as in a row
 abbrev pub texts_read : List (List ℕ) → json.Items
@@ -93,11 +93,11 @@ JsonLinesReadBack =
 
 -- a line reads as a reply, and is of bytes, which are the numbers below 256
 abbrev pub IsReplyOfBytes : List ℕ → Type 0
-IsReplyOfBytes line = (r : ReplyFields) × IsReply line r × All (λ b. b < 256) line
+IsReplyOfBytes line = (r : ReplyFields) × IsReply line r × AreBytes line
 
 -- an answer's numbers are within the ranges of their types, and its text, if it has one, holds bytes
 abbrev pub IsAnswerOfBytes : Answer → Type 0
-IsAnswerOfBytes (answers.Name bytes) = IsFittingAnswer (answers.Name bytes) × All (λ b. b < 256) bytes
+IsAnswerOfBytes (answers.Name bytes) = IsFittingAnswer (answers.Name bytes) × AreBytes bytes
 IsAnswerOfBytes answer = IsFittingAnswer answer
 
 -- the reply's line of an ending, if there is one, has bytes alone and reads as a reply, and its answer, if there is one, holds numbers of
@@ -120,12 +120,11 @@ pub record FitsIn64Bits (when : When) : Type 0 where
   pub place : when.stamp.turn.place < 2 ^ 64
   pub attempt : when.stamp.turn.attempt < 2 ^ 64
 
--- if a record's numbers fit in 64 bits (`FitsIn64Bits`, and its target), its target's name is of bytes, and its ending is as
--- `IsEndOfBytes` has it, each member of its line after the first has a plain name, and holds bytes, a number of JSON or texts
--- of bytes (`IsPlainMember`). So, if the moment at which its run began has at most 64 bits, too, the line reads back by
--- `JsonLinesReadBack`
+-- each member after the first of a record's line is plain (`IsPlainMember`), where the record's numbers have at most 64 bits, and its
+-- texts are of bytes (`FitsIn64Bits`, `AreBytes`, `IsEndOfBytes`). With a run's moment of at most 64 bits `JsonLinesReadBack` speaks of
+-- such a line
 abbrev pub RecordsHavePlainMembers : Type 0
 RecordsHavePlainMembers =
     (when : When) (name : List ℕ) (command : Wish) (end : End)
-    → FitsIn64Bits when → All (λ b. b < 256) name → command.target < 2 ^ 64 → IsEndOfBytes end
-    → AllByRecursion IsPlainMember (json_members when name command end)
+    → FitsIn64Bits when → AreBytes name → command.target < 2 ^ 64 → IsEndOfBytes end
+    → AllByRecursion IsPlainMember (members_after_run when name command end)

@@ -14,16 +14,16 @@ use Rattle.gc_texts.specs.declared.wish.Wish.{Wish}
 use Rattle.gc_rows.specs.declared.when.When.{When}
 
 -- the names of the two measured angles
-abbrev pub angles : List (List ℕ)
-angles = codes "hz_rad" ∷ codes "v_rad" ∷ []
+abbrev pub angle_names : List (List ℕ)
+angle_names = codes "hz_rad" ∷ codes "v_rad" ∷ []
 
 -- the names of the two measured angles and the slope distance
-abbrev pub measured : List (List ℕ)
-measured = angles ++ codes "distance_m" ∷ []
+abbrev pub measured_names : List (List ℕ)
+measured_names = angle_names ++ codes "distance_m" ∷ []
 
 -- the names of a version's three numbers
-abbrev pub versions : List (List ℕ)
-versions = codes "release" ∷ codes "version" ∷ codes "subversion" ∷ []
+abbrev pub version_names : List (List ℕ)
+version_names = codes "release" ∷ codes "version" ∷ codes "subversion" ∷ []
 
 -- the names of the quantities that the procedure with this number returns, in their order on the line; none for a number that
 -- isn't listed here
@@ -32,7 +32,7 @@ quantities_returned rpc =
     -- COM_GetDoublePrecision
     if rpc == 108 then codes "places" ∷ []
     -- COM_GetSWVersion, CSV_GetSWVersion
-    else if (rpc == 110) || (rpc == 5034) then versions
+    else if (rpc == 110) || (rpc == 5034) then version_names
     -- CSV_GetInstrumentNo, CSV_GetInstrumentName
     else if rpc == 5003 then codes "serial" ∷ []
     else if rpc == 5004 then codes "instrument" ∷ []
@@ -45,12 +45,12 @@ quantities_returned rpc =
     else if rpc == 2011 then codes "reflector_height_m" ∷ []
     else if rpc == 2026 then codes "face" ∷ []
     -- TMC_GetAngle
-    else if rpc == 2107 then angles
+    else if rpc == 2107 then angle_names
     -- TMC_GetSimpleMea, TMC_QuickDist
-    else if (rpc == 2108) || (rpc == 2117) then measured
+    else if (rpc == 2108) || (rpc == 2117) then measured_names
     -- BAP_GetPrismType, BAP_MeasDistanceAngle
     else if rpc == 17009 then codes "prism_type" ∷ []
-    else if rpc == 17017 then measured ++ codes "mode" ∷ []
+    else if rpc == 17017 then measured_names ++ codes "mode" ∷ []
     else []
 
 -- the names of the columns from number `column` on, one for each of these values

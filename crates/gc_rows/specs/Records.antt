@@ -2,7 +2,7 @@
 -- the columns are this project's own.
 use Rattle.std.specs.Prelude.{ℕ, true, false, List, [], ◌∷◌, ◌++◌, Option, None, Some, codes}
 use Rattle.std.specs.Fmt.{decimal}
-use Rattle.gc_values.specs.ValueFault.{fault_number}
+use Rattle.gc_values.specs.ValueFault.{value_fault_number}
 use Rattle.gc_values.specs.declared.fault.ValueFault.{ValueFault}
 use Rattle.gc_texts.specs.declared.wish.Wish.{Wish}
 use Rattle.gc_rows.specs.declared.record.EndedCommand.{EndedCommand}
@@ -10,7 +10,7 @@ use Rattle.gc_rows.specs.declared.record.Form.{Form}
 use Rattle.gc_rows.specs.declared.record.Form.TheVariants.{Lines, Csv, Columns, Json}
 use Rattle.gc_rows.specs.declared.when.When.{When}
 use Rattle.gc_texts.specs.Endings.{End, ending_seen, word_of, fault_of, line_of}
-use Rattle.gc_rows.specs.JsonLines.{json_line, json_members}
+use Rattle.gc_rows.specs.JsonLines.{json_line, members_after_run}
 use Rattle.gc_texts.specs.Logs.{escaped}
 use Rattle.gc_rows.specs.Quantities.{quantity_names}
 use Rattle.gc_rows.specs.Rows.{row_of, row_fields}
@@ -19,7 +19,7 @@ use Rattle.gc_texts.specs.Stamps.{stamp_text}
 -- a space and the number of a fault; empty if there is no fault
 abbrev pub spaced_fault : Option ValueFault → List ℕ
 spaced_fault None = []
-spaced_fault (Some fault) = codes " " ++ decimal (fault_number fault)
+spaced_fault (Some fault) = codes " " ++ decimal (value_fault_number fault)
 
 -- a space and the line of a reply, escaped as in a row; empty if there is no line
 abbrev pub spaced_line : Option (List ℕ) → List ℕ
@@ -42,7 +42,7 @@ abbrev pub record_text : Form → When → List ℕ → Wish → End → List �
 record_text Lines when name command end = record_line when command end
 record_text Csv when name command end = row_of (row_fields false when name command end)
 record_text Columns when name command end = row_of (row_fields true when name command end)
-record_text Json when name command end = json_line when.run (json_members when name command end)
+record_text Json when name command end = json_line when.run (members_after_run when name command end)
 
 -- the record of a command that ended, in this form
 abbrev pub record_of : Form → EndedCommand → List ℕ
@@ -67,8 +67,8 @@ head_text Columns = row_of (first_names ++ (quantity_names ++ last_names))
 
 -- the bytes that a file of records begins with: what comes before all records, which is nothing in the form `Lines`; or, in the form
 -- `Json`, the bytes that each line begins with
-abbrev pub sign_text : Form → List ℕ
-sign_text Json = codes "{\"run\":\""
-sign_text Lines = head_text Lines
-sign_text Csv = head_text Csv
-sign_text Columns = head_text Columns
+abbrev pub form_sign : Form → List ℕ
+form_sign Json = codes "{\"run\":\""
+form_sign Lines = head_text Lines
+form_sign Csv = head_text Csv
+form_sign Columns = head_text Columns

@@ -4,14 +4,15 @@ use Rattle.std.specs.Prelude.{ℕ, ◌-◌, ◌≤◌, ◌==◌, ◌||◌, Bool,
 use Rattle.std.specs.Fmt.{decimal}
 use Rattle.std.specs.List.{flat_map, list_any}
 use Rattle.gc_catalogue.specs.Answers.{answer_fields}
-use Rattle.gc_catalogue.specs.Asked.{asked_request}
+pub use Rattle.gc_catalogue.specs.Asked.{procedure_of}
 use Rattle.gc_catalogue.specs.declared.answer.Answer.{Answer}
 use Rattle.gc_catalogue.specs.declared.asked.Asked.{Asked}
 use Rattle.gc_catalogue.specs.declared.asked.Asked.TheVariants.{Table, Raw}
-use Rattle.gc_values.specs.ValueFault.{fault_number}
+use Rattle.gc_values.specs.ValueFault.{value_fault_number}
 use Rattle.gc_values.specs.declared.fault.ValueFault.{ValueFault}
 use Rattle.gc_values.specs.declared.value.Value.{Value}
 use Rattle.gc_texts.specs.declared.wish.Wish.{Wish}
+use Rattle.gc_rows.specs.declared.row.ReplyTexts.{ReplyTexts}
 use Rattle.gc_rows.specs.declared.when.When.{When}
 use Rattle.gc_texts.specs.Endings.{End, Answered, word_of, fault_of, line_of, quality_of, quality_text}
 use Rattle.gc_texts.specs.Cuts.{before, behind}
@@ -31,9 +32,10 @@ code_of line = before 44 (behind 58 (behind 44 line))
 abbrev pub values_of : List ℕ → List ℕ
 values_of line = behind 44 (behind 58 (behind 44 line))
 
--- RC_COM, RC and VALUES as they were cut out of a reply's line are each no longer than the line
-abbrev pub AreNoLonger : (com_code code values line : List ℕ) → Type 0
-AreNoLonger com_code code values line = (length com_code ≤ length line) × (length code ≤ length line) × (length values ≤ length line)
+-- the parts that were cut out of a reply's line are each no longer than the line
+abbrev pub AreNoLonger : ReplyTexts → (line : List ℕ) → Type 0
+AreNoLonger texts line =
+    (length texts.com.now ≤ length line) × (length texts.code.now ≤ length line) × (length texts.values.now ≤ length line)
 
 -- whether a byte may occur in a field only within quotes: a comma, a double quote, CR or LF
 abbrev pub is_special : ℕ → Bool
@@ -56,13 +58,13 @@ abbrev pub behind_comma : List ℕ → List ℕ
 behind_comma bytes = 44 ∷ field_text bytes
 
 -- fields that hold these bytes, each after a comma
-abbrev pub behind_commas : List (List ℕ) → List ℕ
-behind_commas fields = flat_map behind_comma fields
+abbrev pub fields_behind_commas : List (List ℕ) → List ℕ
+fields_behind_commas fields = flat_map behind_comma fields
 
 -- the row, with its line feed, whose fields hold these bytes
 abbrev pub row_of : List (List ℕ) → List ℕ
 row_of [] = codes "\n"
-row_of (first ∷ others) = field_text first ++ behind_commas others ++ codes "\n"
+row_of (first ∷ others) = field_text first ++ fields_behind_commas others ++ codes "\n"
 
 -- the text of a moment; empty if there is none
 abbrev pub moment_text : Option ℕ → List ℕ
@@ -73,10 +75,6 @@ moment_text (Some utc) = stamp_text utc
 abbrev pub when_fields : When → List (List ℕ)
 when_fields when = moment_text when.stamp.sent ∷ stamp_text when.stamp.utc ∷ decimal when.stamp.cycle ∷ decimal when.stamp.turn.place ∷ []
 
--- the number of the procedure that is asked for
-abbrev pub procedure_of : Asked → ℕ
-procedure_of asked = (asked_request None asked).rpc
-
 -- the fields of a command's target, the target's name, and the number of the procedure
 abbrev pub command_fields : Wish → List ℕ → List (List ℕ)
 command_fields command name = decimal command.target ∷ name ∷ decimal (procedure_of command.call) ∷ []
@@ -84,7 +82,7 @@ command_fields command name = decimal command.target ∷ name ∷ decimal (proce
 -- the number of a fault in digits; empty if there is no fault
 abbrev pub fault_field : Option ValueFault → List ℕ
 fault_field None = []
-fault_field (Some fault) = decimal (fault_number fault)
+fault_field (Some fault) = decimal (value_fault_number fault)
 
 -- the fields of a reply's line: its communication code, its return code, and its values; three empty fields if there is no line
 abbrev pub reply_fields : Option (List ℕ) → List (List ℕ)
@@ -96,8 +94,8 @@ abbrev pub ending_fields : End → List (List ℕ)
 ending_fields end = word_of end ∷ fault_field (fault_of end) ∷ reply_fields (line_of end)
 
 -- a value of an answer as a field (`quantity_text`), after a comma
-abbrev pub value_text : Value → List ℕ
-value_text value = behind_comma (quantity_text value)
+abbrev pub value_behind_comma : Value → List ℕ
+value_behind_comma value = behind_comma (quantity_text value)
 
 -- the texts in 24 columns, if they fit: one after the other, the first in column `first`, counted from 0, and the other columns are
 -- empty

@@ -5,11 +5,13 @@ ghost use Rattle.std.specs.Prelude.{◌≡◌, ℕ, ◌+◌, ◌*◌, ◌≤◌,
 ghost use Rattle.std.specs.List.{flat_map};
 ghost use Rattle.arrayvec.specs.ArrayVec.{array_vec_len};
 ghost use Rattle.gc_rows.specs.Items.{split_items};
-ghost use Rattle.gc_values.specs.Params.{bytes_in};
+ghost use Rattle.gc_values.specs.Params.{total_length};
 ghost use Rattle.gc_texts.specs.Endings.{ending_seen};
 ghost use Rattle.gc_texts.specs.Logs.{escaped};
 ghost use Rattle.gc_rows.specs.declared.json_line.TheConstants.{NAME_ROOM, TEXT_ROOM, NUMBER_ROOM, SENT_ROOM, WHEN_ROOM, COMMAND_ROOM, REPLY_ROOM, ENDING_ROOM, OWN_ROOM, VALUE_ROOM, STRINGS_ROOM, LIST_ROOM, ANSWER_ROOM, LAST_ROOM, AFTER_ENDING_ROOM};
-ghost use Rattle.gc_rows.specs.JsonLines.{behind_backslash, in_quotes, named, string_text, text_member, number_member, comma_where, strings_text, items_list, item_members, members_text, without_zeros, sent_members, when_members, text_if_any, command_members, fault_members, reply_members, ending_members, value_members, values_members, answer_members, quantity_members, attempt_members, last_members, members_after_ending, json_line, json_members};
+ghost use Rattle.gc_rows.specs.JsonLines.{behind_backslash, in_quotes, named, string_text, text_member, number_member, comma_where, strings_text, items_list, item_members, members_text, without_zeros, sent_members, when_members, text_if_any, command_members, fault_members, reply_members, ending_members, value_members, values_members, answer_members, quantity_members, attempt_members, last_members, members_after_ending};
+ghost use Rattle.gc_rows.specs.Records.{record_of};
+ghost use Rattle.gc_rows.specs.declared.record.Form.TheVariants.{Json};
 
 use crate::quantity::{
     MOST_VALUES, QUANTITY_ROOM, answer_values, column_of, quantity_name, quantity_text,
@@ -319,7 +321,7 @@ fn append_comma<const N: usize>(line: &mut ArrayVec<u8, N>, after_another: bool)
 
 // Appends strings that hold these texts, with commas between them.
 fn append_strings<const N: usize>(line: &mut ArrayVec<u8, N>, texts: &Items<'_>)
-    requires short { bytes_in texts.now ≤ 512 }
+    requires short { total_length texts.now ≤ 512 }
     requires few { length texts.now ≤ 16 }
     requires room { array_vec_len line.old + STRINGS_ROOM ≤ N }
     ensures text { line.new.items ≡ line.old.items ++ strings_text false texts.now }
@@ -333,7 +335,7 @@ fn append_strings<const N: usize>(line: &mut ArrayVec<u8, N>, texts: &Items<'_>)
 
 // Appends the member `items`, which is a list of strings that hold these texts.
 fn append_list<const N: usize>(line: &mut ArrayVec<u8, N>, texts: &Items<'_>)
-    requires short { bytes_in texts.now ≤ 512 }
+    requires short { total_length texts.now ≤ 512 }
     requires few { length texts.now ≤ 16 }
     requires room { array_vec_len line.old + LIST_ROOM ≤ N }
     ensures text { line.new.items ≡ line.old.items ++ items_list texts.now }
@@ -422,7 +424,7 @@ fn append_after_ending<const N: usize>(line: &mut ArrayVec<u8, N>, ended: EndedC
 /// The line of JSON of a command's record, with its line feed.
 pub(crate) fn json_line(ended: EndedCommand<'_>) -> ArrayVec<u8, JSON_ROOM>
     requires { length ended.name.now ≤ 64 }
-    ensures { result.items ≡ json_line ended.entry.when.run (json_members ended.entry.when ended.entry.name.now ended.entry.command.now (ending_seen ended.entry.ending)) }
+    ensures { result.items ≡ record_of Json ended.entry }
 {
     let mut line = ArrayVec::new();
     append(&mut line, b"{\"run\":");

@@ -5,7 +5,7 @@ ghost use Rattle.std.specs.Io.KnownBytes.{Appends};
 ghost use Rattle.gc_lines.specs.Ports.{FailsWith, TakesFront};
 ghost use Rattle.gc_texts.specs.Endings.{ending_seen};
 ghost use Rattle.gc_rows.specs.declared.record.TheConstants.{FAULT_ROOM, REPLY_ROOM};
-ghost use Rattle.gc_rows.specs.Records.{spaced_fault, spaced_line, ending_text, record_line, record_of, head_text, sign_text};
+ghost use Rattle.gc_rows.specs.Records.{spaced_fault, spaced_line, ending_text, record_of, head_text, form_sign};
 ghost use Rattle.arrayvec.specs.ArrayVec.{array_vec_len};
 
 use crate::json_line::json_line;
@@ -66,7 +66,7 @@ pub fn head(form: Form) -> &'static [u8]
 /// The bytes that a file of records in this form begins with, once it has a record: they distinguish it from a foreign file. A file of
 /// `Lines` has no such bytes: the result is empty.
 pub fn sign(form: Form) -> &'static [u8]
-    ensures { result.now ≡ sign_text form }
+    ensures { result.now ≡ form_sign form }
 {
     match form {
         Form::Json => b"{\"run\":\"",
@@ -84,9 +84,9 @@ pub fn write_head<K: Sink>(sink: &mut K, form: Form) -> Result<(), usize>
     write_whole(sink, head(form))
 }
 
-/// Writes the record of a command that ended, in this form. What of the command a line of `Lines` has, `Form::Lines` says. The
-/// record goes in one write if the sink takes all of it. `Err(n)`: the sink took the first n bytes of the record, which aren't
-/// all, and failed.
+/// Writes the record of a command that ended, in this form. In the form `Lines` it has neither the target's name nor the moment
+/// at which the command was sent. The record goes in one write if the sink takes all of it. `Err(n)`: the sink took the first n
+/// bytes of the record, which aren't all, and failed.
 pub fn write_record<K: Sink>(sink: &mut K, form: Form, ended: EndedCommand<'_>) -> Result<(), usize>
     requires { length ended.name.now ≤ 64 }
     ensures failed { FailsWith result (K.failed sink.old) (K.failed sink.new) }
@@ -115,7 +115,7 @@ const LINE_ROOM: usize = STAMP_ROOM + 1 + 20 + 1 + 10 + ENDING_ROOM + 1;
 
 // The line of a command's record, with its line feed: when the command ended, its place, its target, and how it ended.
 fn record_line(ended: EndedCommand<'_>) -> ArrayVec<u8, LINE_ROOM>
-    ensures { result.items ≡ record_line ended.entry.when ended.entry.command.now (ending_seen ended.entry.ending) }
+    ensures { result.items ≡ record_of Form.Lines ended.entry }
 {
     let mut digits = Buffer::new();
     let mut line = ArrayVec::new();

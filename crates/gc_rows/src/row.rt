@@ -6,7 +6,7 @@ ghost use Rattle.arrayvec.specs.ArrayVec.{array_vec_len};
 ghost use Rattle.gc_catalogue.specs.declared.asked.Asked.TheVariants.{Table};
 ghost use Rattle.gc_texts.specs.Cuts.{before, behind};
 ghost use Rattle.gc_texts.specs.Endings.{ending_seen};
-ghost use Rattle.gc_rows.specs.Rows.{com_of, code_of, values_of, AreNoLonger, is_special, within_quotes, csv_field, field_text, behind_comma, behind_commas, fault_field, reply_fields, ending_fields, moment_text, when_fields, command_fields, answer_columns, quantity_fields, last_fields, fields_after_ending, spread, value_text, row_of, row_fields};
+ghost use Rattle.gc_rows.specs.Rows.{com_of, code_of, values_of, AreNoLonger, is_special, within_quotes, csv_field, field_text, behind_comma, fields_behind_commas, fault_field, reply_fields, ending_fields, moment_text, when_fields, command_fields, answer_columns, quantity_fields, last_fields, fields_after_ending, spread, value_behind_comma, row_of, row_fields};
 ghost use Rattle.gc_rows.specs.Quantities.{column_of, quantity_text};
 ghost use Rattle.gc_rows.specs.declared.row.TheConstants.{WHEN_ROOM, COMMAND_ROOM, REPLY_ROOM, ENDING_ROOM, VALUE_ROOM, QUANTITIES_ROOM, LAST_ROOM, AFTER_ENDING_ROOM};
 ghost use Rattle.gc_catalogue.specs.Answers.{answer_fields};
@@ -80,7 +80,7 @@ pub(crate) fn texts_of(line: &[u8]) -> ReplyTexts<'_>
     ensures com { result.com.now ≡ com_of line.now }
     ensures code { result.code.now ≡ code_of line.now }
     ensures values { result.values.now ≡ values_of line.now }
-    ensures short { AreNoLonger result.com.now result.code.now result.values.now line.now }
+    ensures short { AreNoLonger result line.now }
 {
     let codes = behind(b',', line);
     let body = behind(b':', codes);
@@ -173,7 +173,7 @@ fn moment_text(moment: Option<u64>) -> ArrayVec<u8, STAMP_ROOM>
 // Appends when a command was sent and ended, and which command of its run it was: four fields.
 fn append_when<const N: usize>(row: &mut ArrayVec<u8, N>, when: &When)
     requires { array_vec_len row.old + WHEN_ROOM ≤ N }
-    ensures text { row.new.items ≡ row.old.items ++ behind_commas (when_fields when.now) }
+    ensures text { row.new.items ≡ row.old.items ++ fields_behind_commas (when_fields when.now) }
     ensures room { array_vec_len row.new ≤ array_vec_len row.old + WHEN_ROOM }
 {
     let mut digits = Buffer::new();
@@ -187,7 +187,7 @@ fn append_when<const N: usize>(row: &mut ArrayVec<u8, N>, when: &When)
 fn append_command<const N: usize>(row: &mut ArrayVec<u8, N>, command: &Wish, name: &[u8])
     requires short { length name.now ≤ 64 }
     requires room { array_vec_len row.old + COMMAND_ROOM ≤ N }
-    ensures text { row.new.items ≡ row.old.items ++ behind_commas (command_fields command.now name.now) }
+    ensures text { row.new.items ≡ row.old.items ++ fields_behind_commas (command_fields command.now name.now) }
     ensures room { array_vec_len row.new ≤ array_vec_len row.old + COMMAND_ROOM }
 {
     let mut digits = Buffer::new();
@@ -211,7 +211,7 @@ fn fault_text(fault: Option<ValueFault>) -> ArrayVec<u8, 20>
 // line.
 fn append_reply<const N: usize>(row: &mut ArrayVec<u8, N>, line: Option<&Line>)
     requires { array_vec_len row.old + REPLY_ROOM ≤ N }
-    ensures text { row.new.items ≡ row.old.items ++ behind_commas (reply_fields (option_map (λ l. l.now.items) line.entry)) }
+    ensures text { row.new.items ≡ row.old.items ++ fields_behind_commas (reply_fields (option_map (λ l. l.now.items) line.entry)) }
     ensures room { array_vec_len row.new ≤ array_vec_len row.old + REPLY_ROOM }
 {
     match line {
@@ -228,7 +228,7 @@ fn append_reply<const N: usize>(row: &mut ArrayVec<u8, N>, line: Option<&Line>)
 // Appends how a command ended: its word, its fault, and the three fields of its reply's line.
 fn append_ending<const N: usize>(row: &mut ArrayVec<u8, N>, ending: Ending<'_>)
     requires { array_vec_len row.old + ENDING_ROOM ≤ N }
-    ensures text { row.new.items ≡ row.old.items ++ behind_commas (ending_fields (ending_seen ending.entry)) }
+    ensures text { row.new.items ≡ row.old.items ++ fields_behind_commas (ending_fields (ending_seen ending.entry)) }
     ensures room { array_vec_len row.new ≤ array_vec_len row.old + ENDING_ROOM }
 {
     append_field_after_comma(row, ending.word());
@@ -240,7 +240,7 @@ fn append_ending<const N: usize>(row: &mut ArrayVec<u8, N>, ending: Ending<'_>)
 fn append_values<const N: usize>(row: &mut ArrayVec<u8, N>, values: &[Value])
     requires few { length values.now ≤ 6 }
     requires room { array_vec_len row.old + VALUE_ROOM * length values.now ≤ N }
-    ensures text { row.new.items ≡ row.old.items ++ flat_map value_text values.now }
+    ensures text { row.new.items ≡ row.old.items ++ flat_map value_behind_comma values.now }
     ensures room { array_vec_len row.new ≤ array_vec_len row.old + VALUE_ROOM * length values.now }
 {
     for value in values {
@@ -251,7 +251,7 @@ fn append_values<const N: usize>(row: &mut ArrayVec<u8, N>, values: &[Value])
 // Appends the quantities of an answer to a call, each in its column; the other columns are empty.
 fn append_columns<const N: usize>(row: &mut ArrayVec<u8, N>, call: &Call, answer: &Answer)
     requires { array_vec_len row.old + QUANTITIES_ROOM ≤ N }
-    ensures text { row.new.items ≡ row.old.items ++ behind_commas (answer_columns (Table call.now) answer.now) }
+    ensures text { row.new.items ≡ row.old.items ++ fields_behind_commas (answer_columns (Table call.now) answer.now) }
     ensures room { array_vec_len row.new ≤ array_vec_len row.old + QUANTITIES_ROOM }
 {
     let values = answer_values(answer);
@@ -264,7 +264,7 @@ fn append_columns<const N: usize>(row: &mut ArrayVec<u8, N>, call: &Call, answer
 // Appends the quantities of an answer to `asked`, each in its column. All columns are empty if the procedure isn't in the table.
 fn append_answer<const N: usize>(row: &mut ArrayVec<u8, N>, asked: &Asked, answer: &Answer)
     requires { array_vec_len row.old + QUANTITIES_ROOM ≤ N }
-    ensures text { row.new.items ≡ row.old.items ++ behind_commas (answer_columns asked.now answer.now) }
+    ensures text { row.new.items ≡ row.old.items ++ fields_behind_commas (answer_columns asked.now answer.now) }
     ensures room { array_vec_len row.new ≤ array_vec_len row.old + QUANTITIES_ROOM }
 {
     match asked {
@@ -277,7 +277,7 @@ fn append_answer<const N: usize>(row: &mut ArrayVec<u8, N>, asked: &Asked, answe
 // `Answered`, or has no answer (`None`).
 fn append_quantities<const N: usize>(row: &mut ArrayVec<u8, N>, asked: &Asked, ending: Ending<'_>)
     requires { array_vec_len row.old + QUANTITIES_ROOM ≤ N }
-    ensures text { row.new.items ≡ row.old.items ++ behind_commas (quantity_fields asked.now (ending_seen ending.entry)) }
+    ensures text { row.new.items ≡ row.old.items ++ fields_behind_commas (quantity_fields asked.now (ending_seen ending.entry)) }
     ensures room { array_vec_len row.new ≤ array_vec_len row.old + QUANTITIES_ROOM }
 {
     match ending {
@@ -290,7 +290,7 @@ fn append_quantities<const N: usize>(row: &mut ArrayVec<u8, N>, asked: &Asked, e
 // chain or, for a command of the setup, of the setup.
 fn append_last<const N: usize>(row: &mut ArrayVec<u8, N>, when: &When, ending: Ending<'_>)
     requires { array_vec_len row.old + LAST_ROOM ≤ N }
-    ensures text { row.new.items ≡ row.old.items ++ behind_commas (last_fields when.now (ending_seen ending.entry)) }
+    ensures text { row.new.items ≡ row.old.items ++ fields_behind_commas (last_fields when.now (ending_seen ending.entry)) }
     ensures room { array_vec_len row.new ≤ array_vec_len row.old + LAST_ROOM }
 {
     append_field_after_comma(row, ending.quality_text());
@@ -308,7 +308,7 @@ fn append_after_ending<const N: usize>(
     ended: EndedCommand<'_>,
 )
     requires { array_vec_len row.old + AFTER_ENDING_ROOM ≤ N }
-    ensures text { row.new.items ≡ row.old.items ++ behind_commas (fields_after_ending columns ended.entry.when ended.entry.command.now.call (ending_seen ended.entry.ending)) }
+    ensures text { row.new.items ≡ row.old.items ++ fields_behind_commas (fields_after_ending columns ended.entry.when ended.entry.command.now.call (ending_seen ended.entry.ending)) }
     ensures room { array_vec_len row.new ≤ array_vec_len row.old + AFTER_ENDING_ROOM }
 {
     if columns {

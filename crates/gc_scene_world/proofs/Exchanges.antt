@@ -95,18 +95,18 @@ unfolding plays
 same_repeats s rpc call (Some code) = refl
 same_repeats s rpc call None = refl
 
--- `counted` below, for a call that was played as `p`, by whether a line is sent again for the id: `o` is that line, if there is
--- one
-counted_by : (s : SceneState) (id : ℕ) (p : Played) (o : Option (List ℕ)) (new : ℕ) (xs : List ℕ) (n : ℕ) → resent_line s (Some id) ≡ o → p.state.repeats ≡ s.repeats
+-- `execution_counted` below, for a call that was played as `p`, by whether a line is sent again for the id: `o` is that line, if
+-- there is one
+execution_counted_by : (s : SceneState) (id : ℕ) (p : Played) (o : Option (List ℕ)) (new : ℕ) (xs : List ℕ) (n : ℕ) → resent_line s (Some id) ≡ o → p.state.repeats ≡ s.repeats
     → Notes s.repeats (kept_id s.base.kept) (kept_id (again_or_played s (Some id) p o).state.base.kept) (length xs) new
     → new ≡ length (cond (again_or_played s (Some id) p o).executed (xs ++ n ∷ []) xs)
-counted_by s id p (Some line) new xs n again same h = by_repeats s.repeats refl
+execution_counted_by s id p (Some line) new xs n again same h = by_repeats s.repeats refl
   where
     -- by whether the instrument repeats
     by_repeats : (b : Bool) → s.repeats ≡ b → new ≡ length xs
     by_repeats true e = h.same e refl
     by_repeats false e = absurd (none-some line (sym (ap (λ b. cond b (kept_line s.base.kept (Some id)) None) e) ∙ again))
-counted_by s id p None new xs n again same h = by_repeats s.repeats refl ∙ sym (length_push xs n)
+execution_counted_by s id p None new xs n again same h = by_repeats s.repeats refl ∙ sym (length_push xs n)
   where
     -- by whether the instrument repeats
     by_repeats : (b : Bool) → s.repeats ≡ b → new ≡ length xs + 1
@@ -119,13 +119,13 @@ counted_by s id p None new xs n again same h = by_repeats s.repeats refl ∙ sym
 
 -- where the count of executions was the length of xs, and changes as `Notes` says, it is the length of xs with n at its end if
 -- the request was executed, and else still that of xs
-pub counted : (s : SceneState) (id : ℕ) (call : Call) (after : SceneState) (old new : ℕ) (xs : List ℕ) (n : ℕ) → after ≡ (scene_handed s id call).state
+pub execution_counted : (s : SceneState) (id : ℕ) (call : Call) (after : SceneState) (old new : ℕ) (xs : List ℕ) (n : ℕ) → after ≡ (scene_handed s id call).state
     → Notes s.repeats (kept_id s.base.kept) (kept_id after.base.kept) old new → old ≡ length xs
     → new ≡ length (cond (scene_handed s id call).executed (xs ++ n ∷ []) xs)
 unfolding handed_call
-counted s id call after old new xs n is h count =
+execution_counted s id call after old new xs n is h count =
     let rpc = (call_fields call).number in
-    counted_by s id (played_call s rpc call) (resent_line s (Some id)) new xs n refl (same_repeats s rpc call (fault_of rpc s.faults))
+    execution_counted_by s id (played_call s rpc call) (resent_line s (Some id)) new xs n refl (same_repeats s rpc call (fault_of rpc s.faults))
     (subst (λ (t : SceneState). Notes s.repeats (kept_id s.base.kept) (kept_id t.base.kept) (length xs) new) is
     (subst (λ k. Notes s.repeats (kept_id s.base.kept) (kept_id after.base.kept) k new) count h))
 

@@ -8,7 +8,7 @@ use Rattle.gc_client.specs.Rule.{ById}
 use Rattle.gc_scenes.specs.SceneState.{SceneState}
 use Rattle.gc_scene_world.specs.Lanes.{Flight, further}
 use Rattle.gc_scene_world.specs.SceneRuns.{scene_ends}
-use Rattle.gc_scene_world.specs.SceneStages.{Seen, AreStreamsOf, IsRemainder}
+use Rattle.gc_scene_world.specs.SceneStages.{StageParts, AreStreamsOf, IsRemainder}
 use Rattle.gc_world.specs.declared.direction.Direction.{Direction}
 use Rattle.gc_world.specs.declared.direction.Direction.TheVariants.{Up, Down}
 use Rattle.gc_world.specs.Clients.{by_ids}
@@ -55,7 +55,7 @@ delivered_wire width Down v = refl
 
 -- some of n bytes were handed over on the streams v, and `left` of them are left: the stage shows streams `now` from which
 -- handing over those left leads where all n lead from v. Since v no event was counted as not possible, and `IsNoMore` holds
-pub record IsReached (width : ℕ) (d : Direction) (s : Seen) (v : Streams (ById Call) SceneState) (n left : ℕ) : Type 0 where
+pub record IsReached (width : ℕ) (d : Direction) (s : StageParts) (v : Streams (ById Call) SceneState) (n left : ℕ) : Type 0 where
   pub now : Streams (ById Call) SceneState
   pub shows : AreStreamsOf width s now
   pub same : after_bytes scene_ends width d now left ≡ after_bytes scene_ends width d v n
@@ -63,13 +63,13 @@ pub record IsReached (width : ℕ) (d : Direction) (s : Seen) (v : Streams (ById
   pub room : IsNoMore v.world.wire now.world.wire
 
 -- `IsReached` holds before any byte was handed over
-pub reached : (width : ℕ) (d : Direction) (s : Seen) (v : Streams (ById Call) SceneState) (n : ℕ) → AreStreamsOf width s v → IsReached width d s v n n
+pub reached : (width : ℕ) (d : Direction) (s : StageParts) (v : Streams (ById Call) SceneState) (n : ℕ) → AreStreamsOf width s v → IsReached width d s v n n
 reached width d s v n h = record { now = v; shows = h; same = refl; idle = refl; room = record { executed = omega arith; made = omega arith } }
 
-module _ (width : ℕ) (d : Direction) (s : Seen) (v : Streams (ById Call) SceneState) (n left : ℕ) (h : IsReached width d s v n left) where
+module _ (width : ℕ) (d : Direction) (s : StageParts) (v : Streams (ById Call) SceneState) (n left : ℕ) (h : IsReached width d s v n left) where
   -- `IsReached` holds also once the front line was delivered, with `used` bytes fewer left: those of the line that were still to
   -- go, at least one, and no more than were left
-  pub reaches_next : (t : Seen) (used : ℕ) → used ≡ remaining (gone d h.now) (lines d h.now.world.wire) → 0 < used → used ≤ left
+  pub reaches_next : (t : StageParts) (used : ℕ) → used ≡ remaining (gone d h.now) (lines d h.now.world.wire) → 0 < used → used ≤ left
       → AreStreamsOf width t (after_event scene_ends width h.now (delivery d)) → IsReached width d t v n (left - used)
   reaches_next t used e some le shows =
       let one = next scene_ends (by_ids width scene_ends) d h.now left used e some le in
@@ -83,7 +83,7 @@ module _ (width : ℕ) (d : Direction) (s : Seen) (v : Streams (ById Call) Scene
       }
 
   -- where a stage shows the streams that handing over the bytes that are left leads to, it shows those that all n bytes lead to
-  pub reaches_end : (t : Seen) → AreStreamsOf width t (after_bytes scene_ends width d h.now left) → AreStreamsOf width t (after_bytes scene_ends width d v n)
+  pub reaches_end : (t : StageParts) → AreStreamsOf width t (after_bytes scene_ends width d h.now left) → AreStreamsOf width t (after_bytes scene_ends width d v n)
   reaches_end t shows = subst (λ x. AreStreamsOf width t x) h.same shows
 
   -- where no byte of the direction is in flight any more, the stage shows the streams that all n bytes lead to
@@ -93,7 +93,7 @@ module _ (width : ℕ) (d : Direction) (s : Seen) (v : Streams (ById Call) Scene
 -- Bytes that complete no line.
 
 -- once n bytes of the upward front line were handed over that don't complete it, the streams with n more gone are shown
-pub begins_up : (width : ℕ) (s : Seen) (v : Streams (ById Call) SceneState) (n : ℕ) (lane : Flight) → AreStreamsOf width s v
+pub begins_up : (width : ℕ) (s : StageParts) (v : Streams (ById Call) SceneState) (n : ℕ) (lane : Flight) → AreStreamsOf width s v
     → n < remaining v.up_gone (map with_end (up_texts v.world.wire)) → lane ≡ further s.up n
     → AreStreamsOf width (record s { up = lane }) (handed_over scene_ends (by_ids width scene_ends) Up v n)
 begins_up width s v n lane h lt is =
@@ -109,7 +109,7 @@ begins_up width s v n lane h lt is =
     })
 
 -- once n bytes of the downward front line were handed over that don't complete it, the streams with n more gone are shown
-pub begins_down : (width : ℕ) (s : Seen) (v : Streams (ById Call) SceneState) (n : ℕ) (lane : Flight) → AreStreamsOf width s v
+pub begins_down : (width : ℕ) (s : StageParts) (v : Streams (ById Call) SceneState) (n : ℕ) (lane : Flight) → AreStreamsOf width s v
     → n < remaining v.down_gone (map with_end (down_texts v.world.wire)) → lane ≡ further s.down n
     → AreStreamsOf width (record s { down = lane }) (handed_over scene_ends (by_ids width scene_ends) Down v n)
 begins_down width s v n lane h lt is =

@@ -2,7 +2,7 @@
 -- lemma says: where they show streams, and a function has done to them what its contract says, they show the streams after that
 -- event. Variables such as `up` and `settled` are the values that the function left; the premises are what its contract says of
 -- them.
-use Rattle.std.proofs.Common.{◌≡◌, ℕ, ◌+◌, ◌≤◌, ◌⊎◌, Bool, true, false, cond, List, [], ◌∷◌, ◌++◌, length, map, refl, sym, ◌∙◌, ap, subst, ltb, arith}
+use Rattle.std.proofs.Common.{◌≡◌, ℕ, ◌+◌, ◌≤◌, ◌⊎◌, Bool, true, false, cond, List, [], ◌∷◌, ◌++◌, length, map, refl, sym, ◌∙◌, ap, subst, ltb}
 use Rattle.std.specs.List.{AllByRecursion}
 use mathlib.Core.Path.{ap₂}
 use Rattle.std.proofs.lemmas.List.{map-append, length-map, length_push}
@@ -13,11 +13,11 @@ use Rattle.gc_client.specs.Rule.{ById}
 use Rattle.gc_scenes.specs.SceneReplying.{IsPlayed}
 use Rattle.gc_scenes.specs.SceneState.{SceneState}
 use Rattle.gc_scene_world.specs.declared.report.Counts.{Counts}
-use Rattle.gc_scene_world.specs.Lanes.{Flight, is_whole, pushed}
+use Rattle.gc_scene_world.specs.Lanes.{Flight, is_whole, losing, repeating, pushed}
 use Rattle.gc_scene_world.specs.SceneReports.{AreCounts}
 use Rattle.gc_scene_world.specs.SceneRuns.{scene_handed, scene_ends}
-use Rattle.gc_scene_world.specs.SceneStages.{Seen, AreStreamsOf, MayBeWritten, IsRemainder, Notes}
-use Rattle.gc_scene_world.proofs.Exchanges.{counted, exchanged}
+use Rattle.gc_scene_world.specs.SceneStages.{StageParts, AreStreamsOf, MayBeWritten, IsRemainder, Notes}
+use Rattle.gc_scene_world.proofs.Exchanges.{execution_counted, exchanged}
 use Rattle.gc_scene_world.proofs.Lanes.{flight}
 use Rattle.gc_world.specs.declared.direction.Direction.{Direction}
 use Rattle.gc_world.specs.declared.event.Event.TheVariants as event
@@ -61,7 +61,7 @@ counts_queues c w up down h = record { sent = h.sent; executed = h.executed; mad
 -- the front request was handed to the instrument, as the functions' contracts say. `request` is its text. `up`, `instrument` and
 -- `down` are the stage's parts then, and `executed` is its count of executions. `reply` is the text `old`, which was empty, with
 -- the reply appended, if there is one (`answers`)
-pub record HandsToInstrument (s : Seen) : Type 0 where
+pub record HandsToInstrument (s : StageParts) : Type 0 where
   pub request : List ℕ
   pub up : Flight
   pub instrument : SceneState
@@ -78,11 +78,11 @@ pub record HandsToInstrument (s : Seen) : Type 0 where
   pub down_is : down ≡ pushed s.down reply
 
 -- the stage after that, with one more reply made
-abbrev pub after_handing : (s : Seen) → HandsToInstrument s → Seen
+abbrev pub after_handing : (s : StageParts) → HandsToInstrument s → StageParts
 after_handing s left =
     record s { instrument = left.instrument; up = left.up; down = left.down; counts = record s.counts { executed = left.executed; made = s.counts.made + 1 } }
 
-module _ (width : ℕ) (s : Seen) (v : Streams (ById Call) SceneState) (h : AreStreamsOf width s v) where
+module _ (width : ℕ) (s : StageParts) (v : Streams (ById Call) SceneState) (h : AreStreamsOf width s v) where
   -- the streams with this world, of whose front lines as much has gone as before
   abbrev with_world : World (ById Call) SceneState → Streams (ById Call) SceneState
   with_world w = record { world = w; up_gone = v.up_gone; down_gone = v.down_gone }
@@ -139,7 +139,7 @@ module _ (width : ℕ) (s : Seen) (v : Streams (ById Call) SceneState) (h : AreS
             settled = h.settled;
             counts = record {
               sent = h.counts.sent;
-              executed = counted s.instrument x.line.id x.line.call left.instrument s.counts.executed left.executed v.world.wire.executed x.number did.state left.notes h.counts.executed
+              executed = execution_counted s.instrument x.line.id x.line.call left.instrument s.counts.executed left.executed v.world.wire.executed x.number did.state left.notes h.counts.executed
                   ∙ ap (λ (t : SceneState). length (cond (scene_handed t x.line.id x.line.call).executed (v.world.wire.executed ++ x.number ∷ []) v.world.wire.executed)) h.instrument;
               made = ap (λ n. n + 1) h.counts.made ∙ sym (length_push v.world.wire.made m);
               refused = h.counts.refused;
@@ -169,7 +169,7 @@ module _ (width : ℕ) (s : Seen) (v : Streams (ById Call) SceneState) (h : AreS
   -- whether it was), the streams after the step are shown. `old` is the lane before the step and `lane` after it; the step
   -- leaves these texts; g bytes of the front line have gone; `put` sets a lane and counts in the stage. The last premise is the
   -- case in which line k hasn't begun to go
-  changed : (old : Flight) (g : ℕ) (put : Flight → Counts → Seen) (k : ℕ) (texts : List (List ℕ)) (step : Step) (b : Bool) (lane : Flight) (gone_is : old.gone ≡ g)
+  changed : (old : Flight) (g : ℕ) (put : Flight → Counts → StageParts) (k : ℕ) (texts : List (List ℕ)) (step : Step) (b : Bool) (lane : Flight) (gone_is : old.gone ≡ g)
       (same : put old (tallied false s.counts) ≡ record s { counts = tallied false s.counts }) (b_is : b ≡ is_whole k old)
       (lane_is : lane ≡ cond (is_begun k old.gone) old (record old { texts = texts }))
       → ((t : Bool) → ltb k (length old.texts) ≡ t
@@ -260,39 +260,39 @@ module _ (width : ℕ) (s : Seen) (v : Streams (ById Call) SceneState) (h : AreS
         counts = counts_idle s.counts v.world.wire h.counts;
       }
 
-  module _ (k : ℕ) (b : Bool) (lane : Flight) where
+  module _ (k : ℕ) (lane : Flight) where
     -- once line k of the upward lane was lost, if that was possible, the streams after that event are shown
-    pub up_lost : b ≡ is_whole k s.up → lane ≡ cond (is_begun k s.up.gone) s.up (record s.up { texts = without k s.up.texts })
-        → AreStreamsOf width (record s { up = lane; counts = tallied b s.counts }) (after_event scene_ends width v (event.UpLose k))
-    up_lost said left =
-        changed s.up v.up_gone (λ (f : Flight) (c : Counts). record s { up = f; counts = c }) k (without k s.up.texts) (Up_lose k) b lane
-        (ap (λ (f : Flight). f.gone) h.up) refl said left
+    pub up_lost : lane ≡ losing k s.up
+        → AreStreamsOf width (record s { up = lane; counts = tallied (is_whole k s.up) s.counts }) (after_event scene_ends width v (event.UpLose k))
+    up_lost left =
+        changed s.up v.up_gone (λ (f : Flight) (c : Counts). record s { up = f; counts = c }) k (without k s.up.texts) (Up_lose k) (is_whole k s.up) lane
+        (ap (λ (f : Flight). f.gone) h.up) refl refl left
         (up_changed k (without k s.up.texts) (without k v.world.wire.up) (ap (without k) up_are ∙ without_map text_of k v.world.wire.up) (without_past k s.up.texts)
         (each_without MayBeWritten k v.world.wire.up h.requests))
 
     -- once line k of the upward lane was repeated, if that was possible, the streams after that event are shown
-    pub up_repeated : b ≡ is_whole k s.up → lane ≡ cond (is_begun k s.up.gone) s.up (record s.up { texts = doubled k s.up.texts })
-        → AreStreamsOf width (record s { up = lane; counts = tallied b s.counts }) (after_event scene_ends width v (event.UpRepeat k))
-    up_repeated said left =
-        changed s.up v.up_gone (λ (f : Flight) (c : Counts). record s { up = f; counts = c }) k (doubled k s.up.texts) (Up_repeat k) b lane
-        (ap (λ (f : Flight). f.gone) h.up) refl said left
+    pub up_repeated : lane ≡ repeating k s.up
+        → AreStreamsOf width (record s { up = lane; counts = tallied (is_whole k s.up) s.counts }) (after_event scene_ends width v (event.UpRepeat k))
+    up_repeated left =
+        changed s.up v.up_gone (λ (f : Flight) (c : Counts). record s { up = f; counts = c }) k (doubled k s.up.texts) (Up_repeat k) (is_whole k s.up) lane
+        (ap (λ (f : Flight). f.gone) h.up) refl refl left
         (up_changed k (doubled k s.up.texts) (doubled k v.world.wire.up) (ap (doubled k) up_are ∙ doubled_map text_of k v.world.wire.up) (doubled_past k s.up.texts)
         (each_doubled MayBeWritten k v.world.wire.up h.requests))
 
     -- once line k of the downward lane was lost, if that was possible, the streams after that event are shown
-    pub down_lost : b ≡ is_whole k s.down → lane ≡ cond (is_begun k s.down.gone) s.down (record s.down { texts = without k s.down.texts })
-        → AreStreamsOf width (record s { down = lane; counts = tallied b s.counts }) (after_event scene_ends width v (event.DownLose k))
-    down_lost said left =
-        changed s.down v.down_gone (λ (f : Flight) (c : Counts). record s { down = f; counts = c }) k (without k s.down.texts) (Down_lose k) b lane
-        (ap (λ (f : Flight). f.gone) h.down) refl said left
+    pub down_lost : lane ≡ losing k s.down
+        → AreStreamsOf width (record s { down = lane; counts = tallied (is_whole k s.down) s.counts }) (after_event scene_ends width v (event.DownLose k))
+    down_lost left =
+        changed s.down v.down_gone (λ (f : Flight) (c : Counts). record s { down = f; counts = c }) k (without k s.down.texts) (Down_lose k) (is_whole k s.down) lane
+        (ap (λ (f : Flight). f.gone) h.down) refl refl left
         (down_changed k (without k s.down.texts) (without k v.world.wire.down) (ap (without k) down_are ∙ without_map (λ x. x.line) k v.world.wire.down) (without_past k s.down.texts))
 
     -- once line k of the downward lane was repeated, if that was possible, the streams after that event are shown
-    pub down_repeated : b ≡ is_whole k s.down → lane ≡ cond (is_begun k s.down.gone) s.down (record s.down { texts = doubled k s.down.texts })
-        → AreStreamsOf width (record s { down = lane; counts = tallied b s.counts }) (after_event scene_ends width v (event.DownRepeat k))
-    down_repeated said left =
-        changed s.down v.down_gone (λ (f : Flight) (c : Counts). record s { down = f; counts = c }) k (doubled k s.down.texts) (Down_repeat k) b lane
-        (ap (λ (f : Flight). f.gone) h.down) refl said left
+    pub down_repeated : lane ≡ repeating k s.down
+        → AreStreamsOf width (record s { down = lane; counts = tallied (is_whole k s.down) s.counts }) (after_event scene_ends width v (event.DownRepeat k))
+    down_repeated left =
+        changed s.down v.down_gone (λ (f : Flight) (c : Counts). record s { down = f; counts = c }) k (doubled k s.down.texts) (Down_repeat k) (is_whole k s.down) lane
+        (ap (λ (f : Flight). f.gone) h.down) refl refl left
         (down_changed k (doubled k s.down.texts) (doubled k v.world.wire.down) (ap (doubled k) down_are ∙ doubled_map (λ x. x.line) k v.world.wire.down) (doubled_past k s.down.texts))
 
   -- Bytes.

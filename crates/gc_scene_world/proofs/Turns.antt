@@ -4,7 +4,7 @@ use Rattle.std.proofs.lemmas.List.{length-map}
 use Rattle.gc_scenes.specs.SceneState.{SceneState, scene_restarted}
 use Rattle.gc_scene_world.specs.Lanes.{Flight}
 use Rattle.gc_scene_world.specs.SceneRuns.{scene_ends, scene_streamed, scene_played}
-use Rattle.gc_scene_world.specs.SceneStages.{Seen, AreStreamsOf, HasRoom}
+use Rattle.gc_scene_world.specs.SceneStages.{StageParts, AreStreamsOf, HasRoom}
 use Rattle.gc_scene_world.proofs.Shown.{text_of}
 use Rattle.gc_world.specs.declared.event.Event.{Event}
 use Rattle.gc_world.proofs.Counts.{IsWithin}
@@ -15,7 +15,7 @@ played_within : (width : ℕ) (opening : SceneState) (events : List Event) → I
 played_within width opening events = run_within scene_ends width (scene_restarted opening) events
 
 -- after the first i of fewer than 2^64 events, the counts have room for event i
-pub has_room : (width : ℕ) (opening : SceneState) (events : List Event) (i : ℕ) (s : Seen) → i < length events → length events < 2 ^ 64
+pub has_room : (width : ℕ) (opening : SceneState) (events : List Event) (i : ℕ) (s : StageParts) → i < length events → length events < 2 ^ 64
     → AreStreamsOf width s (scene_streamed width opening (take i events)) → HasRoom s
 has_room width opening events i s lt few h =
     let w = played_within width opening (take i events) in

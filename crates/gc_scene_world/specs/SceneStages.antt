@@ -22,7 +22,7 @@ use Rattle.gc_world.specs.Streams.{Streams, up_texts, down_texts, remaining}
 use Rattle.gc_world.specs.World.{Request, Numbered}
 
 -- the parts of a stage of which contracts speak
-pub record Seen : Type 0 where
+pub record StageParts : Type 0 where
   pub client : Windowed Call
   pub instrument : SceneState
   pub up : Flight
@@ -31,8 +31,8 @@ pub record Seen : Type 0 where
   pub counts : Counts
 
 -- the parts of this stage
-abbrev pub seen : Stage → Seen
-seen s = record { client = s.client; instrument = s.instrument; up = s.up; down = s.down; settled = s.settled.items; counts = s.counts }
+abbrev pub stage_parts : Stage → StageParts
+stage_parts s = record { client = s.client; instrument = s.instrument; up = s.up; down = s.down; settled = s.settled.items; counts = s.counts }
 
 -- a client may have written the request: its id is below 8, and the numbers of its call are in the ranges of their types
 abbrev pub MayBeWritten : Numbered Request → Type 0
@@ -40,7 +40,7 @@ MayBeWritten x = (x.line.id < IDS) × IsFitting x.line.call
 
 -- the parts of a stage, whose client's window has this width, correspond to these streams; the client's next id is below 8; and a client
 -- may have written each request in flight (`MayBeWritten`)
-pub record AreStreamsOf (width : ℕ) (s : Seen) (v : Streams (ById Call) SceneState) : Type 0 where
+pub record AreStreamsOf (width : ℕ) (s : StageParts) (v : Streams (ById Call) SceneState) : Type 0 where
   pub client : s.client ≡ record { width = width; ids = v.world.client }
   pub next : v.world.client.next < IDS
   pub instrument : s.instrument ≡ v.world.wire.state
@@ -53,7 +53,7 @@ pub record AreStreamsOf (width : ℕ) (s : Seen) (v : Streams (ById Call) SceneS
 -- the kind of this crate's stages: their runs are on the instrument of a scene, and such a stage shows the streams to which its
 -- parts correspond (`AreStreamsOf`)
 abbrev pub staging : Staging Stage SceneState
-staging = record { ends = scene_ends; shows = λ width s v. AreStreamsOf width (seen s) v }
+staging = record { ends = scene_ends; shows = λ width s v. AreStreamsOf width (stage_parts s) v }
 
 -- `n` is how many bytes of the front line of a direction are still to go, 0 if no line is in flight; not all bytes of the front line have
 -- gone, and none count as gone if there is no line
@@ -70,7 +70,7 @@ abbrev pub HasRoomFor : (count : ℕ) → Flight → Type 0
 HasRoomFor count up = count + length up.texts < 2 ^ 64
 
 -- no count overflows at the next event; each request in flight may become an execution and a reply
-pub record HasRoom (s : Seen) : Type 0 where
+pub record HasRoom (s : StageParts) : Type 0 where
   pub sent : s.counts.sent + 1 < 2 ^ 64
   pub executed : HasRoomFor s.counts.executed s.up
   pub made : HasRoomFor s.counts.made s.up

@@ -8,10 +8,10 @@
 ghost use Rattle.std.specs.Prelude.{◌≡◌, ◌↔◌, ◌+◌, ◌<◌, ◌≤◌, ◌^◌, ◌++◌, [], OnOk, IsTrue};
 ghost use Rattle.gc_world.specs.declared.event.Event.{Event};
 ghost use Rattle.gc_world.specs.Directions.{bytes, delivery};
-ghost use Rattle.gc_world.specs.Staging.{streams_at_start, IsShown, Follows, FollowsBytes, HasMoreThan};
+ghost use Rattle.gc_world.specs.Staging.{streams_at_start, ShowsSome, Follows, FollowsBytes, HasMoreThan};
 ghost use Rattle.gc_scene_world.specs.Lanes.{losing, repeating, idle_after};
 ghost use Rattle.gc_scene_world.specs.SceneRuns.{scene_ends};
-ghost use Rattle.gc_scene_world.specs.SceneStages.{seen, staging, ShowsRemainder, HasRoom, HasRoomFor, Notes};
+ghost use Rattle.gc_scene_world.specs.SceneStages.{stage_parts, staging, ShowsRemainder, HasRoom, HasRoomFor, Notes};
 
 use crate::lane::Lane;
 use crate::report::{Counts, SceneReport};
@@ -64,8 +64,8 @@ impl Stage {
     /// Lets one event happen. An event that isn't possible is only counted. `Err`: memory for a settlement or for a line in
     /// flight was refused, and the event may have happened in part.
     pub fn happen(&mut self, event: &Event) -> Result<(), AllocError>
-        requires room { HasRoom (seen self.old) }
-        requires shown { IsShown staging self.old }
+        requires room { HasRoom (stage_parts self.old) }
+        requires shown { ShowsSome staging self.old }
         ensures { OnOk result (Follows staging self.old event.now self.new) }
     {
         match *event {
@@ -122,7 +122,7 @@ impl Stage {
         requires executed { HasRoomFor self.old.counts.executed self.old.up }
         requires made { HasRoomFor self.old.counts.made self.old.up }
         requires idle { self.old.counts.idle_events + 1 < 2 ^ 64 }
-        requires shown { IsShown staging self.old }
+        requires shown { ShowsSome staging self.old }
         ensures { OnOk result (Follows staging self.old Event.UpDeliver self.new) }
     {
         let Some(request) = self.up.take() else {
@@ -158,8 +158,8 @@ impl Stage {
     // Hands over the next `n` bytes of a direction, or all that are in flight if they are fewer: each line that they complete is delivered.
     // If `n` is 0 or no byte is in flight, the event is only counted. `Err`: memory was refused.
     fn deliver_bytes(&mut self, direction: Direction, n: usize) -> Result<(), AllocError>
-        requires room { HasRoom (seen self.old) }
-        requires shown { IsShown staging self.old }
+        requires room { HasRoom (stage_parts self.old) }
+        requires shown { ShowsSome staging self.old }
         ensures { OnOk result (Follows staging self.old (bytes direction n) self.new) }
     {
         let mut left = n;
@@ -185,7 +185,7 @@ impl Stage {
         requires executed { HasRoomFor self.old.counts.executed self.old.up }
         requires made { HasRoomFor self.old.counts.made self.old.up }
         requires idle { self.old.counts.idle_events + 1 < 2 ^ 64 }
-        requires shown { IsShown staging self.old }
+        requires shown { ShowsSome staging self.old }
         ensures { OnOk result (Follows staging self.old (delivery direction) self.new) }
     {
         match direction {
@@ -206,7 +206,7 @@ impl Stage {
 
     // Hands over the next `n` bytes of the front line of a direction. They don't complete the line.
     fn go_on(&mut self, direction: Direction, n: usize)
-        requires shown { IsShown staging self.old }
+        requires shown { ShowsSome staging self.old }
         requires some { HasMoreThan staging self.old direction n }
         ensures { FollowsBytes staging self.old direction n self.new }
     {

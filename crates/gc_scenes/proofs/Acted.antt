@@ -9,14 +9,14 @@ use Rattle.gc_catalogue.specs.declared.answer.Answer.TheVariants as answer
 use Rattle.gc_catalogue.specs.declared.call.Call.{Call}
 use Rattle.gc_catalogue.specs.declared.call.Call.TheVariants as call
 use Rattle.gc_catalogue.specs.declared.call.DateTime.{DateTime}
-use Rattle.gc_instrument.specs.Execution.{Executed, Gives, exec, done, distance_outcome, adjusted, pointed, unmeasured}
+use Rattle.gc_instrument.specs.Execution.{Executed, Gives, exec, done, refused, distance_outcome, adjusted, pointed, unmeasured}
 use Rattle.gc_instrument.specs.Replying.{with_kept, executed_with}
 use Rattle.gc_instrument.specs.State.{State, KeptReply}
 use Rattle.gc_instrument.specs.declared.target.Target.{Target}
 use Rattle.gc_instrument.proofs.Executions.{exec_outcome}
 use Rattle.gc_instrument.proofs.Keeping.{executes_apart, distance_apart, adjusted_apart}
 use Rattle.gc_scenes.specs.Acting.{acted, acted_faceless, dated, faced}
-use Rattle.gc_scenes.specs.SceneExecution.{outcome, shown, seen_by}
+use Rattle.gc_scenes.specs.SceneExecution.{outcome, clock_shows, seen_by}
 use Rattle.gc_scenes.specs.SceneState.{SceneState, seeing}
 use Rattle.gc_scenes.specs.Seen.{scene_of}
 use Rattle.gc_scenes.specs.Ways.{no_ways, nearest, other_hz, other_v}
@@ -44,15 +44,19 @@ table_sound s asked = let is = exec_outcome s asked in record { code = is.code; 
 done_sound : (s : State) (a : Answer) → HasSoundCode (done s a)
 done_sound s a = record { code = lit< tt; refuses = λ some. absurd (some refl) }
 
+-- an outcome with a code of 16 bits and no answer is sound
+refused_sound : (s : State) (code : ℕ) → code < 65536 → HasSoundCode (refused s code)
+refused_sound s code small = record { code = small; refuses = λ some. refl }
+
 -- the outcome of a search that found a target, or none, is sound
 adjusted_sound : (s : State) (o : Option Target) → HasSoundCode (adjusted s o)
-adjusted_sound s (Some t) = record { code = lit< tt; refuses = λ some. absurd (some refl) }
-adjusted_sound s None = record { code = lit< tt; refuses = λ some. refl }
+adjusted_sound s (Some t) = done_sound (pointed s t.hz t.v) answer.Nothing
+adjusted_sound s None = refused_sound s 8710 (lit< tt)
 
 -- the outcome of asking for the distance is sound
 distance_sound : (s : State) (f : Decimal → Answer) (o : Option Decimal) → HasSoundCode (distance_outcome s f o)
-distance_sound s f (Some d) = record { code = lit< tt; refuses = λ some. absurd (some refl) }
-distance_sound s f None = record { code = lit< tt; refuses = λ some. refl }
+distance_sound s f (Some d) = done_sound s (f d)
+distance_sound s f None = refused_sound s 1285 (lit< tt)
 
 -- the outcome of asking for the date is sound
 dated_sound : (now : Option DateTime) (s : State) → HasSoundCode (dated now s)
@@ -77,7 +81,7 @@ faceless_sound w now s asked = table_sound s asked
 -- each outcome of a scene's instrument is sound
 pub outcome_sound : (s : SceneState) (asked : Call) → HasSoundCode (outcome s asked)
 outcome_sound s asked =
-    let is = faceless_sound s.ways (shown s) (seeing (seen_by s asked) s.base) asked in
+    let is = faceless_sound s.ways (clock_shows s) (seeing (seen_by s asked) s.base) asked in
     record { code = is.code; refuses = is.refuses }
 
 -- without ways, and where no clock runs, the outcome (but for the face) is the table's
@@ -136,16 +140,16 @@ then_faced w now s t u asked code said does is =
 -- where an instrument with the fields `i`, but with the targets that the call sees (`seen`), acts on it, and goes to the state t,
 -- that is the outcome of the call in the scene's state s that these fields make up (`scene_of`)
 pub acts_over_seen : (i : Inside) (s : SceneState) (seen t : State) (now : Option DateTime) (asked : Call) (code : ℕ) (said : Answer)
-    → scene_of i ≡ s → seen ≡ seeing (seen_by s asked) i.base → now ≡ shown s
+    → scene_of i ≡ s → seen ≡ seeing (seen_by s asked) i.base → now ≡ clock_shows s
     → Gives (acted i.ways now seen asked) t code said → Gives (outcome s asked) (with_kept i.kept t) code said
 acts_over_seen i s seen t now asked code said e over date does =
     let Acts : Ways → Option DateTime → State → Type 0 = λ w n u. Gives (acted w n u asked) t code said in
-    let here : Acts s.ways (shown s) (seeing (seen_by s asked) i.base) =
-    subst (λ (w : Ways). Acts w (shown s) (seeing (seen_by s asked) i.base)) (ap (λ (u : SceneState). u.ways) e)
+    let here : Acts s.ways (clock_shows s) (seeing (seen_by s asked) i.base) =
+    subst (λ (w : Ways). Acts w (clock_shows s) (seeing (seen_by s asked) i.base)) (ap (λ (u : SceneState). u.ways) e)
     (subst (λ (n : Option DateTime). Acts i.ways n (seeing (seen_by s asked) i.base)) date (subst (λ (u : State). Acts i.ways now u) over does)) in
-    subst (λ (u : State). Gives (acted s.ways (shown s) (seeing (seen_by s asked) u) asked) (with_kept i.kept t) code said)
+    subst (λ (u : State). Gives (acted s.ways (clock_shows s) (seeing (seen_by s asked) u) asked) (with_kept i.kept t) code said)
     (ap (λ (u : SceneState). u.base) e)
-    (acts_apart i.kept s.ways (shown s) (seeing (seen_by s asked) i.base) t asked code said here)
+    (acts_apart i.kept s.ways (clock_shows s) (seeing (seen_by s asked) i.base) t asked code said here)
 
 -- The outcomes that the ways change.
 

@@ -22,6 +22,7 @@ use Rattle.gc_scenes.specs.SceneState.{seeing}
 use Rattle.gc_scenes.specs.Acting.{acted_faceless}
 use Rattle.gc_scenes.specs.Ways.{no_ways}
 use Rattle.gc_scenes.specs.declared.rules.Prism.{Prism}
+use Rattle.gc_scenes.specs.declared.rules.Sight.{Sight}
 use Rattle.gc_scenes.proofs.Acted.{table_without_ways}
 
 -- no number is at least 1 and at most 0
@@ -34,11 +35,16 @@ no_look look false b x y = refl
 clear_still : (look : ℕ) (t : Target) → is_clear look (still t) ≡ true
 clear_still look t = no_look look (nat_le 1 look) (nat_le look 0) refl refl
 
+-- the sight in this look, from where the telescope points (`there`), in face I
+abbrev in_face_one : (look : ℕ) (there : Pointing) → Sight
+in_face_one look there = record { turned = false; look = look; there = there }
+
 -- of targets that are never hidden, all are seen in each look in face I, at their own angles
-seen_still : (look : ℕ) (ts : List Target) → seen false look (all_still ts) ≡ ts
-seen_still look [] = refl
-seen_still look (t ∷ ts) =
-    ap (λ (b : Bool). cond b (t ∷ seen false look (all_still ts)) (seen false look (all_still ts))) (clear_still look t) ∙ ap (λ (xs : List Target). t ∷ xs) (seen_still look ts)
+seen_still : (look : ℕ) (there : Pointing) (ts : List Target) → seen (in_face_one look there) (all_still ts) ≡ ts
+seen_still look there [] = refl
+seen_still look there (t ∷ ts) =
+    let others = seen (in_face_one look there) (all_still ts) in
+    ap (λ (b : Bool). cond b (t ∷ others) others) (clear_still look t) ∙ ap (λ (xs : List Target). t ∷ xs) (seen_still look there ts)
 
 -- a target that never moves stays as it is, whether it was measured (true) or not
 still_stays : (b : Bool) (t : Target) → cond b (moved_by None (still t)) (still t) ≡ still t
@@ -46,14 +52,15 @@ still_stays true t = refl
 still_stays false t = refl
 
 -- targets that never move stay as they are after a measurement in face I
-drifted_still : (look : ℕ) (there : Pointing) (ts : List Target) → drifted false look there (all_still ts) ≡ all_still ts
+drifted_still : (look : ℕ) (there : Pointing) (ts : List Target) → drifted (in_face_one look there) (all_still ts) ≡ all_still ts
 drifted_still look there [] = refl
 drifted_still look there (t ∷ ts) =
-    ap (λ (p : Prism). p ∷ drifted false look there (all_still ts)) (still_stays (is_clear look (still t) && is_at there t) t) ∙ ap (λ (ps : List Prism). still t ∷ ps) (drifted_still look there ts)
+    ap (λ (p : Prism). p ∷ drifted (in_face_one look there) (all_still ts)) (still_stays (is_clear look (still t) && is_at there t) t)
+    ∙ ap (λ (ps : List Prism). still t ∷ ps) (drifted_still look there ts)
 
 -- targets that never move stay as they are after a call in face I, whether it measures (true) or not
 still_after : (b : Bool) (look : ℕ) (there : Pointing) (ts : List Target)
-    → cond b (drifted false look there (all_still ts)) (all_still ts) ≡ all_still ts
+    → cond b (drifted (in_face_one look there) (all_still ts)) (all_still ts) ≡ all_still ts
 still_after true look there ts = drifted_still look there ts
 still_after false look there ts = refl
 
@@ -65,14 +72,15 @@ module _ (looks moment : ℕ) (s : State) (call : Call) where
   -- the outcome of the call in a scene without rules is that of the execution table
   outcome_is : outcome (ruleless looks moment s) call ≡ rebuilt_outcome (exec s call)
   outcome_is =
-      ap (λ (ts : List Target). rebuilt_outcome (acted_faceless no_ways None (seeing ts s) call)) (seen_still (look_of false looks call) s.scene) ∙ ap rebuilt_outcome (table_without_ways s call)
+      ap (λ (ts : List Target). rebuilt_outcome (acted_faceless no_ways None (seeing ts s) call)) (seen_still (look_of false looks call) s.pointing s.scene)
+      ∙ ap rebuilt_outcome (table_without_ways s call)
 
   -- the state after the call in a scene without rules is, with any stored reply, that of the table after the call
   after_is : (kept : Option KeptReply)
       → ruleless (look_of false looks call) moment (with_kept kept (exec s call).state) ≡ holding kept (after_call (ruleless looks moment s) call (exec s call))
   after_is kept =
       let x = exec s call in
-      let targets : all_still x.state.scene ≡ cond (is_measurement call) (drifted false (look_of false looks call) s.pointing (all_still s.scene)) (all_still s.scene) =
+      let targets : all_still x.state.scene ≡ cond (is_measurement call) (drifted (in_face_one (look_of false looks call) s.pointing) (all_still s.scene)) (all_still s.scene) =
       ap (λ (t : State). all_still t.scene) (exec_outcome s call).same ∙ sym (still_after (is_measurement call) (look_of false looks call) s.pointing s.scene) in
       ap (λ (ps : List Prism). record (ruleless (look_of false looks call) moment (with_kept kept x.state)) { prisms = ps }) targets
 

@@ -42,11 +42,7 @@ faced false s = s
 -- the outcome of the call with these ways, and with the face that belongs to the vertical angle after it (`faced`). `now` is what
 -- a running clock shows
 abbrev pub acted : Ways → (now : Option DateTime) → State → Call → Executed
-acted w now s asked = record {
-  state = faced w.faces (acted_faceless w now s asked).state;
-  rc = (acted_faceless w now s asked).rc;
-  answer = (acted_faceless w now s asked).answer;
-}
+acted w now s asked = let x = acted_faceless w now s asked in record x { state = faced w.faces x.state }
 
 -- whether no way and no running clock can change the call's outcome, apart from the face that `faced` sets: `false` for
 -- AUT_MakePositioning, AUT_ChangeFace, TMC_GetSimpleMea and CSV_GetDateTime, `true` for every other call

@@ -29,10 +29,10 @@ abbrev pub at_second : (second : ℕ) → DateTime → DateTime
 at_second s d = record d { hour = s / 3600; minute = s / 60 % 60; second = s % 60 }
 
 -- the date and time this many seconds later; a day has 86,400 seconds
-abbrev pub later : (seconds : ℕ) → DateTime → DateTime
-later n d = at_second ((second_of d + n) % 86400) (days_on ((second_of d + n) / 86400) d)
+abbrev pub seconds_on : (seconds : ℕ) → DateTime → DateTime
+seconds_on n d = at_second ((second_of d + n) % 86400) (days_on ((second_of d + n) / 86400) d)
 
 -- what a clock shows at this moment, which is in milliseconds: the date that it was set to plus the whole seconds since then; at
 -- a moment before it was set, that date
 abbrev pub shown_at : (moment : ℕ) → Clock → DateTime
-shown_at moment c = later ((moment - c.at) / 1000) c.set
+shown_at moment c = seconds_on ((moment - c.at) / 1000) c.set

@@ -6,7 +6,6 @@ use Rattle.gc_values.specs.declared.decimal.Decimal.{Decimal}
 use Rattle.gc_catalogue.specs.declared.answer.Answer.{Answer}
 use Rattle.gc_catalogue.specs.declared.answer.Answer.TheVariants as answer
 use Rattle.gc_instrument.specs.Targets.{is_at}
-use Rattle.gc_instrument.specs.declared.pointing.Pointing.{Pointing}
 use Rattle.gc_instrument.specs.declared.target.Target.{Target}
 use Rattle.gc_scenes.specs.Shifting.{shifted, next, deviation}
 use Rattle.gc_scenes.specs.Ways.{target_in_face}
@@ -14,6 +13,7 @@ use Rattle.gc_scenes.specs.declared.rules.Prism.{Prism}
 use Rattle.gc_scenes.specs.declared.rules.Offset.{Offset}
 use Rattle.gc_scenes.specs.declared.rules.Fault.{Fault}
 use Rattle.gc_scenes.specs.declared.rules.Scripted.{Scripted}
+use Rattle.gc_scenes.specs.declared.rules.Sight.{Sight}
 use Rattle.gc_scenes.specs.declared.rules.Noise.{Noise}
 
 -- one more, but at most the greatest number of 32 bits
@@ -26,30 +26,29 @@ one_more n = min (n + 1) 4294967295
 abbrev pub is_clear : (look : ℕ) → Prism → Bool
 is_clear look p = not (nat_le p.from look && nat_le look p.to)
 
--- the targets that aren't hidden in this look, each with the angles at which the telescope points at it: those of face II if
--- `over`
-abbrev pub seen : (over : Bool) (look : ℕ) → List Prism → List Target
-seen over look [] = []
-seen over look (p ∷ ps) = if is_clear look p then target_in_face over p.at ∷ seen over look ps else seen over look ps
+-- the targets that aren't hidden in the look of this sight, each with the angles at which the telescope points at it: those of face II
+-- if it is in that face
+abbrev pub seen : Sight → List Prism → List Target
+seen s [] = []
+seen s (p ∷ ps) = if is_clear s.look p then target_in_face s.turned p.at ∷ seen s ps else seen s ps
 
 -- the target moved by this offset; what would leave a decimal's range stays
-abbrev pub offset : Offset → Target → Target
-offset o t = record { hz = shifted t.hz (units o.hz); v = shifted t.v (units o.v); distance = shifted t.distance (units o.distance) }
+abbrev pub applied_to : Offset → Target → Target
+applied_to o t = record { hz = shifted t.hz (units o.hz); v = shifted t.v (units o.v); distance = shifted t.distance (units o.distance) }
 
 -- the target after a measurement of it: moved by its drift, if it has one
 abbrev pub moved_by : Option Offset → Prism → Prism
 moved_by None p = p
-moved_by (Some o) p = record p { at = offset o p.at }
+moved_by (Some o) p = record p { at = applied_to o p.at }
 
--- the target after a measurement in this look, with the telescope pointing `there`, in face II if `over`: moved by its drift, if
--- it isn't hidden and lies exactly there
-abbrev pub moved : (over : Bool) (look : ℕ) → Pointing → Prism → Prism
-moved over look there p = if is_clear look p && is_at there (target_in_face over p.at) then moved_by p.drift p else p
+-- the target after a measurement with this sight: moved by its drift, if it isn't hidden and lies exactly where the telescope points
+abbrev pub moved : Sight → Prism → Prism
+moved s p = if is_clear s.look p && is_at s.there (target_in_face s.turned p.at) then moved_by p.drift p else p
 
--- the targets after a measurement in this look, with the telescope pointing `there`, in face II if `over`: all that aren't hidden
--- and lie exactly there have moved by their drift
-abbrev pub drifted : (over : Bool) (look : ℕ) → Pointing → List Prism → List Prism
-drifted over look there ps = map (moved over look there) ps
+-- the targets after a measurement with this sight: all that aren't hidden and lie exactly where the telescope points have moved by
+-- their drift
+abbrev pub drifted : Sight → List Prism → List Prism
+drifted s ps = map (moved s) ps
 
 -- Requests.
 

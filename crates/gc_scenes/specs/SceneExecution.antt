@@ -20,9 +20,10 @@ use Rattle.gc_scenes.specs.Clocks.{shown_at}
 use Rattle.gc_scenes.specs.Params.{scripted_params}
 use Rattle.gc_scenes.specs.Rules.{seen, drifted, one_more, fault_of, counted, scripted_reply, noisy, noise_after}
 use Rattle.gc_scenes.specs.SceneState.{SceneState, seeing}
-use Rattle.gc_scenes.specs.Ways.{is_over, is_warning, has_distance, valued}
+use Rattle.gc_scenes.specs.Ways.{is_turned, is_warning, has_distance, valued}
 use Rattle.gc_scenes.specs.declared.clock.Clock.{Clock}
 use Rattle.gc_scenes.specs.declared.rules.Scripted.{Scripted}
+use Rattle.gc_scenes.specs.declared.rules.Sight.{Sight}
 
 -- whether the call measures a distance; TMC_GetSimpleMea doesn't: it answers the one that was measured last
 abbrev pub is_measurement : Call → Bool
@@ -48,21 +49,25 @@ heading there (call.Position hz v pos_mode atr_mode dummy) = record { hz = hz; v
 heading there other = there
 
 -- whether the telescope is in face II when the call looks for a target; false also if the instrument has no angles of face II
-abbrev pub is_over_for : SceneState → Call → Bool
-is_over_for s asked = is_over s.ways (heading s.base.pointing asked)
+abbrev pub is_turned_for : SceneState → Call → Bool
+is_turned_for s asked = is_turned s.ways (heading s.base.pointing asked)
 
--- the targets that aren't hidden in the look of this call or, if the call is no look, in the last look (number 0 before the
--- first), each with the angles at which the telescope points at it
+-- how the telescope meets targets at this call: in its look or, if it is no look, in the last one (number 0 before the first), from
+-- where it points before the call, in the face in which the call looks for a target
+abbrev pub sight_at : SceneState → Call → Sight
+sight_at s asked = record { turned = is_turned_for s asked; look = look_of s.ways.aims s.looks asked; there = s.base.pointing }
+
+-- the targets that aren't hidden at this call, each with the angles at which the telescope points at it
 abbrev pub seen_by : SceneState → Call → List Target
-seen_by s asked = seen (is_over_for s asked) (look_of s.ways.aims s.looks asked) s.prisms
+seen_by s asked = seen (sight_at s asked) s.prisms
 
 -- what the instrument's clock shows at the state's moment. `None`: no clock runs
-abbrev pub shown : SceneState → Option DateTime
-shown s = option_map (shown_at s.moment) s.clock
+abbrev pub clock_shows : SceneState → Option DateTime
+clock_shows s = option_map (shown_at s.moment) s.clock
 
 -- the outcome of the call with the instrument's ways, over the targets that aren't hidden in the look of the call
 abbrev pub outcome : SceneState → Call → Executed
-outcome s asked = acted s.ways (shown s) (seeing (seen_by s asked) s.base) asked
+outcome s asked = acted s.ways (clock_shows s) (seeing (seen_by s asked) s.base) asked
 
 -- the outcome `x` has this return code and this answer
 abbrev pub Reports : Executed → (code : ℕ) → Answer → Type 0
@@ -82,17 +87,21 @@ pub record Played : Type 0 where
   pub rc : ℕ
   pub params : List ℕ
 
--- the state after a call with this outcome: the execution table's part is that of the outcome, but for its targets, which stay;
--- after a measurement the scene's targets may have moved; a look is counted if the call was a measurement or a search; the
--- noise's generator has advanced if the answer has a measured distance; a clock may have been set
+-- the state once a call with this sight and this return code was noted: after a measurement the targets may have moved; a look is
+-- counted if the call was a measurement or a search; a clock may have been set
+abbrev pub noting : Sight → Call → (rc : ℕ) → SceneState → SceneState
+noting sight asked rc s = record s {
+  prisms = if is_measurement asked then drifted sight s.prisms else s.prisms;
+  looks = sight.look;
+  clock = clock_after s.ways.clock s.moment asked rc s.clock;
+}
+
+-- the state after a call with this outcome: the call is noted (`noting`); the execution table's part is that of the outcome, but
+-- for its targets, which stay; the noise's generator has advanced if the answer has a measured distance
 abbrev pub after_call : SceneState → Call → Executed → SceneState
-after_call s asked x = record s {
+after_call s asked x = record (noting (sight_at s asked) asked x.rc s) {
   base = seeing s.base.scene x.state;
-  prisms =
-      if is_measurement asked then drifted (is_over_for s asked) (look_of s.ways.aims s.looks asked) s.base.pointing s.prisms else s.prisms;
   noise = noise_after s.noise x.answer;
-  looks = look_of s.ways.aims s.looks asked;
-  clock = clock_after s.ways.clock s.moment asked x.rc s.clock;
 }
 
 -- the answer that a reply with this code has: the given one; or, if the code is a warning and the instrument has values with

@@ -1,6 +1,6 @@
 -- An instrument whose replies take time: this project's own. Moments are milliseconds on one clock; only their differences count.
 -- `rpc` is a procedure's number.
-use Rattle.std.specs.Prelude.{◌≡◌, ℕ, ◌<◌, ◌≤◌, ◌==◌, Bool, true, List, Option, Some, None, if◌then◌else◌, nat_lt, fold}
+use Rattle.std.specs.Prelude.{◌≡◌, ℕ, ◌<◌, ◌≤◌, ◌==◌, Bool, true, List, Option, Some, None, if◌then◌else◌, max, fold}
 use Rattle.gc_lines.specs.AnsweringLines.{AnswersLines}
 use Rattle.gc_lines.specs.Requests.{RequestFields, IsRequest}
 use Rattle.gc_lines.specs.declared.frame.Frame.{Frame}
@@ -34,14 +34,14 @@ pub record SlowState : Type 0 where
 abbrev pub slow_restarted : SlowState → SlowState
 slow_restarted s = record s { scene = scene_restarted s.scene }
 
--- a line that comes at this moment isn't discarded: the instrument isn't busy then, or discards no lines
-abbrev pub IsTaken : SlowState → (at : ℕ) → Type 0
-IsTaken s at = s.drops ≡ true → s.free_from ≤ at
+-- the instrument takes up a line that comes at this moment, and doesn't discard it: it isn't busy then, or discards no lines
+abbrev pub TakesUp : SlowState → (at : ℕ) → Type 0
+TakesUp s at = s.drops ≡ true → s.free_from ≤ at
 
 -- the moment at which the instrument starts on a line that came at the moment `at`, unless it discards the line: `at`, or
 -- `free_from` if it is busy until then
 abbrev pub taken_up : SlowState → (at : ℕ) → ℕ
-taken_up s at = if nat_lt at s.free_from then s.free_from else at
+taken_up s at = max at s.free_from
 
 -- the state of the scene's instrument when it starts on a line that came at the moment `came`
 abbrev pub scene_then : SlowState → (came : ℕ) → SceneState
@@ -53,11 +53,11 @@ pub data HearsLine (before : SlowState) (line : List ℕ) (at : ℕ) (after : Sl
   -- the instrument is busy, and discards the line: nothing is executed
   drops_it : before.drops ≡ true → at < before.free_from → after ≡ before → reply ≡ None → HearsLine before line at after reply
   -- the line gets no reply: it is no request
-  silent : IsTaken before at → (scene : SceneState) → IsPlayed (scene_then before at) line scene None
+  silent : TakesUp before at → (scene : SceneState) → IsPlayed (scene_then before at) line scene None
       → after ≡ record before { scene = scene } → reply ≡ None
       → HearsLine before line at after reply
   -- the line is a request: its reply goes out `ms` milliseconds after the instrument started on it
-  replies : IsTaken before at → (scene : SceneState) → (text : List ℕ) → IsPlayed (scene_then before at) line scene (Some text) → (ms : ℕ)
+  replies : TakesUp before at → (scene : SceneState) → (text : List ℕ) → IsPlayed (scene_then before at) line scene (Some text) → (ms : ℕ)
       → IsDelay before.delays line ms
       → after ≡ record before { scene = scene; free_from = later (taken_up before at) ms } → reply ≡ Some text
       → HearsLine before line at after reply

@@ -1,6 +1,6 @@
 -- The ways of real instruments that a scene's instrument may have, each by itself: this project's own, from memory, and no
 -- statement about an instrument. Angles are whole numbers of units, 10^-24 radians each.
-use Rattle.std.specs.Prelude.{ℕ, ℤ, pos, ◌+◌, ◌-◌, ◌%◌, ◌==◌, ◌&&◌, ◌||◌, ◌+ℤ◌, ◌-ℤ◌, not, Bool, true, false, List, [], ◌∷◌, Option, Some, None, nat_le, int_le, unsigned_abs, if◌then◌else◌, min, max}
+use Rattle.std.specs.Prelude.{ℕ, ℤ, ◌+◌, ◌-◌, ◌%◌, ◌==◌, ◌&&◌, ◌||◌, ◌+ℤ◌, ◌-ℤ◌, not, Bool, true, false, List, [], ◌∷◌, Option, Some, None, nat_le, int_le, unsigned_abs, if◌then◌else◌, min, max}
 use Rattle.gc_values.specs.Decimals.{rounded, units}
 use Rattle.gc_values.specs.Directions.{half_turn, turn}
 use Rattle.gc_values.specs.Fraction.{signed}
@@ -46,27 +46,26 @@ face_at v = if is_in_face_two v then Turned else Normal
 -- the horizontal direction h in the other face: h - P if h is at least P, and else h + P, where P is half a turn; or h itself, if
 -- that is out of a decimal's range
 abbrev pub other_hz : Decimal → Decimal
-other_hz h = shifted h (signed (int_le half_turn (units h)) 3141592653589793238462643)
+other_hz h = shifted h (signed (int_le half_turn (units h)) (unsigned_abs half_turn))
 
 -- the vertical angle v in the other face: 2P - v, where P is half a turn; or v itself, if that is out of a decimal's range
 abbrev pub other_v : Decimal → Decimal
 other_v v = shifted v (turn -ℤ (units v +ℤ units v))
 
 -- the target with the angles at which the telescope points at it: those of the other face in face II (true), and else its own
-abbrev pub target_in_face : (over : Bool) → Target → Target
+abbrev pub target_in_face : (turned : Bool) → Target → Target
 target_in_face true t = record { hz = other_hz t.hz; v = other_v t.v; distance = t.distance }
 target_in_face false t = t
 
 -- whether the telescope is in face II if it points `there`; false also if the instrument has no angles of face II
-abbrev pub is_over : Ways → Pointing → Bool
-is_over w there = w.faces && is_in_face_two there.v
+abbrev pub is_turned : Ways → Pointing → Bool
+is_turned w there = w.faces && is_in_face_two there.v
 
 -- Target recognition.
 
--- the angle between two directions with this difference, the shorter way round the circle, in units: 6283185307179586476925286
--- are a turn
+-- the angle between two directions with this difference, the shorter way round the circle, in units
 abbrev pub on_circle : ℤ → ℕ
-on_circle z = min (unsigned_abs z % 6283185307179586476925286) (6283185307179586476925286 - unsigned_abs z % 6283185307179586476925286)
+on_circle z = let rest = unsigned_abs z % unsigned_abs turn in min rest (unsigned_abs turn - rest)
 
 -- how far a target is from where the telescope points, in units: the greater of the differences of the two angles, of which that
 -- of the horizontal ones is taken the shorter way round the circle

@@ -2,7 +2,7 @@
 //! is here.
 
 ghost use Rattle.std.specs.Prelude.{◌≡◌, ◌≤◌, unsigned_abs};
-ghost use Rattle.gc_scenes.specs.Clocks.{next_year, next_day, days_on, second_of, at_second, later, shown_at};
+ghost use Rattle.gc_scenes.specs.Clocks.{next_year, next_day, days_on, second_of, at_second, seconds_on, shown_at};
 
 use gc_catalogue::{DateTime, month_days};
 
@@ -22,7 +22,7 @@ impl Clock {
     pub(crate) fn shown_at(&self, moment: u64) -> DateTime
         ensures { result ≡ shown_at moment self.now }
     {
-        later(moment.saturating_sub(self.at) / 1000, &self.set)
+        seconds_on(moment.saturating_sub(self.at) / 1000, &self.set)
     }
 }
 
@@ -88,9 +88,9 @@ fn at_second(second: u64, date: DateTime) -> DateTime
 }
 
 // The date and time this many seconds later. The bound on the seconds is that of a time in milliseconds in 64 bits.
-fn later(seconds: u64, date: &DateTime) -> DateTime
+fn seconds_on(seconds: u64, date: &DateTime) -> DateTime
     requires { seconds ≤ 18446744073709551 }
-    ensures { result ≡ later seconds date.now }
+    ensures { result ≡ seconds_on seconds date.now }
 {
     let all = second_of(date) + seconds;
     at_second(all % DAY, days_on(all / DAY, date))

@@ -1,17 +1,17 @@
 //! The instrument of a scene with rules: its parts, how it starts, and how it executes a call.
 
-ghost use Rattle.std.specs.Prelude.{◌≡◌, ◌<◌, ◌≤◌, ◌++◌, ℕ, List, Bool, [], length, true, false, Option, None, if◌then◌else◌};
+ghost use Rattle.std.specs.Prelude.{◌≡◌, ◌<◌, ◌≤◌, ◌++◌, ℕ, List, Bool, [], length, true, false, Option, None};
 ghost use Rattle.std.specs.Option.{option_map};
 ghost use Rattle.gc_instrument.specs.State.{opening};
 ghost use Rattle.gc_instrument.specs.Targets.{first_at};
 ghost use Rattle.gc_scenes.specs.Rules.{seen, drifted, counted, fault_of, scripted_reply, noisy, noise_after};
-ghost use Rattle.gc_scenes.specs.SceneExecution.{Reports, is_measurement, is_search, look_of, heading, is_over_for, outcome, after_call, counting, shown, seen_by, clock_after, distance_in_warning, known_distance};
+ghost use Rattle.gc_scenes.specs.SceneExecution.{Reports, is_measurement, is_search, look_of, heading, is_turned_for, outcome, noting, after_call, counting, clock_shows, sight_at, seen_by, clock_after, distance_in_warning, known_distance};
 ghost use Rattle.gc_scenes.specs.SceneState.{scene_restarted, at_moment, seeing};
 ghost use Rattle.gc_catalogue.specs.declared.answer.Answer.TheVariants.{Nothing};
 
 use crate::acting::{act_faceless, set_face_by_angle};
 use crate::clock::Clock;
-use crate::rules::{Fault, Noise, Prism, SceneRules, Scripted};
+use crate::rules::{Fault, Noise, Prism, SceneRules, Scripted, Sight};
 use crate::ways::{Ways, has_distance, target_in_face};
 use arrayvec::ArrayVec;
 use gc_catalogue::{Answer, Call, DateTime};
@@ -156,8 +156,8 @@ impl SceneInstrument {
 
     // What the instrument's clock shows at the moment of the next request. `None`: the instrument has no clock that runs, or it
     // hasn't been set yet.
-    fn shown(&self) -> Option<DateTime>
-        ensures { result ≡ shown self.now }
+    fn clock_shows(&self) -> Option<DateTime>
+        ensures { result ≡ clock_shows self.now }
     {
         match &self.clock {
             Some(clock) => Some(clock.shown_at(self.moment)),
@@ -167,19 +167,29 @@ impl SceneInstrument {
 
     // Whether the telescope is in face II when the call looks for a target. `false`: it is in face I, or the instrument has no angles of
     // face II.
-    fn is_over_for(&self, call: &Call) -> bool
-        ensures { result ≡ is_over_for self.now call.now }
+    fn is_turned_for(&self, call: &Call) -> bool
+        ensures { result ≡ is_turned_for self.now call.now }
     {
-        self.ways.is_over(&heading(self.base.pointing(), call))
+        self.ways.is_turned(&heading(self.base.pointing(), call))
     }
 
-    // The targets that aren't hidden in the look of this call or, if the call is no look, in the last look (number 0 before the
-    // first), each with the angles at which the telescope points at it.
+    // How the telescope meets targets at this call: in its look or, if it is no look, in the last one (number 0 before the first), from
+    // where it points before the call, in the face in which the call looks for a target.
+    fn sight_at(&self, call: &Call) -> Sight
+        ensures { result ≡ sight_at self.now call.now }
+    {
+        Sight {
+            turned: self.is_turned_for(call),
+            look: look_of(self.ways.aims, self.looks, call),
+            there: self.base.pointing(),
+        }
+    }
+
+    // The targets that aren't hidden at this call, each with the angles at which the telescope points at it.
     fn seen_by(&self, call: &Call) -> ArrayVec<Target, 32>
         ensures { result.items ≡ seen_by self.now call.now }
     {
-        let look = look_of(self.ways.aims, self.looks, call);
-        seen(self.is_over_for(call), look, self.prisms.as_slice())
+        seen(&self.sight_at(call), self.prisms.as_slice())
     }
 
     // Carries out a call with the instrument's ways, over the targets of `seen_by`, and returns the return code. An answer is written into
@@ -189,7 +199,7 @@ impl SceneInstrument {
         ensures gives { Reports (outcome self.old call.now) result answer.new }
         ensures state { self.new ≡ record self.old { base = seeing self.old.base.scene (outcome self.old call.now).state } }
     {
-        let now = self.shown();
+        let now = self.clock_shows();
         let targets = self.seen_by(call);
         self.base.set_scene(&targets);
         let rc = act_faceless(&mut self.base, &self.ways, now, call, answer);
@@ -197,20 +207,15 @@ impl SceneInstrument {
         rc
     }
 
-    // Notes that a call was carried out in this look and had this return code, where the telescope had pointed `there`, in face II if `over`:
-    // the look counts, after a measurement each target that isn't hidden and lies exactly there has moved by its drift, and setting the
-    // date may start the clock.
-    fn note_act(&mut self, over: bool, look: u32, there: &Pointing, call: &Call, rc: u16)
-        ensures { self.new ≡ record self.old {
-          prisms = if is_measurement call.now then drifted over look there.now self.old.prisms else self.old.prisms;
-          looks = look;
-          clock = clock_after self.old.ways.clock self.old.moment call.now rc self.old.clock;
-        } }
+    // Notes that a call was carried out with this sight and had this return code: its look counts, after a measurement each target that
+    // isn't hidden and lies exactly where the telescope pointed has moved by its drift, and setting the date may start the clock.
+    fn note_act(&mut self, sight: &Sight, call: &Call, rc: u16)
+        ensures { self.new ≡ noting sight.now call.now rc self.old }
     {
         if is_measurement(call) {
-            self.prisms = drifted(over, look, there, self.prisms.as_slice());
+            self.prisms = drifted(sight, self.prisms.as_slice());
         }
-        self.looks = look;
+        self.looks = sight.look;
         self.clock = clock_after(self.ways.clock, self.moment, call, rc, self.clock);
     }
 
@@ -223,11 +228,9 @@ impl SceneInstrument {
         ensures gives { Reports (outcome self.old call.now) result answer.new }
         ensures state { self.new ≡ record (after_call self.old call.now (outcome self.old call.now)) { noise = self.old.noise } }
     {
-        let look = look_of(self.ways.aims, self.looks, call);
-        let there = self.base.pointing();
-        let over = self.is_over_for(call);
+        let sight = self.sight_at(call);
         let rc = self.act_over_seen(call, answer);
-        self.note_act(over, look, &there, call, rc);
+        self.note_act(&sight, call, rc);
         rc
     }
 
@@ -351,32 +354,33 @@ fn look_of(aims: bool, looks: u32, call: &Call) -> u32
     }
 }
 
-// The targets that aren't hidden in this look, each with the angles at which the telescope points at it: those of face II if `over`.
-fn seen(over: bool, look: u32, prisms: &[Prism]) -> ArrayVec<Target, 32>
+// The targets that aren't hidden in the look of this sight, each with the angles at which the telescope points at it: those of face II if
+// it is in that face.
+fn seen(sight: &Sight, prisms: &[Prism]) -> ArrayVec<Target, 32>
     requires { length prisms.now ≤ 32 }
-    ensures { result.items ≡ seen over look prisms.now }
+    ensures { result.items ≡ seen sight.now prisms.now }
 {
     let mut targets = ArrayVec::new();
     for prism in prisms {
-        if !prism.is_clear(look) {
+        if !prism.is_clear(sight.look) {
             continue;
         }
         // There is room, since there are at most as many as prisms.
-        let _ = targets.try_push(target_in_face(over, &prism.at));
+        let _ = targets.try_push(target_in_face(sight.turned, &prism.at));
     }
     targets
 }
 
-// The targets after a measurement in this look, with the telescope pointing `there`, in face II if `over`: all that aren't hidden and lie
-// exactly there have moved by their drift.
-fn drifted(over: bool, look: u32, there: &Pointing, prisms: &[Prism]) -> ArrayVec<Prism, 32>
+// The targets after a measurement with this sight: all that aren't hidden and lie exactly where the telescope points have moved by their
+// drift.
+fn drifted(sight: &Sight, prisms: &[Prism]) -> ArrayVec<Prism, 32>
     requires { length prisms.now ≤ 32 }
-    ensures { result.items ≡ drifted over look there.now prisms.now }
+    ensures { result.items ≡ drifted sight.now prisms.now }
 {
     let mut moved = ArrayVec::new();
     for prism in prisms {
         // There is room, since there are as many as before.
-        let _ = moved.try_push(prism.moved(over, look, there));
+        let _ = moved.try_push(prism.moved(sight));
     }
     moved
 }

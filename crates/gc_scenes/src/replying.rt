@@ -205,9 +205,15 @@ impl SceneInstrument {
         ensures bound { length out.new.items ≤ length out.old.items + 512 }
     {
         match self.fault_of(rpc) {
-            Some(rc) => self.answer_with(rpc, id, rc, b"", out),
+            Some(rc) => self.answer_unexecuted(rpc, id, rc, b"", out),
             None => match self.scripted_reply(rpc) {
-                Some(scripted) => self.answer_with(rpc, id, scripted.rc, scripted.params(), out),
+                Some(scripted) => self.answer_unexecuted(
+                    rpc,
+                    id,
+                    scripted.rc,
+                    scripted.params(),
+                    out,
+                ),
                 None => {
                     self.count(rpc);
                     push_reply(out, UNKNOWN_PROCEDURE, id.unwrap_or(0), 0);
@@ -218,7 +224,7 @@ impl SceneInstrument {
 
     // Appends the reply to a request that isn't executed. A repeat gets the stored reply (`resent_line`), and changes nothing. Else the
     // faults count the request, and it gets a reply with this return code and these parameters, which is passed to `keep`.
-    fn answer_with<const N: usize>(
+    fn answer_unexecuted<const N: usize>(
         &mut self,
         rpc: u16,
         id: Option<u8>,

@@ -6,7 +6,7 @@ ghost use Rattle.gc_scenes.specs.Params.{scripted_params};
 use crate::ways::Ways;
 use arrayvec::ArrayVec;
 use gc_catalogue::RawCall;
-use gc_instrument::Target;
+use gc_instrument::{Pointing, Target};
 use gc_values::Decimal;
 
 /// What is added to a target: to its horizontal direction and its vertical angle, in radians, and to its distance, in metres.
@@ -26,6 +26,14 @@ pub struct Prism {
     pub drift: Option<Offset>,
     pub from: u32,
     pub to: u32,
+}
+
+/// How the telescope meets targets at a call: in the look with this number, from where it points (`there`), in face II if `turned`.
+#[derive(Clone, Copy)]
+pub struct Sight {
+    pub turned: bool,
+    pub look: u32,
+    pub there: Pointing,
 }
 
 /// A procedure whose requests are answered with a return code, and do nothing: `times` of them, after the first `after`, but for

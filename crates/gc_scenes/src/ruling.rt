@@ -4,14 +4,14 @@ ghost use Rattle.std.specs.Prelude.{◌≡◌, ◌<◌, ◌≤◌, length, IfSom
 ghost use Rattle.gc_catalogue.specs.RawTexts.{raw_bytes};
 ghost use Rattle.gc_scenes.specs.Laws.{still};
 ghost use Rattle.gc_scenes.specs.Params.{scripted_params};
-ghost use Rattle.gc_scenes.specs.Rules.{is_clear, offset, moved_by, moved, is_due, met_once, deviated_hz, deviated_v, deviated_distance, disturbed, is_measured, advanced};
+ghost use Rattle.gc_scenes.specs.Rules.{is_clear, applied_to, moved_by, moved, is_due, met_once, deviated_hz, deviated_v, deviated_distance, disturbed, is_measured, advanced};
 ghost use Rattle.gc_scenes.specs.Shifting.{next, shifted, deviation};
 
-use crate::rules::{Fault, Noise, Offset, Prism, Scripted};
+use crate::rules::{Fault, Noise, Offset, Prism, Scripted, Sight};
 use crate::shifting::{deviation, next, shifted};
 use crate::ways::target_in_face;
 use gc_catalogue::{Answer, RawCall};
-use gc_instrument::{Pointing, Target};
+use gc_instrument::Target;
 use gc_values::Decimal;
 
 impl Fault {
@@ -149,13 +149,12 @@ impl Prism {
         }
     }
 
-    /// The target after a measurement in this look, with the telescope pointing `there`, in face II if `over`: moved by its drift, if it
-    /// isn't hidden and lies exactly there.
-    pub(crate) fn moved(&self, over: bool, look: u32, there: &Pointing) -> Prism
-        ensures { result ≡ moved over look there.now self.now }
+    /// The target after a measurement with this sight: moved by its drift, if it isn't hidden and lies exactly where the telescope points.
+    pub(crate) fn moved(&self, sight: &Sight) -> Prism
+        ensures { result ≡ moved sight.now self.now }
     {
-        let at = target_in_face(over, &self.at);
-        if self.is_clear(look) && at.hz == there.hz && at.v == there.v {
+        let at = target_in_face(sight.turned, &self.at);
+        if self.is_clear(sight.look) && at.hz == sight.there.hz && at.v == sight.there.v {
             self.moved_by_drift()
         } else {
             *self
@@ -166,7 +165,7 @@ impl Prism {
 impl Offset {
     // The target moved by this offset. What would leave a decimal's range stays.
     fn applied_to(&self, target: &Target) -> Target
-        ensures { result ≡ offset self.now target.now }
+        ensures { result ≡ applied_to self.now target.now }
     {
         Target {
             hz: shifted(&target.hz, self.hz.units()),
@@ -223,9 +222,9 @@ impl Noise {
         ensures distance { result.2 ≡ deviated_distance self.now distance }
     {
         let (first, second, third) = self.next_three_numbers();
-        let hz = deviated(&hz, &self.hz, first);
-        let v = deviated(&v, &self.v, second);
-        let distance = deviated(&distance, &self.distance, third);
+        let hz = with_deviation(&hz, &self.hz, first);
+        let v = with_deviation(&v, &self.v, second);
+        let distance = with_deviation(&distance, &self.distance, third);
         (hz, v, distance)
     }
 
@@ -258,7 +257,7 @@ fn is_measured(answer: &Answer) -> bool
 
 // The decimal `d` plus the deviation, of at most the size of `most` either way, that the generator's number `x` gives; `d` itself if the
 // sum is out of a decimal's range.
-fn deviated(d: &Decimal, most: &Decimal, x: u32) -> Decimal
+fn with_deviation(d: &Decimal, most: &Decimal, x: u32) -> Decimal
     ensures { result ≡ shifted d.now (deviation most.now x) }
 {
     shifted(d, deviation(most, x))

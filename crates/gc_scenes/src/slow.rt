@@ -5,7 +5,7 @@ ghost use Rattle.std.specs.Prelude.{◌≡◌, ◌+◌, ◌<◌, ◌≤◌, leng
 ghost use Rattle.arrayvec.specs.ArrayVec.{array_vec_len};
 ghost use Rattle.gc_lines.specs.Answering.{AppendsAnswer};
 ghost use Rattle.gc_catalogue.specs.Moments.{later};
-ghost use Rattle.gc_scenes.specs.Slow.{HearsLine, IsDelay, IsTaken, delay_of, slow_restarted, taken_up};
+ghost use Rattle.gc_scenes.specs.Slow.{HearsLine, IsDelay, TakesUp, delay_of, slow_restarted, taken_up};
 
 use crate::delay::Delay;
 use crate::instrument::SceneInstrument;
@@ -94,7 +94,7 @@ impl SlowInstrument {
     // Whether a line that comes at this moment is discarded.
     fn drops_at(&self, at: u64) -> bool
         ensures busy { IsTrue result → (self.now.drops ≡ true) × (at < self.now.free_from) }
-        ensures taken { IsFalse result → IsTaken self.now at }
+        ensures taken { IsFalse result → TakesUp self.now at }
     {
         self.drops && at < self.free_from
     }
@@ -104,11 +104,7 @@ impl SlowInstrument {
     fn taken_up(&self, at: u64) -> u64
         ensures { result ≡ taken_up self.now at }
     {
-        if at < self.free_from {
-            self.free_from
-        } else {
-            at
-        }
+        at.max(self.free_from)
     }
 
     // How long the reply to a line takes, in milliseconds. For a line that is no request it is 0. (The contract doesn't say so.)

@@ -3,7 +3,7 @@
 ghost use Rattle.std.specs.Prelude.{◌≡◌, ◌≤◌, ◌*◌, ◌^◌, ◌-ℤ◌, List, unsigned_abs};
 ghost use Rattle.gc_values.specs.Decimals.{units};
 ghost use Rattle.gc_values.specs.Directions.{half_turn};
-ghost use Rattle.gc_scenes.specs.Ways.{no_ways, with_way, is_in_face_two, face_at, other_hz, other_v, target_in_face, is_over, on_circle, apart, nearer, nearest, is_warning, has_distance};
+ghost use Rattle.gc_scenes.specs.Ways.{no_ways, with_way, is_in_face_two, face_at, other_hz, other_v, target_in_face, is_turned, on_circle, apart, nearer, nearest, is_warning, has_distance};
 
 use crate::shifting::shifted;
 use gc_instrument::{Face, NO_DISTANCE, Pointing, Target};
@@ -14,9 +14,6 @@ const HALF_TURN: i128 = 3_141_592_653_589_793_238_462_643;
 
 // A whole turn, in the same units.
 const TURN: i128 = 6_283_185_307_179_586_476_925_286;
-
-// A whole turn, as the size of a difference, in the same units.
-const TURN_SIZE: u128 = 6_283_185_307_179_586_476_925_286;
 
 // The window of target recognition, each way, in the same units: 0.0131 radians, about three quarters of a degree.
 const WINDOW: u128 = 13_100_000_000_000_000_000_000;
@@ -101,8 +98,8 @@ impl Ways {
     }
 
     /// Whether the telescope is in face II if it points `there`. `false`: it is in face I, or the instrument has no angles of face II.
-    pub(crate) fn is_over(&self, there: &Pointing) -> bool
-        ensures { result ≡ is_over self.now there.now }
+    pub(crate) fn is_turned(&self, there: &Pointing) -> bool
+        ensures { result ≡ is_turned self.now there.now }
     {
         self.faces && is_in_face_two(&there.v)
     }
@@ -147,11 +144,11 @@ pub(crate) fn other_v(v: &Decimal) -> Decimal
     shifted(v, TURN - (units + units))
 }
 
-/// The target with the angles at which the telescope points at it: its own, or in face II (`over`) those of that face.
-pub(crate) fn target_in_face(over: bool, target: &Target) -> Target
-    ensures { result ≡ target_in_face over target.now }
+/// The target with the angles at which the telescope points at it: its own, or in face II (`turned`) those of that face.
+pub(crate) fn target_in_face(turned: bool, target: &Target) -> Target
+    ensures { result ≡ target_in_face turned target.now }
 {
-    if over {
+    if turned {
         Target {
             hz: other_hz(&target.hz),
             v: other_v(&target.v),
@@ -166,8 +163,9 @@ pub(crate) fn target_in_face(over: bool, target: &Target) -> Target
 fn on_circle(difference: i128) -> u128
     ensures { result ≡ on_circle difference }
 {
-    let rest = difference.unsigned_abs() % TURN_SIZE;
-    rest.min(TURN_SIZE - rest)
+    let turn = TURN.unsigned_abs();
+    let rest = difference.unsigned_abs() % turn;
+    rest.min(turn - rest)
 }
 
 // `one` minus `other`, in units.

@@ -1,5 +1,5 @@
 -- Each act preserves `Mid` (see `Midway`), which holds in the midst of an act, before what is outstanding is lost: the counts,
--- the client, the marks and the records belong together (`Sound`), and the phase fits them (`Placed`). An act is one call on the
+-- the client, the marks and the records belong together (`Sound`), and the phase fits them (`PhaseFits`). An act is one call on the
 -- link, with its result. A mark says which command an outstanding request is of, or `None` of a null procedure; a piece is the
 -- bytes that one read gave.
 use Rattle.std.proofs.Common.{◌≡◌, ℕ, ◌<◌, inl, ◌&&◌, ◌||◌, Bool, true, false, not, List, [], if◌then◌else◌, nat_lt, Option, refl, sym, ap, subst}
@@ -25,19 +25,19 @@ use Rattle.gc_station.specs.Progressing.{moment_noted, failing, after_failure, i
 use Rattle.gc_station.specs.Model.{Model, with_progress, with_moment, with_rest, waiting_of, line_came, lines_completed, after_piece, is_heard, piece_noted, piece_at, after_clock, after_put, after_open, after_read, after_close}
 use Rattle.gc_station.proofs.Invariant.{is_bare, is_done, says_done}
 use Rattle.gc_station.proofs.Meets.{hears_settles_oldest}
-use Rattle.gc_station.proofs.Midway.{Sound, ledger_at, Placed, PlacedAt, Mid, sound_moment, sound_settles, MidAt}
+use Rattle.gc_station.proofs.Midway.{Sound, ledger_at, PhaseFits, PhaseFitsAt, Mid, sound_moment, sound_settles, MidAt}
 use Rattle.gc_station.proofs.Walk.{asked_along, came_along, closed_along}
 use Rattle.gc_station.proofs.Facts.{finished_so}
 
--- the phase after a failure for `why`, closing if there is a connection (`up`) and over if there is none, is `Placed`, unless
+-- the phase after a failure for `why`, closing if there is a connection (`up`) and over if there is none, is `PhaseFits`, unless
 -- `why` is `Done`
-fail_placed : (p : Progress) (rest : List ℕ) (marks : List (Option Mark)) (why : Cause) (up : Bool) → is_done why ≡ false → Placed (if up then Closing why else Over why) p.left p.unsent rest marks
-fail_placed p rest marks why true other = record { empty = λ e. cc; finished = λ e. absurd (both_ways (is_done why) other e) }
-fail_placed p rest marks why false other = record { empty = λ e. cc; finished = λ e. absurd (both_ways (is_done why) other e) }
+fail_fits : (p : Progress) (rest : List ℕ) (marks : List (Option Mark)) (why : Cause) (up : Bool) → is_done why ≡ false → PhaseFits (if up then Closing why else Over why) p.left p.unsent rest marks
+fail_fits p rest marks why true other = record { empty = λ e. cc; finished = λ e. absurd (both_ways (is_done why) other e) }
+fail_fits p rest marks why false other = record { empty = λ e. cc; finished = λ e. absurd (both_ways (is_done why) other e) }
 
 -- a failure for `why` preserves `Mid`, if `why` isn't `Done`
 pub mid_fail : (plan : Plan) (commands : List Task) (s : Model) (why : Cause) → is_done why ≡ false → Mid plan commands s → Mid plan commands (with_progress (failing why) s)
-mid_fail plan commands s why other mid = (mid.0, fail_placed s.progress s.rest s.marks why (is_up s.progress.phase) other)
+mid_fail plan commands s why other mid = (mid.0, fail_fits s.progress s.rest s.marks why (is_up s.progress.phase) other)
 
 -- a moment, at which requests may time out, preserves `Mid`
 pub mid_moment : (plan : Plan) (commands : List Task) (s : Model) (m : Moment) → Mid plan commands s → Mid plan commands (with_moment m s)
@@ -55,39 +55,39 @@ mid_put plan commands requests f s (Cut bytes n) mid = mid_fail plan commands (f
 mid_put plan commands requests f s act mid = mid
 
 -- the phase after a lost connection or a failed attempt is over as done if `done`, else a pause if `some` (a try is left, or none
--- is needed), and else over for `why`. It is `Placed`, if `why` isn't `Done`, no bytes of a line are kept, and nothing is left to
+-- is needed), and else over for `why`. It is `PhaseFits`, if `why` isn't `Done`, no bytes of a line are kept, and nothing is left to
 -- be sent where `done`
-failure_phase_placed : (why : Cause) (left unsent : ℕ) (rest : List ℕ) (marks : List (Option Mark)) (done some : Bool) → is_done why ≡ false → rest ≡ [] → (done ≡ true → (left ≡ 0) × (unsent ≡ 0))
-    → Placed (if done then Over cause.Done else if some then Pausing else Over why) left unsent rest marks
-failure_phase_placed why left unsent rest marks true some other none finished = record { empty = λ e. cc; finished = λ e. let it = finished refl in (it.0, it.1, inl refl) }
-failure_phase_placed why left unsent rest marks false true other none finished = record { empty = λ e. none; finished = λ e. cc }
-failure_phase_placed why left unsent rest marks false false other none finished = record { empty = λ e. cc; finished = λ e. absurd (both_ways (is_done why) other e) }
+failure_phase_fits : (why : Cause) (left unsent : ℕ) (rest : List ℕ) (marks : List (Option Mark)) (done some : Bool) → is_done why ≡ false → rest ≡ [] → (done ≡ true → (left ≡ 0) × (unsent ≡ 0))
+    → PhaseFits (if done then Over cause.Done else if some then Pausing else Over why) left unsent rest marks
+failure_phase_fits why left unsent rest marks true some other none finished = record { empty = λ e. cc; finished = λ e. let it = finished refl in (it.0, it.1, inl refl) }
+failure_phase_fits why left unsent rest marks false true other none finished = record { empty = λ e. none; finished = λ e. cc }
+failure_phase_fits why left unsent rest marks false false other none finished = record { empty = λ e. cc; finished = λ e. absurd (both_ways (is_done why) other e) }
 
--- if no bytes of a line are kept, the progress after a lost connection or a failed attempt, not for `Done`, is `PlacedAt`
-after_failure_placed : (plan : Plan) (n : ℕ) (why : Cause) (p : Progress) (rest : List ℕ) (marks : List (Option Mark)) → is_done why ≡ false → rest ≡ []
-    → PlacedAt (after_failure plan n why p) rest marks
-after_failure_placed plan n why p rest marks other none =
-    failure_phase_placed why p.left p.unsent rest marks (is_finished n p) (is_spared plan why p || nat_lt 0 p.tries) other none
+-- if no bytes of a line are kept, the progress after a lost connection or a failed attempt, not for `Done`, is `PhaseFitsAt`
+after_failure_fits : (plan : Plan) (n : ℕ) (why : Cause) (p : Progress) (rest : List ℕ) (marks : List (Option Mark)) → is_done why ≡ false → rest ≡ []
+    → PhaseFitsAt (after_failure plan n why p) rest marks
+after_failure_fits plan n why p rest marks other none =
+    failure_phase_fits why p.left p.unsent rest marks (is_finished n p) (is_spared plan why p || nat_lt 0 p.tries) other none
     (λ finished. let it = finished_so n p finished in (it.0, it.1))
 
 -- an attempt to connect, made in the phase `Down`, preserves `Mid`
 pub mid_open : (plan : Plan) (commands : List Task) (s : Model) (act : Act) → s.progress.phase ≡ Down → Mid plan commands s → Mid plan commands (after_open plan s act)
 mid_open plan commands s Opened is mid = (mid.0, record { empty = λ e. mid.1.empty (ap is_bare is); finished = λ e. cc })
-mid_open plan commands s act is mid = (mid.0, after_failure_placed plan (commands_in s.marks) cause.Open s.progress s.rest s.marks refl (mid.1.empty (ap is_bare is)))
+mid_open plan commands s act is mid = (mid.0, after_failure_fits plan (commands_in s.marks) cause.Open s.progress s.rest s.marks refl (mid.1.empty (ap is_bare is)))
 
--- the phase of a run that is over for `why`, with no bytes of a line kept, is `Placed`, if nothing is left to be sent where `why`
+-- the phase of a run that is over for `why`, with no bytes of a line kept, is `PhaseFits`, if nothing is left to be sent where `why`
 -- is `Done`
-over_placed : (why : Cause) (p : Progress) (marks : List (Option Mark)) → (is_done why ≡ true → (p.left ≡ 0) × (p.unsent ≡ 0)) → Placed (Over why) p.left p.unsent [] marks
-over_placed why p marks done = record { empty = λ e. cc; finished = λ e. let it = done e in (it.0, it.1, inl refl) }
+over_fits : (why : Cause) (p : Progress) (marks : List (Option Mark)) → (is_done why ≡ true → (p.left ≡ 0) × (p.unsent ≡ 0)) → PhaseFits (Over why) p.left p.unsent [] marks
+over_fits why p marks done = record { empty = λ e. cc; finished = λ e. let it = done e in (it.0, it.1, inl refl) }
 
--- the progress after a close is `PlacedAt`, with no bytes of a line kept, if at a close for `Done` nothing is left to be sent
-close_placed : (plan : Plan) (w : Waiting) (why : Cause) (p : Progress) (marks : List (Option Mark)) → (why ≡ cause.Done → (p.left ≡ 0) × (p.unsent ≡ 0)) → PlacedAt (closed plan w why p) [] marks
-close_placed plan w cause.Done p marks done = over_placed cause.Done p marks (λ e. done refl)
-close_placed plan w cause.Clock p marks done = over_placed cause.Clock p marks (λ e. cc)
-close_placed plan w cause.Turns p marks done = over_placed cause.Turns p marks (λ e. cc)
-close_placed plan w cause.Stale p marks done = over_placed cause.Stale p marks (λ e. cc)
-close_placed plan w cause.Stopped p marks done = over_placed cause.Stopped p marks (λ e. cc)
-close_placed plan w why p marks done = after_failure_placed plan w.commands why p [] marks refl refl
+-- the progress after a close is `PhaseFitsAt`, with no bytes of a line kept, if at a close for `Done` nothing is left to be sent
+close_fits : (plan : Plan) (w : Waiting) (why : Cause) (p : Progress) (marks : List (Option Mark)) → (why ≡ cause.Done → (p.left ≡ 0) × (p.unsent ≡ 0)) → PhaseFitsAt (closed plan w why p) [] marks
+close_fits plan w cause.Done p marks done = over_fits cause.Done p marks (λ e. done refl)
+close_fits plan w cause.Clock p marks done = over_fits cause.Clock p marks (λ e. cc)
+close_fits plan w cause.Turns p marks done = over_fits cause.Turns p marks (λ e. cc)
+close_fits plan w cause.Stale p marks done = over_fits cause.Stale p marks (λ e. cc)
+close_fits plan w cause.Stopped p marks done = over_fits cause.Stopped p marks (λ e. cc)
+close_fits plan w why p marks done = after_failure_fits plan w.commands why p [] marks refl refl
 
 -- a close preserves `Sound`: it leaves the counts, the client, the marks and the records
 close_sound : (plan : Plan) (commands : List Task) (s : Model) (w : Waiting) (why : Cause) → Sound plan commands (ledger_at s s.progress)
@@ -97,7 +97,7 @@ close_sound plan commands s w why sound = closed_along (λ (q : Progress). Sound
 -- a close for `why` preserves `Mid`, if nothing is left to be sent where `why` is `Done`
 pub mid_close : (plan : Plan) (commands : List Task) (s : Model) (why : Cause) → (why ≡ cause.Done → (s.progress.left ≡ 0) × (s.progress.unsent ≡ 0))
     → Mid plan commands s → Mid plan commands (after_close plan why s)
-mid_close plan commands s why done mid = let w : Waiting = waiting_of (with_rest [] s) in (close_sound plan commands s w why mid.0, close_placed plan w why s.progress s.marks done)
+mid_close plan commands s why done mid = let w : Waiting = waiting_of (with_rest [] s) in (close_sound plan commands s w why mid.0, close_fits plan w why s.progress s.marks done)
 
 -- what `Mid` says in the phase `Ready`, in which lines are heard and requests sent: the phase adds nothing to `Sound`
 pub record Listening (plan : Plan) (commands : List Task) (s : Model) : Type 0 where
@@ -161,11 +161,11 @@ mid_piece plan commands s until piece m mid =
 
 -- Nothing came.
 
--- the end of a pause, if it ends (`b`), preserves `Placed`
-pause_placed : (b : Bool) (phase : Phase) (left unsent : ℕ) (rest : List ℕ) (marks : List (Option Mark)) → phase ≡ Pausing
-    → Placed phase left unsent rest marks → Placed (if b then Down else phase) left unsent rest marks
-pause_placed true phase left unsent rest marks is placed = record { empty = λ e. placed.empty (ap is_bare is); finished = λ e. cc }
-pause_placed false phase left unsent rest marks is placed = placed
+-- the end of a pause, if it ends (`b`), preserves `PhaseFits`
+pause_fits : (b : Bool) (phase : Phase) (left unsent : ℕ) (rest : List ℕ) (marks : List (Option Mark)) → phase ≡ Pausing
+    → PhaseFits phase left unsent rest marks → PhaseFits (if b then Down else phase) left unsent rest marks
+pause_fits true phase left unsent rest marks is placed = record { empty = λ e. placed.empty (ap is_bare is); finished = λ e. cc }
+pause_fits false phase left unsent rest marks is placed = placed
 
 -- the end of a drain, if it ends (`ends`), preserves `MidAt`
 drained_mid : (plan : Plan) (commands : List Task) (s : Model) (p : Progress) (ends : Bool) → MidAt plan commands s p → MidAt plan commands s (if ends then drained p else p)
@@ -174,7 +174,7 @@ drained_mid plan commands s p false mid = mid
 
 -- the end of a pause or a drain, if one ends, preserves `MidAt`
 quieted_mid : (plan : Plan) (commands : List Task) (s : Model) (phase : Phase) (p : Progress) → p.phase ≡ phase → MidAt plan commands s p → MidAt plan commands s (quieted plan phase p)
-quieted_mid plan commands s Pausing p is mid = (mid.0, pause_placed (is_past p.pause p && not (is_idle plan p)) p.phase p.left p.unsent s.rest s.marks is mid.1)
+quieted_mid plan commands s Pausing p is mid = (mid.0, pause_fits (is_past p.pause p && not (is_idle plan p)) p.phase p.left p.unsent s.rest s.marks is mid.1)
 quieted_mid plan commands s Draining p is mid = drained_mid plan commands s p (is_quiet plan p) mid
 quieted_mid plan commands s phase p is mid = mid
 

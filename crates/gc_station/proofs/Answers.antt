@@ -26,13 +26,13 @@ use Rattle.gc_station.specs.Answers.{ReadsBefore, first_deadline, deadline_after
 use Rattle.gc_station.specs.Ends.{LateIsJustified, LostIsJustified}
 use Rattle.gc_station.specs.Deciding.{later}
 use Rattle.gc_station.specs.Quiet.{IsAsking}
-use Rattle.gc_station.specs.Progressing.{turned, moment_noted, early_noted, cycle_begun, skipped, attempts_left_out, skipped_at, cleared, null_sent, renewed, sent, request_noted, loses_all, setup_sent}
-use Rattle.gc_station.specs.Marks.{commands_in}
+use Rattle.gc_station.specs.Progressing.{turned, moment_noted, early_noted, cycle_begun, skipped, attempts_left_out, unsent_at, cleared, null_sent, renewed, sent, request_noted, loses_all, setup_sent}
+use Rattle.gc_station.specs.Marks.{commands_in, unsent_as}
 use Rattle.gc_station.specs.Reasons.{HoldsBefore}
 use Rattle.gc_station.specs.Records.{Record}
 use Rattle.gc_station.specs.Runs.{state_after, OfEachRecord}
-use Rattle.gc_station.specs.ActKinds.{Puts, ReadsClock, IsOpening, IsReading}
-use Rattle.gc_station.specs.Model.{Model, opening, action_at, waiting_of, request_text, null_text, first_text, with_progress, is_heard, client_sent, asks_null, asks_first, asks_next, after_pass, with_more_passes, next_left_out, with_listed, listed_after_skip, with_more_records, unsent_record, first_unsent_record, after_clock, after_put, after_open, after_read, Performs, moved, Runs, cycle_length, place_to_send, text_or_null, asks_or_null, asks_setup}
+use Rattle.gc_station.specs.ActKinds.{Puts, ReadsClock, IsOpening, ReadsLink}
+use Rattle.gc_station.specs.Model.{Model, opening, action_at, waiting_of, next_request_text, null_text, first_text, with_progress, is_heard, client_sent, asks_first, asks_next, after_pass, with_more_passes, next_left_out, with_listed, listed_after_skip, with_more_records, unsent_record, first_unsent_record, after_clock, after_put, after_open, after_read, Performs, moved, Runs, cycle_length, place_to_send, text_or_null, asks_setup, null_request, request_or_null, asks_for}
 use Rattle.gc_station.specs.NextCommand.{mark_next, place_next, upcoming_after, mark_setup}
 use Rattle.gc_station.proofs.EachRun.{invariant_holds}
 use Rattle.gc_station.proofs.Outs.{prepare_cycle, prepare_place, send_cycle, send_place, sending_asks}
@@ -42,10 +42,10 @@ use Rattle.gc_station.proofs.Going.{after_all-append}
 use Rattle.gc_station.proofs.Growing.{losing_records}
 use Rattle.gc_station.proofs.Lists.{all_append, all_on, AllRisingAt, rising_more}
 use Rattle.gc_station.proofs.Losing.{losing_honest}
-use Rattle.gc_station.proofs.Waiting.{Stayed, Waits, IsJustified, Honest, IsHonest, Marked, asked_more, asked_as, asked_among, stays_still, all_true_more, honest_untold, honest_told}
+use Rattle.gc_station.proofs.Waiting.{Stayed, StillWaits, IsJustified, Honest, IsHonest, Marked, asked_more, asked_as, asked_among, stays_still, all_true_more, honest_untold, honest_told}
 use Rattle.gc_station.proofs.Pieces.{piece_honest}
 use Rattle.gc_station.specs.Scopes.{Scope}
-use Rattle.gc_station.proofs.Midway.{client_behind}
+use Rattle.gc_station.proofs.Midway.{with_sent, sent_with_room}
 
 -- A request is sent.
 
@@ -55,11 +55,6 @@ puts_still bytes (Put out) o d = tt
 puts_still bytes (Cut out n) o d = tt
 puts_still bytes act o d = absurd o
 
--- the client (the first argument) once a request with this target, call and deadline was sent, if the window has room: the next
--- id is counted on, and one more request is outstanding
-abbrev pub with_sent : ById Asked → ℕ → Asked → ℕ → ById Asked
-with_sent c target call deadline = record { next = (c.next + 1) % 8; waiting = c.waiting ++ pending_of target call deadline ∷ [] }
-
 -- `IsHonest` holds after a write, whole or cut, if it holds after a whole one
 put_honest : (plan : Plan) (commands : List Task) (scope : Scope) (acts : List Act) (requests : ℕ) (f : Model → Model) (t : Model) (act : Act)
     → IsHonest plan commands scope acts acts (f t) → IsHonest plan commands scope acts acts (after_put requests f t act)
@@ -68,8 +63,7 @@ put_honest plan commands scope acts requests f t act h = h
 
 -- a command that isn't sent is neither answered nor late nor lost, so its record is true
 unsent_true : (plan : Plan) (commands : List Task) (scope : Scope) (all : List Act) (missed : Bool) (utc : ℕ) (mark : Mark) (command : Wish)
-    → IsJustified plan commands scope all (record
-    { sent = None; utc = utc; cycle = mark.cycle; place = mark.place; turn = mark.expected.turn; command = command; end = if missed then Missed else Skipped })
+    → IsJustified plan commands scope all (unsent_as utc mark command (if missed then Missed else Skipped))
 unsent_true plan commands scope all true utc mark command = record { answered = λ line e. cc; late = λ e. cc; lost = λ e. cc }
 unsent_true plan commands scope all false utc mark command = record { answered = λ line e. cc; late = λ e. cc; lost = λ e. cc }
 
@@ -77,7 +71,7 @@ unsent_true plan commands scope all false utc mark command = record { answered =
 skips_first_true : (plan : Plan) (commands : List Task) (scope : Scope) (all : List Act) (p : Progress) (m : Moment) (mark : Mark) (left : List Task)
     → AllByRecursion (IsJustified plan commands scope all) (first_unsent_record p m mark left)
 skips_first_true plan commands scope all p m mark [] = tt
-skips_first_true plan commands scope all p m mark (task ∷ others) = (unsent_true plan commands scope all p.missed (skipped_at m p) mark task.command, tt)
+skips_first_true plan commands scope all p m mark (task ∷ others) = (unsent_true plan commands scope all p.missed (unsent_at m p) mark task.command, tt)
 
 -- the record of the next command, if it isn't sent, is true
 skips_true : (plan : Plan) (commands : List Task) (scope : Scope) (all : List Act) (p : Progress) (act : Act) → AllByRecursion (IsJustified plan commands scope all) (unsent_record plan commands p act)
@@ -110,11 +104,11 @@ module _ (plan : Plan) (commands : List Task) (scope : Scope) (acts : List Act) 
     asks : 0 < length here.client.waiting → IsAsking (action_at plan here)
     marked : (m : Mark) → mark ≡ Some m → Marked plan commands scope acts m
     due : (m : Mark) → mark ≡ Some m → deadline ≡ deadline_after plan commands scope acts
-    puts : Puts (request_text here.client call) act
+    puts : Puts (next_request_text here.client call) act
 
-  -- a request that this act puts waits after it, as `Waits` says: behind the others, and put as the last of the acts
+  -- a request that this act puts waits after it, as `StillWaits` says: behind the others, and put as the last of the acts
   asked_here : (act : Act) (target : ℕ) (call : Asked) (deadline : ℕ) (mark : Option Mark) → Invariant plan commands here → PutsRequest act call deadline mark
-      → Waits plan commands scope (acts ++ act ∷ []) ((here.client.next + 1) % 8) (length here.client.waiting + 1) (length acts) (length here.client.waiting) (pending_of target call deadline) mark
+      → StillWaits plan commands scope (acts ++ act ∷ []) ((here.client.next + 1) % 8) (length here.client.waiting + 1) (length acts) (length here.client.waiting) (pending_of target call deadline) mark
   asked_here act target call deadline mark fine r =
       record {
         before = acts;
@@ -141,12 +135,12 @@ module _ (plan : Plan) (commands : List Task) (scope : Scope) (acts : List Act) 
       let next = (c.next + 1) % 8 in
       let many : length (ws ++ asked ∷ []) ≡ length ws + 1 = length-append ws (asked ∷ []) in
       let ids = sending c.next (length ws) fine.digit r.room in
-      let W = Waits plan commands scope (acts ++ act ∷ []) next (length ws + 1) in
+      let W = StillWaits plan commands scope (acts ++ act ∷ []) next (length ws + 1) in
       let end : length ws ≡ 0 + length ws = omega arith in
       let from : 0 ≤ length acts = omega arith in
       record {
-        waiting = subst (λ (n : ℕ). AllRisingAt (Waits plan commands scope (acts ++ act ∷ []) next n) 0 0 (ws ++ asked ∷ []) (marks ++ mark ∷ [])) (sym many)
-            (rising_more (Waits plan commands scope acts c.next (length ws)) W 0 0 (length acts) (length ws) ws marks asked mark end fine.paired from
+        waiting = subst (λ (n : ℕ). AllRisingAt (StillWaits plan commands scope (acts ++ act ∷ []) next n) 0 0 (ws ++ asked ∷ []) (marks ++ mark ∷ [])) (sym many)
+            (rising_more (StillWaits plan commands scope acts c.next (length ws)) W 0 0 (length acts) (length ws) ws marks asked mark end fine.paired from
             (λ n j p y low w.
             let below : j < length ws = omega (arith, low) in (
               asked_among plan commands scope acts Stayed n j _ p y w,
@@ -169,7 +163,7 @@ module _ (plan : Plan) (commands : List Task) (scope : Scope) (acts : List Act) 
       let d : later s.progress.moment.elapsed task.deadline ≡ limit = ap (λ (left : List Task). later s.progress.moment.elapsed (first_deadline left)) (sym at) in
       subst (λ (c : ById Asked). Honest plan commands scope (acts ++ act ∷ []) (acts ++ act ∷ []) c (s.marks ++ Some mark ∷ []) s.records)
       (sym (ap (λ (e : ℕ). client_sent s.client (sends WINDOW s.client task.command.target (call_at task mark.sent) e)) d
-      ∙ client_behind s.client task.command.target (call_at task mark.sent) limit room))
+      ∙ sent_with_room s.client task.command.target (call_at task mark.sent) limit room))
       (sent_honest act task.command.target (call_at task mark.sent) limit (Some mark) fine h
       (record {
         room = room;
@@ -182,12 +176,12 @@ module _ (plan : Plan) (commands : List Task) (scope : Scope) (acts : List Act) 
   -- an act that sends a null procedure of the client, with room for it, preserves `IsHonest`; if other requests wait, a request
   -- of the client is next (`IsAsking`)
   null_honest : (act : Act) (f : Progress → Progress) → Invariant plan commands here → HonestBefore act here → (room : length here.client.waiting < 7)
-      → (asks : 0 < length here.client.waiting → IsAsking (action_at plan here)) → (puts : Puts (request_text here.client (Table NullProc)) act)
-      → HonestAfter act (with_progress f (asks_null plan (with_progress turned here)))
+      → (asks : 0 < length here.client.waiting → IsAsking (action_at plan here)) → (puts : Puts (next_request_text here.client (Table NullProc)) act)
+      → HonestAfter act (with_progress f (asks_for (null_request plan) (with_progress turned here)))
   null_honest act f fine h room asks puts =
       let s = here in
       let d = later s.progress.moment.elapsed plan.deadline in
-      subst (λ (c : ById Asked). Honest plan commands scope (acts ++ act ∷ []) (acts ++ act ∷ []) c (s.marks ++ None ∷ []) s.records) (sym (client_behind s.client 0 (Table NullProc) d room))
+      subst (λ (c : ById Asked). Honest plan commands scope (acts ++ act ∷ []) (acts ++ act ∷ []) c (s.marks ++ None ∷ []) s.records) (sym (sent_with_room s.client 0 (Table NullProc) d room))
       (sent_honest act 0 (Table NullProc) d None fine h
       (record { room = room; asks = asks; marked = λ m its. absurd (never m its); due = λ m its. absurd (never m its); puts = puts })) where
         -- a null procedure has no mark
@@ -198,7 +192,7 @@ module _ (plan : Plan) (commands : List Task) (scope : Scope) (acts : List Act) 
   -- or a null procedure if there is none, and with room for the request, preserves `IsHonest`
   setup_honest : (act : Act) (left : List Task) (mark : Mark) → Invariant plan commands here → HonestBefore act here → (marked : Marked plan commands scope acts mark)
       → (room : length here.client.waiting < 7) → (there : drop (place_to_send plan commands here) commands ≡ left) → (puts : Puts (text_or_null mark.sent here.client left) act)
-      → HonestAfter act (with_progress (setup_sent plan) (asks_or_null plan mark left (with_progress turned here)))
+      → HonestAfter act (with_progress (setup_sent plan) (asks_for (request_or_null plan mark left) (with_progress turned here)))
   setup_honest act [] mark fine h is room at puts = null_honest act (setup_sent plan) fine h room (λ above. sending_asks plan here is.sends) puts
   setup_honest act (task ∷ others) mark fine h is room at puts =
       first_honest act (record { is_chained = false; others = 0 }) (task ∷ others) mark fine h is room at puts
@@ -228,7 +222,7 @@ module _ (plan : Plan) (commands : List Task) (scope : Scope) (acts : List Act) 
   open_honest act s h o = absurd o
 
   -- a read preserves `IsHonest`, whatever came of it. `tail` are the records that the loss of what is outstanding adds after it
-  read_honest : (until : Until) (act : Act) (tail : List Record) → Invariant plan commands here → HonestBefore act here → IsReading act
+  read_honest : (until : Until) (act : Act) (tail : List Record) → Invariant plan commands here → HonestBefore act here → ReadsLink act
       → (state_after plan commands scope (acts ++ act ∷ [])).records ≡ (after_read plan until (with_progress turned here) act).records ++ tail
       → HonestAfter act (after_read plan until (with_progress turned here) act)
   read_honest until Untold tail fine h o ends = honest_untold plan commands scope acts Untold _ _ _ (λ d. tt) h
@@ -283,7 +277,7 @@ module _ (plan : Plan) (commands : List Task) (scope : Scope) (acts : List Act) 
   moved_honest actions.Pass act tail fine h is needs o ends = pass_honest act here h o
   moved_honest actions.Flush act tail fine h is needs o ends =
       let s = here in
-      put_honest plan commands scope (acts ++ act ∷ []) _ (λ (x : Model). with_progress request_noted (asks_null plan x)) (with_progress turned s) act
+      put_honest plan commands scope (acts ++ act ∷ []) _ (λ (x : Model). with_progress request_noted (asks_for (null_request plan) x)) (with_progress turned s) act
       (null_honest act request_noted fine h needs.4.1 (λ above. subst IsAsking (sym is) tt) o)
   moved_honest (actions.Read until) act tail fine h is needs o ends = read_honest until act tail fine h o ends
   moved_honest (actions.Close why) act tail fine h is needs o ends = honest_untold plan commands scope acts act _ _ _ (close_still act o) h

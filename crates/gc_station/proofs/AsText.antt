@@ -9,21 +9,18 @@ use Rattle.std.specs.List.{AllByRecursion}
 use Rattle.gc_values.proofs.Every.{every_drop}
 use Rattle.gc_catalogue.specs.declared.answer.Reading.{Reading}
 use Rattle.gc_catalogue.specs.declared.asked.Asked.{Asked}
-use Rattle.gc_catalogue.specs.declared.asked.Asked.TheVariants.{Table}
-use Rattle.gc_catalogue.specs.declared.call.Call.TheVariants.{NullProc}
 use Rattle.gc_client.specs.Rule
 use Rattle.gc_client.specs.Rule.{heard, hears, restarts}
 use Rattle.gc_texts.specs.Endings.{Answered, Elsewhere, Skipped, Missed}
 use Rattle.gc_texts.specs.Nears.{is_elsewhere}
 use Rattle.gc_texts.specs.declared.near.Expected.{Expected}
-use Rattle.gc_texts.specs.Tasks.{call_at}
 use Rattle.gc_texts.specs.declared.tasks.Task.{Task}
 use Rattle.gc_texts.proofs.Placing.{near_unless_elsewhere, elsewhere_is}
 use Rattle.gc_links.specs.Acts.{Act, Told, Gave, Cut}
 use Rattle.gc_links.specs.declared.link.Moment.{Moment}
 use Rattle.gc_station.specs.Marks.{record_of, records_of, end_of}
-use Rattle.gc_station.specs.Model.{Model, opening, action_at, asks, asks_next, with_progress, with_moment, line_came, is_heard, after_piece, end_unsent, first_unsent_record, losing, moved, after, asks_setup, waiting_of, listed_unsent}
-use Rattle.gc_station.specs.NextCommand.{expected_first, mark_next, place_next, mark_setup, cycles_begun}
+use Rattle.gc_station.specs.Model.{Model, opening, action_at, asks_for, asks_next, with_progress, with_moment, line_came, is_heard, after_piece, end_unsent, first_unsent_record, losing, moved, after, asks_setup, waiting_of, listed_unsent, request_for, null_request}
+use Rattle.gc_station.specs.NextCommand.{expected_first, mark_next, place_next, commands_left, mark_setup, cycles_begun}
 use Rattle.gc_station.specs.Nearness.{IsAtItsTarget, HasAnswer, ElsewhereIsJustified}
 use Rattle.gc_station.specs.Qualities.{IsOfQuality, IsAsListed, accepted_at}
 use Rattle.gc_station.specs.Progressing.{turned, moment_noted, loses_all}
@@ -35,6 +32,7 @@ use Rattle.gc_station.specs.declared.plan.Plan.{Plan}
 use Rattle.gc_station.specs.declared.progress.Action.{Action}
 use Rattle.gc_station.specs.declared.progress.Action.TheVariants as actions
 use Rattle.gc_station.specs.declared.progress.Progress.{Progress}
+use Rattle.gc_station.specs.declared.station.sending.Outgoing.{Outgoing}
 use Rattle.gc_station.proofs.Booking.{all_settled}
 use Rattle.gc_station.proofs.Lists.{all_append}
 use Rattle.gc_station.proofs.Qualified.{ended_near, ended_away, ended_quality}
@@ -170,22 +168,22 @@ module _ (plan : Plan) (commands : List Task) (scope : Scope) where
       (record { reads = k.reads; marks = every_drop ExpectsAsText s.marks _ k.marks; records = settles_keeps s x.settlements k; listed = settles_listed s x.settlements k }) k
 
   -- `KeepsToText` is preserved by a request that is sent, if its mark is `ExpectsAsText`
-  asks_keeps : (wait target : ℕ) (call : Asked) (mark : Option Mark) (s : Model) → ExpectsAsText mark → KeepsToText s → KeepsToText (asks wait target call mark s)
-  asks_keeps wait target call mark s placed k = record { reads = k.reads; marks = all_append ExpectsAsText s.marks _ k.marks (placed, tt); records = k.records; listed = k.listed }
+  asks_keeps : (x : Outgoing) (s : Model) → ExpectsAsText x.mark → KeepsToText s → KeepsToText (asks_for x s)
+  asks_keeps x s placed k = record { reads = k.reads; marks = all_append ExpectsAsText s.marks _ k.marks (placed, tt); records = k.records; listed = k.listed }
 
   -- `KeepsToText` is preserved by the send of the next command of a cycle, once one has begun
   next_keeps : (s : Model) → 0 < cycles_begun plan s.progress → KeepsToText s → KeepsToText (asks_next plan commands s)
   next_keeps s many k =
       let mark = mark_next plan commands s.progress in
       first_along KeepsToText mark (drop (place_next commands s.progress) commands) s
-      (λ task. asks_keeps task.deadline task.command.target (call_at task mark.sent) (Some mark) s (next_placed s.progress many) k) k
+      (λ task. asks_keeps (request_for mark task) s (next_placed s.progress many) k) k
 
   -- `KeepsToText` is preserved by the send of the next command of the setup
   setup_keeps : (s : Model) → KeepsToText s → KeepsToText (asks_setup plan commands s)
   setup_keeps s k =
       let mark = mark_setup commands s.progress in
       setup_along KeepsToText plan mark (drop s.progress.prepared commands) s
-      (λ task. asks_keeps task.deadline task.command.target (call_at task mark.sent) (Some mark) s refl k) (asks_keeps plan.deadline 0 (Table NullProc) None s tt k)
+      (λ task. asks_keeps (request_for mark task) s refl k) (asks_keeps (null_request plan) s tt k)
 
   -- whether a rule names the end of a command that isn't sent is the same without a code and with the code of that end
   unsent_named : (again : Again) (call : Asked) (missed : Bool)
@@ -221,8 +219,8 @@ module _ (plan : Plan) (commands : List Task) (scope : Scope) where
   -- if this action sends the next command of a cycle, or records it without sending it, a cycle has begun, and there is such a
   -- command
   abbrev HasItsCommand : Action → Model → Type 0
-  HasItsCommand actions.Send s = (0 < cycles_begun plan s.progress) × (0 < length (drop (place_next commands s.progress) commands))
-  HasItsCommand actions.Skip s = (0 < cycles_begun plan s.progress) × (0 < length (drop (place_next commands s.progress) commands))
+  HasItsCommand actions.Send s = (0 < cycles_begun plan s.progress) × (0 < length (commands_left commands s.progress))
+  HasItsCommand actions.Skip s = (0 < cycles_begun plan s.progress) × (0 < length (commands_left commands s.progress))
   HasItsCommand next s = Unit {0}
 
   -- `KeepsToText` is preserved by an act of each action of which `HasItsCommand` holds, before what is outstanding is lost
@@ -231,9 +229,8 @@ module _ (plan : Plan) (commands : List Task) (scope : Scope) where
   moved_keeps actions.Prepare s act some k = let n = setup_keeps s k in record { reads = n.reads; marks = n.marks; records = n.records; listed = n.listed }
   moved_keeps actions.Send s (Cut bytes count) some k = let n = next_keeps s some.0 k in record { reads = n.reads; marks = n.marks; records = n.records; listed = n.listed }
   moved_keeps actions.Send s act some k = let n = next_keeps s some.0 k in record { reads = n.reads; marks = n.marks; records = n.records; listed = n.listed }
-  moved_keeps actions.Flush s (Cut bytes count) some k = let n = asks_keeps plan.deadline 0
-      (Table NullProc) None s tt k in record { reads = n.reads; marks = n.marks; records = n.records; listed = n.listed }
-  moved_keeps actions.Flush s act some k = let n = asks_keeps plan.deadline 0 (Table NullProc) None s tt k in record { reads = n.reads; marks = n.marks; records = n.records; listed = n.listed }
+  moved_keeps actions.Flush s (Cut bytes count) some k = let n = asks_keeps (null_request plan) s tt k in record { reads = n.reads; marks = n.marks; records = n.records; listed = n.listed }
+  moved_keeps actions.Flush s act some k = let n = asks_keeps (null_request plan) s tt k in record { reads = n.reads; marks = n.marks; records = n.records; listed = n.listed }
   moved_keeps actions.Skip s (Told m) some k =
       let left = drop (place_next commands s.progress) commands in
       let p = s.progress in
@@ -264,7 +261,7 @@ module _ (plan : Plan) (commands : List Task) (scope : Scope) where
       losing_keeps (loses_all t.progress) t (moved_keeps (action_at plan s) (with_progress turned s) act (there (action_at plan s) (action_for plan s.progress (waiting_of s)))
       (record { reads = k.reads; marks = k.marks; records = k.records; listed = k.listed })) where
         -- if a command is unsent, a cycle has begun, and there is a next command
-        one_left : 0 < s.progress.unsent → (0 < cycles_begun plan s.progress) × (0 < length (drop (place_next commands s.progress) commands))
+        one_left : 0 < s.progress.unsent → (0 < cycles_begun plan s.progress) × (0 < length (commands_left commands s.progress))
         one_left unsent =
             let many = length-drop (place_next commands s.progress) commands in
             let within = fine.unsent in

@@ -20,7 +20,7 @@ use Rattle.gc_station.specs.Parts as part
 use Rattle.gc_station.specs.Parts.{Part, only_sync_steps, sync_part, client_part, in_front, parts_of}
 use Rattle.gc_station.specs.Progressing.{is_over, loses_all}
 use Rattle.gc_station.specs.Model.{Performs, Runs, Model, after, is_heard, lines_completed, action_at}
-use Rattle.gc_station.specs.NextCommand.{mark_next, place_next, mark_setup}
+use Rattle.gc_station.specs.NextCommand.{mark_next, place_next}
 use Rattle.gc_station.proofs.Beginnings.{word_after, word_if_resynchronizing}
 use Rattle.gc_station.proofs.Midway.{none_lost_parts}
 use Rattle.gc_station.proofs.Turns.{no_act_once_over}
@@ -164,11 +164,6 @@ none_asking : (now : ℕ) (mark : Mark) (tasks : List Task) → (part.first_requ
 none_asking now mark [] = refl
 none_asking now mark (task ∷ others) = refl
 
--- the part that sends the first of these commands of the setup, or a null procedure if there is none, has no steps of a synchronization
-none_setup : (plan : Plan) (now : ℕ) (mark : Mark) (tasks : List Task) → (part.request_or_null_part plan now mark tasks).sync_steps ≡ []
-none_setup plan now mark [] = refl
-none_setup plan now mark (task ∷ others) = refl
-
 module _ (plan : Plan) (commands : List Task) where
   -- let all that is outstanding be lost at the model t (`loses_all`), and all eight ids be left in t unless the station has
   -- synchronized. If the parts of the acts after t have synchronized from the ids left in t, they have synchronized from all
@@ -226,7 +221,7 @@ module _ (plan : Plan) (commands : List Task) where
   -- the part of an action that puts bytes has none
   none_putting : (s : Model) (o : Action) → (part.put_part plan commands s o).sync_steps ≡ []
   none_putting s action.Flush = refl
-  none_putting s action.Prepare = none_setup plan s.progress.moment.elapsed (mark_setup commands s.progress) (drop s.progress.prepared commands)
+  none_putting s action.Prepare = refl
   none_putting s action.Send = none_asking s.progress.moment.elapsed (mark_next plan commands s.progress) (drop (place_next commands s.progress) commands)
   none_putting s o = refl
 

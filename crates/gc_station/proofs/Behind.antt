@@ -8,13 +8,13 @@ use Rattle.std.proofs.lemmas.Bool.{ltb-true, cond_both, ltb-false}
 use Rattle.std.proofs.lemmas.List.{length-map, length-append}
 use Rattle.gc_catalogue.specs.Asked.{is_of_table}
 use Rattle.gc_catalogue.specs.declared.asked.Asked.{Asked}
-use Rattle.gc_client.specs.OneForOne.{Course, Step, Send, Hear, Expire, Restart, begun, sent_on, course_after, course, of_settled, of_pending, IsOneForOne}
-use Rattle.gc_client.specs.Rule.{ById, Sending, Settlement, Lost, heard, hears, id_settled, lost, settled_by_line, settle, sends, restarts}
+use Rattle.gc_client.specs.OneForOne.{Course, Step, Send, Hear, Expire, Restart, begun, sent_on, course_after, course, of_settled, of_pending, AccountsForSends}
+use Rattle.gc_client.specs.Rule.{ById, Sending, Settlement, Lost, heard, hears, settles_at, lost, settled_by_line, settle, sends, restarts}
 use Rattle.gc_client.specs.declared.pending.Pending.{Pending}
 use Rattle.gc_client.specs.declared.window.TheConstants.{WINDOW}
-use Rattle.gc_client.proofs.OneForOne.{length-settle, one_for_one}
+use Rattle.gc_client.proofs.OneForOne.{accounts_for_sends, length-settle}
 use Rattle.gc_station.specs.Parts.{client_stepped}
-use Rattle.gc_station.specs.Behind.{IsReplied, IsNearTheTable}
+use Rattle.gc_station.specs.Behind.{IsEndedByReply, IsNearTheTable}
 use Rattle.gc_station.specs.Model.{is_some_of_table, ends_with_table}
 use Rattle.gc_station.specs.Progressing.{one_more_in_window}
 use Rattle.gc_station.proofs.Booking.{course_client}
@@ -37,14 +37,14 @@ behind_by c b [] = b
 behind_by c b (step ∷ steps) = behind_by (client_stepped c step) (behind_step c b step) steps
 
 -- at most `b` requests were sent in all; or at most `b` were sent after some call of the table that a reply ended
-abbrev pub IsWithin : Course Asked → ℕ → Type 0
-IsWithin x b =
+abbrev pub IsAtMostBehind : Course Asked → ℕ → Type 0
+IsAtMostBehind x b =
     (length x.sent ≤ b)
-    ⊎ ((k : ℕ) × (s : Settlement Asked) × (slice_get x.settlements k ≡ Some s) × IsReplied s × (length x.sent ≤ suc k + b))
+    ⊎ ((k : ℕ) × (s : Settlement Asked) × (slice_get x.settlements k ≡ Some s) × IsEndedByReply s × (length x.sent ≤ suc k + b))
 
--- if the count `b` is below seven, `IsWithin` holds of it
+-- if the count `b` is below seven, `IsAtMostBehind` holds of it
 abbrev pub CountsBehind : Course Asked → ℕ → Type 0
-CountsBehind x b = b < 7 → IsWithin x b
+CountsBehind x b = b < 7 → IsAtMostBehind x b
 
 -- the last of the requests that a reply settles isn't lost
 last_settled_not_lost : (k : ℕ) (line : List ℕ) (ps : List (Pending Asked)) (x : Settlement Asked) → k < length ps → slice_get (settle k line ps) k ≡ Some x → x.outcome ≡ Lost → ⊥
@@ -60,7 +60,7 @@ record EndsReplied (xs : List (Settlement Asked)) : Type 0 where
   last : Settlement Asked
   some : 0 < length xs
   at : slice_get xs (length xs - 1) ≡ Some last
-  replied : IsReplied last
+  replied : IsEndedByReply last
 
 -- if the test `is_some_of_table` holds of what may be a settlement, there is a settlement, and it is of a call of the table
 table_one : (o : Option (Settlement Asked)) → is_some_of_table o ≡ true → (x : Settlement Asked) × (o ≡ Some x) × (is_of_table x.call ≡ true)
@@ -72,7 +72,7 @@ ends_replied : (c : ById Asked) (line : List ℕ) (o : Option ℕ) → ends_with
 ends_replied c line None e = cc
 ends_replied c line (Some id) e = by_test _ _ refl e where
   -- the lemma above, by whether the id is of an outstanding request (`true`)
-  by_test : (k : ℕ) (b : Bool) → nat_lt k (length c.waiting) ≡ b → ends_with_table (id_settled c line k b).settlements ≡ true → EndsReplied (id_settled c line k b).settlements
+  by_test : (k : ℕ) (b : Bool) → nat_lt k (length c.waiting) ≡ b → ends_with_table (settles_at c line k b).settlements ≡ true → EndsReplied (settles_at c line k b).settlements
   by_test k false fits e = cc
   by_test k true fits e =
       let low = ltb-true k (length c.waiting) fits in
@@ -87,8 +87,8 @@ ends_replied c line (Some id) e = by_test _ _ refl e where
         replied = (last.2, last_settled_not_lost k line c.waiting last.0 low (ap (slice_get xs) (sym at) ∙ last.1));
       }
 
--- a course that is one for one sent as many requests as it has settlements and outstanding requests
-settled_and_waiting : (x : Course Asked) → IsOneForOne x → length x.settlements + length x.client.waiting ≡ length x.sent
+-- a course that accounts for its sends sent as many requests as it has settlements and outstanding requests
+settled_and_waiting : (x : Course Asked) → AccountsForSends x → length x.settlements + length x.client.waiting ≡ length x.sent
 settled_and_waiting x one =
     let a = length-append (map of_settled x.settlements) (map of_pending x.client.waiting) in
     let b = length-map x.settlements of_settled in
@@ -96,14 +96,14 @@ settled_and_waiting x one =
     let e = ap length one in
     omega (arith, a, b, d, e)
 
--- `IsWithin` is preserved if settlements are added, whatever client is left
-within_more : (x : Course Asked) (more : List (Settlement Asked)) (client : ById Asked) (b : ℕ) → IsWithin x b
-    → IsWithin (record { sent = x.sent; settlements = x.settlements ++ more; client = client }) b
+-- `IsAtMostBehind` is preserved if settlements are added, whatever client is left
+within_more : (x : Course Asked) (more : List (Settlement Asked)) (client : ById Asked) (b : ℕ) → IsAtMostBehind x b
+    → IsAtMostBehind (record { sent = x.sent; settlements = x.settlements ++ more; client = client }) b
 within_more x more client b (inl few) = inl few
 within_more x more client b (inr (k, s, at, replied, near)) = inr (k, s, get_more x.settlements more k s at, replied, near)
 
--- `IsWithin` is preserved by a send, with the count one higher, whether the client refuses the send (`None`) or not
-within_sent : (x : Course Asked) (target : ℕ) (call : Asked) (o : Option (Sending (ById Asked))) (b : ℕ) → IsWithin x b → IsWithin (sent_on x target call o) (b + 1)
+-- `IsAtMostBehind` is preserved by a send, with the count one higher, whether the client refuses the send (`None`) or not
+within_sent : (x : Course Asked) (target : ℕ) (call : Asked) (o : Option (Sending (ById Asked))) (b : ℕ) → IsAtMostBehind x b → IsAtMostBehind (sent_on x target call o) (b + 1)
 within_sent x target call None b (inl few) = inl (omega (arith, few))
 within_sent x target call None b (inr (k, s, at, replied, near)) = inr (k, s, at, replied, omega (arith, near))
 within_sent x target call (Some sending) b (inl few) =
@@ -116,15 +116,16 @@ one_more_is : (b : ℕ) → one_more_in_window b < 7 → (b < 7) × (one_more_in
 one_more_is b low = cond_both (nat_lt b WINDOW) (b + 1) b (λ n. n < 7 → (b < 7) × (n ≡ b + 1)) (λ e l. (ltb-true b WINDOW e, refl))
     (λ e l. let high : 7 ≤ b = ltb-false b WINDOW e in absurd (omega (arith, l, high))) low
 
--- a step preserves `CountsBehind`, with the count that `behind_step` gives, if the course after the step is one for one
-counts_step : (x : Course Asked) (b : ℕ) (step : Step Asked) → IsOneForOne (course_after WINDOW x step) → CountsBehind x b → CountsBehind (course_after WINDOW x step) (behind_step x.client b step)
+-- a step preserves `CountsBehind`, with the count that `behind_step` gives, if the course after the step accounts for its sends
+counts_step : (x : Course Asked) (b : ℕ) (step : Step Asked) → AccountsForSends (course_after WINDOW x step) → CountsBehind x b
+    → CountsBehind (course_after WINDOW x step) (behind_step x.client b step)
 counts_step x b (Send target call deadline) one h low =
     let is = one_more_is b low in
-    subst (λ (n : ℕ). IsWithin (course_after WINDOW x (Send target call deadline)) n) (sym is.1) (within_sent x target call (sends WINDOW x.client target call deadline) b (h is.0))
+    subst (λ (n : ℕ). IsAtMostBehind (course_after WINDOW x (Send target call deadline)) n) (sym is.1) (within_sent x target call (sends WINDOW x.client target call deadline) b (h is.0))
 counts_step x b (Hear line) one h low = by_test (ends_with_table (hears x.client line (heard line)).settlements) refl low where
   -- the lemma above, by whether the last request that the line settles is a call of the table (`t`)
   by_test : (t : Bool) → ends_with_table (hears x.client line (heard line)).settlements ≡ t → (if t then length (hears x.client line (heard line)).client.waiting else b) < 7
-      → IsWithin (course_after WINDOW x (Hear line)) (if t then length (hears x.client line (heard line)).client.waiting else b)
+      → IsAtMostBehind (course_after WINDOW x (Hear line)) (if t then length (hears x.client line (heard line)).client.waiting else b)
   by_test false e low = let y = hears x.client line (heard line) in within_more x y.settlements y.client b (h low)
   by_test true e low =
       let y = hears x.client line (heard line) in
@@ -142,27 +143,27 @@ course_append width [] later x = refl
 course_append width (step ∷ first) later x = course_append width first later (course_after width x step)
 
 -- the course of a new client after these steps
-abbrev pub reached : List (Step Asked) → Course Asked
-reached steps = course WINDOW begun steps
+abbrev pub course_of : List (Step Asked) → Course Asked
+course_of steps = course WINDOW begun steps
 
 -- the course of a new client after one step more is its course before that step, and then the step
-reached_more : (done : List (Step Asked)) (step : Step Asked) → reached (done ++ step ∷ []) ≡ course_after WINDOW (reached done) step
-reached_more done step = course_append WINDOW done (step ∷ []) begun
+course_of_more : (done : List (Step Asked)) (step : Step Asked) → course_of (done ++ step ∷ []) ≡ course_after WINDOW (course_of done) step
+course_of_more done step = course_append WINDOW done (step ∷ []) begun
 
 -- if `CountsBehind` holds of the count b after the steps `done`, it holds after further steps of the count that `behind_by` makes
 -- of b
-pub counts_steps : (done steps : List (Step Asked)) (b : ℕ) → CountsBehind (reached done) b → CountsBehind (reached (done ++ steps)) (behind_by (reached done).client b steps)
-counts_steps done [] b h = subst (λ (l : List (Step Asked)). CountsBehind (reached l) b) (sym (append-nil done)) h
+pub counts_steps : (done steps : List (Step Asked)) (b : ℕ) → CountsBehind (course_of done) b → CountsBehind (course_of (done ++ steps)) (behind_by (course_of done).client b steps)
+counts_steps done [] b h = subst (λ (l : List (Step Asked)). CountsBehind (course_of l) b) (sym (append-nil done)) h
 counts_steps done (step ∷ steps) b h =
-    let x = reached done in
+    let x = course_of done in
     let next = done ++ step ∷ [] in
-    let more = reached_more done step in
-    let one : IsOneForOne (course_after WINDOW x step) = subst (λ (y : Course Asked). IsOneForOne y) more (one_for_one WINDOW next) in
-    let here : CountsBehind (reached next) (behind_step x.client b step) = subst (λ (y : Course Asked). CountsBehind y (behind_step x.client b step)) (sym more) (counts_step x b step one h) in
+    let more = course_of_more done step in
+    let one : AccountsForSends (course_after WINDOW x step) = subst (λ (y : Course Asked). AccountsForSends y) more (accounts_for_sends WINDOW next) in
+    let here : CountsBehind (course_of next) (behind_step x.client b step) = subst (λ (y : Course Asked). CountsBehind y (behind_step x.client b step)) (sym more) (counts_step x b step one h) in
     let there = counts_steps next steps (behind_step x.client b step) here in
-    let client : (reached next).client ≡ client_stepped x.client step = ap (λ (y : Course Asked). y.client) more ∙ client_of_step x step in
-    subst (λ (l : List (Step Asked)). CountsBehind (reached l) (behind_by x.client b (step ∷ steps))) (append_assoc done (step ∷ []) steps)
-    (subst (λ (c : ById Asked). CountsBehind (reached (next ++ steps)) (behind_by c (behind_step x.client b step) steps)) client there) where
+    let client : (course_of next).client ≡ client_stepped x.client step = ap (λ (y : Course Asked). y.client) more ∙ client_of_step x step in
+    subst (λ (l : List (Step Asked)). CountsBehind (course_of l) (behind_by x.client b (step ∷ steps))) (append_assoc done (step ∷ []) steps)
+    (subst (λ (c : ById Asked). CountsBehind (course_of (next ++ steps)) (behind_by c (behind_step x.client b step) steps)) client there) where
       -- the client of a course after a step is its client before it with that step made, whatever was sent and settled before
       client_of_step : (x : Course Asked) (step : Step Asked) → (course_after WINDOW x step).client ≡ client_stepped x.client step
       client_of_step x step = course_client (step ∷ []) x
@@ -170,7 +171,7 @@ counts_steps done (step ∷ steps) b h =
 -- if `CountsBehind` holds of a count below seven, `IsNearTheTable` holds of the course
 pub near_so : (x : Course Asked) (b : ℕ) → CountsBehind x b → b < 7 → IsNearTheTable x
 near_so x b h low = by_case (h low) where
-  -- the lemma above, by the case of `IsWithin`
-  by_case : IsWithin x b → IsNearTheTable x
+  -- the lemma above, by the case of `IsAtMostBehind`
+  by_case : IsAtMostBehind x b → IsNearTheTable x
   by_case (inl few) = inl (omega (arith, few, low))
   by_case (inr (k, s, at, replied, near)) = inr (k, s, at, replied, omega (arith, near, low))

@@ -11,16 +11,19 @@ use Rattle.std.proofs.lemmas.Option.{same_Some}
 use Rattle.gc_catalogue.specs.declared.answer.Reading.{Reading}
 use Rattle.gc_catalogue.specs.declared.asked.Asked.{Asked}
 use Rattle.gc_client.specs.OneForOne.{Wanted, Course, Step, Send, Hear, Expire, Restart, sent_on, course_after, course, of_settled, of_pending}
-use Rattle.gc_client.specs.Rule.{ById, Outcome, Answered, Late, Lost, Sending, Settlement, fresh, heard, hears, expires, lost, id_send, sends}
+use Rattle.gc_client.specs.Rule.{ById, Outcome, Answered, Late, Lost, Sending, Settlement, fresh, heard, hears, expires, lost, send_unless_full, sends}
 use Rattle.gc_client.proofs.OneForOne.{heard_parts, lost_parts}
 use Rattle.gc_texts.specs.Zeroed.{as_zero}
 use Rattle.gc_texts.specs.Endings.{End}
 use Rattle.gc_texts.specs.declared.near.Expected.{Expected}
 use Rattle.gc_texts.specs.declared.tasks.Task.{Task}
 use Rattle.gc_station.specs.declared.mark.Mark.{Mark}
+use Rattle.gc_station.specs.declared.station.sending.Outgoing.{Outgoing}
 use Rattle.gc_station.specs.Marks.{end_of, record_of, records_of}
 use Rattle.gc_station.specs.Records.{Record}
-use Rattle.gc_station.specs.Model.{client_sent}
+use Rattle.gc_station.specs.Requests.{of_command}
+use Rattle.gc_station.specs.Deciding.{later}
+use Rattle.gc_station.specs.Model.{client_sent, sent_to}
 use Rattle.gc_station.specs.Parts.{SyncStep, Part, only_sync_steps, only_steps, nothing, joined, request_part, MarkAsks, MarksAsk, went_out, sent_of, timeless, course_at, client_stepped, client_after}
 use Rattle.gc_station.proofs.Lists.{all_append, all_at}
 use Rattle.gc_station.proofs.Records.{answer_along, records-none, records-append}
@@ -205,11 +208,11 @@ restarting = only_steps (Restart ∷ [])
 
 -- what a send of this call to this target gives, if the client doesn't refuse it: the id, and the client after the send
 abbrev pub sending_of : ById Asked → ℕ → Asked → ℕ → Sending (ById Asked)
-sending_of c target call deadline = record { id = c.next; client = client_sent c (id_send c target call deadline false) }
+sending_of c target call deadline = record { id = c.next; client = client_sent c (send_unless_full c target call deadline false) }
 
 -- a send isn't refused if the window has room
 pub sends_with_room : (c : ById Asked) (target : ℕ) (call : Asked) (deadline : ℕ) → length c.waiting < 7 → sends 7 c target call deadline ≡ Some (sending_of c target call deadline)
-sends_with_room c target call deadline room = ap (λ b. id_send c target call deadline b) (ne_eqb (length c.waiting) 7 (λ e. omega (arith, e, room)))
+sends_with_room c target call deadline room = ap (λ b. send_unless_full c target call deadline b) (ne_eqb (length c.waiting) 7 (λ e. omega (arith, e, room)))
 
 -- What is recorded.
 
@@ -351,11 +354,13 @@ module _ (reads : Asked → List ℕ → Reading) (commands : List Task) where
   )
 
   -- a send of what its mark says, if there is room: the mark is added, and the records stay
-  pub books_send : (c : ById Asked) (ms : List (Option Mark)) (rs : List Record) (target : ℕ) (call : Asked)
-      (deadline : ℕ) (mark : Option Mark) → length c.waiting < 7 → MarkAsks commands mark (record { target = target; call = call })
-      → Books c ms rs (request_part target call deadline mark) (client_sent c (sends 7 c target call deadline)) (ms ++ mark ∷ []) rs
-  books_send c ms rs target call deadline mark room is =
-      let h : IsSendBooked c ms rs target call mark (sends 7 c target call deadline) =
-      subst (IsSendBooked c ms rs target call mark) (sym (sends_with_room c target call deadline room))
-      (some_send_booked c ms rs target call mark (sending_of c target call deadline) is) in
+  pub books_send : (c : ById Asked) (ms : List (Option Mark)) (rs : List Record) (now : ℕ) (x : Outgoing) → length c.waiting < 7 → MarkAsks commands x.mark (of_command x.command)
+      → Books c ms rs (request_part now x) (sent_to 7 c x.command now x.wait) (ms ++ x.mark ∷ []) rs
+  books_send c ms rs now x room is =
+      let target = x.command.target in
+      let call = x.command.call in
+      let deadline = later now x.wait in
+      let h : IsSendBooked c ms rs target call x.mark (sends 7 c target call deadline) =
+      subst (IsSendBooked c ms rs target call x.mark) (sym (sends_with_room c target call deadline room))
+      (some_send_booked c ms rs target call x.mark (sending_of c target call deadline) is) in
       record { client = h.0; wrote = h.1 }

@@ -14,7 +14,7 @@ use Rattle.gc_station.specs.Quiet.{KeepsOpen}
 use Rattle.gc_station.specs.Progressing.{failing}
 use Rattle.gc_station.specs.Model.{Model, Performs, waiting_of, with_rest, moved, cycle_length}
 use Rattle.gc_station.specs.NextCommand.{commands_before, is_chained_after}
-use Rattle.gc_station.proofs.Walk.{closed_along, is_prepared, is_sent, moved_changed, walk}
+use Rattle.gc_station.proofs.Walk.{closed_along, is_sent, moved_changed, walk}
 
 -- What an act does to the place in a cycle, and to the chain that is there.
 
@@ -89,11 +89,8 @@ moved_steps plan commands Renew s (Told m) = inr (broken s.progress _ refl refl 
 moved_steps plan commands Renew s act = inl (still s.progress _ refl refl refl refl refl)
 moved_steps plan commands Open s Opened = still s.progress _ refl refl refl refl refl
 moved_steps plan commands Open s act = (broken s.progress _ refl refl refl refl refl).0
-moved_steps plan commands Prepare s (Cut bytes n) =
-    subst (λ (x : Model). Still s.progress (failing (cause.Write (commands_before plan commands s.progress) n) x.progress) × (x.progress.chain_unbroken ≡ false)) (is_prepared plan commands s)
-    (broken s.progress _ refl refl refl refl refl)
-moved_steps plan commands Prepare s act =
-    subst (λ (x : Model). Still s.progress x.progress × (x.progress.chain_unbroken ≡ false)) (is_prepared plan commands s) (broken s.progress _ refl refl refl refl refl)
+moved_steps plan commands Prepare s (Cut bytes n) = broken s.progress _ refl refl refl refl refl
+moved_steps plan commands Prepare s act = broken s.progress _ refl refl refl refl refl
 moved_steps plan commands Send s (Cut bytes n) =
     subst (λ (x : Model). Next (is_chained_after 1 commands s.progress) s.progress (failing (cause.Write (commands_before plan commands s.progress) n) x.progress)) (is_sent plan commands s)
     (record { left = refl; unsent = refl; missed = refl; chained = refl })

@@ -21,7 +21,7 @@ use Rattle.gc_links.specs.Acts.{Act, Told}
 use Rattle.gc_station.specs.Answers.{AnswerIsJustified}
 use Rattle.gc_station.specs.Chains.{IsChained, IsLinked}
 use Rattle.gc_station.specs.Deciding.{has_begun}
-use Rattle.gc_station.specs.EachOnce.{Interleave, Request, of_record, of_task, requests, commands_reached, of_text, in_text}
+use Rattle.gc_station.specs.EachOnce.{Interleave, RunRequest, of_record, of_task, requests, commands_reached, of_text, in_text}
 use Rattle.gc_station.specs.Marks.{commands_in, is_well, last_well}
 use Rattle.gc_station.specs.Qualities.{IsAsListed}
 use Rattle.gc_station.specs.Quiet.{KeepsOpen}
@@ -31,11 +31,11 @@ use Rattle.gc_station.specs.Records.{Record}
 use Rattle.gc_station.specs.Runs.{state_after}
 use Rattle.gc_station.specs.Scopes.{Scope}
 use Rattle.gc_station.specs.Model.{Model, Performs, Runs, opening, action_at, waiting_of, ended, with_progress, moved, after, after_all, cycle_length}
-use Rattle.gc_station.specs.NextCommand.{place_next, cycles_begun, is_chained, is_chained_after}
+use Rattle.gc_station.specs.NextCommand.{place_next, commands_left, cycles_begun, first_is_chained, is_chained_after}
 use Rattle.gc_station.proofs.Answers.{answers_true}
 use Rattle.gc_station.proofs.Counts.{ended_progress, ended_passes}
 use Rattle.gc_station.proofs.Each.{row_settled, sent_next, row}
-use Rattle.gc_station.proofs.Interleaving.{IsInFront, before_not_after, drop_past, interleave_all, interleave_last, sent_before}
+use Rattle.gc_station.proofs.Interleaving.{ComesBefore, before_not_after, drop_past, interleave_all, interleave_last, sent_before}
 use Rattle.gc_station.proofs.EachRun.{invariant_holds}
 use Rattle.gc_station.proofs.Row.{last_of_cycle, of_text_last}
 use Rattle.gc_station.proofs.Facts.{action_for}
@@ -97,18 +97,22 @@ moved_leaves_nothing_out plan commands action s act = inl (ap (λ (x : Model). x
 
 -- if `LeavesNothingOut` holds from s to t, and a chain goes on in t, the commands that were left out in s (`before`) are those
 -- left out in t
-still_passes : (s t : Model) (before : List Request) → LeavesNothingOut s t → t.progress.chain_unbroken ≡ true → s.passes ≡ before → t.passes ≡ before
+still_passes : (s t : Model) (before : List RunRequest) → LeavesNothingOut s t → t.progress.chain_unbroken ≡ true → s.passes ≡ before → t.passes ≡ before
 still_passes s t before (inl same) e is = same ∙ is
 still_passes s t before (inr none) e is = absurd (both_ways t.progress.chain_unbroken none e)
 
+-- whether the cycle's next command waits for the answer of the one before it: its cycle is missed, or the text chains it
+abbrev pub waits_for_answer : List Task → Progress → Bool
+waits_for_answer commands p = p.missed || first_is_chained (commands_left commands p)
+
 -- what `ChainIsRight` says of `next_is_chained` holds still where the next command and the fields on chains stay (`Still`)
 still_chained : (plan : Plan) (commands : List Task) (p q : Progress) → (stays : Still p q)
-    → (before : plan.setup < place_next commands p → p.next_is_chained ≡ (p.missed || is_chained (drop (place_next commands p) commands)))
-    → plan.setup < place_next commands q → q.next_is_chained ≡ (q.missed || is_chained (drop (place_next commands q) commands))
+    → (before : plan.setup < place_next commands p → p.next_is_chained ≡ waits_for_answer commands p)
+    → plan.setup < place_next commands q → q.next_is_chained ≡ waits_for_answer commands q
 still_chained plan commands p q k before above =
     let place_is : place_next commands q ≡ place_next commands p = ap (λ (n : ℕ). length commands - n) k.unsent in
-    k.next_is_chained ∙ before (subst (λ (n : ℕ). plan.setup < n) place_is above) ∙ ap (λ (b : Bool). b || is_chained (drop (place_next commands p) commands)) (sym k.missed)
-    ∙ ap (λ (n : ℕ). q.missed || is_chained (drop n commands)) (sym place_is)
+    k.next_is_chained ∙ before (subst (λ (n : ℕ). plan.setup < n) place_is above) ∙ ap (λ (b : Bool). b || first_is_chained (drop (place_next commands p) commands)) (sym k.missed)
+    ∙ ap (λ (n : ℕ). q.missed || first_is_chained (drop n commands)) (sym place_is)
 
 -- if a command is unsent in p, no more are than `commands` has, and one fewer is unsent in q, the next command of q is one place
 -- after that of p
@@ -118,9 +122,9 @@ next_place commands p q less some within = omega (arith, less, some, within)
 -- after a command that was sent, or recorded without being sent, `next_is_chained` is what the text says of the next command, or
 -- true in a missed cycle
 next_chained : (commands : List Task) (p q : Progress) → Next (is_chained_after 1 commands p) p q → place_next commands q ≡ place_next commands p + 1
-    → q.next_is_chained ≡ (q.missed || is_chained (drop (place_next commands q) commands))
+    → q.next_is_chained ≡ waits_for_answer commands q
 next_chained commands p q n at =
-    n.chained ∙ ap (λ (b : Bool). b || is_chained (drop (place_next commands p + 1) commands)) (sym n.missed) ∙ ap (λ (k : ℕ). q.missed || is_chained (drop k commands)) (sym at)
+    n.chained ∙ ap (λ (b : Bool). b || first_is_chained (drop (place_next commands p + 1) commands)) (sym n.missed) ∙ ap (λ (k : ℕ). q.missed || first_is_chained (drop k commands)) (sym at)
 
 -- `LeavesNothingOut` is preserved by the loss of what is outstanding, at the end of an act
 ended_leaves_nothing_out : (s t : Model) → LeavesNothingOut s t → LeavesNothingOut s (ended t)
@@ -207,7 +211,7 @@ module _ (plan : Plan) (commands : List Task) (scope : Scope) where
   -- the two fields on chains of p are right after these acts: if the next command isn't the first of its cycle, `next_is_chained`
   -- is what the text says of it, or true in a missed cycle; and if `chain_unbroken` is true, `IsUnbroken` holds
   record ChainIsRight (acts : List Act) (p : Progress) : Type 0 where
-    next_is_chained : plan.setup < place_next commands p → p.next_is_chained ≡ (p.missed || is_chained (drop (place_next commands p) commands))
+    next_is_chained : plan.setup < place_next commands p → p.next_is_chained ≡ waits_for_answer commands p
     chain_unbroken : p.chain_unbroken ≡ true → IsUnbroken acts p
 
   -- `LeavesNothingOut` holds from the model before an act to the one after it
@@ -279,9 +283,9 @@ module _ (plan : Plan) (commands : List Task) (scope : Scope) where
   chain_past acts p q k within =
       record {
         next_is_chained = λ above.
-            k.chained ∙ ap (λ (b : Bool). b || is_chained (drop (place_next commands p + p.next_others) commands)) (sym k.missed)
-            ∙ ap (λ (xs : List Task). q.missed || is_chained xs) (drop_past commands p.unsent p.next_others within)
-            ∙ ap (λ (n : ℕ). q.missed || is_chained (drop (length commands - n) commands)) (sym k.unsent);
+            k.chained ∙ ap (λ (b : Bool). b || first_is_chained (drop (place_next commands p + p.next_others) commands)) (sym k.missed)
+            ∙ ap (λ (xs : List Task). q.missed || first_is_chained xs) (drop_past commands p.unsent p.next_others within)
+            ∙ ap (λ (n : ℕ). q.missed || first_is_chained (drop (length commands - n) commands)) (sym k.unsent);
         chain_unbroken = λ e. absurd (both_ways q.chain_unbroken k.chain_unbroken e);
       }
 
@@ -383,12 +387,12 @@ module _ (plan : Plan) (commands : List Task) (scope : Scope) where
 
   -- `ChainIsRight` holds after every run
   chain_holds : (acts : List Act) → Runs plan commands (opening plan scope) acts → ChainIsRight acts (at acts).progress
-  chain_holds acts runs = chain_along [] acts runs (record { next_is_chained = λ above. sym (ap is_chained (none_behind commands)); chain_unbroken = λ e. cc })
+  chain_holds acts runs = chain_along [] acts runs (record { next_is_chained = λ above. sym (ap first_is_chained (none_behind commands)); chain_unbroken = λ e. cc })
 
   -- after every run, if the next command isn't the first of its cycle, `next_is_chained` is what the text says of it, or true in
   -- a missed cycle
   pub chained_as_text_says : (acts : List Act) → Runs plan commands (opening plan scope) acts → plan.setup < place_next commands (at acts).progress
-      → (at acts).progress.next_is_chained ≡ ((at acts).progress.missed || is_chained (drop (place_next commands (at acts).progress) commands))
+      → (at acts).progress.next_is_chained ≡ waits_for_answer commands (at acts).progress
   chained_as_text_says acts runs above = (chain_holds acts runs).next_is_chained above
 
   -- `IsLinked` holds: the command before the next one was sent, and was answered well. Since it was sent, the station has
@@ -399,7 +403,7 @@ module _ (plan : Plan) (commands : List Task) (scope : Scope) where
       × PreparesNothing plan commands (at l.before) (l.request ∷ l.between)
 
   -- if a chained command is to be sent, `IsLinkedStill` holds
-  pub chain_linked : (acts : List Act) → Runs plan commands (opening plan scope) acts → action_at plan (at acts) ≡ Send → IsChained plan commands (at acts)
+  pub chain_linked : (acts : List Act) → Runs plan commands (opening plan scope) acts → action_at plan (at acts) ≡ Send → IsChained plan commands (at acts).progress
       → IsLinkedStill acts
   chain_linked acts runs is chained = of_may needs.4 where
     -- the model after these acts
@@ -441,18 +445,18 @@ module _ (plan : Plan) (commands : List Task) (scope : Scope) where
         let b_passes = b.passes in
         let there : commands_reached plan.setup commands (cycles_begun plan s.progress) (place_next commands s.progress) ≡ commands_reached plan.setup commands cycle (place + 1) =
         ap (λ (n : ℕ). commands_reached plan.setup commands n (place_next commands s.progress)) w.cycle ∙ ap (λ (n : ℕ). commands_reached plan.setup commands cycle n) w.place in
-        let one : Request = record { cycle = cycle; place = place; asked = of_task sent.0 } in
+        let one : RunRequest = record { cycle = cycle; place = place; asked = of_task sent.0 } in
         let all : Interleave (of_text commands (map of_record s.records)) b_passes (commands_reached plan.setup commands cycle place ++ one ∷ []) =
-        subst (λ (xs : List Request). Interleave (of_text commands (map of_record s.records)) b_passes xs) (there ∙ sym sent.1)
-        (subst (λ (ys : List Request). Interleave (of_text commands (map of_record s.records)) ys
+        subst (λ (xs : List RunRequest). Interleave (of_text commands (map of_record s.records)) b_passes xs) (there ∙ sym sent.1)
+        (subst (λ (ys : List RunRequest). Interleave (of_text commands (map of_record s.records)) ys
         (commands_reached plan.setup commands (cycles_begun plan s.progress) (place_next commands s.progress))) w.passes
-        (subst (λ (xs : List Request). Interleave xs s.passes (commands_reached plan.setup commands (cycles_begun plan s.progress) (place_next commands s.progress)))
+        (subst (λ (xs : List RunRequest). Interleave xs s.passes (commands_reached plan.setup commands (cycles_begun plan s.progress) (place_next commands s.progress)))
         (ap (of_text commands) (row_settled s.marks s.client.waiting s.records settled)) fine.each)) in
-        let front = interleave_all (IsInFront cycle place) (of_text commands (row b.marks b.client.waiting b.records)) b_passes
+        let front = interleave_all (ComesBefore cycle place) (of_text commands (row b.marks b.client.waiting b.records)) b_passes
         (commands_reached plan.setup commands cycle place) before.each
         (sent_before plan.setup commands cycle place within) in
         let kept = interleave_last one (of_text commands (map of_record s.records)) b_passes (commands_reached plan.setup commands cycle place) all
-        (λ xs e. before_not_after cycle cycle place place (all_last (IsInFront cycle place) xs one (subst (AllByRecursion (IsInFront cycle place)) e front)) (inr (refl, omega arith))) in
+        (λ xs e. before_not_after cycle cycle place place (all_last (ComesBefore cycle place) xs one (subst (AllByRecursion (ComesBefore cycle place)) e front)) (inr (refl, omega arith))) in
         let split = map-append of_record l.earlier (l.answer ∷ []) in
         let listed_all : map of_record s.records ≡ map of_record l.earlier ++ of_record l.answer ∷ [] = ap (map of_record) l.last ∙ split in
         let of_a_cycle : 0 < l.answer.cycle = last_of_cycle plan commands scope acts runs settled it (map of_record l.earlier) (of_record l.answer) listed_all in
@@ -475,8 +479,8 @@ module _ (plan : Plan) (commands : List Task) (scope : Scope) where
           earlier = l.earlier;
           answer = l.answer;
           last = l.last;
-          own_cycle = ap (λ (r : Request). r.cycle) own;
-          own_place = ap (λ (r : Request). r.place) own;
+          own_cycle = ap (λ (r : RunRequest). r.cycle) own;
+          own_place = ap (λ (r : RunRequest). r.place) own;
           good = record { line = l.line; quality = l.quality; said = l.said; answered = l.answered; well = l.well; says = listed l.quality l.said l.line l.answered };
           in_time = true_one l.line (ap line_of l.answered);
         } in
@@ -490,5 +494,5 @@ module _ (plan : Plan) (commands : List Task) (scope : Scope) where
 
   -- a chained command is sent only once the one before it was answered well, as `IsLinked` says
   pub chain_kept : (acts : List Act) → Runs plan commands (opening plan scope) acts
-      → action_at plan (at acts) ≡ Send → IsChained plan commands (at acts) → IsLinked plan commands scope acts
+      → action_at plan (at acts) ≡ Send → IsChained plan commands (at acts).progress → IsLinked plan commands scope acts
   chain_kept acts runs is chained = (chain_linked acts runs is chained).0

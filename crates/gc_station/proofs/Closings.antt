@@ -23,18 +23,19 @@ use Rattle.gc_station.specs.declared.progress.Waiting.{Waiting}
 use Rattle.gc_links.specs.Acts.{Act, Untold, Cut, Ended, Broke, Closed}
 use Rattle.gc_station.specs.Deciding.{has_begun, is_up, is_past, action_in}
 use Rattle.gc_station.specs.Marks.{commands_in}
-use Rattle.gc_station.specs.Progressing.{turned, moment_noted, failing, quieted, time_passed, is_finished, is_idle, cleared, request_noted, null_sent, closed, is_spared}
-use Rattle.gc_station.specs.Closing.{HasFreshClient, IsReasoned, Shows, ClosesForACause, EndsAfter, EndsDisconnected, Ends, StopsForACause, EndsAtFailure}
+use Rattle.gc_station.specs.Progressing.{turned, moment_noted, failing, quieted, time_passed, is_finished, is_idle, cleared, request_noted, null_sent, closed, is_spared, setup_sent}
+use Rattle.gc_station.specs.Closing.{HasFreshClient, IsReasoned, Shows, ClosesForACause, EndsAfter, EndsDisconnected, EndsRun, StopsForACause, EndsAtFailure}
+use Rattle.gc_station.specs.Quiet.{HasLast}
 use Rattle.gc_station.specs.Reasons.{HoldsBefore, IsAtItsEnd, IsFinished}
 use Rattle.gc_station.specs.Runs.{state_after}
-use Rattle.gc_station.specs.Model.{Model, request_text, null_text, first_text, waiting_of, opening, action_at, with_progress, with_moment, asks_null, is_heard, lines_completed, after_piece, Performs, moved, after, after_all, Runs, text_or_null}
+use Rattle.gc_station.specs.Model.{Model, next_request_text, null_text, first_text, waiting_of, opening, action_at, with_progress, with_moment, is_heard, lines_completed, after_piece, Performs, moved, after, after_all, Runs, text_or_null, null_request, asks_for, asks_setup}
 use Rattle.gc_station.specs.NextCommand.{commands_before, place_next}
 use Rattle.gc_station.proofs.Counts.{ended_progress}
 use Rattle.gc_station.proofs.EachRun.{invariant_holds}
 use Rattle.gc_station.proofs.Facts.{action_for, finished_so}
 use Rattle.gc_station.proofs.Invariant.{Invariant, says_done}
 use Rattle.gc_station.proofs.Going.{after_all-append, runs_front, runs_behind}
-use Rattle.gc_station.proofs.Walk.{asked_along, came_along, quieted_along, sending, sending_setup, HoldsAfterPut, walk}
+use Rattle.gc_station.proofs.Walk.{asked_along, came_along, quieted_along, model_sent, HoldsAfterPut, walk}
 use Rattle.gc_station.proofs.Turns.{again_down, closed_down}
 use Rattle.gc_station.specs.Scopes.{Scope}
 
@@ -173,16 +174,16 @@ moved_decides plan commands action.Prepare s act c o done e =
     let t = with_progress turned s in
     let text = text_or_null s.progress.moment.utc s.client (drop s.progress.prepared commands) in
     walk plan commands (DecidesSo plan s action.Prepare c) action.Prepare t act o
-    (put_decides plan s action.Prepare c (commands_before plan commands t.progress) text (sending_setup plan commands t) refl) e
+    (put_decides plan s action.Prepare c (commands_before plan commands t.progress) text (with_progress (setup_sent plan) (asks_setup plan commands t)) refl) e
 moved_decides plan commands action.Send s act c o done e =
     let t = with_progress turned s in
     let text = first_text s.progress.moment.utc s.client (drop (place_next commands s.progress) commands) in
     walk plan commands (DecidesSo plan s action.Send c) action.Send t act o
-    (put_decides plan s action.Send c (commands_before plan commands t.progress) text (sending plan commands t) refl) e
+    (put_decides plan s action.Send c (commands_before plan commands t.progress) text (model_sent plan commands t) refl) e
 moved_decides plan commands action.Flush s act c o done e =
     let t = with_progress turned s in
     walk plan commands (DecidesSo plan s action.Flush c) action.Flush t act o
-    (put_decides plan s action.Flush c (commands_before plan commands t.progress) (request_text s.client (Table NullProc)) (with_progress request_noted (asks_null plan t)) refl) e
+    (put_decides plan s action.Flush c (commands_before plan commands t.progress) (next_request_text s.client (Table NullProc)) (with_progress request_noted (asks_for (null_request plan) t)) refl) e
 moved_decides plan commands (action.Read until) s act c o done e =
     let t = with_progress turned s in
     walk plan commands (DecidesSo plan s (action.Read until) c) (action.Read until) t act o (
@@ -288,12 +289,11 @@ done_sent plan commands scope acts is = by_needs (needs_of plan (state_after pla
 -- in a run whose end is decided, the last act decided it
 decided_last : (plan : Plan) (commands : List Task) (scope : Scope) (acts : List Act) (c : Cause) → Runs plan commands (opening plan scope) acts
     → cause_in (state_after plan commands scope acts).progress.phase ≡ Some c
-    → (earlier : List Act) × (last : Act) × (acts ≡ earlier ++ last ∷ []) × Decided plan (state_after plan commands scope earlier) (state_after plan commands scope acts).progress.phase c last
+    → HasLast acts (λ earlier last. Decided plan (state_after plan commands scope earlier) (state_after plan commands scope acts).progress.phase c last)
 decided_last plan commands scope acts c runs e = by_last (none_or_last acts) where
   -- the lemma above, if there is a last act; at the start of a run no end is decided
   by_last : ((acts ≡ []) ⊎ ((earlier : List Act) × (last : Act) × (acts ≡ earlier ++ last ∷ [])))
-      → (earlier : List Act) × (last : Act) × (acts ≡ earlier ++ last ∷ [])
-      × Decided plan (state_after plan commands scope earlier) (state_after plan commands scope acts).progress.phase c last
+      → HasLast acts (λ earlier last. Decided plan (state_after plan commands scope earlier) (state_after plan commands scope acts).progress.phase c last)
   by_last (inl none) = let down : None ≡ Some c = sym (ap (λ (xs : List Act). cause_in (state_after plan commands scope xs).progress.phase) none) ∙ e in cc
   by_last (inr some) =
       let earlier = some.0 in
@@ -313,7 +313,7 @@ decided_last plan commands scope acts c runs e = by_last (none_or_last acts) whe
 -- if the phase says that the connection is to be closed for `why`, the last act shows that cause (`Shows`)
 pub closing_shown : (plan : Plan) (commands : List Task) (scope : Scope) (acts : List Act) (why : Cause) → Runs plan commands (opening plan scope) acts
     → (state_after plan commands scope acts).progress.phase ≡ Closing why
-    → (earlier : List Act) × (last : Act) × (acts ≡ earlier ++ last ∷ []) × Shows why last
+    → HasLast acts (λ earlier last. Shows why last)
 closing_shown plan commands scope acts why runs phase =
     let d = decided_last plan commands scope acts why runs (ap cause_in phase) in (d.0, d.1, d.2, shows (state_after plan commands scope d.0) d.1 d.3) where
       -- if the last act decided the end, it shows the cause: the connection isn't closed yet, so it isn't gone
@@ -337,7 +337,7 @@ closed_for plan commands scope acts runs o =
       by_needs : (why : Cause) → (((state_after plan commands scope acts).progress.phase ≡ Closing why)
           ⊎ IsAtItsEnd plan (state_after plan commands scope acts).progress (waiting_of (state_after plan commands scope acts)) why)
           → IsAtItsEnd plan (state_after plan commands scope acts).progress (waiting_of (state_after plan commands scope acts)) why
-          ⊎ ((earlier : List Act) × (last : Act) × (acts ≡ earlier ++ last ∷ []) × Shows why last)
+          ⊎ HasLast acts (λ earlier last. Shows why last)
       by_needs why (inl phase) = inr (closing_shown plan commands scope acts why runs phase)
       by_needs why (inr end) = inl end
 
@@ -352,13 +352,13 @@ stopped_for plan commands scope acts why runs stop =
     } where
       -- if the run is over, what decided the end ends the run
       ends : (before : Model) (last : Act) → (state_after plan commands scope acts).progress.phase ≡ Over why
-          → Decided plan before (state_after plan commands scope acts).progress.phase why last → Ends plan before why last
+          → Decided plan before (state_after plan commands scope acts).progress.phase why last → EndsRun plan before why last
       ends before last phase (inl failed) = inl (failed.0 (ap is_up phase), failed.1)
       ends before last phase (inr gone) = inr gone.1
 
       -- the lemma above, by the condition of stopping: the phase says so, or all turns are used up
       by_needs : (((state_after plan commands scope acts).progress.phase ≡ Over why) ⊎ ((why ≡ cause.Turns) × ((state_after plan commands scope acts).progress.turns ≡ 0)))
           → ((why ≡ cause.Turns) × ((state_after plan commands scope acts).progress.turns ≡ 0))
-          ⊎ ((earlier : List Act) × (last : Act) × (acts ≡ earlier ++ last ∷ []) × Ends plan (state_after plan commands scope earlier) why last)
+          ⊎ HasLast acts (λ earlier last. EndsRun plan (state_after plan commands scope earlier) why last)
       by_needs (inl phase) = let d = decided_last plan commands scope acts why runs (ap cause_in phase) in inr (d.0, d.1, d.2, ends (state_after plan commands scope d.0) d.1 phase d.3)
       by_needs (inr none) = inl none

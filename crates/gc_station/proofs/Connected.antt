@@ -19,8 +19,8 @@ use Rattle.gc_links.specs.Acts.{Act, Told, Put, Gave, Silent, Opened}
 use Rattle.gc_station.specs.Deciding.{is_up, is_past, is_quiet}
 use Rattle.gc_station.specs.Marks.{commands_in}
 use Rattle.gc_station.specs.Progressing.{turned, moment_noted, cycle_begun, skipped, attempts_left_out, opened, cleared, request_noted, null_sent, renewed, sent, early_noted, time_passed, quieted, is_idle, drained, setup_sent}
-use Rattle.gc_station.specs.Model.{Model, request_text, null_text, first_text, waiting_of, piece_at, with_progress, Performs, moved, cycle_length, text_or_null, opening, action_at, Runs}
-use Rattle.gc_station.specs.NextCommand.{commands_before, place_next, upcoming_after}
+use Rattle.gc_station.specs.Model.{Model, next_request_text, null_text, first_text, waiting_of, piece_at, with_progress, Performs, moved, cycle_length, text_or_null, opening, action_at, Runs}
+use Rattle.gc_station.specs.NextCommand.{commands_before, commands_left, upcoming_after}
 use Rattle.gc_station.specs.Runs.{state_after}
 use Rattle.gc_station.specs.Scopes.{Scope}
 use Rattle.gc_station.proofs.Always.{always_of_progress}
@@ -73,14 +73,14 @@ OnLine plan commands F actions.Clear s acts = (m : Moment) → F (cleared s.prog
 OnLine plan commands F actions.Ask s acts = (m : Moment) → F (null_sent plan s.progress) (acts ++ Put (null_text s.progress.word) ∷ [])
 OnLine plan commands F actions.Prepare s acts = (m : Moment) → F (setup_sent plan s.progress) (acts ++ Put (text_or_null s.progress.moment.utc s.client (drop s.progress.prepared commands)) ∷ [])
 OnLine plan commands F actions.Send s acts = (m : Moment) → F (sent (upcoming_after 1 commands s.progress) s.progress)
-    (acts ++ Put (first_text s.progress.moment.utc s.client (drop (place_next commands s.progress) commands)) ∷ [])
+    (acts ++ Put (first_text s.progress.moment.utc s.client (commands_left commands s.progress)) ∷ [])
 OnLine plan commands F actions.Skip s acts = (m : Moment)
     → F (early_noted plan (commands_in s.marks) (skipped (upcoming_after 1 commands s.progress) m s.progress))
     (acts ++ Told m ∷ [])
 OnLine plan commands F actions.Pass s acts =
     (m : Moment) → F (early_noted plan (commands_in s.marks)
     (attempts_left_out (upcoming_after s.progress.next_others commands s.progress) m s.progress)) (acts ++ Told m ∷ [])
-OnLine plan commands F actions.Flush s acts = (m : Moment) → F (request_noted s.progress) (acts ++ Put (request_text s.client (Table NullProc)) ∷ [])
+OnLine plan commands F actions.Flush s acts = (m : Moment) → F (request_noted s.progress) (acts ++ Put (next_request_text s.client (Table NullProc)) ∷ [])
 OnLine plan commands F (actions.Read until) s acts =
     ((bytes : List ℕ) (m : Moment) → F (piece_at plan until bytes m s).progress (acts ++ Gave bytes m ∷ []))
     × ((m : Moment) → Silenced plan F until m s.progress acts)

@@ -2,7 +2,7 @@
 -- exceeds 2^64 - 1 (`capped`).
 use Rattle.std.proofs.Common.{◌||◌, ◌&&◌, not, nat_eq, nat_lt, ◌≡◌, ℕ, suc, ◌+◌, Bool, true, false, List, [], ◌∷◌, if◌then◌else◌, refl, sym, ap, ◌∙◌, arith}
 use Rattle.gc_texts.specs.Endings.{End, Answered, Unreadable, Elsewhere, Late, Lost, Skipped, Missed}
-use Rattle.gc_station.specs.Counting.{is_followed, last_attempts, further_attempts, how_many, is_answered, is_unreadable, is_elsewhere, is_late, is_lost, is_skipped, is_missed, TalliesCountRecords}
+use Rattle.gc_station.specs.Counting.{is_followed, last_attempts, further_attempts, how_many, ended_answered, ended_unreadable, ended_elsewhere, ended_late, ended_lost, ended_skipped, ended_missed, TalliesCountRecords}
 use Rattle.gc_station.specs.Records.{Record}
 use Rattle.gc_station.specs.Tallies.{none_yet, capped, one_more, counted, sum, nothing_yet, tallied, total, tally_of}
 use Rattle.gc_station.specs.declared.tally.Counts.{Counts}
@@ -44,13 +44,13 @@ counted_in_front so false r rs = refl
 -- the tally `t` with one more in the count that counts this ending
 abbrev with_counted : End → Tally → Tally
 with_counted end t = record {
-  answered = if is_answered end then one_more t.answered else t.answered;
-  late = if is_late end then one_more t.late else t.late;
-  lost = if is_lost end then one_more t.lost else t.lost;
-  skipped = if is_skipped end then one_more t.skipped else t.skipped;
-  unreadable = if is_unreadable end then one_more t.unreadable else t.unreadable;
-  missed = if is_missed end then one_more t.missed else t.missed;
-  elsewhere = if is_elsewhere end then one_more t.elsewhere else t.elsewhere;
+  answered = if ended_answered end then one_more t.answered else t.answered;
+  late = if ended_late end then one_more t.late else t.late;
+  lost = if ended_lost end then one_more t.lost else t.lost;
+  skipped = if ended_skipped end then one_more t.skipped else t.skipped;
+  unreadable = if ended_unreadable end then one_more t.unreadable else t.unreadable;
+  missed = if ended_missed end then one_more t.missed else t.missed;
+  elsewhere = if ended_elsewhere end then one_more t.elsewhere else t.elsewhere;
   again = t.again;
 }
 
@@ -129,12 +129,12 @@ again_counts c (r ∷ rs) none = by_tests (λ d n. again_counts d rs n) (nat_eq 
 -- attempts; each at most 2^64 - 1
 pub count_records : TalliesCountRecords
 count_records = record {
-  answered = counts_all (λ (t : Tally). t.answered) is_answered (λ end t. refl) (λ a b. refl) refl (λ t n. refl);
-  unreadable = counts_all (λ (t : Tally). t.unreadable) is_unreadable (λ end t. refl) (λ a b. refl) refl (λ t n. refl);
-  late = counts_all (λ (t : Tally). t.late) is_late (λ end t. refl) (λ a b. refl) refl (λ t n. refl);
-  lost = counts_all (λ (t : Tally). t.lost) is_lost (λ end t. refl) (λ a b. refl) refl (λ t n. refl);
-  skipped = counts_all (λ (t : Tally). t.skipped) is_skipped (λ end t. refl) (λ a b. refl) refl (λ t n. refl);
-  missed = counts_all (λ (t : Tally). t.missed) is_missed (λ end t. refl) (λ a b. refl) refl (λ t n. refl);
-  elsewhere = counts_all (λ (t : Tally). t.elsewhere) is_elsewhere (λ end t. refl) (λ a b. refl) refl (λ t n. refl);
+  answered = counts_all (λ (t : Tally). t.answered) ended_answered (λ end t. refl) (λ a b. refl) refl (λ t n. refl);
+  unreadable = counts_all (λ (t : Tally). t.unreadable) ended_unreadable (λ end t. refl) (λ a b. refl) refl (λ t n. refl);
+  late = counts_all (λ (t : Tally). t.late) ended_late (λ end t. refl) (λ a b. refl) refl (λ t n. refl);
+  lost = counts_all (λ (t : Tally). t.lost) ended_lost (λ end t. refl) (λ a b. refl) refl (λ t n. refl);
+  skipped = counts_all (λ (t : Tally). t.skipped) ended_skipped (λ end t. refl) (λ a b. refl) refl (λ t n. refl);
+  missed = counts_all (λ (t : Tally). t.missed) ended_missed (λ end t. refl) (λ a b. refl) refl (λ t n. refl);
+  elsewhere = counts_all (λ (t : Tally). t.elsewhere) ended_elsewhere (λ end t. refl) (λ a b. refl) refl (λ t n. refl);
   again = λ records. again_counts nothing_yet records refl ∙ omega arith;
 }

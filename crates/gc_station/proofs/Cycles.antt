@@ -8,6 +8,7 @@ use Rattle.std.proofs.lemmas.Bool.{lt-ltb, ne_eqb, eq-eqb, leb-true, leb-false, 
 use Rattle.gc_texts.specs.declared.tasks.Task.{Task}
 use Rattle.gc_links.specs.Acts.{Act, Told, Untold, Gave, Silent, Ended, Broke, Closed, Opened, Unopened}
 use Rattle.gc_links.specs.declared.link.Moment.{Moment}
+use Rattle.gc_station.specs.Chains.{IsChained}
 use Rattle.gc_station.specs.Cycles.{ClockRises, due_after, BeginsAt, BeginsLate, LastBegan, CyclesBeginWhenDue, SentOnlyInTime}
 use Rattle.gc_station.specs.Deciding.{is_due}
 use Rattle.gc_station.specs.Progressing.{turned, moment_noted, cycle_begun, cycle_start, failing, time_passed, quieted, closed}
@@ -15,7 +16,7 @@ use Rattle.gc_station.specs.Reasons.{HoldsBefore, MayGo}
 use Rattle.gc_station.specs.Runs.{state_after}
 use Rattle.gc_station.specs.Scopes.{Scope}
 use Rattle.gc_station.specs.Model.{Model, opening, action_at, waiting_of, is_heard, with_progress, with_moment, lines_completed, piece_at, moved, Performs, Runs, cycle_length}
-use Rattle.gc_station.specs.NextCommand.{cycles_begun, place_next, is_chained, is_chained_after}
+use Rattle.gc_station.specs.NextCommand.{cycles_begun, place_next, first_is_chained, is_chained_after}
 use Rattle.gc_station.specs.declared.cause.Cause.{Cause}
 use Rattle.gc_station.specs.declared.cause.Cause.TheVariants as cause
 use Rattle.gc_station.specs.declared.plan.Plan.{Plan}
@@ -83,7 +84,7 @@ module _ (plan : Plan) (commands : List Task) (scope : Scope) (some : 0 < plan.e
 
   -- why the next command of p waits for the answer of the one before it: its cycle is missed, or the text chains it
   abbrev pub WaitsForAnswer : Progress → Type 0
-  WaitsForAnswer p = (p.missed ≡ true) ⊎ ((plan.setup < place_next commands p) × (is_chained (drop (place_next commands p) commands) ≡ true))
+  WaitsForAnswer p = (p.missed ≡ true) ⊎ IsChained plan commands p
 
   -- with the progress p a station is within a cycle: `earlier` cycles came before it, it began at `moment`, `late` milliseconds
   -- after it was due; and the fields of p on it are right. `began` is its due moment, which isn't later than the moment read
@@ -159,7 +160,7 @@ module _ (plan : Plan) (commands : List Task) (scope : Scope) (some : 0 < plan.e
         -- what makes the next command wait, still does: its cycle is missed, or the text chains it
         by_chain : WaitsForAnswer p → place_next commands q ≡ place_next commands p → q.missed ≡ p.missed → WaitsForAnswer q
         by_chain (inl missed) place_is same = inl (same ∙ missed)
-        by_chain (inr (above, is)) place_is same = inr (subst (λ (x : ℕ). plan.setup < x) (sym place_is) above, ap (λ (x : ℕ). is_chained (drop x commands)) place_is ∙ is)
+        by_chain (inr (above, is)) place_is same = inr (subst (λ (x : ℕ). plan.setup < x) (sym place_is) above, ap (λ (x : ℕ). first_is_chained (drop x commands)) place_is ∙ is)
 
   -- `Begun` is preserved by an act with which the next `count` commands of the cycle had their turn, at least one, if the clock
   -- doesn't go back and the act reads moments as `Ticks` says. Before the act a command was unsent, and no more than a cycle has;
@@ -175,14 +176,14 @@ module _ (plan : Plan) (commands : List Task) (scope : Scope) (some : 0 < plan.e
       let others : drop (place_next commands p + count) commands ≡ drop (place_next commands q) commands =
       drop_past commands p.unsent count (omega (arith, within)) ∙ ap (λ (x : ℕ). drop (length commands - x) commands) (sym unsent) in
       inr (cycling_on acts act p q left missed due t rises
-      (λ was. (next_is_chained ∙ or_left p.missed (is_chained (drop (place_next commands p + count) commands)) was, chain_unbroken was))
+      (λ was. (next_is_chained ∙ or_left p.missed (first_is_chained (drop (place_next commands p + count) commands)) was, chain_unbroken was))
       (λ e. by_missed p.missed refl (sym next_is_chained ∙ e) above others) c) where
         -- what makes the new next command wait: its cycle is missed (`true`), or the text chains it
         by_missed : (b : Bool) → p.missed ≡ b → is_chained_after count commands p ≡ true → plan.setup < place_next commands q
             → drop (place_next commands p + count) commands ≡ drop (place_next commands q) commands → WaitsForAnswer q
         by_missed true is e above others = inl (missed ∙ is)
         by_missed false is e above others =
-            inr (above, ap is_chained (sym others) ∙ or_second p.missed (is_chained (drop (place_next commands p + count) commands)) e is)
+            inr (above, ap first_is_chained (sym others) ∙ or_second p.missed (first_is_chained (drop (place_next commands p + count) commands)) e is)
 
   -- of the acts up to the one that begins a cycle at the moment m, `BeginsAt` holds
   pub begins_here : (acts : List Act) (m : Moment) (n : ℕ) → action_at plan (at acts) ≡ actions.Begin

@@ -11,11 +11,11 @@ use Rattle.gc_client.specs.OneForOne.{Wanted, of_settled, of_pending}
 use Rattle.gc_client.proofs.OneForOne.{expired_parts}
 use Rattle.gc_texts.specs.declared.tasks.Task.{Task}
 use Rattle.gc_station.specs.declared.mark.Mark.{Mark}
-use Rattle.gc_station.specs.EachOnce.{Request, requests, of_task, all_cycles, commands_reached, of_record, of_waiting, still_waiting, of_cycles, of_text, in_text}
+use Rattle.gc_station.specs.EachOnce.{RunRequest, requests, of_task, all_cycles, commands_reached, of_record, of_waiting, still_waiting, of_cycles, of_text, in_text}
 use Rattle.gc_station.specs.Requests.{asked_at, of_command}
 use Rattle.gc_station.proofs.Timing.{asked_text, unsent_text}
 use Rattle.gc_station.proofs.Facts.{not_none}
-use Rattle.gc_station.specs.Marks.{commands_in, record_of, records_of}
+use Rattle.gc_station.specs.Marks.{commands_in, record_of, records_of, with_marks}
 use Rattle.gc_station.specs.Records.{Record}
 use Rattle.std.proofs.lemmas.List.Elements.{filter-append}
 
@@ -24,16 +24,13 @@ use Rattle.std.proofs.lemmas.List.Elements.{filter-append}
 pub requests-append : (cycle place : ℕ) (xs ys : List (Wanted Asked)) → requests cycle place (xs ++ ys) ≡ requests cycle place xs ++ requests cycle (place + length xs) ys
 requests-append cycle place [] ys = ap (λ n. requests cycle n ys) (omega arith)
 requests-append cycle place (x ∷ xs) ys =
-    let one : Request = record { cycle = cycle; place = place; asked = x } in
+    let one : RunRequest = record { cycle = cycle; place = place; asked = x } in
     let at : (place + 1) + length xs ≡ place + length (x ∷ xs) = omega arith in
     ap (λ rs. one ∷ rs) (requests-append cycle (place + 1) xs ys ∙ ap (λ n. requests cycle (place + 1) xs ++ requests cycle n ys) at)
 
 -- the requests of these marks, one for one with what they ask; a null procedure, which has no mark, gives none
-abbrev pub marked : List (Option Mark) → List (Wanted Asked) → List Request
-marked [] asks = []
-marked (m ∷ ms) [] = []
-marked (None ∷ ms) (a ∷ asks) = marked ms asks
-marked (Some mark ∷ ms) (a ∷ asks) = record { cycle = mark.cycle; place = mark.place; asked = a } ∷ marked ms asks
+abbrev pub marked : List (Option Mark) → List (Wanted Asked) → List RunRequest
+marked ms asks = map (λ (x : Mark × Wanted Asked). record { cycle = x.0.cycle; place = x.0.place; asked = x.1 }) (with_marks ms asks)
 
 -- the outstanding commands are the requests of their marks
 pub waiting_marked : (ms : List (Option Mark)) (ws : List (Pending Asked)) → still_waiting ms ws ≡ marked ms (map of_pending ws)
@@ -76,24 +73,24 @@ marked_none (None ∷ ms) (a ∷ asks) e = marked_none ms asks e
 marked_none (Some mark ∷ ms) (a ∷ asks) e = absurd (omega (arith, e))
 
 -- the requests of cycles in two lists, as the text has them, are those in the first list, and after them those in the second
-pub listed_append : (commands : List Task) (xs ys : List Request) → of_text commands (xs ++ ys) ≡ of_text commands xs ++ of_text commands ys
+pub listed_append : (commands : List Task) (xs ys : List RunRequest) → of_text commands (xs ++ ys) ≡ of_text commands xs ++ of_text commands ys
 listed_append commands xs ys = ap (map (in_text commands)) (filter-append _ xs ys) ∙ map-append (in_text commands) (of_cycles xs) (of_cycles ys)
 
 -- `of_cycles` keeps all requests of a cycle other than 0, which is the setup
 cycles_all : (cycle place : ℕ) (asks : List (Wanted Asked)) → 0 < cycle → of_cycles (requests cycle place asks) ≡ requests cycle place asks
 cycles_all cycle place [] some = refl
 cycles_all cycle place (a ∷ others) some =
-    let one : Request = record { cycle = cycle; place = place; asked = a } in
+    let one : RunRequest = record { cycle = cycle; place = place; asked = a } in
     let rest = of_cycles (requests cycle (place + 1) others) in
     ap (λ b. if not b then one ∷ rest else rest) (not_none cycle some) ∙ ap (λ xs. one ∷ xs) (cycles_all cycle (place + 1) others some)
 
 -- the requests of the records, followed by those of the outstanding commands
-abbrev pub row : List (Option Mark) → List (Pending Asked) → List Record → List Request
+abbrev pub row : List (Option Mark) → List (Pending Asked) → List Record → List RunRequest
 row ms ws rs = map of_record rs ++ still_waiting ms ws
 
 -- the records `rs`, and after them the outstanding commands (the requests `ws` with their marks `ms`), are of the requests
 -- `sent`, as far as they are of a cycle, and as the text has them
-abbrev pub EachIs : List Task → List (Option Mark) → List (Pending Asked) → List Record → List Request → Type 0
+abbrev pub EachIs : List Task → List (Option Mark) → List (Pending Asked) → List Record → List RunRequest → Type 0
 EachIs commands ms ws rs sent = of_text commands (row ms ws rs) ≡ sent
 
 -- a moment, at which requests may time out, leaves the row
@@ -101,7 +98,7 @@ pub row_moment : (ms : List (Option Mark)) (ws : List (Pending Asked)) (rs : Lis
 row_moment ms ws rs m = ap (λ xs. map of_record rs ++ xs) (waiting_marked ms (map (expired m) ws) ∙ ap (marked ms) (expired_parts m ws) ∙ sym (waiting_marked ms ws))
 
 -- a moment, at which requests may time out, preserves `EachIs`
-pub each_moment : (commands : List Task) (ms : List (Option Mark)) (ws : List (Pending Asked)) (rs : List Record) (sent : List Request) (m : ℕ)
+pub each_moment : (commands : List Task) (ms : List (Option Mark)) (ws : List (Pending Asked)) (rs : List Record) (sent : List RunRequest) (m : ℕ)
     → EachIs commands ms ws rs sent → EachIs commands ms (map (expired m) ws) rs sent
 each_moment commands ms ws rs sent m h = ap (of_text commands) (row_moment ms ws rs m) ∙ h
 
@@ -135,7 +132,7 @@ row_settles reads utc ms ws left ss rs parts =
 
 -- settlements of the oldest requests preserve `EachIs`
 pub each_settles : (reads : Asked → List ℕ → Reading) (commands : List Task) (utc : ℕ) (ms : List (Option Mark)) (ws left : List (Pending Asked)) (ss : List (Settlement Asked)) (rs : List Record)
-    (sent : List Request) → map of_settled ss ++ map of_pending left ≡ map of_pending ws
+    (sent : List RunRequest) → map of_settled ss ++ map of_pending left ≡ map of_pending ws
     → EachIs commands ms ws rs sent → EachIs commands (drop (length ss) ms) left (rs ++ records_of reads utc ms ss) sent
 each_settles reads commands utc ms ws left ss rs sent parts h = ap (of_text commands) (row_settles reads utc ms ws left ss rs parts) ∙ h
 
@@ -150,12 +147,12 @@ more_waiting ms ws m p paired =
     ∙ marked_more ms asked m (of_pending p) count ∙ ap (λ xs. xs ++ marked (m ∷ []) (of_pending p ∷ [])) (sym (waiting_marked ms ws))
 
 -- a null procedure that is sent preserves `EachIs`, where each outstanding request has a mark
-pub each_null : (commands : List Task) (ms : List (Option Mark)) (ws : List (Pending Asked)) (p : Pending Asked) (rs : List Record) (sent : List Request) → length ms ≡ length ws
+pub each_null : (commands : List Task) (ms : List (Option Mark)) (ws : List (Pending Asked)) (p : Pending Asked) (rs : List Record) (sent : List RunRequest) → length ms ≡ length ws
     → EachIs commands ms ws rs sent → EachIs commands (ms ++ None ∷ []) (ws ++ p ∷ []) rs sent
 each_null commands ms ws p rs sent paired h = ap (λ xs. of_text commands (map of_record rs ++ xs)) (more_waiting ms ws None p paired ∙ append-nil (still_waiting ms ws)) ∙ h
 
 -- a command of the setup (its mark has the cycle 0) that is sent preserves `EachIs`, where each outstanding request has a mark
-pub each_prepared : (commands : List Task) (mark : Mark) (ms : List (Option Mark)) (ws : List (Pending Asked)) (p : Pending Asked) (rs : List Record) (sent : List Request) → mark.cycle ≡ 0
+pub each_prepared : (commands : List Task) (mark : Mark) (ms : List (Option Mark)) (ws : List (Pending Asked)) (p : Pending Asked) (rs : List Record) (sent : List RunRequest) → mark.cycle ≡ 0
     → length ms ≡ length ws → EachIs commands ms ws rs sent → EachIs commands (ms ++ Some mark ∷ []) (ws ++ p ∷ []) rs sent
 each_prepared commands mark ms ws p rs sent none paired h =
     let front = map of_record rs in
@@ -205,7 +202,7 @@ sent_next setup commands begun place task others at within some =
     ∙ sent_past setup commands begun place 1 (place + 1) within (omega (arith, left)) some (inl refl)
 
 -- `EachIs` holds of the requests `kept`; and the next command of a cycle is `task`
-module _ (commands : List Task) (ms : List (Option Mark)) (ws : List (Pending Asked)) (rs : List Record) (task : Task) (others : List Task) (kept : List Request)
+module _ (commands : List Task) (ms : List (Option Mark)) (ws : List (Pending Asked)) (rs : List Record) (task : Task) (others : List Task) (kept : List RunRequest)
     (h : EachIs commands ms ws rs kept) where
   -- if each outstanding request has a mark, `EachIs` holds after the command is sent with this mark, with its request after
   -- `kept`

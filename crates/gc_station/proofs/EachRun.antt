@@ -23,20 +23,20 @@ use Rattle.gc_station.specs.declared.progress.Upcoming.{Upcoming}
 use Rattle.gc_station.specs.declared.progress.Waiting.{Waiting}
 use Rattle.gc_links.specs.Acts.{Act, Told}
 use Rattle.gc_station.specs.Deciding.{later, has_begun, is_up}
-use Rattle.gc_station.specs.EachOnce.{EachOnce, Interleave, Request, commands_reached, of_record, all_cycles, of_text, AreRecordedOnce, reached}
+use Rattle.gc_station.specs.EachOnce.{EachOnce, Interleave, RunRequest, commands_reached, of_record, all_cycles, of_text, AreRecordedOnce, reached}
 use Rattle.gc_station.specs.Marks.{commands_in}
-use Rattle.gc_station.specs.Progressing.{turned, moment_noted, skipped_at, early_noted, cycle_begun, skipped, attempts_left_out, cleared, request_noted, null_sent, renewed, sent, is_over, is_over_in, setup_sent}
+use Rattle.gc_station.specs.Progressing.{turned, moment_noted, unsent_at, early_noted, cycle_begun, skipped, attempts_left_out, cleared, request_noted, null_sent, renewed, sent, is_over, is_over_in, setup_sent}
 use Rattle.gc_station.specs.Reasons.{HoldsBefore}
 use Rattle.gc_station.specs.Records.{Record}
 use Rattle.gc_station.specs.Runs.{state_after}
 use Rattle.gc_station.specs.Tasked.{EachRecordIsOfItsTask}
-use Rattle.gc_station.specs.Model.{Model, opening, action_at, waiting_of, with_progress, asks_null, asks_first, asks_next, next_left_out, with_more_passes, with_listed, listed_after_skip, after_pass, with_more_records, end_unsent, unsent_record, first_unsent_record, after_clock, moved, after, after_all, cycle_length, asks_or_null, asks_setup}
-use Rattle.gc_station.specs.NextCommand.{place_next, expected_first, mark_next, upcoming_after, mark_setup, cycles_begun}
+use Rattle.gc_station.specs.Model.{Model, opening, action_at, waiting_of, with_progress, asks_first, asks_next, next_left_out, with_more_passes, with_listed, listed_after_skip, after_pass, with_more_records, end_unsent, unsent_record, first_unsent_record, after_clock, moved, after, after_all, cycle_length, asks_setup, request_for, null_request, request_or_null, asks_for}
+use Rattle.gc_station.specs.NextCommand.{place_next, commands_left, expected_first, mark_next, upcoming_after, mark_setup, cycles_begun}
 use Rattle.gc_station.proofs.Acting.{mid_fail, mid_moment, mid_clock, mid_put, mid_open, mid_close, mid_read}
 use Rattle.gc_station.proofs.Each.{row_empty, sent_whole}
 use Rattle.gc_station.proofs.Facts.{action_for}
 use Rattle.gc_station.proofs.Invariant.{Invariant, is_bare, says_done}
-use Rattle.gc_station.proofs.Midway.{ledger_at, Placed, Mid, mid_of, sound_null, sound_sent, sound_skipped, sound_passed, sound_begun, invariant_ended, sound_prepared}
+use Rattle.gc_station.proofs.Midway.{ledger_at, PhaseFits, Mid, mid_of, sound_null, sound_sent, sound_skipped, sound_passed, sound_begun, invariant_ended, sound_prepared}
 use Rattle.gc_station.proofs.Tasked.{unsent_end}
 use Rattle.gc_station.proofs.Walk.{acts_along}
 use Rattle.gc_station.specs.Scopes.{Scope}
@@ -45,9 +45,9 @@ use Rattle.gc_station.specs.Scopes.{Scope}
 mid_nothing : (plan : Plan) (commands : List Task) (s : Model) → Mid plan commands s → Mid plan commands (with_more_records [] s)
 mid_nothing plan commands s mid = subst (λ (rs : List Record). Mid plan commands (record s { records = rs })) (sym (append-nil s.records)) mid
 
--- the phase `Ready` is `Placed`: it says nothing of the counts, the kept bytes and the marks
-ready_placed : (phase : Phase) (left unsent : ℕ) (rest : List ℕ) (marks : List (Option Mark)) → phase ≡ Ready → Placed phase left unsent rest marks
-ready_placed phase left unsent rest marks is = record { empty = λ e. absurd (both_ways (is_bare phase) (ap is_bare is) e); finished = λ e. absurd (both_ways (says_done phase) (ap says_done is) e) }
+-- the phase `Ready` is `PhaseFits`: it says nothing of the counts, the kept bytes and the marks
+ready_fits : (phase : Phase) (left unsent : ℕ) (rest : List ℕ) (marks : List (Option Mark)) → phase ≡ Ready → PhaseFits phase left unsent rest marks
+ready_fits phase left unsent rest marks is = record { empty = λ e. absurd (both_ways (is_bare phase) (ap is_bare is) e); finished = λ e. absurd (both_ways (says_done phase) (ap says_done is) e) }
 
 -- the beginning of a cycle preserves `Mid`, in the phase `Ready`, if a cycle is left and no command of the one before is unsent
 mid_begun : (plan : Plan) (commands : List Task) (s : Model) (m : Moment) → (is_ready : s.progress.phase ≡ Ready) → (none_unsent : s.progress.unsent ≡ 0)
@@ -56,45 +56,45 @@ mid_begun : (plan : Plan) (commands : List Task) (s : Model) (m : Moment) → (i
 mid_begun plan commands s m is none some mid =
     let p = s.progress in (
       sound_begun plan commands (ledger_at s p) none some mid.0,
-      ready_placed p.phase (p.left - 1) (cycle_length plan commands) s.rest s.marks is,
+      ready_fits p.phase (p.left - 1) (cycle_length plan commands) s.rest s.marks is,
     )
 
 -- a line feed that was sent in the phase `Clearing` preserves `Mid`
 mid_cleared : (plan : Plan) (commands : List Task) (s : Model) → s.progress.phase ≡ Clearing → Mid plan commands s → Mid plan commands (with_progress cleared s)
 mid_cleared plan commands s is mid = (mid.0, by_word (has_begun s.progress)) where
   -- the lemma above, whether the station has synchronized (`true`) or is synchronizing
-  by_word : (begun : Bool) → Placed (if begun then Draining else Ready) s.progress.left s.progress.unsent s.rest s.marks
+  by_word : (begun : Bool) → PhaseFits (if begun then Draining else Ready) s.progress.left s.progress.unsent s.rest s.marks
   by_word true = record { empty = λ e. mid.1.empty (ap is_bare is); finished = λ e. cc }
   by_word false = record { empty = λ e. cc; finished = λ e. cc }
 
 -- a null procedure that is sent in the phase `Ready`, and for which there is room, preserves `Mid`
 mid_flushed : (plan : Plan) (commands : List Task) (s : Model) → s.progress.phase ≡ Ready → length s.client.waiting < 7 → Mid plan commands s
-    → Mid plan commands (with_progress request_noted (asks_null plan s))
+    → Mid plan commands (with_progress request_noted (asks_for (null_request plan) s))
 mid_flushed plan commands s is room mid =
     let p = s.progress in (
       sound_null plan commands (ledger_at s p) 0 (Table NullProc) (later p.moment.elapsed plan.deadline) room refl mid.0,
-      ready_placed p.phase p.left p.unsent s.rest (asks_null plan s).marks is,
+      ready_fits p.phase p.left p.unsent s.rest (asks_for (null_request plan) s).marks is,
     )
 
 -- `left` are the commands from the setup's next one on. To send the first of them, or a null procedure if there is none,
 -- preserves `Mid`, in the phase `Ready`, if there is room for a request
 mid_prepares : (plan : Plan) (commands : List Task) (s : Model) (left : List Task) → drop s.progress.prepared commands ≡ left → s.progress.phase ≡ Ready
     → length s.client.waiting < 7 → Mid plan commands s
-    → Mid plan commands (with_progress (setup_sent plan) (asks_or_null plan (mark_setup commands s.progress) left s))
+    → Mid plan commands (with_progress (setup_sent plan) (asks_for (request_or_null plan (mark_setup commands s.progress) left) s))
 mid_prepares plan commands s [] at is room mid = mid_flushed plan commands s is room mid
 mid_prepares plan commands s (task ∷ others) at is room mid =
     let p = s.progress in
-    let t = asks_or_null plan (mark_setup commands p) (task ∷ others) s in (
+    let t = asks_for (request_for (mark_setup commands p) task) s in (
       sound_prepared plan commands (ledger_at s p) (later p.moment.elapsed task.deadline) (mark_setup commands p) task room refl
           (head_of_drop commands p.prepared task others at) mid.0,
-      ready_placed p.phase p.left p.unsent s.rest t.marks is,
+      ready_fits p.phase p.left p.unsent s.rest t.marks is,
     )
 
 -- the next command of a cycle has its turn: `next` is noted of the one after it
 module _ (plan : Plan) (commands : List Task) (next : Upcoming) (s : Model) where
   -- `left` are the commands from the cycle's next one on. To send the first of them preserves `Mid`, in the phase `Ready`, if a
   -- command is unsent and there is room for a request
-  mid_first : (left : List Task) → (there : drop (place_next commands s.progress) commands ≡ left)
+  mid_first : (left : List Task) → (there : commands_left commands s.progress ≡ left)
       → (is_ready : s.progress.phase ≡ Ready) → (some : 0 < s.progress.unsent) → (room : length s.client.waiting < 7) → Mid plan commands s
       → Mid plan commands (with_progress (sent next) (asks_first (mark_next plan commands s.progress) left s))
   mid_first [] at is some room mid =
@@ -106,13 +106,13 @@ module _ (plan : Plan) (commands : List Task) (next : Upcoming) (s : Model) wher
       let t = asks_first (mark_next plan commands p) (task ∷ others) s in (
         sound_sent plan commands (ledger_at s p) p.moment.utc (later p.moment.elapsed task.deadline)
             (expected_first (drop (place_next commands p) commands)) task others room some at mid.0,
-        ready_placed p.phase p.left (p.unsent - 1) s.rest t.marks is,
+        ready_fits p.phase p.left (p.unsent - 1) s.rest t.marks is,
       )
 
   -- `left` are the commands from the cycle's next one on. To record the first of them without sending it preserves `Mid`, in the
   -- phase `Ready`, if a command is unsent and none is outstanding
   mid_skips : (m : Moment) (left : List Task)
-      → (there : drop (place_next commands s.progress) commands ≡ left)
+      → (there : commands_left commands s.progress ≡ left)
       → (is_ready : s.progress.phase ≡ Ready) → (some : 0 < s.progress.unsent) → (settled : commands_in s.marks ≡ 0) → Mid plan commands s
       → Mid plan commands (with_progress (λ p. early_noted plan (commands_in s.marks) (skipped next m p))
       (with_more_records (first_unsent_record s.progress m (mark_next plan commands s.progress) left) s))
@@ -122,9 +122,9 @@ module _ (plan : Plan) (commands : List Task) (next : Upcoming) (s : Model) wher
       absurd (omega (arith, n, some, sound.unsents))
   mid_skips m (task ∷ others) at is some none mid =
       let p = s.progress in (
-        sound_skipped plan commands (ledger_at s p) (skipped_at m p) (end_unsent p)
+        sound_skipped plan commands (ledger_at s p) (unsent_at m p) (end_unsent p)
             (mark_next plan commands p).expected.turn task others none some at (unsent_end p.missed) mid.0,
-        ready_placed p.phase p.left (p.unsent - 1) s.rest s.marks is,
+        ready_fits p.phase p.left (p.unsent - 1) s.rest s.marks is,
       )
 
   -- an act that is to record the next command of a cycle without sending it preserves `Mid`, in the phase `Ready`, with a command
@@ -147,7 +147,7 @@ mid_pass plan commands s (Told m) is some mid =
     mid_moment plan commands (with_progress (λ q. early_noted plan (commands_in s.marks) (attempts_left_out (upcoming_after n commands p) m q))
     (with_more_passes (next_left_out plan commands p) s)) m (
       sound_passed plan commands (ledger_at s p) n some mid.0,
-      ready_placed p.phase p.left (p.unsent - n) s.rest s.marks is,
+      ready_fits p.phase p.left (p.unsent - n) s.rest s.marks is,
     )
 mid_pass plan commands s act is some mid = mid_fail plan commands s cause.Clock refl mid
 
@@ -190,7 +190,7 @@ mid_moved plan commands s action.Skip act fine is =
 mid_moved plan commands s action.Pass act fine is = mid_pass plan commands (with_progress turned s) act is.0 is.2 (mid_of plan commands s fine)
 mid_moved plan commands s action.Flush act fine is =
     let t = with_progress turned s in
-    mid_put plan commands _ (λ (x : Model). with_progress request_noted (asks_null plan x)) t act (mid_flushed plan commands t is.0 is.4.1 (mid_of plan commands s fine))
+    mid_put plan commands _ (λ (x : Model). with_progress request_noted (asks_for (null_request plan) x)) t act (mid_flushed plan commands t is.0 is.4.1 (mid_of plan commands s fine))
 mid_moved plan commands s (action.Read until) act fine is = mid_read plan commands until (with_progress turned s) act (mid_of plan commands s fine)
 mid_moved plan commands s (action.Close why) act fine is = mid_close plan commands (with_progress turned s) why (close_done plan commands s (waiting_of s) why fine is) (mid_of plan commands s fine)
 mid_moved plan commands s (action.Stop why) act fine is = mid_of plan commands s fine
@@ -220,7 +220,7 @@ invariant_opening plan commands scope =
       rest = λ e. refl;
       over = λ e. refl;
       finished = λ e. cc;
-      each = subst (λ (xs : List Request). Interleave [] [] xs) (sym (ap (λ n. commands_reached plan.setup commands n (length commands - 0)) none)) (refl, refl);
+      each = subst (λ (xs : List RunRequest). Interleave [] [] xs) (sym (ap (λ n. commands_reached plan.setup commands n (length commands - 0)) none)) (refl, refl);
       own = tt;
       tasked = tt;
     }
@@ -251,7 +251,7 @@ stopped plan commands s why fine stop =
     let is : HoldsBefore plan p w (action.Stop why) = subst (λ (o : Action). HoldsBefore plan p w o) stop (action_for plan p w) in
     let nothing = fine.over (stop_over plan p w why is) in (
       nothing,
-      subst (λ (xs : List Request). Interleave xs s.passes (commands_reached plan.setup commands (cycles_begun plan p) (place_next commands p)))
+      subst (λ (xs : List RunRequest). Interleave xs s.passes (commands_reached plan.setup commands (cycles_begun plan p) (place_next commands p)))
           (ap (of_text commands) (row_empty s.marks s.client.waiting s.records nothing)) fine.each,
       by_reason is.1,
     ) where
@@ -274,7 +274,7 @@ each_once plan commands scope acts =
           let none = it.2 refl in
           let cycles : cycles_begun plan s.progress ≡ plan.cycles = omega (arith, none.0) in
           let place : place_next commands s.progress ≡ length commands = omega (arith, none.1) in
-          subst (λ (xs : List Request). Interleave (of_text commands (map of_record s.records)) s.passes xs)
+          subst (λ (xs : List RunRequest). Interleave (of_text commands (map of_record s.records)) s.passes xs)
           (sent_whole plan.setup commands (cycles_begun plan s.progress) (place_next commands s.progress) place ∙ ap (all_cycles plan.setup commands) cycles) it.1;
     }
 

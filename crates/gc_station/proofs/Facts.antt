@@ -14,9 +14,9 @@ use Rattle.gc_station.specs.declared.progress.Action.TheVariants as action
 use Rattle.gc_station.specs.declared.progress.Progress.{Progress}
 use Rattle.gc_station.specs.declared.progress.Until.TheVariants.{Limit, Due}
 use Rattle.gc_station.specs.declared.progress.Waiting.{Waiting}
-use Rattle.gc_station.specs.Reasons.{HoldsBefore, IsFinished, IsHeld, HasRoom, MayGo, MayRetry, NothingMayGo, IsResting, StaysInItsChain, HasConnectionFor, MayPrepare, WantsNull}
-use Rattle.gc_station.specs.Deciding.{width_of, has_begun, is_up, is_dead, is_due, is_idle, is_finished, has_room, action_of, action_in, action_on, action_of_phase, may_go, waits_for_all, action_again, action_ready, action_begun, action_beginning, action_sent, action_settled, action_done, action_next, action_room, action_waiting, action_without_turns, is_stale, is_between, is_resting, is_stopping, is_held_back, action_cycle, action_next_of_setup, action_preparing, is_preparing}
-use Rattle.gc_station.specs.Stations.{IsFitting}
+use Rattle.gc_station.specs.Reasons.{HoldsBefore, IsFinished, IsHeld, HasRoomToAsk, MayGo, MayRetry, NothingMayGo, IsResting, StaysInItsChain, HasConnectionFor, MayPrepare, WantsNull}
+use Rattle.gc_station.specs.Deciding.{width_of, has_begun, is_up, is_dead, is_due, is_idle, is_finished, has_room_to_ask, action_of, action_in, action_on, action_of_phase, may_go, waits_for_all, action_again, action_ready, action_begun, action_beginning, action_sent, action_settled, action_done, action_next, action_room, action_waiting, action_without_turns, is_stale, is_between_chains, is_resting, is_stopping, is_held_back, action_cycle, action_next_of_setup, action_preparing, is_preparing}
+use Rattle.gc_station.specs.Stations.{SuitsAction}
 
 -- Tests.
 
@@ -48,8 +48,8 @@ not_none n some = grind (arith, nat_tests, some)
 
 -- Room for a request.
 
--- where `has_room` says so, there is room
-room_there : (plan : Plan) (w : Waiting) → has_room plan w ≡ true → HasRoom plan w
+-- where `has_room_to_ask` says so, there is room
+room_there : (plan : Plan) (w : Waiting) → has_room_to_ask plan w ≡ true → HasRoomToAsk plan w
 room_there plan w e = let it = and_parts (nat_lt w.current (width_of plan)) (nat_lt w.all WINDOW) e in (ltb-true w.current (width_of plan) it.0, ltb-true w.all WINDOW it.1)
 
 -- if there is no room, no command may be sent
@@ -135,14 +135,14 @@ no_room_full plan w (inr e) none = ltb-false w.all WINDOW e
 
 -- `action_room` is the action o if there is room for a request, and the action of a station that waits if there is none. For a
 -- station that is `Awake` and has synchronized, `Holds` is true of it, if `Holds` is true of o where there is room
-room_for : (plan : Plan) (p : Progress) (w : Waiting) (o : Action) → Awake p → has_begun p ≡ true → (HasRoom plan w → Holds plan p w o) → Holds plan p w (action_room plan p w o)
+room_for : (plan : Plan) (p : Progress) (w : Waiting) (o : Action) → Awake p → has_begun p ≡ true → (HasRoomToAsk plan w → Holds plan p w o) → Holds plan p w (action_room plan p w o)
 room_for plan p w o awake begun step =
-    cond_both (has_room plan w) o _ (Holds plan p w) (λ e. step (room_there plan w e))
+    cond_both (has_room_to_ask plan w) o _ (Holds plan p w) (λ e. step (room_there plan w e))
     (λ e. let none = and_cases (nat_lt w.current (width_of plan)) (nat_lt w.all WINDOW) e in waiting_for plan p w awake begun (no_room plan p w none) (no_room_full plan w none))
 
 -- for a station that is `Awake` and has synchronized, `Holds` is true of `action_next` with the action o, if it is true of o
 -- where there is room and the count `behind` is below seven, and a null procedure is wanted where that count isn't
-next_as : (plan : Plan) (p : Progress) (w : Waiting) (o : Action) → (awake : Awake p) → (begun : has_begun p ≡ true) → (near : p.behind < WINDOW → HasRoom plan w → Holds plan p w o)
+next_as : (plan : Plan) (p : Progress) (w : Waiting) (o : Action) → (awake : Awake p) → (begun : has_begun p ≡ true) → (near : p.behind < WINDOW → HasRoomToAsk plan w → Holds plan p w o)
     → (far : WINDOW ≤ p.behind → WantsNull plan p w) → Holds plan p w (action_next plan p w o)
 next_as plan p w o awake begun near far =
     let P = Holds plan p w in
@@ -200,7 +200,7 @@ midway n chained prepares e = by_test (nat_eq n 0) chained prepares refl e where
 goes_only : (p : Progress) (w : Waiting) → is_up p.phase ≡ true → has_begun p ≡ true → is_stopping p w ≡ false → is_held_back p w ≡ false → IsInChainIfStopping p
 goes_only p w up begun goes free stops =
     midway p.unsent p.next_is_chained p.preparing
-    (not_between p.stops (is_up p.phase) (has_begun p) (nat_eq w.current 0) (is_between p) (nat_lt 0 w.current) up begun goes free (above_none w.current) stops)
+    (not_between p.stops (is_up p.phase) (has_begun p) (nat_eq w.current 0) (is_between_chains p) (nat_lt 0 w.current) up begun goes free (above_none w.current) stops)
 
 -- if the test says that the station is between two chains, it is: no command is left, or the next one isn't chained, or a setup
 -- comes first
@@ -215,9 +215,9 @@ between_so n chained prepares e = by_test (nat_eq n 0) chained prepares refl e w
 
 -- if the test says that the run may end, it may
 resting_so : (p : Progress) (w : Waiting) → is_resting p w ≡ true → IsResting p w
-resting_so p w e = by_tests (is_up p.phase) (has_begun p) (nat_eq w.current 0) (is_between p) refl refl refl refl e where
+resting_so p w e = by_tests (is_up p.phase) (has_begun p) (nat_eq w.current 0) (is_between_chains p) refl refl refl refl e where
   -- the lemma above, by each of its four tests
-  by_tests : (up begun none between : Bool) → (up_is : is_up p.phase ≡ up) → (begun_is : has_begun p ≡ begun) → (none_is : nat_eq w.current 0 ≡ none) → (between_is : is_between p ≡ between)
+  by_tests : (up begun none between : Bool) → (up_is : is_up p.phase ≡ up) → (begun_is : has_begun p ≡ begun) → (none_is : nat_eq w.current 0 ≡ none) → (between_is : is_between_chains p ≡ between)
       → ((not up || not begun) || (none && between)) ≡ true → IsResting p w
   by_tests false begun none between u b n t f = inl u
   by_tests true false none between u b n t f = inr (inl b)
@@ -234,8 +234,8 @@ has_one why p up = up
 -- for a station that is `Awake` and has synchronized, `Holds` is true of `action_waiting`, if a further chain is held back
 held_back_for : (plan : Plan) (p : Progress) (w : Waiting) → Awake p → has_begun p ≡ true → is_held_back p w ≡ true → Holds plan p w (action_waiting plan p w)
 held_back_for plan p w awake begun held =
-    let it = and_parts (p.stops && is_between p) (nat_lt 0 w.current) held in
-    let asked = and_parts p.stops (is_between p) it.0 in
+    let it = and_parts (p.stops && is_between_chains p) (nat_lt 0 w.current) held in
+    let asked = and_parts p.stops (is_between_chains p) it.0 in
     let under : 0 < w.current = ltb-true 0 w.current it.1 in
     waiting_for plan p w awake begun (inr (inr (inr (inr (inr (asked.0, between_so p.unsent p.next_is_chained p.preparing asked.1, under)))))) (λ none. absurd (omega (arith, none, under)))
 
@@ -327,11 +327,11 @@ cycle_for plan p w m only =
     (λ none. sent_for plan p w m (held_so p none) only)
 
 -- if the test says that all is done, `IsFinished` holds: no cycle and no command is left, and none is outstanding
-pub finished_so : (commands : ℕ) (p : Progress) → is_finished commands p ≡ true → IsFinished commands p
-finished_so commands p e =
-    let it = and_parts (nat_eq p.left 0 && nat_eq p.unsent 0) (nat_eq commands 0) e in
+pub finished_so : (count : ℕ) (p : Progress) → is_finished count p ≡ true → IsFinished count p
+finished_so count p e =
+    let it = and_parts (nat_eq p.left 0 && nat_eq p.unsent 0) (nat_eq count 0) e in
     let sent = and_parts (nat_eq p.left 0) (nat_eq p.unsent 0) it.0 in
-    (eqb-true p.left 0 sent.0, eqb-true p.unsent 0 sent.1, eqb-true commands 0 it.1)
+    (eqb-true p.left 0 sent.0, eqb-true p.unsent 0 sent.1, eqb-true count 0 it.1)
 
 -- for a station that is `Awake` and has synchronized, `Holds` is true of `action_next` with `Prepare`, if the next command of the
 -- setup may be sent (`MayPrepare`), and the end of the run wasn't asked for
@@ -446,15 +446,15 @@ begin_due plan p w is = subst (λ (next : Action). Timely plan p next) is (actio
 pub action_wakes : (plan : Plan) (p : Progress) (w : Waiting) → Wakes p (action_of plan p w)
 action_wakes plan p w = (in_for plan p.phase p w refl).2
 
--- the conditions of an action give what its call needs (`IsFitting`)
-fits : (plan : Plan) (p : Progress) (w : Waiting) (next : Action) → HoldsBefore plan p w next → IsFitting p w.all next
-fits plan p w action.Ask is = is.1
-fits plan p w action.Prepare is = is.3.1
-fits plan p w action.Send is = (is.2, is.3.1)
-fits plan p w action.Skip is = is.2
-fits plan p w action.Flush is = is.4.1
-fits plan p w next is = tt
+-- the conditions of an action give what its call needs (`SuitsAction`)
+suits : (plan : Plan) (p : Progress) (w : Waiting) (next : Action) → HoldsBefore plan p w next → SuitsAction p w.all next
+suits plan p w action.Ask is = is.1
+suits plan p w action.Prepare is = is.3.1
+suits plan p w action.Send is = (is.2, is.3.1)
+suits plan p w action.Skip is = is.2
+suits plan p w action.Flush is = is.4.1
+suits plan p w next is = tt
 
 -- the action that is next has what its call needs
-pub action_fits : (plan : Plan) (p : Progress) (w : Waiting) → IsFitting p w.all (action_of plan p w)
-action_fits plan p w = fits plan p w (action_of plan p w) (action_for plan p w)
+pub action_suits : (plan : Plan) (p : Progress) (w : Waiting) → SuitsAction p w.all (action_of plan p w)
+action_suits plan p w = suits plan p w (action_of plan p w) (action_for plan p w)

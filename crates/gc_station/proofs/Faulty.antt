@@ -5,7 +5,7 @@ use Rattle.gc_links.specs.Acts.{Act}
 use Rattle.gc_texts.specs.declared.fault.RunFault.{RunFault}
 use Rattle.gc_texts.specs.declared.fault.RunFault.TheVariants as fault
 use Rattle.gc_texts.specs.declared.tasks.Task.{Task}
-use Rattle.gc_station.specs.Causes.{fault_of}
+use Rattle.gc_station.specs.Causes.{fault_of_cause}
 use Rattle.gc_station.specs.Records.{Record}
 use Rattle.gc_station.specs.Runs.{Ran, RanTo}
 use Rattle.gc_station.specs.Scopes.{Scope}
@@ -24,7 +24,7 @@ module _ (plan : Plan) (commands : List Task) (scope : Scope) (text : Record →
   FailedWith why = Ran plan commands scope text told told' taken taken' (Err why)
 
   -- a run that stopped for a cause failed with the fault of that cause
-  pub faulty : (cause : Cause) (why : RunFault) → fault_of cause ≡ Some why → StoppedFor cause → FailedWith why
+  pub faulty : (cause : Cause) (why : RunFault) → fault_of_cause cause ≡ Some why → StoppedFor cause → FailedWith why
   faulty Done why e ran = absurd (cc)
   faulty Dead why e ran = let same : fault.Mute ≡ why = cc in subst FailedWith same (Dead, tally, ran, refl)
   faulty Read why e ran = let same : fault.Read ≡ why = cc in subst FailedWith same (Read, tally, ran, refl)

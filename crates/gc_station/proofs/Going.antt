@@ -11,12 +11,12 @@ use Rattle.gc_station.specs.declared.progress.Action.{Action}
 use Rattle.gc_station.specs.declared.progress.Action.TheVariants.{Stop}
 use Rattle.gc_station.specs.declared.progress.Progress.{Progress}
 use Rattle.gc_station.specs.declared.station.Station.{Station}
-use Rattle.gc_links.specs.Acts.{Act, Closed, Tells}
+use Rattle.gc_links.specs.Acts.{Act, Closed, AddsActs}
 use Rattle.gc_station.specs.Progressing.{turned, loses_all}
 use Rattle.gc_station.specs.Records.{Record, texts_of}
 use Rattle.gc_station.specs.Runs.{state_after, FailedAtRecord, FailedAtSync}
 use Rattle.gc_station.specs.Model.{Model, opening, action_at, Performs, after, after_all, moved, ended, stepped, Runs, with_progress, cycle_length}
-use Rattle.gc_station.specs.Stations.{waiting_in, Refines, Makes, Breaks, OnCall, seen, Does, Becomes, Steps}
+use Rattle.gc_station.specs.Stations.{waiting_of_station, Refines, Makes, Breaks, OnCall, as_seen, Does, KeepsToModel, Steps}
 use Rattle.gc_station.specs.Deciding.{action_of}
 use Rattle.gc_station.proofs.Counts.{unsent_within, ended_progress}
 use Rattle.gc_station.proofs.Growing.{losing_records, moved_grew}
@@ -50,8 +50,8 @@ module _ (plan : Plan) (commands : List Task) (action : Action) (text : Record �
   -- loss wrote its records or the book failed at one of them (`ComesTo`), the whole turn was made, or the book failed in it
   -- (`Made`)
   pub makes_step : {X E : Type 0} (taken'' : Option (List ℕ)) (station mid new : Station) (p : Progress) (result : Result X E)
-      → p ≡ turned station.progress → Does plan commands action (seen told text taken (record station { progress = p })) (seen told' text taken' mid)
-      → Becomes ended text taken' taken'' mid new result → Steps plan commands action (seen told text taken station) (seen told' text taken'' new) result
+      → p ≡ turned station.progress → Does plan commands action (as_seen told text taken (record station { progress = p })) (as_seen told' text taken' mid)
+      → KeepsToModel ended text taken' taken'' mid new result → Steps plan commands action (as_seen told text taken station) (as_seen told' text taken'' new) result
   makes_step taken'' station mid new p (Ok r) e makes ends = record {
     act = makes.act;
     tells = makes.tells;
@@ -76,8 +76,8 @@ module _ (plan : Plan) (commands : List Task) (action : Action) (text : Record �
   -- if the book failed at a record of an act, apart from its turn and from what is lost at its end, it failed at a record of the
   -- whole turn
   pub breaks_step : (station : Station) (p : Progress) → p ≡ turned station.progress
-      → Breaks commands action (moved plan commands action) (seen told text taken (record station { progress = p })) told' taken'
-      → Breaks commands action (stepped plan commands action) (seen told text taken station) told' taken'
+      → Breaks commands action (moved plan commands action) (as_seen told text taken (record station { progress = p })) told' taken'
+      → Breaks commands action (stepped plan commands action) (as_seen told text taken station) told' taken'
   breaks_step station p e breaks = record {
     act = breaks.act;
     tells = breaks.tells;
@@ -97,13 +97,13 @@ module _ (plan : Plan) (commands : List Task) (action : Action) (text : Record �
 -- model after these acts
 pub record Went (plan : Plan) (commands : List Task) (scope : Scope) (text : Record → List ℕ) (told told' : Option (List Act)) (taken taken' : Option (List ℕ)) (station : Station) : Type 0 where
   pub acts : List Act
-  pub tells : Tells told told' acts
+  pub tells : AddsActs told told' acts
   pub runs : Runs plan commands (opening plan scope) acts
   pub stands : Refines station (state_after plan commands scope acts)
   pub took : Appends taken taken' (texts_of text (state_after plan commands scope acts).records)
 
 -- a link that recorded nothing more recorded no acts
-pub tells_none : (a : Option (List Act)) → Tells a a []
+pub tells_none : (a : Option (List Act)) → AddsActs a a []
 tells_none None = tt
 tells_none (Some a) = sym (append-nil a)
 
@@ -157,7 +157,7 @@ module _ (plan : Plan) (commands : List Task) (scope : Scope) (text : Record →
   -- if `Went` holds, and the link recorded a close after that, the run is as `FailedAtSync` says: its book has all records, but
   -- couldn't make them last
   pub went_left : (told' told'' : Option (List Act)) (taken taken' : Option (List ℕ)) (station : Station)
-      → Went plan commands scope text told told' taken taken' station → Tells told' told'' (Closed ∷ []) → FailedAtSync plan commands scope text told told'' taken taken'
+      → Went plan commands scope text told told' taken taken' station → AddsActs told' told'' (Closed ∷ []) → FailedAtSync plan commands scope text told told'' taken taken'
   went_left told' told'' taken taken' station w closed = record {
     acts = w.acts;
     tells = tells_more told told' told'' w.acts (Closed ∷ []) w.tells closed;
@@ -170,7 +170,7 @@ module _ (plan : Plan) (commands : List Task) (scope : Scope) (text : Record →
   abbrev pub went_on : (told' told'' : Option (List Act)) (taken taken' taken'' : Option (List ℕ)) (station new : Station) (action : Action)
       → (w : Went plan commands scope text told told' taken taken' station)
       → action ≡ action_at plan (state_after plan commands scope w.acts)
-      → Makes commands action (stepped plan commands action) (seen told' text taken' station) (seen told'' text taken'' new)
+      → Makes commands action (stepped plan commands action) (as_seen told' text taken' station) (as_seen told'' text taken'' new)
       → AreReadings scope.reads → Went plan commands scope text told told'' taken taken'' new
   went_on told' told'' taken taken' taken'' station new action w is makes are =
       let s = state_after plan commands scope w.acts in
@@ -192,8 +192,8 @@ module _ (plan : Plan) (commands : List Task) (scope : Scope) (text : Record →
   pub went_wrong : (told' told'' told''' : Option (List Act)) (taken taken' taken'' : Option (List ℕ)) (station : Station) (action : Action)
       → (w : Went plan commands scope text told told' taken taken' station)
       → action ≡ action_at plan (state_after plan commands scope w.acts)
-      → Breaks commands action (stepped plan commands action) (seen told' text taken' station) told'' taken''
-      → Tells told'' told''' (Closed ∷ [])
+      → Breaks commands action (stepped plan commands action) (as_seen told' text taken' station) told'' taken''
+      → AddsActs told'' told''' (Closed ∷ [])
       → AreReadings scope.reads → FailedAtRecord plan commands scope text told told''' taken taken''
   went_wrong told' told'' told''' taken taken' taken'' station action w is breaks closed are =
       let s = state_after plan commands scope w.acts in
@@ -222,20 +222,20 @@ HasModel station = (s : Model) × Refines station s
 -- a turn that led from `station` to `new`, in which an act performed `action`
 module _ (plan : Plan) (commands : List Task) (text : Record → List ℕ) (told told' : Option (List Act)) (taken taken' : Option (List ℕ)) (station new : Station) (action : Action) where
   -- a turn leads a station that stands for some model to one that stands for some model
-  pub has_model_on : Makes commands action (stepped plan commands action) (seen told text taken station) (seen told' text taken' new) → HasModel station → HasModel new
+  pub has_model_on : Makes commands action (stepped plan commands action) (as_seen told text taken station) (as_seen told' text taken' new) → HasModel station → HasModel new
   has_model_on makes some =
       let one = makes.goes some.0 None some.1 (λ are. tt) in
       (stepped plan commands action some.0 makes.act, one.1)
 
   -- a turn of the action that is next leaves a station nearer to the end (`IsNearer`), if the station stands for some model,
   -- and no more commands were unsent than a cycle has
-  pub went_nearer : action ≡ action_of plan station.progress (waiting_in station) → HasModel station
-      → Makes commands action (stepped plan commands action) (seen told text taken station) (seen told' text taken' new)
+  pub went_nearer : action ≡ action_of plan station.progress (waiting_of_station station) → HasModel station
+      → Makes commands action (stepped plan commands action) (as_seen told text taken station) (as_seen told' text taken' new)
       → station.progress.unsent ≤ cycle_length plan commands → IsNearer plan commands station.progress new.progress
   went_nearer is some makes within =
       let s = some.0 in
       let p = station.progress in
-      let w = waiting_in station in
+      let w = waiting_of_station station in
       let one = makes.goes s None some.1 (λ are. tt) in
       let o : action ≡ action_of plan s.progress w = is ∙ ap (λ (q : Progress). action_of plan q w) some.1.progress in
       let obeys : Performs commands s (action_of plan s.progress w) makes.act = subst (λ (x : Action). Performs commands s x makes.act) o one.0 in

@@ -2,7 +2,7 @@
 -- piece. And what a station records of the settlements of a line. An act is one call on the link, with its result. A book had
 -- taken `start` before the records of the model, and has taken `taken` (and later `taken'`) with them; `text` is how a record is
 -- written. `left` is what is not heard yet of the piece, `rest` the bytes since the last line feed. A piece is the bytes that one
--- read gave, and a frame what a line feed ends. `Refines station s`: the station stands for the model s. `Hearing` says how far a
+-- read gave, and a frame what a line feed ends. `Refines station s`: the station stands for the model s. `HeardSoFar` says how far a
 -- piece was heard; `begun`: whether the station had synchronized before the piece.
 use Rattle.std.proofs.Common.{◌≡◌, ℕ, zero, suc, ◌+◌, ◌-◌, min, List, [], ◌∷◌, ◌++◌, Bool, true, false, length, drop, map, Option, Some, None, Result, Ok, Err, OnOk, refl, sym, ap, ◌∙◌, subst, append_assoc, length-drop, arith}
 use Rattle.std.specs.List.{filter_map}
@@ -20,8 +20,8 @@ use Rattle.gc_lines.specs.declared.frame.Lent.TheVariants as lent
 use Rattle.gc_lines.proofs.Passing.{Takes}
 use Rattle.gc_catalogue.specs.declared.asked.Asked.{Asked}
 use Rattle.gc_client.specs.declared.pending.Pending.{Pending}
-use Rattle.gc_client.specs.Rule.{ById, Settled, Settlement, hears, id_settled, settle, lost, restarts, place_in, expires, expired}
-use Rattle.gc_links.specs.Acts.{Act, Untold, Tells}
+use Rattle.gc_client.specs.Rule.{ById, Settled, Settlement, hears, settles_at, settle, lost, restarts, place_in, expires, expired}
+use Rattle.gc_links.specs.Acts.{Act, Untold, AddsActs}
 use Rattle.gc_links.specs.declared.link.Moment.{Moment}
 use Rattle.gc_texts.specs.declared.tasks.Task.{Task}
 use Rattle.gc_station.specs.declared.mark.Mark.{Mark}
@@ -37,9 +37,9 @@ use Rattle.gc_station.specs.declared.station.Station.{Station}
 use Rattle.gc_station.specs.Attempts.{listed_by}
 use Rattle.gc_station.specs.Marks.{commands_in, records_of, last_well, fresh_after}
 use Rattle.gc_station.specs.Progressing.{behind_noted, line_noted, bytes_noted, early_noted, after_failure, closed, failing, lines_synchronizing, line_synchronizing}
-use Rattle.gc_station.specs.Records.{Record, Grew, texts_of, WritesPart, WritesAll}
+use Rattle.gc_station.specs.Records.{Record, Grew, texts_of, WritesPart, WritesBy}
 use Rattle.gc_station.specs.Model.{Model, Performs, line_came, lines_came, lines_completed, lines_taken, with_rest, with_progress, with_moment, waiting_of, settles, piece_came}
-use Rattle.gc_station.specs.Stations.{waiting_in, Refines, Took, TookPart, ComesTo, Makes, ReadsMoment, seen, station_expiring}
+use Rattle.gc_station.specs.Stations.{waiting_of_station, Refines, Took, TookPart, ComesTo, Makes, ReadsMoment, DropsMarks, as_seen, station_expiring}
 use Rattle.gc_station.specs.Scopes.{AreReadings, ForEachReadings}
 use Rattle.gc_station.specs.Tallies.{nothing_yet, tallied}
 use Rattle.gc_station.specs.Writing.{recorded_after}
@@ -94,7 +94,7 @@ taken_reads false s lines = refl
 
 -- a station that has heard a piece but for `left`, and is as the model `now`: hearing what is left comes to what hearing the
 -- whole piece from the model s comes to
-pub record Hearing (begun : Bool) (text : Record → List ℕ) (start taken : Option (List ℕ)) (station : Station) (s : Model) (piece left : List ℕ) : Type 0 where
+pub record HeardSoFar (begun : Bool) (text : Record → List ℕ) (start taken : Option (List ℕ)) (station : Station) (s : Model) (piece left : List ℕ) : Type 0 where
   pub now : Model
   pub stands : Refines station now
   pub wrote : Took text start taken now
@@ -144,17 +144,17 @@ pub frame_first : (begun : Bool) (s : Model) (left later rest : List ℕ) (frame
 frame_first true s left later rest frame seen rests = came_first s left later rest frame seen rests
 frame_first false s left later rest frame seen rests = asked_first s left later rest frame seen rests
 
--- a piece was heard but for `left` (`Hearing`), of which the first `used` bytes are the next frame; after that the book has taken
+-- a piece was heard but for `left` (`HeardSoFar`), of which the first `used` bytes are the next frame; after that the book has taken
 -- `taken'`
 module _ (begun : Bool) (text : Record → List ℕ) (start taken taken' : Option (List ℕ)) (station : Station) (s : Model) (piece left : List ℕ) (used : ℕ) (frame : Frame) (kept : Kept)
-    (h : Hearing begun text start taken station s piece left) (t : Takes h.now.rest left used frame kept) where
+    (h : HeardSoFar begun text start taken station s piece left) (t : Takes h.now.rest left used frame kept) where
   -- the model after the frame
   abbrev mid : Model
   mid = after_frame begun t.now frame h.now
 
-  -- `Hearing` is preserved by the frame, if the station `new` is as the model after it, and the book has taken the records of
+  -- `HeardSoFar` is preserved by the frame, if the station `new` is as the model after it, and the book has taken the records of
   -- that model
-  pub hearing_on : (new : Station) → Refines new mid × Took text start taken' mid → Hearing begun text start taken' new s piece (drop used left)
+  pub hearing_on : (new : Station) → Refines new mid × Took text start taken' mid → HeardSoFar begun text start taken' new s piece (drop used left)
   hearing_on new more = record {
     now = mid;
     stands = more.0;
@@ -179,7 +179,7 @@ module _ (begun : Bool) (text : Record → List ℕ) (start taken taken' : Optio
 -- if nothing is left of the piece, the station is as the model after the whole piece, and the book has taken the records of that
 -- model
 pub hearing_end : (begun : Bool) (text : Record → List ℕ) (start taken : Option (List ℕ)) (station : Station) (s : Model) (piece : List ℕ)
-    → Hearing begun text start taken station s piece []
+    → HeardSoFar begun text start taken station s piece []
     → Refines station (piece_came begun piece s) × Took text start taken (piece_came begun piece s)
 hearing_end begun text start taken station s piece h =
     let goes : h.now ≡ piece_came begun piece s = sym (taken_none begun h.now) ∙ h.goes in (
@@ -217,7 +217,7 @@ StayPaired marks x = length (drop (length x.settlements) marks) ≡ length x.cli
 
 -- if each request had a mark, `StayPaired` holds after a line, whether it has the id of the request at place k (`b`) or no id
 -- that waits
-settled_paired : (marks : List (Option Mark)) (c : ById Asked) (line : List ℕ) (k : ℕ) (b : Bool) → length marks ≡ length c.waiting → StayPaired marks (id_settled c line k b)
+settled_paired : (marks : List (Option Mark)) (c : ById Asked) (line : List ℕ) (k : ℕ) (b : Bool) → length marks ≡ length c.waiting → StayPaired marks (settles_at c line k b)
 settled_paired marks c line k true is =
     let less = settle_less k line c.waiting in
     let left = length-drop (length (settle k line c.waiting)) marks in
@@ -251,12 +251,6 @@ pub record Between (old mid : Station) (ids : ById Asked) : Type 0 where
 abbrev pub UpdatesRecorded : (mid new : Station) → List (Settlement Asked) → Type 0
 UpdatesRecorded mid new xs = ForEachReadings (λ reads. new.recorded ≡ recorded_after mid.progress.moment mid.marks.items xs reads mid.recorded)
 
--- from `mid` to `new` the marks of `count` settlements were taken out; of the other fields, only those changed that records
--- change
-abbrev pub TakesMarks : (mid new : Station) → ℕ → Type 0
-TakesMarks mid new count =
-    new ≡ record mid { marks = record { items = drop count mid.marks.items }; recorded = new.recorded }
-
 -- Let the station `old` be as the model s, and its client have settled requests as x says (`Between`); `xs` are these
 -- settlements.
 module _ (text : Record → List ℕ) (old mid : Station) (s : Model) (x : Settled Asked (ById Asked)) (xs : List (Settlement Asked)) where
@@ -275,7 +269,7 @@ module _ (text : Record → List ℕ) (old mid : Station) (s : Model) (x : Settl
   -- after the settlements (`new`), and the book has taken the records of that model
   pub settles_ok : (new : Station) (n : ℕ) (start taken' : Option (List ℕ)) → (stands : Refines old s) → (between : Between old mid x.client) → (same : xs ≡ x.settlements)
       → (many : n ≡ length x.settlements) → (paired : StayPaired s.marks x)
-      → (wrote : AreReadings s.reads → Appends start taken' (texts_of text (s.records ++ to_write))) → (takes : TakesMarks mid new n)
+      → (wrote : AreReadings s.reads → Appends start taken' (texts_of text (s.records ++ to_write))) → (takes : DropsMarks mid new n)
       → (notes : UpdatesRecorded mid new xs) → Refines new (settles x s) × Took text start taken' (settles x s)
   settles_ok new n start taken' stands between e many paired wrote is notes =
       let added : List Record = to_write in
@@ -310,13 +304,13 @@ module _ (text : Record → List ℕ) (old mid : Station) (s : Model) (x : Settl
   -- as `settles_ok` and `settles_part` together, by whether the book took all records (`Ok`) or failed at one (`Err`)
   pub settles_either : {X E : Type 0} (new : Station) (n : ℕ) (start taken' : Option (List ℕ)) (result : Result X E) → (stands : Refines old s) → (between : Between old mid x.client)
       → (same : xs ≡ x.settlements) → (many : n ≡ length x.settlements) → (paired : StayPaired s.marks x)
-      → (wrote : AreReadings s.reads → WritesAll text s.records (s.records ++ to_write) start taken' result) → (takes : OnOk result (TakesMarks mid new n))
+      → (wrote : AreReadings s.reads → WritesBy text s.records (s.records ++ to_write) start taken' result) → (takes : OnOk result (DropsMarks mid new n))
       → (notes : OnOk result (UpdatesRecorded mid new xs)) → ComesTo text s.records new start taken' (settles x s) result
   settles_either new n start taken' (Ok r) stands between e many paired wrote is notes = settles_ok new n start taken' stands between e many paired wrote is notes
   settles_either new n start taken' (Err r) stands between e many paired wrote is notes = settles_part start taken' stands between e wrote
 
 -- a link that recorded the acts `xs` and then the acts `ys` recorded `xs ++ ys`
-pub tells_more : (a b c : Option (List Act)) (xs ys : List Act) → Tells a b xs → Tells b c ys → Tells a c (xs ++ ys)
+pub tells_more : (a b c : Option (List Act)) (xs ys : List Act) → AddsActs a b xs → AddsActs b c ys → AddsActs a c (xs ++ ys)
 tells_more None b c xs ys p q = tt
 tells_more (Some a) None c xs ys p q = absurd p
 tells_more (Some a) (Some b) None xs ys p q = absurd q
@@ -359,7 +353,7 @@ refines_timed_out old new m s stands is = refines_expired old new old.progress s
 pub untold_does : {commands : List Task} {action : Action} {next : Model → Act → Model} {told told' : Option (List Act)} {old new : Station}
     → (performs : (s : Model) → Performs commands s action Untold) → (same : (s : Model) → with_progress (failing cause.Clock) s ≡ next s Untold)
     → ReadsMoment told told' old new None
-    → (text : Record → List ℕ) (known : Option (List ℕ)) → Makes commands action next (seen told text known old) (seen told' text known new)
+    → (text : Record → List ℕ) (known : Option (List ℕ)) → Makes commands action next (as_seen told text known old) (as_seen told' text known new)
 untold_does {old = old} {new = new} performs same read text known = record {
   act = Untold;
   tells = read.0;
@@ -373,11 +367,11 @@ untold_does {old = old} {new = new} performs same read text known = record {
 }
 
 -- as many requests are outstanding at a station as in its model
-pub outstanding_same : (station : Station) (s : Model) → Refines station s → (waiting_in station).all ≡ (waiting_of s).all
+pub outstanding_same : (station : Station) (s : Model) → Refines station s → (waiting_of_station station).all ≡ (waiting_of s).all
 outstanding_same station s stands = ap (λ (c : ById Asked). length c.waiting) stands.ids
 
 -- as many commands are outstanding at a station as in its model
-pub outstanding_commands_same : (station : Station) (s : Model) → Refines station s → (waiting_in station).commands ≡ (waiting_of s).commands
+pub outstanding_commands_same : (station : Station) (s : Model) → Refines station s → (waiting_of_station station).commands ≡ (waiting_of s).commands
 outstanding_commands_same station s stands = ap commands_in stands.marks
 
 -- once what a piece settled is counted, equal progresses still are equal, if as many commands were outstanding before the piece,

@@ -13,7 +13,7 @@ use Rattle.gc_catalogue.specs.declared.asked.Asked.{Asked}
 use Rattle.gc_catalogue.specs.declared.asked.Asked.TheVariants.{Table}
 use Rattle.gc_catalogue.specs.declared.call.Call.TheVariants.{SetDate}
 use Rattle.gc_client.specs.OneForOne.{Step, Send, Hear, Expire, Restart, sent_on}
-use Rattle.gc_client.specs.Rule.{ById, fresh, heard, hears, id_settled, id_send, settle, expired, pending_of}
+use Rattle.gc_client.specs.Rule.{ById, fresh, heard, hears, settles_at, send_unless_full, settle, expired, pending_of}
 use Rattle.gc_client.specs.declared.pending.Pending.{Pending}
 use Rattle.gc_client.specs.declared.window.TheConstants.{WINDOW}
 use Rattle.gc_client.proofs.OneForOne.{length-settle}
@@ -30,18 +30,18 @@ use Rattle.gc_station.specs.declared.progress.Progress.{Progress}
 use Rattle.gc_station.specs.declared.progress.Waiting.{Waiting}
 use Rattle.gc_station.specs.Behind.{AreOfTable, TheTableIsNeverHeldUp}
 use Rattle.gc_station.specs.Deciding.{has_begun, is_none_left, action_next, action_room, action_waiting, width_of}
-use Rattle.gc_station.specs.Parts.{put_part, first_request_part, client_part, sync_part, part_of_act, request_or_null_part, client_stepped, client_after, course_at}
+use Rattle.gc_station.specs.Parts.{put_part, request_part, first_request_part, client_part, sync_part, part_of_act, client_stepped, client_after, course_at}
 use Rattle.gc_station.specs.Progressing.{one_more_in_window, turned, time_passed, is_over, loses_all}
 use Rattle.gc_station.specs.Reasons.{HoldsBefore}
 use Rattle.gc_station.specs.Runs.{state_after}
-use Rattle.gc_station.specs.Model.{Model, opening, action_at, waiting_of, is_some_of_table, ends_with_table, is_heard, with_progress, with_rest, lines_completed, after_piece, moved, losing, after, Performs, ended}
+use Rattle.gc_station.specs.Model.{Model, opening, action_at, waiting_of, is_some_of_table, ends_with_table, is_heard, with_progress, with_rest, lines_completed, after_piece, moved, losing, after, Performs, ended, request_or_null}
 use Rattle.gc_station.specs.NextCommand.{place_next, mark_next, mark_setup}
 use Rattle.gc_station.proofs.Always.{always}
 use Rattle.gc_station.proofs.Behind.{behind_by, behind_step}
 use Rattle.gc_station.proofs.Counts.{losing_progress}
 use Rattle.gc_station.proofs.EachRun.{invariant_holds}
 use Rattle.gc_station.proofs.Facts.{action_for}
-use Rattle.gc_station.proofs.GoesBehind.{counted, hearing_all}
+use Rattle.gc_station.proofs.GoesBehind.{behind_counted, all_heard_steps}
 use Rattle.gc_station.proofs.Invariant.{Invariant}
 use Rattle.gc_station.proofs.Parting.{leads, keeps_action}
 use Rattle.gc_station.proofs.Turns.{no_act_once_over}
@@ -87,7 +87,7 @@ more_is n low = cond-true (nat_lt n WINDOW) (n + 1) n (lt-ltb n WINDOW low)
 
 -- a send of a call of the table preserves `Level`, whether the window is full (`full`), so that the send is refused, or not
 level_sent : (c : ById Asked) (b target : ℕ) (call : Asked) (deadline : ℕ) → is_of_table call ≡ true → Level c b → (full : Bool) → nat_eq (length c.waiting) 7 ≡ full
-    → Level (sent_on (course_at c) target call (id_send c target call deadline full)).client (one_more_in_window b)
+    → Level (sent_on (course_at c) target call (send_unless_full c target call deadline full)).client (one_more_in_window b)
 level_sent c b target call deadline table h true e =
     let seven = eqb-true (length c.waiting) 7 e in
     let same : one_more_in_window b ≡ length c.waiting = ap one_more_in_window (h.same ∙ seven) ∙ sym seven in
@@ -112,7 +112,7 @@ level_heard c b line None h = h
 level_heard c b line (Some id) h = by_test _ _ refl where
   -- the lemma above, by whether the id is of an outstanding request (`true`)
   by_test : (k : ℕ) (fits : Bool) → nat_lt k (length c.waiting) ≡ fits
-      → Level (id_settled c line k fits).client (if ends_with_table (id_settled c line k fits).settlements then length (id_settled c line k fits).client.waiting else b)
+      → Level (settles_at c line k fits).client (if ends_with_table (settles_at c line k fits).settlements then length (settles_at c line k fits).client.waiting else b)
   by_test k false e = h
   by_test k true e =
       let low = ltb-true k (length c.waiting) e in
@@ -158,7 +158,7 @@ first_tables now mark (task ∷ others) all = (table_at task mark.sent all.0, tt
 
 -- the step that sends the first of these commands of the setup, or a null procedure if there is none, sends a call of the table,
 -- if all of them are
-setup_tables : (plan : Plan) (now : ℕ) (mark : Mark) (left : List Task) → AreOfTable left → AllByRecursion SendsTableCalls (request_or_null_part plan now mark left).steps
+setup_tables : (plan : Plan) (now : ℕ) (mark : Mark) (left : List Task) → AreOfTable left → AllByRecursion SendsTableCalls (request_part now (request_or_null plan mark left)).steps
 setup_tables plan now mark [] all = (refl, tt)
 setup_tables plan now mark (task ∷ others) all = first_tables now mark (task ∷ others) all
 
@@ -229,7 +229,7 @@ module _ (plan : Plan) (commands : List Task) (all : AreOfTable commands) where
   client_tables : (s : Model) (o : Action) (act : Act) → AllByRecursion SendsTableCalls (client_part plan commands s o act).steps
   client_tables s o (Told m) = (tt, tt)
   client_tables s o (Silent m) = (tt, tt)
-  client_tables s o (Gave piece m) = (tt, hearing_all SendsTableCalls (λ line. tt) (is_heard s.progress.phase) s.rest piece)
+  client_tables s o (Gave piece m) = (tt, all_heard_steps SendsTableCalls (λ line. tt) (is_heard s.progress.phase) s.rest piece)
   client_tables s o (Put bytes) = put_tables s o
   client_tables s o (Cut bytes count) = put_tables s o
   client_tables s o act = tt
@@ -264,7 +264,7 @@ module _ (plan : Plan) (commands : List Task) (all : AreOfTable commands) where
         let part : (part_of_act plan commands s o act).steps ≡ steps = ap (λ (b : Bool). (if b then client_part plan commands s o act else sync_part s o act).steps) begun in
         let client : client_after s.client steps ≡ t.client = ap (client_after s.client) (sym part) ∙ led.client in
         subst (λ (c : ById Asked). Level c t.progress.behind) client
-        (subst (λ (n : ℕ). Level (client_after s.client steps) n) (sym (counted plan commands s o act fine its obeys begun still))
+        (subst (λ (n : ℕ). Level (client_after s.client steps) n) (sym (behind_counted plan commands s o act fine its obeys begun still))
         (level_steps s.client s.progress.behind steps (client_tables s o act) (h.level begun going)))
 
     -- the run wasn't over before the act

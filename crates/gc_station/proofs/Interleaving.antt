@@ -7,7 +7,7 @@ use Rattle.std.specs.List.{AllByRecursion}
 use Rattle.gc_catalogue.specs.declared.asked.Asked.{Asked}
 use Rattle.gc_client.specs.OneForOne.{Wanted}
 use Rattle.gc_texts.specs.declared.tasks.Task.{Task}
-use Rattle.gc_station.specs.EachOnce.{Interleave, Request, requests, of_task, all_cycles, commands_reached}
+use Rattle.gc_station.specs.EachOnce.{Interleave, RunRequest, requests, of_task, all_cycles, commands_reached}
 use Rattle.gc_station.specs.Links.{IsBefore}
 use Rattle.gc_station.proofs.Lists.{all_append, all_on}
 
@@ -59,16 +59,16 @@ drop_past commands unsent count within = by_count (nat_lt unsent count) refl whe
   by_count false e = let few = ltb-false unsent count e in ap (λ (n : ℕ). drop n commands) (omega (arith, few, within))
 
 -- a request is of this cycle, and of a place below `end`
-abbrev IsBelow : (cycle end : ℕ) → Request → Type 0
-IsBelow cycle end r = (r.cycle ≡ cycle) × (r.place < end)
+abbrev IsOfCycleBelow : (cycle end : ℕ) → RunRequest → Type 0
+IsOfCycleBelow cycle end r = (r.cycle ≡ cycle) × (r.place < end)
 
 -- the requests of a cycle are of it, and of places below the first one's plus their number
-requests_below : (cycle place : ℕ) (asks : List (Wanted Asked)) → AllByRecursion (IsBelow cycle (place + length asks)) (requests cycle place asks)
+requests_below : (cycle place : ℕ) (asks : List (Wanted Asked)) → AllByRecursion (IsOfCycleBelow cycle (place + length asks)) (requests cycle place asks)
 requests_below cycle place [] = tt
 requests_below cycle place (a ∷ others) =
     let further = requests_below cycle (place + 1) others in (
       (refl, omega arith),
-      all_on (IsBelow cycle ((place + 1) + length others)) (IsBelow cycle (place + length (a ∷ others))) (requests cycle (place + 1) others)
+      all_on (IsOfCycleBelow cycle ((place + 1) + length others)) (IsOfCycleBelow cycle (place + length (a ∷ others))) (requests cycle (place + 1) others)
           (λ r h. let below : r.place < (place + 1) + length others = h.1 in (h.0, omega (arith, below))) further,
     )
 
@@ -80,28 +80,28 @@ before_not_after i j m n (inr l) (inl k) = let same : i ≡ j = l.0 in omega (ar
 before_not_after i j m n (inr l) (inr k) = let less : m < n = l.1 in let le : n ≤ m = k.1 in omega (arith, less, le)
 
 -- a request is of a place before this one: in an earlier cycle, or in the same one
-abbrev pub IsInFront : (cycle place : ℕ) → Request → Type 0
-IsInFront cycle place r = IsBefore r.cycle r.place cycle place
+abbrev pub ComesBefore : (cycle place : ℕ) → RunRequest → Type 0
+ComesBefore cycle place r = IsBefore r.cycle r.place cycle place
 
 -- the requests of the first n cycles are before any place of the cycle after them
-cycles_before : (setup : ℕ) (commands : List Task) (n place : ℕ) → AllByRecursion (IsInFront (suc n) place) (all_cycles setup commands n)
+cycles_before : (setup : ℕ) (commands : List Task) (n place : ℕ) → AllByRecursion (ComesBefore (suc n) place) (all_cycles setup commands n)
 cycles_before setup commands zero place = tt
 cycles_before setup commands (suc n) place =
-    all_append (IsInFront (suc (suc n)) place) (all_cycles setup commands n) (requests (suc n) setup (map of_task (drop setup commands)))
-    (all_on (IsInFront (suc n) place) (IsInFront (suc (suc n)) place) (all_cycles setup commands n) later (cycles_before setup commands n place))
-    (all_on _ (IsInFront (suc (suc n)) place) (requests (suc n) setup (map of_task (drop setup commands))) (λ r h. inl (omega (arith, h.0)))
+    all_append (ComesBefore (suc (suc n)) place) (all_cycles setup commands n) (requests (suc n) setup (map of_task (drop setup commands)))
+    (all_on (ComesBefore (suc n) place) (ComesBefore (suc (suc n)) place) (all_cycles setup commands n) later (cycles_before setup commands n place))
+    (all_on _ (ComesBefore (suc (suc n)) place) (requests (suc n) setup (map of_task (drop setup commands))) (λ r h. inl (omega (arith, h.0)))
     (requests_below (suc n) setup (map of_task (drop setup commands)))) where
       -- what is before a cycle's place is before the next one's
-      later : (r : Request) → IsInFront (suc n) place r → IsInFront (suc (suc n)) place r
+      later : (r : RunRequest) → ComesBefore (suc n) place r → ComesBefore (suc (suc n)) place r
       later r (inl less) = inl (omega (arith, less))
       later r (inr same) = inl (omega (arith, same.0))
 
 -- all that had its turn is before the next place
-pub sent_before : (setup : ℕ) (commands : List Task) (cycle place : ℕ) → setup ≤ place → AllByRecursion (IsInFront cycle place) (commands_reached setup commands cycle place)
+pub sent_before : (setup : ℕ) (commands : List Task) (cycle place : ℕ) → setup ≤ place → AllByRecursion (ComesBefore cycle place) (commands_reached setup commands cycle place)
 sent_before setup commands zero place low = tt
 sent_before setup commands (suc n) place low =
-    all_append (IsInFront (suc n) place) (all_cycles setup commands n) (requests (suc n) setup (map of_task (drop setup (take place commands)))) (cycles_before setup commands n place)
-    (all_on _ (IsInFront (suc n) place) (requests (suc n) setup (map of_task (drop setup (take place commands))))
+    all_append (ComesBefore (suc n) place) (all_cycles setup commands n) (requests (suc n) setup (map of_task (drop setup (take place commands)))) (cycles_before setup commands n place)
+    (all_on _ (ComesBefore (suc n) place) (requests (suc n) setup (map of_task (drop setup (take place commands))))
     (λ r h. inr (h.0, few r.place h.1)) (requests_below (suc n) setup (map of_task (drop setup (take place commands))))) where
       -- a place among those that were taken is below the next one
       few : (p : ℕ) → p < setup + length (map of_task (drop setup (take place commands))) → p < place

@@ -22,7 +22,7 @@ use Rattle.gc_station.specs.Runs.{state_after}
 use Rattle.gc_station.specs.Scopes.{Scope}
 use Rattle.gc_station.specs.ActKinds.{Puts}
 use Rattle.gc_station.specs.Model.{Model, Runs, opening, action_at, cycle_to_send, after, after_all}
-use Rattle.gc_station.specs.NextCommand.{place_next, cycles_begun, expected_first, mark_next}
+use Rattle.gc_station.specs.NextCommand.{place_next, commands_left, cycles_begun, expected_first, mark_next}
 use Rattle.gc_station.proofs.Chaining.{StaysBegun, SendsNoSetup, PreparesNothing, each_act_append, chain_linked, IsLinkedStill}
 use Rattle.gc_station.proofs.EachRun.{invariant_holds}
 use Rattle.gc_station.proofs.Outs.{of_a_cycle, send_cycle, send_place, sends_of_cycle}
@@ -97,7 +97,7 @@ asked_mark now mark (task ∷ others) some = refl
 
 -- once the station has synchronized, the part of an act that puts bytes for `Send` has the mark of the cycle's next command
 -- first, if there is one
-put_asks : (plan : Plan) (commands : List Task) (s : Model) (act : Act) (bytes : List ℕ) → Puts bytes act → has_begun s.progress ≡ true → 0 < length (drop (place_next commands s.progress) commands)
+put_asks : (plan : Plan) (commands : List Task) (s : Model) (act : Act) (bytes : List ℕ) → Puts bytes act → has_begun s.progress ≡ true → 0 < length (commands_left commands s.progress)
     → slice_get (part_of_act plan commands s Send act).marks 0 ≡ Some (Some (mark_next plan commands s.progress))
 put_asks plan commands s act bytes puts begun some = subst (λ (b : Bool). slice_get
     (if b then client_part plan commands s Send act else sync_part s Send act).marks 0 ≡ Some (Some (mark_next plan commands s.progress))) (sym begun)
@@ -190,7 +190,7 @@ module _ (plan : Plan) (commands : List Task) (scope : Scope) where
     rest : List Act
     order : before ≡ start ++ act ∷ rest
     sends : action_at plan (at start) ≡ Send
-    mark : mark_of (expected_first (drop (place_next commands (at start).progress) commands)) its.answer ≡ mark_next plan commands (at start).progress
+    mark : mark_of (expected_first (commands_left commands (at start).progress)) its.answer ≡ mark_next plan commands (at start).progress
     same : length (parts plan commands scope before) ≡ length (parts plan commands scope start)
     no_setup : PreparesNothing plan commands (at start) (act ∷ rest)
 

@@ -16,7 +16,7 @@ use Rattle.gc_texts.specs.declared.quality.Quality.{Quality}
 use Rattle.gc_texts.specs.declared.tasks.Task.{Task}
 use Rattle.gc_station.specs.Attempts.{code_in, code_of}
 use Rattle.gc_station.specs.Marks.{end_of, answer_as}
-use Rattle.gc_station.specs.NextCommand.{in_attempt}
+use Rattle.gc_station.specs.NextCommand.{expected_of_setup}
 use Rattle.gc_station.specs.Records.{Record}
 use Rattle.gc_station.specs.Retries.{code_of_end, is_listed, HasListed, BeginNoAttempt}
 use Rattle.gc_station.proofs.Facts.{or_first}
@@ -111,7 +111,7 @@ has_listed reads commands rs b h =
 
 -- what is expected of a command's answer, of which the text says this; if it is of the setup (`true`), in this attempt
 abbrev pub expected_as : Bool → ℕ → Expected → Expected
-expected_as is_setup attempt expected = if is_setup then in_attempt attempt expected else expected
+expected_as is_setup attempt expected = if is_setup then expected_of_setup attempt expected else expected
 
 -- the target's place in `expected_as` is that of the command
 pub near_expected : (is_setup : Bool) (attempt : ℕ) (expected : Expected) → (expected_as is_setup attempt expected).near ≡ expected.near

@@ -163,12 +163,12 @@ cuts_on (a ∷ front) (b ∷ longer) behind tail x y e low =
     record { between = on.between; goes_on = ap (λ z. z ∷ longer) (sym head) ∙ ap (λ zs. a ∷ zs) on.goes_on; splits = on.splits }
 
 -- a list with one more element at its end is cut at that one, or before it
-pub data Cut {A : Type 0} (xs : List A) (last : A) (front behind : List A) (x : A) : Type 0 where
-  AtEnd : (same : xs ≡ front) → Cut xs last front behind x
-  Before : (between : List A) → (at : xs ≡ front ++ x ∷ between) → (tail : behind ≡ between ++ last ∷ []) → Cut xs last front behind x
+pub data CutOf {A : Type 0} (xs : List A) (last : A) (front behind : List A) (x : A) : Type 0 where
+  AtEnd : (same : xs ≡ front) → CutOf xs last front behind x
+  Before : (between : List A) → (at : xs ≡ front ++ x ∷ between) → (tail : behind ≡ between ++ last ∷ []) → CutOf xs last front behind x
 
 -- a cut of a list with a last element is at that element, or before it
-pub cut_at : {A : Type 0} (xs front behind : List A) (last x : A) → xs ++ last ∷ [] ≡ front ++ x ∷ behind → Cut xs last front behind x
+pub cut_at : {A : Type 0} (xs front behind : List A) (last x : A) → xs ++ last ∷ [] ≡ front ++ x ∷ behind → CutOf xs last front behind x
 cut_at [] [] behind last x e = AtEnd refl
 cut_at [] (b ∷ []) behind last x e = cc
 cut_at [] (b ∷ c ∷ front) behind last x e = cc
@@ -183,6 +183,6 @@ cut_at (a ∷ xs) (b ∷ front) behind last x e = on (cut_at xs front behind las
   others = cc
 
   -- the lemma above with one more element at the front of both lists
-  on : Cut xs last front behind x → Cut (a ∷ xs) last (b ∷ front) behind x
+  on : CutOf xs last front behind x → CutOf (a ∷ xs) last (b ∷ front) behind x
   on (AtEnd same) = AtEnd (ap (λ z. z ∷ xs) head ∙ ap (λ zs. b ∷ zs) same)
   on (Before between at tail) = Before between (ap (λ z. z ∷ xs) head ∙ ap (λ zs. b ∷ zs) at) tail

@@ -31,18 +31,18 @@ use Rattle.gc_station.specs.Reasons.{HoldsBefore}
 use Rattle.gc_station.specs.Records.{Record}
 use Rattle.gc_station.specs.Runs.{state_after}
 use Rattle.gc_station.specs.ActKinds.{Puts}
-use Rattle.gc_station.specs.Model.{Model, opening, action_at, waiting_of, request_text, Performs, with_progress, asks_next, after_put, moved, losing, ended, after, SendsCommand, IsSending, asks_setup}
+use Rattle.gc_station.specs.Model.{Model, opening, action_at, waiting_of, next_request_text, Performs, with_progress, asks_next, after_put, moved, losing, ended, after, SendsCommand, IsSending, asks_setup}
 use Rattle.gc_station.specs.NextCommand.{upcoming_after}
 use Rattle.gc_station.proofs.Counts.{ended_progress}
 use Rattle.gc_station.proofs.Facts.{action_for, or_first}
 use Rattle.gc_station.proofs.Invariant.{Invariant}
 use Rattle.gc_station.proofs.Going.{after_all-append}
 use Rattle.gc_station.proofs.Growing.{moved_grew}
-use Rattle.gc_station.proofs.Lists.{all_append, all_split, Cut as CutOf, AtEnd, Before, cut_at, rising_all}
+use Rattle.gc_station.proofs.Lists.{all_append, all_split, CutOf, AtEnd, Before, cut_at, rising_all}
 use Rattle.gc_station.proofs.Meets.{IsRecordOf, all_records_at, was_answered, was_late}
-use Rattle.gc_station.proofs.Waiting.{WasAsked, Stayed, Waits, IsJustified, IsHonest}
+use Rattle.gc_station.proofs.Waiting.{WasAsked, Stayed, StillWaits, IsJustified, IsHonest}
 use Rattle.gc_station.proofs.Parting.{keeps_action}
-use Rattle.gc_station.proofs.Walk.{is_sent, moved_changed, is_prepared}
+use Rattle.gc_station.proofs.Walk.{is_sent, moved_changed}
 use Rattle.gc_station.proofs.Words.{renews_only, renews_needs}
 use Rattle.gc_station.specs.Scopes.{Scope}
 
@@ -104,7 +104,7 @@ sending_loses_none plan commands s act sends = by_action (action_at plan s) send
       let t = with_progress turned s in
       let f = λ (x : Model). with_progress (setup_sent plan) (asks_setup plan commands x) in
       loses_nothing (has_begun (moved plan commands actions.Prepare t act).progress) _ (ap (λ (x : Model). has_begun x.progress) (moved_changed plan commands actions.Prepare t act) ∙ needs.1)
-      (put_goes _ f t act (sym (ap (λ (x : Model). x.progress.phase) (is_prepared plan commands t)) ∙ needs.0))
+      (put_goes _ f t act needs.0)
   by_action next (inl is) needs = cc
   by_action next (inr is) needs = cc
 
@@ -231,7 +231,7 @@ module _ (plan : Plan) (commands : List Task) (scope : Scope) (acts : List Act) 
               cycle = it.2 ∙ its.cycle;
               place = it.3 ∙ its.place;
               sent = it.4 ∙ ap Some its.sent;
-              put = subst (λ (y : Asked). Puts (request_text (state_after plan commands scope a.before).client y) a.request)
+              put = subst (λ (y : Asked). Puts (next_request_text (state_after plan commands scope a.before).client y) a.request)
                   (sym (ap (λ (y : Wish). y.call) it.5.command ∙ ap (λ (y : Settlement Asked). y.call) x.is)) a.put;
             };
             written = subst (λ (xs : List Act). IsWrittenAt plan commands scope xs act r) at here;
@@ -258,7 +258,7 @@ module _ (plan : Plan) (commands : List Task) (scope : Scope) (acts : List Act) 
     of_lost =
         all_records_at (λ (k : ℕ). LostOf plan commands scope all) (IsLostRecord plan commands scope all) t.reads t.progress.moment.utc 0 (map lost t.client.waiting) t.marks
         (λ i x mark is. (mark, x, refl, refl, refl, record { reads = t.reads; expected = mark.expected; command = refl; ended = refl }, is))
-        (rising_all (Waits plan commands scope all t.client.next (length t.client.waiting)) (λ (k : ℕ). LostOf plan commands scope all) lost 0 0 t.client.waiting t.marks
+        (rising_all (StillWaits plan commands scope all t.client.next (length t.client.waiting)) (λ (k : ℕ). LostOf plan commands scope all) lost 0 0 t.client.waiting t.marks
         (λ n j p mark w. record { number = n; at = j; id = id_of t.client j; pending = p; is = refl; asked = w }) h.waiting)
 
     -- each of these records is true, if all are lost for a cause

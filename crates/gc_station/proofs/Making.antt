@@ -2,15 +2,14 @@
 -- on the link, with its result. `told` and `told'` are what the link had recorded before the call and has recorded after it,
 -- `start`, `taken` and `taken'` what the book had taken at first, before the call and after it; `text` is how a record is
 -- written.
-use Rattle.std.proofs.Common.{◌≡◌, ℕ, ◌+◌, ◌<◌, Bool, true, false, List, [], ◌∷◌, ◌++◌, length, if◌then◌else◌, nat_eq, Option, Some, None, Result, Ok, Err, refl, sym, ap, ◌∙◌, subst, append-nil, arith}
+use Rattle.std.proofs.Common.{◌≡◌, ℕ, ◌+◌, ◌<◌, Bool, true, false, List, [], ◌∷◌, ◌++◌, length, if◌then◌else◌, nat_eq, Option, None, Result, Ok, Err, refl, sym, ap, ◌∙◌, subst, append-nil, arith}
 use Rattle.std.proofs.lemmas.Bool.{ne_eqb}
 use Rattle.std.proofs.lemmas.List.{length-append}
 use Rattle.gc_lines.specs.Assembler.{StandsFor}
 use Rattle.gc_catalogue.specs.declared.asked.Asked.{Asked}
 use Rattle.gc_client.specs.declared.window.TheConstants.{WINDOW}
-use Rattle.gc_client.specs.Rule.{ById, id_send}
+use Rattle.gc_client.specs.Rule.{ById, send_unless_full}
 use Rattle.gc_texts.specs.Endings.{End, Skipped, Missed}
-use Rattle.gc_texts.specs.Tasks.{call_at}
 use Rattle.gc_texts.specs.declared.tasks.Task.{Task}
 use Rattle.gc_links.specs.declared.link.Moment.{Moment}
 use Rattle.gc_station.specs.declared.mark.Mark.{Mark}
@@ -20,22 +19,22 @@ use Rattle.gc_station.specs.declared.progress.Action.TheVariants.{Read}
 use Rattle.gc_station.specs.declared.progress.Progress.{Progress}
 use Rattle.gc_station.specs.declared.progress.Until.{Until}
 use Rattle.gc_station.specs.declared.station.Station.{Station}
-use Rattle.gc_links.specs.Acts.{Act, Tells, put_act, IsPart}
+use Rattle.gc_links.specs.Acts.{Act, AddsActs, put_act, IsPart}
 use Rattle.gc_station.specs.Deciding.{later}
-use Rattle.gc_station.specs.Marks.{is_well, last_well}
-use Rattle.gc_station.specs.Progressing.{failing, skipped_at}
+use Rattle.gc_station.specs.Marks.{is_well, last_well, unsent_as}
+use Rattle.gc_station.specs.Progressing.{failing, unsent_at}
 use Rattle.gc_station.specs.Records.{Record}
-use Rattle.gc_station.specs.ActKinds.{Puts, IsReading}
-use Rattle.gc_station.specs.Model.{Model, client_sent, sent_to, asks, asks_first, end_unsent, first_unsent_record, with_progress, with_listed, with_more_records, after_put, after_read, asks_or_null, text_or_null, request_text}
-use Rattle.gc_station.specs.Stations.{Refines, Took, cut_progress, seen, setup_asked, station_asking, Does, Moves, Becomes}
+use Rattle.gc_station.specs.ActKinds.{Puts, ReadsLink}
+use Rattle.gc_station.specs.Model.{Model, client_sent, sent_to, request_for, request_or_null, asks_for, asks_first, end_unsent, first_unsent_record, with_progress, with_listed, with_more_records, after_put, after_read, text_or_null, next_request_text}
+use Rattle.gc_station.specs.Stations.{Refines, Took, cut_progress, as_seen, station_asking, Does, Moves, KeepsToModel}
 use Rattle.gc_station.specs.Scopes.{AreReadings}
 use Rattle.gc_station.specs.Attempts.{listed_after}
 use Rattle.gc_station.specs.Tallies.{nothing_yet, counted_in, tallied}
-use Rattle.gc_station.specs.Writing.{noted}
+use Rattle.gc_station.specs.Writing.{noted, recorded_unsent}
 use Rattle.gc_station.specs.declared.recorded.Recorded.{Recorded}
 use Rattle.gc_station.specs.declared.station.sending.Outgoing.{Outgoing}
 use Rattle.gc_station.proofs.Records.{tallied-append, last-append}
-use Rattle.gc_station.proofs.Walk.{first_along, setup_along}
+use Rattle.gc_station.proofs.Walk.{first_along}
 
 -- if a station is as the model `s`, then with the progress `p`, which is `f` of its own, it is as `s` with its progress changed
 -- by `f`
@@ -81,14 +80,14 @@ put_took text start taken (Err n) bytes requests f s so = so
 -- Requests are sent.
 
 -- if the window isn't full (`full` is false), one request more waits after a send
-sent_count : (c : ById Asked) (target : ℕ) (call : Asked) (deadline : ℕ) (full : Bool) → full ≡ false → length (client_sent c (id_send c target call deadline full)).waiting ≡ length c.waiting + 1
+sent_count : (c : ById Asked) (target : ℕ) (call : Asked) (deadline : ℕ) (full : Bool) → full ≡ false → length (client_sent c (send_unless_full c target call deadline full)).waiting ≡ length c.waiting + 1
 sent_count c target call deadline true e = cc
 sent_count c target call deadline false e = length-append c.waiting _
 
 -- if the station `old` is as the model `s`, and there is room for a request, then `old` after it sent `asking`
 -- (`station_asking`) is as `s` after it sent the same (`other`)
 pub asks_refines : (old new : Station) (s : Model) (asking other : Outgoing) → Refines old s → length old.client.ids.waiting < WINDOW → asking ≡ other
-    → new ≡ station_asking asking old → Refines new (asks other.wait other.command.target other.command.call other.mark s)
+    → new ≡ station_asking asking old → Refines new (asks_for other s)
 asks_refines old new s asking other stands room e is =
     let elapsed = old.progress.moment.elapsed in
     let fewer : length s.client.waiting < WINDOW = subst (λ (c : ById Asked). length c.waiting < WINDOW) stands.ids room in
@@ -115,51 +114,31 @@ asks_refines old new s asking other stands room e is =
 -- a station that is as the model `s` after it sent `task` with `mark` is as `s` after it sent the first of the commands in `list`
 -- with `mark'`, if `list` begins with `task` and the two marks are equal
 pub first_refines : (new : Station) (s : Model) (mark mark' : Mark) (list : List Task) (task : Task) (others : List Task) → list ≡ task ∷ others → mark ≡ mark'
-    → Refines new (asks task.deadline task.command.target (call_at task mark.sent) (Some mark) s) → Refines new (asks_first mark' list s)
+    → Refines new (asks_for (request_for mark task) s) → Refines new (asks_first mark' list s)
 first_refines new s mark mark' list task others is e stands =
-    subst (λ (ts : List Task). Refines new (asks_first mark' ts s)) (sym is) (subst (λ (m : Mark). Refines new (asks task.deadline task.command.target (call_at task m.sent) (Some m) s)) e stands)
+    subst (λ (ts : List Task). Refines new (asks_first mark' ts s)) (sym is) (subst (λ (m : Mark). Refines new (asks_for (request_for m task) s)) e stands)
 
 -- a book that has the records of the model `s` (`Took`) has those of `s` after it sent the first of the commands in `list`, if
 -- there is one: the send adds no record
 pub first_took : (text : Record → List ℕ) (start taken : Option (List ℕ)) (s : Model) (mark : Mark) (list : List Task) → Took text start taken s → Took text start taken (asks_first mark list s)
 first_took text start taken s mark list so = first_along (Took text start taken) mark list s (λ task. so) so
 
--- a station that is as the model `s` after it sent what `setup_asked` says is as `s` after it sent the first of these commands of
--- the setup, or a null procedure if there is none
-pub setup_refines : (plan : Plan) (station : Station) (s : Model) (asking : Outgoing) (mark : Mark) (list : List Task) → asking ≡ setup_asked plan mark list
-    → Refines station (asks asking.wait asking.command.target asking.command.call asking.mark s) → Refines station (asks_or_null plan mark list s)
-setup_refines plan station s asking mark list is stands =
-    subst (λ (t : Model). Refines station t) (by_list list)
-    (subst (λ (a : Outgoing). Refines station (asks a.wait a.command.target a.command.call a.mark s)) is stands) where
-      -- the two models are the same, whether there is a command or not
-      by_list : (xs : List Task) → asks (setup_asked plan mark xs).wait (setup_asked plan mark xs).command.target (setup_asked plan mark xs).command.call (setup_asked plan mark xs).mark s
-          ≡ asks_or_null plan mark xs s
-      by_list [] = refl
-      by_list (task ∷ others) = refl
-
--- the bytes of the request that `setup_asked` says are those of the first of these commands of the setup, or of a null procedure
--- if there is none
-pub setup_text : (plan : Plan) (client : ById Asked) (mark : Mark) (list : List Task) → request_text client (setup_asked plan mark list).command.call ≡ text_or_null mark.sent client list
+-- the bytes of the request that `request_or_null` gives are those that `text_or_null` gives
+pub setup_text : (plan : Plan) (client : ById Asked) (mark : Mark) (list : List Task) → next_request_text client (request_or_null plan mark list).command.call ≡ text_or_null mark.sent client list
 setup_text plan client mark [] = refl
 setup_text plan client mark (task ∷ others) = refl
-
--- a book that has the records of the model `s` (`Took`) has those of `s` after it sent the first of these commands of the setup,
--- or a null procedure if there is none: the send adds no record
-pub setup_took : (plan : Plan) (text : Record → List ℕ) (start taken : Option (List ℕ)) (s : Model) (mark : Mark) (list : List Task) → Took text start taken s
-    → Took text start taken (asks_or_null plan mark list s)
-setup_took plan text start taken s mark list so = setup_along (Took text start taken) plan mark list s (λ task. so) so
 
 -- A command is skipped.
 
 -- if `list` begins with `task`, and the two marks are equal, the record of `task` as missed or skipped (`end`), with the moment
--- of `skipped_at`, is the one record that the model adds (`first_unsent_record`)
+-- of `unsent_at`, is the one record that the model adds (`first_unsent_record`)
 pub skips_as : (p : Progress) (m : Moment) (mark mark' : Mark) (utc : ℕ) (end : End) (list : List Task) (task : Task) (others : List Task)
-    → list ≡ task ∷ others → mark ≡ mark' → utc ≡ skipped_at m p → end ≡ end_unsent p
-    → record { sent = None; utc = utc; cycle = mark.cycle; place = mark.place; turn = mark.expected.turn; command = task.command; end = end } ∷ [] ≡ first_unsent_record p m mark' list
+    → list ≡ task ∷ others → mark ≡ mark' → utc ≡ unsent_at m p → end ≡ end_unsent p
+    → unsent_as utc mark task.command end ∷ [] ≡ first_unsent_record p m mark' list
 skips_as p m mark mark' utc end list task others is e at ends =
-    ap (λ (u : ℕ). record { sent = None; utc = u; cycle = mark.cycle; place = mark.place; turn = mark.expected.turn; command = task.command; end = end } ∷ []) at
-    ∙ ap (λ (x : Mark). record { sent = None; utc = skipped_at m p; cycle = x.cycle; place = x.place; turn = x.expected.turn; command = task.command; end = end } ∷ []) e
-    ∙ ap (λ (x : End). record { sent = None; utc = skipped_at m p; cycle = mark'.cycle; place = mark'.place; turn = mark'.expected.turn; command = task.command; end = x } ∷ []) ends
+    ap (λ (u : ℕ). unsent_as u mark task.command end ∷ []) at
+    ∙ ap (λ (x : Mark). unsent_as (unsent_at m p) x task.command end ∷ []) e
+    ∙ ap (λ (x : End). unsent_as (unsent_at m p) mark' task.command x ∷ []) ends
     ∙ sym (ap (first_unsent_record p m mark') is)
 
 -- neither ending of a command that isn't sent, as missed or as skipped, is that of one that was answered well
@@ -172,7 +151,7 @@ unwell_end false = refl
 pub noted_unsent : (p : Progress) (m : Moment) (mark mark' : Mark) (end : End) (list : List Task) (task : Task) (others : List Task) (r : Recorded)
     → list ≡ task ∷ others → mark ≡ mark' → end ≡ end_unsent p
     → noted mark m.elapsed None end r
-    ≡ record r { tally = tallied r.tally (first_unsent_record p m mark' list); well = false; listed = listed_after r.listed mark'.expected None (end_unsent p) }
+    ≡ recorded_unsent (first_unsent_record p m mark' list) (listed_after r.listed mark'.expected None (end_unsent p)) r
 noted_unsent p m mark mark' end list task others r is e ends =
     ap (λ (x : Mark). noted x m.elapsed None end r) e
     ∙ ap (λ (x : End). noted mark' m.elapsed None x r) ends
@@ -182,11 +161,7 @@ noted_unsent p m mark mark' end list task others r is e ends =
       listed = listed_after r.listed mark'.expected None (end_unsent p);
       fresh = if b then m.elapsed else r.fresh;
     }) (unwell_end p.missed)
-    ∙ sym (ap (λ (left : List Task). record r {
-      tally = tallied r.tally (first_unsent_record p m mark' left);
-      well = false;
-      listed = listed_after r.listed mark'.expected None (end_unsent p);
-    }) is)
+    ∙ sym (ap (λ (left : List Task). recorded_unsent (first_unsent_record p m mark' left) (listed_after r.listed mark'.expected None (end_unsent p)) r) is)
 
 -- after the record of the first of the commands in `list`, of which there is one, as not sent, the last command wasn't answered
 -- well
@@ -199,7 +174,7 @@ skips_unwell b p m mark (task ∷ others) some = unwell_end p.missed
 -- before them, then `old` with these records counted, and `b` as `listed`, is as `s` with these records, and b' as `listed`. b
 -- and b' are equal if what `s` has for `reads` is right (`AreReadings`)
 pub skipped_refines : (old new : Station) (s : Model) (rs : List Record) (b b' : Bool) → Refines old s → ((b : Bool) → last_well b rs ≡ false) → (AreReadings s.reads → b ≡ b')
-    → new ≡ record old { recorded = record old.recorded { tally = tallied old.recorded.tally rs; well = false; listed = b } } → Refines new (with_listed b' (with_more_records rs s))
+    → new ≡ record old { recorded = recorded_unsent rs b old.recorded } → Refines new (with_listed b' (with_more_records rs s))
 skipped_refines old new s rs b b' stands unwell same is = record {
   progress = ap (λ (n : Station). n.progress) is ∙ stands.progress;
   ids = ap (λ (n : Station). n.client.ids) is ∙ stands.ids;
@@ -223,15 +198,15 @@ with_no_records s = ap (λ (rs : List Record). record s { records = rs }) (appen
 module _ (plan : Plan) (commands : List Task) (until : Until) (text : Record → List ℕ) (told told' : Option (List Act)) (taken taken' : Option (List ℕ))
     (station new : Station) (act : Act) where
   -- `Does` holds of the read, if after it the station is as the model after the read, and the book has that model's records
-  pub makes_read : Tells told told' (act ∷ []) → IsReading act
+  pub makes_read : AddsActs told told' (act ∷ []) → ReadsLink act
       → ((s : Model) (start : Option (List ℕ)) → Refines station s → Took text start taken s → Refines new (after_read plan until s act) × Took text start taken' (after_read plan until s act))
-      → Does plan commands (Read until) (seen told text taken station) (seen told' text taken' new)
+      → Does plan commands (Read until) (as_seen told text taken station) (as_seen told' text taken' new)
   makes_read tells reads goes = record { act = act; tells = tells; goes = λ s start stands so. let g = goes s start stands so in (reads, g.0, g.1) }
 
   -- `Moves` holds of the read with this result, if after it the station is as the model after the read, and the book has that
-  -- model's records, or failed at one of them (`Becomes`)
-  pub made_read : {X E : Type 0} (result : Result X E) → Tells told told' (act ∷ []) → IsReading act
-      → Becomes (λ (s : Model). after_read plan until s act) text taken taken' station new result
-      → Moves plan commands (Read until) (seen told text taken station) (seen told' text taken' new) result
+  -- model's records, or failed at one of them (`KeepsToModel`)
+  pub made_read : {X E : Type 0} (result : Result X E) → AddsActs told told' (act ∷ []) → ReadsLink act
+      → KeepsToModel (λ (s : Model). after_read plan until s act) text taken taken' station new result
+      → Moves plan commands (Read until) (as_seen told text taken station) (as_seen told' text taken' new) result
   made_read (Ok r) tells reads goes = makes_read tells reads goes
   made_read (Err r) tells reads goes = record { act = act; tells = tells; goes = λ s start stands so. (reads, goes s start stands so) }

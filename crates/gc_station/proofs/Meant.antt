@@ -5,18 +5,19 @@ use Rattle.std.proofs.lemmas.Bool.{both_ways}
 use Rattle.gc_catalogue.specs.declared.asked.Asked.{Asked}
 use Rattle.gc_catalogue.specs.declared.asked.Asked.TheVariants.{Table}
 use Rattle.gc_catalogue.specs.declared.call.Call.TheVariants.{NullProc}
-use Rattle.gc_texts.specs.Tasks.{call_at}
+use Rattle.gc_client.specs.OneForOne.{Send}
 use Rattle.gc_texts.specs.declared.tasks.Task.{Task}
 use Rattle.gc_station.specs.declared.mark.Mark.{Mark}
 use Rattle.gc_station.specs.declared.plan.Plan.{Plan}
 use Rattle.gc_station.specs.declared.progress.Action.{Action}
 use Rattle.gc_station.specs.declared.progress.Action.TheVariants as action
+use Rattle.gc_station.specs.declared.station.sending.Outgoing.{Outgoing}
 use Rattle.gc_links.specs.Acts.{Act, Put, Cut, Closed}
 use Rattle.gc_station.specs.Deciding.{later, has_begun}
-use Rattle.gc_station.specs.Parts.{Asks, Part, only_sync_steps, nothing, request_part, first_request_part, put_part, sync_part, request_or_null_part, null_part}
+use Rattle.gc_station.specs.Parts.{Asks, Part, only_sync_steps, nothing, request_part, first_request_part, put_part, sync_part}
 use Rattle.gc_station.specs.Reasons.{HoldsBefore}
-use Rattle.gc_station.specs.ActKinds.{Puts, ReadsClock, IsOpening, IsReading}
-use Rattle.gc_station.specs.Model.{Model, action_at, waiting_of, request_text, null_text, first_text, Performs, text_or_null}
+use Rattle.gc_station.specs.ActKinds.{Puts, ReadsClock, IsOpening, ReadsLink}
+use Rattle.gc_station.specs.Model.{Model, action_at, waiting_of, next_request_text, null_text, first_text, Performs, text_or_null, request_for, null_request, request_or_null}
 use Rattle.gc_station.specs.NextCommand.{place_next, mark_next, mark_setup}
 use Rattle.gc_station.proofs.Facts.{action_for}
 use Rattle.gc_station.proofs.Invariant.{Invariant}
@@ -27,8 +28,8 @@ pub record IsSent (s : Model) (bytes : List ℕ) (p : Part) : Type 0 where
   pub call : Asked
   pub deadline : ℕ
   pub mark : Option Mark
-  pub part : p ≡ request_part target call deadline mark
-  pub text : bytes ≡ request_text s.client call
+  pub part : p ≡ record { sync_steps = []; steps = Send target call deadline ∷ []; marks = mark ∷ [] }
+  pub text : bytes ≡ next_request_text s.client call
   pub room : length s.client.waiting < 7
 
 -- these bytes are a line feed, and nothing happens in the part p; or they are the line of a request whose part is p
@@ -48,7 +49,7 @@ puts_same want bytes (Cut out count) e puts = let same = puts.0 in cc
 puts_same want bytes act e puts = absurd puts
 
 -- an act that reads the clock, connects, reads or closes puts no bytes
-never_puts : (act : Act) (bytes : List ℕ) → put_by act ≡ Some bytes → (ReadsClock act ⊎ (IsOpening act ⊎ (IsReading act ⊎ (act ≡ Closed)))) → ⊥
+never_puts : (act : Act) (bytes : List ℕ) → put_by act ≡ Some bytes → (ReadsClock act ⊎ (IsOpening act ⊎ (ReadsLink act ⊎ (act ≡ Closed)))) → ⊥
 never_puts (Put out) bytes e h = elim h [ inl a ↦ a | inr b ↦ elim b [ inl c ↦ c | inr d ↦ elim d [ inl f ↦ f | inr g ↦ cc ] ] ]
 never_puts (Cut out count) bytes e h = elim h [ inl a ↦ a | inr b ↦ elim b [ inl c ↦ c | inr d ↦ elim d [ inl f ↦ f | inr g ↦ cc ] ] ]
 never_puts act bytes e h = cc
@@ -64,34 +65,33 @@ asked_step s (Put out) bytes e = refl
 asked_step s (Cut out count) bytes e = refl
 asked_step s act bytes e = cc
 
+-- if fewer than seven requests wait, the bytes of a request that is sent are its line (`IsSent`)
+request_put : (s : Model) (x : Outgoing) (bytes : List ℕ) → length s.client.waiting < 7 → bytes ≡ next_request_text s.client x.command.call
+    → IsSent s bytes (request_part s.progress.moment.elapsed x)
+request_put s x bytes room e = record {
+  target = x.command.target;
+  call = x.command.call;
+  deadline = later s.progress.moment.elapsed x.wait;
+  mark = x.mark;
+  part = refl;
+  text = e;
+  room = room;
+}
+
 module _ (plan : Plan) (commands : List Task) where
   -- if fewer than seven requests wait, and there is a command, the bytes of the first of these commands with this mark are the
   -- line of the request of its part (`IsSent`)
   first_put : (s : Model) (mark : Mark) (left : List Task) (bytes : List ℕ) → 0 < length left → length s.client.waiting < 7 → bytes ≡ first_text mark.sent s.client left
       → IsSent s bytes (first_request_part s.progress.moment.elapsed mark left)
   first_put s mark [] bytes some room e = absurd (omega (arith, some))
-  first_put s mark (task ∷ others) bytes some room e = record {
-    target = task.command.target;
-    call = call_at task mark.sent;
-    deadline = later s.progress.moment.elapsed task.deadline;
-    mark = Some mark;
-    part = refl;
-    text = e;
-    room = room;
-  }
-
-  -- if fewer than seven requests wait, the bytes of a null procedure of the station's own are the line of the request of its part
-  -- (`IsSent`)
-  null_put : (s : Model) (bytes : List ℕ) → length s.client.waiting < 7 → bytes ≡ request_text s.client (Table NullProc)
-      → IsSent s bytes (null_part plan s.progress.moment.elapsed)
-  null_put s bytes room e = record { target = 0; call = Table NullProc; deadline = later s.progress.moment.elapsed plan.deadline; mark = None; part = refl; text = e; room = room }
+  first_put s mark (task ∷ others) bytes some room e = request_put s (request_for mark task) bytes room e
 
   -- if fewer than seven requests wait, the bytes of the first of these commands of the setup, or of a null procedure if there is
   -- none, are the line of the request of its part (`IsSent`)
   setup_put : (s : Model) (left : List Task) (bytes : List ℕ) → length s.client.waiting < 7 → bytes ≡ text_or_null s.progress.moment.utc s.client left
-      → IsSent s bytes (request_or_null_part plan s.progress.moment.elapsed (mark_setup commands s.progress) left)
-  setup_put s [] bytes room e = null_put s bytes room e
-  setup_put s (task ∷ others) bytes room e = first_put s (mark_setup commands s.progress) (task ∷ others) bytes (omega arith) room e
+      → IsSent s bytes (request_part s.progress.moment.elapsed (request_or_null plan (mark_setup commands s.progress) left))
+  setup_put s [] bytes room e = request_put s (null_request plan) bytes room e
+  setup_put s (task ∷ others) bytes room e = request_put s (request_for (mark_setup commands s.progress) task) bytes room e
 
   -- once the station has synchronized, the bytes that an act of this action puts are as `IsPut` says of the action's part
   put_by_action : (s : Model) (o : Action) (act : Act) (bytes : List ℕ) → Invariant plan commands s → (needs : HoldsBefore plan s.progress (waiting_of s) o)
@@ -99,7 +99,7 @@ module _ (plan : Plan) (commands : List Task) where
   put_by_action s action.Clear act bytes fine is obeys e begun = inl (puts_same (10 ∷ []) bytes act e obeys, refl)
   put_by_action s action.Ask act bytes fine is obeys e begun = absurd (both_ways (has_begun s.progress) is.1 begun)
   put_by_action s action.Renew act bytes fine is obeys e begun = absurd (never_puts act bytes e (inl obeys))
-  put_by_action s action.Flush act bytes fine is obeys e begun = inr (null_put s bytes is.4.1 (puts_same (request_text s.client (Table NullProc)) bytes act e obeys))
+  put_by_action s action.Flush act bytes fine is obeys e begun = inr (request_put s (null_request plan) bytes is.4.1 (puts_same (next_request_text s.client (Table NullProc)) bytes act e obeys))
   put_by_action s action.Prepare act bytes fine is obeys e begun =
       let left = drop s.progress.prepared commands in inr (setup_put s left bytes is.3.1 (puts_same (text_or_null s.progress.moment.utc s.client left) bytes act e obeys))
   put_by_action s action.Send act bytes fine is obeys e begun =

@@ -9,8 +9,8 @@ use Rattle.gc_catalogue.specs.declared.answer.Reading.{Reading}
 use Rattle.gc_catalogue.specs.declared.asked.Asked.{Asked}
 use Rattle.gc_client.specs.declared.pending.Pending.{Pending}
 use Rattle.gc_client.specs.Ids
-use Rattle.gc_client.specs.Ids.{id_at, IsWithinLimits, id_of}
-use Rattle.gc_client.specs.Rule.{ById, Outcome, Settlement, Settled, Answered, Late, Lost, place_in, settled_by_line, settle, hears, id_settled}
+use Rattle.gc_client.specs.Ids.{id_at_place, IsWithinLimits, id_of}
+use Rattle.gc_client.specs.Rule.{ById, Outcome, Settlement, Settled, Answered, Late, Lost, place_in, settled_by_line, settle, hears, settles_at}
 use Rattle.gc_client.proofs.Digits.{settling}
 use Rattle.gc_client.proofs.OneForOne.{length-settle}
 use Rattle.gc_texts.specs.declared.tasks.Task.{Task}
@@ -25,7 +25,7 @@ use Rattle.gc_station.specs.Marks.{answer_as, end_of, command_of, record_of, rec
 use Rattle.gc_station.specs.Records.{Record}
 use Rattle.gc_station.proofs.Lists.{AllAt, AllRisingAt, RisingAt, rising_on, rising_drop, rising_at}
 use Rattle.gc_station.proofs.Records.{answer_along}
-use Rattle.gc_station.proofs.Waiting.{StayedAt, WaitsAt, asked_as}
+use Rattle.gc_station.proofs.Waiting.{StayedAt, StillWaitsAt, asked_as}
 use Rattle.gc_station.specs.Scopes.{Scope}
 
 -- an id was heard, and this is the place (`place_in`) of the outstanding request that has it, if one has
@@ -114,7 +114,7 @@ pub heard_ended : (P : ℕ → ℕ → Pending Asked → Option Mark → Type 0)
 heard_ended P c marks line None all = tt
 heard_ended P c marks line (Some id) all = by_test (place_in c id) refl (nat_lt (place_in c id) (length c.waiting)) refl where
   -- the lemma above, by whether a request with this id waits (`true`)
-  by_test : (k : ℕ) → k ≡ place_in c id → (b : Bool) → nat_lt (place_in c id) (length c.waiting) ≡ b → AllAt (EndedBy P c (Some id) line) 0 (id_settled c line k b).settlements marks
+  by_test : (k : ℕ) → k ≡ place_in c id → (b : Bool) → nat_lt (place_in c id) (length c.waiting) ≡ b → AllAt (EndedBy P c (Some id) line) 0 (settles_at c line k b).settlements marks
   by_test k is true fits =
       let at : k ≡ k + 0 = omega arith in
       let there = ltb-true (place_in c id) (length c.waiting) fits in
@@ -135,7 +135,7 @@ pub hears_settles_oldest : (c : ById Asked) (line : List ℕ) (o : Option ℕ) �
 hears_settles_oldest c line None = record { count = 0; enough = omega arith; next = refl; waiting = refl; settled = refl }
 hears_settles_oldest c line (Some id) = by_test (place_in c id) (nat_lt (place_in c id) (length c.waiting)) refl where
   -- the lemma above, by whether the id is of an outstanding request (`true`)
-  by_test : (k : ℕ) (b : Bool) → nat_lt k (length c.waiting) ≡ b → SettlesOldest c (id_settled c line k b)
+  by_test : (k : ℕ) (b : Bool) → nat_lt k (length c.waiting) ≡ b → SettlesOldest c (settles_at c line k b)
   by_test k true fits = let low = ltb-true k (length c.waiting) fits in record { count = k + 1; enough = omega (arith, low); next = refl; waiting = refl; settled = length-settle k line c.waiting low }
   by_test k false fits = record { count = 0; enough = omega arith; next = refl; waiting = refl; settled = refl }
 
@@ -147,26 +147,26 @@ left_count c x l = ap length l.waiting ∙ length-drop l.count c.waiting
 pub left_window : (c : ById Asked) (x : Settled Asked (ById Asked)) → SettlesOldest c x → IsWithinLimits c → IsWithinLimits x.client
 left_window c x l w = let many = left_count c x l in record { digit = subst (λ (n : ℕ). n < 8) (sym l.next) w.digit; few = omega (arith, many, w.few) }
 
--- the requests that a line leaves waiting are as they were (`WaitsAt`), with the same numbers, at places that are lower by as
+-- the requests that a line leaves waiting are as they were (`StillWaitsAt`), with the same numbers, at places that are lower by as
 -- many requests as the line settled
 pub left_waits : (plan : Plan) (commands : List Task) (scope : Scope) (acts : List Act) (first : ById Asked) (now : ℕ) (c : ById Asked) (x : Settled Asked (ById Asked))
     (marks : List (Option Mark)) → SettlesOldest c x → IsWithinLimits c
-    → AllRisingAt (WaitsAt plan commands scope acts first now c.next (length c.waiting)) 0 0 c.waiting marks
-    → AllRisingAt (WaitsAt plan commands scope acts first now x.client.next (length x.client.waiting)) 0 0 x.client.waiting (drop (length x.settlements) marks)
+    → AllRisingAt (StillWaitsAt plan commands scope acts first now c.next (length c.waiting)) 0 0 c.waiting marks
+    → AllRisingAt (StillWaitsAt plan commands scope acts first now x.client.next (length x.client.waiting)) 0 0 x.client.waiting (drop (length x.settlements) marks)
 left_waits plan commands scope acts first now c x marks l w all =
     let n = l.count in
     let d = x.client in
-    let W = WaitsAt plan commands scope acts first now c.next (length c.waiting) in
+    let W = StillWaitsAt plan commands scope acts first now c.next (length c.waiting) in
     let dropped = rising_drop W n 0 0 c.waiting marks all in
     let there = subst (λ (ps : List (Pending Asked)). AllRisingAt W 0 (n + 0) ps (drop n marks)) (sym l.waiting) dropped in
     let marked = subst (λ (k : ℕ). AllRisingAt W 0 (n + 0) d.waiting (drop k marks)) (sym l.settled) there in
-    rising_on W (WaitsAt plan commands scope acts first now d.next (length d.waiting)) n 0 0 d.waiting (drop (length x.settlements) marks)
+    rising_on W (StillWaitsAt plan commands scope acts first now d.next (length d.waiting)) n 0 0 d.waiting (drop (length x.settlements) marks)
     (λ number j p mark low wait.
     let many = left_count c x l in
     let enough = l.enough in
     let below : n + j < length c.waiting = omega (arith, low, many) in
     let ids : id_of d j ≡ id_of c (n + j) =
-    ap (λ (y : ℕ). id_at y (length d.waiting) j) l.next ∙ ap (λ (y : ℕ). id_at c.next y j) many ∙ settling c.next (length c.waiting) w.few n j below in
+    ap (λ (y : ℕ). id_at_place y (length d.waiting) j) l.next ∙ ap (λ (y : ℕ). id_at_place c.next y j) many ∙ settling c.next (length c.waiting) w.few n j below in
     (asked_as plan commands scope acts (StayedAt now) number (n + j) j _ _ p mark (λ above. omega (arith, above)) ids wait.0, subst (λ (i : ℕ). Ids.Waits first i) (sym ids) wait.1)) marked
 
 -- a record is of this settlement: it has its command, and its ending by some function that reads replies and by what some mark

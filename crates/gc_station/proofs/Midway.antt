@@ -11,7 +11,7 @@ use Rattle.gc_catalogue.specs.declared.answer.Reading.{Reading}
 use Rattle.gc_catalogue.specs.declared.asked.Asked.{Asked}
 use Rattle.gc_client.specs.declared.window.TheConstants.{WINDOW, IDS}
 use Rattle.gc_client.specs.declared.pending.Pending.{Pending}
-use Rattle.gc_client.specs.Rule.{ById, Settlement, expires, expired, fresh, lost, pending_of, id_send, sends}
+use Rattle.gc_client.specs.Rule.{ById, Settlement, expires, expired, fresh, lost, pending_of, send_unless_full, sends}
 use Rattle.gc_client.specs.OneForOne.{of_settled, of_pending}
 use Rattle.gc_client.proofs.OneForOne.{expired_parts, lost_parts}
 use Rattle.gc_client.proofs.Lists.{head_of_drop}
@@ -25,7 +25,7 @@ use Rattle.gc_station.specs.declared.plan.Plan.{Plan}
 use Rattle.gc_station.specs.declared.progress.Phase.{Phase}
 use Rattle.gc_station.specs.declared.progress.Progress.{Progress}
 use Rattle.gc_station.specs.Deciding.{has_begun, is_up}
-use Rattle.gc_station.specs.EachOnce.{of_text, Interleave, Request, requests, of_task, commands_reached}
+use Rattle.gc_station.specs.EachOnce.{of_text, Interleave, RunRequest, requests, of_task, commands_reached}
 use Rattle.gc_station.proofs.Interleaving.{interleave_more, interleave_past}
 use Rattle.gc_station.specs.Marks.{commands_in, records_of}
 use Rattle.gc_station.specs.Progressing.{is_over_in, is_over, loses_all}
@@ -47,7 +47,7 @@ pub record Ledger : Type 0 where
   pub client : ById Asked
   pub marks : List (Option Mark)
   pub records : List Record
-  pub passes : List Request
+  pub passes : List RunRequest
 
 -- the ledger of the model s, with the counts of the progress p
 abbrev pub ledger_at : Model → Progress → Ledger
@@ -70,18 +70,18 @@ pub record Sound (plan : Plan) (commands : List Task) (b : Ledger) : Type 0 wher
 
 -- in a phase that `is_bare` no bytes are kept; in one that says that the run is done (`says_done`) no cycle and no command is
 -- left to be sent, and no command is outstanding unless the run is over
-pub record Placed (phase : Phase) (left unsent : ℕ) (rest : List ℕ) (marks : List (Option Mark)) : Type 0 where
+pub record PhaseFits (phase : Phase) (left unsent : ℕ) (rest : List ℕ) (marks : List (Option Mark)) : Type 0 where
   pub empty : is_bare phase ≡ true → rest ≡ []
   pub finished : says_done phase ≡ true → (left ≡ 0) × (unsent ≡ 0) × ((is_over_in phase ≡ true) ⊎ (commands_in marks ≡ 0))
 
--- `Placed` by the phase and the counts of this progress
-abbrev pub PlacedAt : Progress → List ℕ → List (Option Mark) → Type 0
-PlacedAt p rest marks = Placed p.phase p.left p.unsent rest marks
+-- `PhaseFits` by the phase and the counts of this progress
+abbrev pub PhaseFitsAt : Progress → List ℕ → List (Option Mark) → Type 0
+PhaseFitsAt p rest marks = PhaseFits p.phase p.left p.unsent rest marks
 
--- what holds of a model in the midst of an act, with this progress in place of its own: `Sound` of its ledger, and `Placed` of
+-- what holds of a model in the midst of an act, with this progress in place of its own: `Sound` of its ledger, and `PhaseFits` of
 -- its phase
 abbrev pub MidAt : Plan → List Task → Model → Progress → Type 0
-MidAt plan commands s p = Sound plan commands (ledger_at s p) × PlacedAt p s.rest s.marks
+MidAt plan commands s p = Sound plan commands (ledger_at s p) × PhaseFitsAt p s.rest s.marks
 
 -- `MidAt` with the model's own progress
 abbrev pub Mid : Plan → List Task → Model → Type 0
@@ -110,8 +110,8 @@ mid_of plan commands s fine = (
 -- What holds of the counts and the records.
 
 -- `Interleave` holds with a list xs' in place of an equal list xs
-interleave_by_equal : (xs xs' ys zs : List Request) → xs' ≡ xs → Interleave xs ys zs → Interleave xs' ys zs
-interleave_by_equal xs xs' ys zs e h = subst (λ (l : List Request). Interleave l ys zs) (sym e) h
+interleave_by_equal : (xs xs' ys zs : List RunRequest) → xs' ≡ xs → Interleave xs ys zs → Interleave xs' ys zs
+interleave_by_equal xs xs' ys zs e h = subst (λ (l : List RunRequest). Interleave l ys zs) (sym e) h
 
 -- to time out requests at the moment m preserves `Sound`
 pub sound_moment : (plan : Plan) (commands : List Task) (b : Ledger) (m : ℕ) → Sound plan commands b → Sound plan commands (record b { client = expires b.client m })
@@ -155,12 +155,16 @@ sound_settles reads plan commands b next utc ss parts low sound =
       tasked = all_append (IsOfItsTask commands) b.records _ sound.tasked (settled_tasked reads commands utc b.marks ss waits all);
     }
 
--- if there is room, a send makes the client's next id the one after it (7 is followed by 0), and adds the request to those that
--- wait
-pub client_behind : (client : ById Asked) (target : ℕ) (call : Asked) (deadline : ℕ) → length client.waiting < 7
-    → client_sent client (sends WINDOW client target call deadline) ≡ record { next = (client.next + 1) % IDS; waiting = client.waiting ++ pending_of target call deadline ∷ [] }
-client_behind client target call deadline room =
-    ap (λ (b : Bool). client_sent client (id_send client target call deadline b)) (room_left (length client.waiting) room) where
+-- this client once a request with this target, call and deadline was sent, if the window has room: its next id is the one after
+-- it (7 is followed by 0), and the request is added to those that wait
+abbrev pub with_sent : ById Asked → (target : ℕ) → Asked → (deadline : ℕ) → ById Asked
+with_sent client target call deadline = record { next = (client.next + 1) % IDS; waiting = client.waiting ++ pending_of target call deadline ∷ [] }
+
+-- if there is room, a send makes of the client what `with_sent` says
+pub sent_with_room : (client : ById Asked) (target : ℕ) (call : Asked) (deadline : ℕ) → length client.waiting < 7
+    → client_sent client (sends WINDOW client target call deadline) ≡ with_sent client target call deadline
+sent_with_room client target call deadline room =
+    ap (λ (b : Bool). client_sent client (send_unless_full client target call deadline b)) (room_left (length client.waiting) room) where
       -- a number below 7 isn't 7
       room_left : (n : ℕ) → n < 7 → nat_eq n 7 ≡ false
       room_left n room = grind (arith, nat_tests, room)
@@ -181,7 +185,7 @@ pub sound_null : (plan : Plan) (commands : List Task) (b : Ledger) (target : ℕ
 sound_null plan commands b target call deadline room is sound =
     let p = pending_of target call deadline in
     let more : length (b.client.waiting ++ p ∷ []) ≡ length b.client.waiting + 1 = length-append b.client.waiting (p ∷ []) in
-    subst (λ (c : ById Asked). Sound plan commands (record b { client = c; marks = b.marks ++ None ∷ [] })) (sym (client_behind b.client target call deadline room)) (record {
+    subst (λ (c : ById Asked). Sound plan commands (record b { client = c; marks = b.marks ++ None ∷ [] })) (sym (sent_with_room b.client target call deadline room)) (record {
       unsents = sound.unsents;
       lefts = sound.lefts;
       begun = sound.begun;
@@ -216,12 +220,12 @@ sound_sent plan commands b utc deadline expected task others room some at sound 
     let one = requests begun place (of_task task ∷ []) in
     let each : Interleave (of_text commands (row (b.marks ++ Some mark ∷ []) (b.client.waiting ++ p ∷ []) b.records)) b.passes
     (commands_reached plan.setup commands begun (place + 1)) =
-    subst (λ (xs : List Request). Interleave (of_text commands (row (b.marks ++ Some mark ∷ []) (b.client.waiting ++ p ∷ []) b.records)) b.passes xs)
+    subst (λ (xs : List RunRequest). Interleave (of_text commands (row (b.marks ++ Some mark ∷ []) (b.client.waiting ++ p ∷ []) b.records)) b.passes xs)
     (sent_next plan.setup commands begun place task others at within many)
     (interleave_by_equal _ _ _ _ (each_sent commands b.marks b.client.waiting b.records task others kept refl mark p sound.paired at refl many)
     (interleave_more kept b.passes (commands_reached plan.setup commands begun place) one sound.each)) in
     subst (λ (c : ById Asked). Sound plan commands (record b { unsent = b.unsent - 1; client = c; marks = b.marks ++ Some mark ∷ [] }))
-    (sym (client_behind b.client task.command.target (call_at task utc) deadline room)) (record {
+    (sym (sent_with_room b.client task.command.target (call_at task utc) deadline room)) (record {
       unsents = omega (arith, sound.unsents);
       lefts = sound.lefts;
       begun = λ e. below;
@@ -242,7 +246,7 @@ sound_prepared plan commands b deadline mark task room none at sound =
     let p = pending_of task.command.target (call_at task mark.sent) deadline in
     let more : length (b.client.waiting ++ p ∷ []) ≡ length b.client.waiting + 1 = length-append b.client.waiting (p ∷ []) in
     subst (λ (c : ById Asked). Sound plan commands (record b { client = c; marks = b.marks ++ Some mark ∷ [] }))
-    (sym (client_behind b.client task.command.target (call_at task mark.sent) deadline room)) (record {
+    (sym (sent_with_room b.client task.command.target (call_at task mark.sent) deadline room)) (record {
       unsents = sound.unsents;
       lefts = sound.lefts;
       begun = sound.begun;
@@ -282,7 +286,7 @@ sound_skipped plan commands b utc end turn task others none some at out sound =
       each =
           let kept = of_text commands (row b.marks b.client.waiting b.records) in
           let one = requests begun place (of_task task ∷ []) in
-          subst (λ (xs : List Request). Interleave (of_text commands (row b.marks b.client.waiting (b.records ++ r ∷ []))) b.passes xs)
+          subst (λ (xs : List RunRequest). Interleave (of_text commands (row b.marks b.client.waiting (b.records ++ r ∷ []))) b.passes xs)
           (sent_next plan.setup commands begun place task others at (omega (arith, some, sound.unsents)) many ∙ ap (λ (n : ℕ). commands_reached plan.setup commands begun n) (sym place_is))
           (interleave_by_equal _ _ _ _ (each_skipped commands b.marks b.client.waiting b.records task others kept refl begun place r none at refl many)
           (interleave_more kept b.passes (commands_reached plan.setup commands begun place) one sound.each));
@@ -312,7 +316,7 @@ sound_passed plan commands b count some sound =
       paired = sound.paired;
       window = sound.window;
       digit = sound.digit;
-      each = subst (λ (xs : List Request). Interleave kept (b.passes ++ past) xs)
+      each = subst (λ (xs : List RunRequest). Interleave kept (b.passes ++ past) xs)
           (sent_past plan.setup commands begun place count (length commands - (b.unsent - count)) (omega (arith, some, sound.unsents)) (omega (arith, sound.unsents)) many
           (by_count (nat_lt b.unsent count) refl)) (interleave_past kept b.passes (commands_reached plan.setup commands begun place) past sound.each);
       own = sound.own;
@@ -337,7 +341,7 @@ sound_begun plan commands b none some sound =
       paired = sound.paired;
       window = sound.window;
       digit = sound.digit;
-      each = subst (λ (xs : List Request). Interleave (of_text commands (row b.marks b.client.waiting b.records)) b.passes xs)
+      each = subst (λ (xs : List RunRequest). Interleave (of_text commands (row b.marks b.client.waiting b.records)) b.passes xs)
           (sent_whole plan.setup commands (plan.cycles - b.left) (length commands - b.unsent) (omega (arith, none))
           ∙ sym (sent_none plan.setup commands (plan.cycles - b.left) (plan.cycles - (b.left - 1)) (length commands - (cycle_length plan commands))
           (omega (arith, some, lefts)) (omega arith))) sound.each;
@@ -352,7 +356,7 @@ pub none_lost_parts : (a o : Bool) → (not a || o) ≡ false → (a ≡ true) �
 none_lost_parts true o e = (refl, e)
 none_lost_parts false o e = cc
 
--- if the counts are those of a run that is done, as `Placed` has them, and the run isn't over, no command is outstanding
+-- if the counts are those of a run that is done, as `PhaseFits` has them, and the run isn't over, no command is outstanding
 still_finished : (p : Progress) (marks : List (Option Mark)) → is_over p ≡ false
     → (p.left ≡ 0) × (p.unsent ≡ 0) × ((is_over_in p.phase ≡ true) ⊎ (commands_in marks ≡ 0)) → IsFinished (commands_in marks) p
 still_finished p marks not_over (left, unsent, inl over) = absurd (both_ways (is_over p) not_over (ap (λ b. b || (not (is_up p.phase) && nat_eq p.turns 0)) over))

@@ -27,8 +27,8 @@ use Rattle.gc_station.specs.Progressing.{turned, moment_noted, lines_synchronizi
 use Rattle.gc_station.specs.Quiet.{TellsMoment, IsListening, StaysConnected}
 use Rattle.gc_station.specs.Reasons.{HoldsBefore}
 use Rattle.gc_station.specs.Runs.{state_after}
-use Rattle.gc_station.specs.Silences.{latest, IsNoReply, BringsNoReply, IsMute, WentBack, IsMuteFor}
-use Rattle.gc_station.specs.Model.{Model, request_text, null_text, first_text, opening, action_at, waiting_of, with_progress, with_moment, with_rest, lines_came, lines_completed, after_piece, is_heard, after, after_all, Runs, text_or_null}
+use Rattle.gc_station.specs.Silences.{latest, IsNoReply, BringsNoReply, IsMute, WentBack, PutsFirst, IsMuteFor}
+use Rattle.gc_station.specs.Model.{Model, next_request_text, null_text, first_text, opening, action_at, waiting_of, with_progress, with_moment, with_rest, lines_came, lines_completed, after_piece, is_heard, after, after_all, Runs, text_or_null}
 use Rattle.gc_station.specs.NextCommand.{place_next}
 use Rattle.gc_station.proofs.Closings.{came_phase}
 use Rattle.gc_station.proofs.Connected.{is_in_use, OnLine, on_line_always}
@@ -66,33 +66,33 @@ sought_asked word again asked e =
 -- of the acts `behind`, after a silence began at the moment `from`. If no request was sent after the last reply line (`false`),
 -- each of these acts only listens (`IsListening`); otherwise the first of them put all its bytes, or the clock went back to
 -- `from` after the acts `before` (`WentBack`)
-abbrev Asks : Bool → (from : ℕ) → (before behind : List Act) → Type 0
-Asks false from before behind = AllByRecursion IsListening behind
-Asks true from before behind = ((text : List ℕ) × (others : List Act) × (behind ≡ Put text ∷ others)) ⊎ WentBack from before
+abbrev AsksInSilence : Bool → (from : ℕ) → (before behind : List Act) → Type 0
+AsksInSilence false from before behind = AllByRecursion IsListening behind
+AsksInSilence true from before behind = PutsFirst behind ⊎ WentBack from before
 
--- `Asks` with `true` is preserved by any act
-asks_still : (from : ℕ) (before behind : List Act) (act : Act) → Asks true from before behind → Asks true from before (behind ++ act ∷ [])
+-- `AsksInSilence` with `true` is preserved by any act
+asks_still : (from : ℕ) (before behind : List Act) (act : Act) → AsksInSilence true from before behind → AsksInSilence true from before (behind ++ act ∷ [])
 asks_still from before behind act (inl put) = inl (put.0, put.1 ++ act ∷ [], ap (λ xs. xs ++ act ∷ []) put.2)
 asks_still from before behind act (inr back) = inr back
 
--- an act that only listens (`IsListening`) preserves `Asks`
-asks_on : (asked : Bool) (from : ℕ) (before behind : List Act) (act : Act) → IsListening act → Asks asked from before behind → Asks asked from before (behind ++ act ∷ [])
+-- an act that only listens (`IsListening`) preserves `AsksInSilence`
+asks_on : (asked : Bool) (from : ℕ) (before behind : List Act) (act : Act) → IsListening act → AsksInSilence asked from before behind → AsksInSilence asked from before (behind ++ act ∷ [])
 asks_on false from before behind act listens asks = all_append IsListening behind (act ∷ []) asks (listens, tt)
 asks_on true from before behind act listens asks = asks_still from before behind act asks
 
--- whether a request was sent after the last reply line (`asked`) or not, `Asks` gives what `IsMuteFor` says of requests
-asks_any : (asked : Bool) (from : ℕ) (before behind : List Act) → Asks asked from before behind
-    → AllByRecursion IsListening behind ⊎ (((text : List ℕ) × (others : List Act) × (behind ≡ Put text ∷ others)) ⊎ WentBack from before)
+-- whether a request was sent after the last reply line (`asked`) or not, `AsksInSilence` gives what `IsMuteFor` says of requests
+asks_any : (asked : Bool) (from : ℕ) (before behind : List Act) → AsksInSilence asked from before behind
+    → AllByRecursion IsListening behind ⊎ (PutsFirst behind ⊎ WentBack from before)
 asks_any false from before behind asks = inl asks
 asks_any true from before behind asks = inr asks
 
 module _ (plan : Plan) (commands : List Task) (scope : Scope) where
   -- a silence began with `start`, which reads the moment `alive`: after it no act brings a reply line, or closes the connection
-  -- or makes one, requests were sent as `Asks` says, and `now`, which isn't before `alive`, is the moment read last
+  -- or makes one, requests were sent as `AsksInSilence` says, and `now`, which isn't before `alive`, is the moment read last
   abbrev Mutes : (asked : Bool) → (alive now : ℕ) → (before : List Act) → (start : Act) → (behind : List Act) → Type 0
   Mutes asked alive now before start behind =
       TellsMoment alive start × AllByRecursion StaysConnected behind × IsMute plan commands (state_after plan commands scope (before ++ start ∷ [])) behind
-      × Asks asked alive before behind × (latest alive behind ≡ now) × (alive ≤ now)
+      × AsksInSilence asked alive before behind × (latest alive behind ≡ now) × (alive ≤ now)
 
   -- one of these acts begins a silence (`Mutes`)
   abbrev IsMuted : (asked : Bool) → (alive now : ℕ) → List Act → Type 0
@@ -103,18 +103,18 @@ module _ (plan : Plan) (commands : List Task) (scope : Scope) where
   mute_more s [] act mute here = (here, tt)
   mute_more s (x ∷ xs) act mute here = (mute.0, mute_more (after plan commands s x) xs act mute.1 here)
 
-  -- a silence begins with an act that reads a moment, if `Asks` holds of no acts after it
-  muted_from : (asked : Bool) (now : ℕ) (acts : List Act) (act : Act) → TellsMoment now act → Asks asked now acts [] → IsMuted asked now now (acts ++ act ∷ [])
+  -- a silence begins with an act that reads a moment, if `AsksInSilence` holds of no acts after it
+  muted_from : (asked : Bool) (now : ℕ) (acts : List Act) (act : Act) → TellsMoment now act → AsksInSilence asked now acts [] → IsMuted asked now now (acts ++ act ∷ [])
   muted_from asked now acts act tells asks = let least : now ≤ now = omega arith in since_now (Mutes asked now now) acts act (tells, tt, tt, asks, refl, least)
 
   -- an act that reads a moment begins a silence, in which no request was sent yet (`asked` is false)
   muted_now : (now : ℕ) (acts : List Act) (act : Act) → TellsMoment now act → IsMuted false now now (acts ++ act ∷ [])
   muted_now now acts act tells = muted_from false now acts act tells tt
 
-  -- a silence goes on after an act that stays on the connection, brings no reply line, preserves `Asks`, and reads no moment
+  -- a silence goes on after an act that stays on the connection, brings no reply line, preserves `AsksInSilence`, and reads no moment
   -- before `alive`
   muted_on : (asked : Bool) (alive now : ℕ) (acts : List Act) (act : Act) → (stays : StaysConnected act) → (none : BringsNoReply (state_after plan commands scope acts).rest act)
-      → (asks : (before behind : List Act) → Asks asked alive before behind → Asks asked alive before (behind ++ act ∷ [])) → (least : alive ≤ latest now (act ∷ [])) → IsMuted asked alive now acts
+      → (asks : (before behind : List Act) → AsksInSilence asked alive before behind → AsksInSilence asked alive before (behind ++ act ∷ [])) → (least : alive ≤ latest now (act ∷ [])) → IsMuted asked alive now acts
       → IsMuted asked alive (latest now (act ∷ [])) (acts ++ act ∷ [])
   muted_on asked alive now acts act stays none asks least q =
       since_on (Mutes asked alive now) (Mutes asked alive (latest now (act ∷ []))) acts (act ∷ [])
@@ -141,8 +141,8 @@ module _ (plan : Plan) (commands : List Task) (scope : Scope) where
         holds = (tells, (tt, tt), (tt, tt), inl (out, [], refl), refl, least);
       }
 
-  -- if the clock goes back to a moment (m) before a silence began, `Asks` holds of the silence that begins at m
-  went_back : (asked : Bool) (alive now m : ℕ) (acts : List Act) → m < alive → IsMuted asked alive now acts → Asks asked m acts []
+  -- if the clock goes back to a moment (m) before a silence began, `AsksInSilence` holds of the silence that begins at m
+  went_back : (asked : Bool) (alive now m : ℕ) (acts : List Act) → m < alive → IsMuted asked alive now acts → AsksInSilence asked m acts []
   went_back false alive now m acts less q = tt
   went_back true alive now m acts less q =
       let least = q.holds.5 in
@@ -372,7 +372,7 @@ module _ (plan : Plan) (commands : List Task) (scope : Scope) where
       let p = s.progress in λ m. asks_mute (is_sought p.word p.again true) p acts (text_or_null s.progress.moment.utc s.client (drop p.prepared commands)) needs.0 tells q
   mute_line actions.Send s acts needs tells rest q =
       let p = s.progress in λ m. asks_mute (is_sought p.word p.again true) p acts (first_text s.progress.moment.utc s.client (drop (place_next commands p) commands)) needs.0 tells q
-  mute_line actions.Flush s acts needs tells rest q = let p = s.progress in λ m. asks_mute (is_sought p.word p.again true) p acts (request_text s.client (Table NullProc)) needs.0 tells q
+  mute_line actions.Flush s acts needs tells rest q = let p = s.progress in λ m. asks_mute (is_sought p.word p.again true) p acts (next_request_text s.client (Table NullProc)) needs.0 tells q
   mute_line (actions.Read until) s acts needs tells rest q =
       let p = s.progress in
       let sought = is_sought p.word p.again p.asked in (

@@ -7,19 +7,19 @@ use Rattle.std.specs.Io.KnownBytes.{Keeps}
 use Rattle.gc_texts.specs.declared.tasks.Task.{Task}
 use Rattle.gc_texts.specs.declared.fault.RunFault.{RunFault}
 use Rattle.gc_texts.specs.declared.fault.RunFault.TheVariants as fault
-use Rattle.gc_links.specs.Acts.{Act, Closed, Tells}
+use Rattle.gc_links.specs.Acts.{Act, Closed, AddsActs}
 use Rattle.gc_station.specs.declared.plan.Plan.{Plan}
 use Rattle.gc_station.specs.declared.cause.Cause.{Cause}
 use Rattle.gc_station.specs.declared.cause.Cause.TheVariants.{Done, Dead, Read, End, Write, Clock, Open, Turns, Stale, Stopped, SetUp}
 use Rattle.gc_station.specs.declared.progress.Action.{Action}
 use Rattle.gc_station.specs.declared.station.Station.{Station}
-use Rattle.gc_station.specs.Causes.{fault_of}
+use Rattle.gc_station.specs.Causes.{fault_of_cause}
 use Rattle.gc_station.specs.Keeping.{Snapshot, IsKept, AreKept, KeepsUp, close_at_output}
 use Rattle.gc_station.specs.Records.{Record}
 use Rattle.gc_station.specs.Runs.{state_after}
 use Rattle.gc_station.specs.Model.{opening, action_at, Performs, stepped}
 use Rattle.gc_station.specs.Scopes.{Scope, AreReadings}
-use Rattle.gc_station.specs.Stations.{Refines, Makes, Breaks, seen}
+use Rattle.gc_station.specs.Stations.{Refines, Makes, Breaks, as_seen}
 use Rattle.gc_station.specs.declared.tally.Tally.{Tally}
 use Rattle.gc_station.proofs.Going.{Went, went_nothing, went_kept, went_on, runs-append}
 use Rattle.gc_station.proofs.Hearing.{tells_more}
@@ -68,7 +68,7 @@ module _ (plan : Plan) (commands : List Task) (scope : Scope) (text : Record →
   pub noted_on : (told' told'' : Option (List Act)) (taken' taken'' : Option (List ℕ)) (lasts : Bool) (station new : Station) (action : Action) (saw saw' saw'' : List Snapshot)
       → (n : Noted told' taken' station saw saw')
       → (is_next : action ≡ action_at plan (state_after plan commands scope n.went.acts))
-      → Makes commands action (stepped plan commands action) (seen told' text taken' station) (seen told'' text taken'' new)
+      → Makes commands action (stepped plan commands action) (as_seen told' text taken' station) (as_seen told'' text taken'' new)
       → AreReadings scope.reads → (one_more : saw'' ≡ saw' ++ seen_now told' taken' lasts ∷ []) → (lasting : lasts ≡ true) → Noted told'' taken'' new saw saw''
   noted_on told' told'' taken' taken'' lasts station new action saw saw' saw'' n is makes are one true_ =
       record {
@@ -87,7 +87,7 @@ module _ (plan : Plan) (commands : List Task) (scope : Scope) (text : Record →
       → Noted told' taken' station saw saw' → KeepsUpHere told' saw saw' []
   noted_end told' taken' station saw saw' n = record {
     acts = n.went.acts;
-    tells = subst (λ (xs : List Act). Tells told told' xs) (sym (append-nil n.went.acts)) n.went.tells;
+    tells = subst (λ (xs : List Act). AddsActs told told' xs) (sym (append-nil n.went.acts)) n.went.tells;
     runs = n.went.runs;
     turns = n.turns;
     saw = n.all;
@@ -97,7 +97,7 @@ module _ (plan : Plan) (commands : List Task) (scope : Scope) (text : Record →
   -- where `Noted` holds, and the link then recorded a close, as where records couldn't be made to last, the run has kept up
   -- (`KeepsUp`), with that close after its own acts
   pub noted_closed : (told' told'' : Option (List Act)) (taken' : Option (List ℕ)) (station : Station) (saw saw' : List Snapshot)
-      → Noted told' taken' station saw saw' → Tells told' told'' (Closed ∷ []) → KeepsUpHere told'' saw saw' (Closed ∷ [])
+      → Noted told' taken' station saw saw' → AddsActs told' told'' (Closed ∷ []) → KeepsUpHere told'' saw saw' (Closed ∷ [])
   noted_closed told' told'' taken' station saw saw' n closed = record {
     acts = n.went.acts;
     tells = tells_more told told' told'' n.went.acts (Closed ∷ []) n.went.tells closed;
@@ -113,8 +113,8 @@ module _ (plan : Plan) (commands : List Task) (scope : Scope) (text : Record →
   pub noted_refused : (told' told'' told''' : Option (List Act)) (taken' taken'' : Option (List ℕ)) (lasts : Bool) (station : Station) (action : Action) (saw saw' saw'' : List Snapshot)
       → (n : Noted told' taken' station saw saw')
       → (is_next : action ≡ action_at plan (state_after plan commands scope n.went.acts))
-      → Breaks commands action (stepped plan commands action) (seen told' text taken' station) told'' taken''
-      → Tells told'' told''' (Closed ∷ []) → (one_more : saw'' ≡ saw' ++ seen_now told' taken' lasts ∷ []) → (lasting : lasts ≡ true)
+      → Breaks commands action (stepped plan commands action) (as_seen told' text taken' station) told'' taken''
+      → AddsActs told'' told''' (Closed ∷ []) → (one_more : saw'' ≡ saw' ++ seen_now told' taken' lasts ∷ []) → (lasting : lasts ≡ true)
       → KeepsUpHere told''' saw saw'' (Closed ∷ [])
   noted_refused told' told'' told''' taken' taken'' lasts station action saw saw' saw'' n is breaks closed one true_ =
       let w = n.went in
@@ -132,7 +132,7 @@ module _ (plan : Plan) (commands : List Task) (scope : Scope) (text : Record →
 
   -- a run that has kept up with no act after it has kept up with the close that `close_at_output` gives for the fault of a cause:
   -- that is none, as only the fault `Output`, which no cause has, gives a close
-  pub faulty_keeps : (told' : Option (List Act)) (saw saw' : List Snapshot) (cause : Cause) (why : RunFault) → fault_of cause ≡ Some why
+  pub faulty_keeps : (told' : Option (List Act)) (saw saw' : List Snapshot) (cause : Cause) (why : RunFault) → fault_of_cause cause ≡ Some why
       → KeepsUpHere told' saw saw' [] → KeepsUpHere told' saw saw' (close_at_output {X = Tally} (Err why))
   faulty_keeps told' saw saw' Done why e up = absurd (cc)
   faulty_keeps told' saw saw' Dead why e up = let same : fault.Mute ≡ why = cc in subst (λ (w : RunFault). KeepsUpHere told' saw saw' (close_at_output {X = Tally} (Err w))) same up

@@ -2,18 +2,15 @@
 -- result. Steps of the client are to send, to hear a line, to read the clock and to restart; one of a synchronization is a null
 -- procedure that is put, or a line heard, while the station synchronizes. `Leads` says that the steps of a part take the client, the marks and
 -- the records of one model to those of another.
-use Rattle.std.proofs.Common.{◌≡◌, ℕ, ◌-◌, ◌<◌, Bool, true, false, List, [], ◌∷◌, length, map, drop, Option, Some, None, if◌then◌else◌, refl, sym, ap, ◌∙◌, ◌++◌, subst, arith, append-nil, if◌then◌else◌, length-drop}
+use Rattle.std.proofs.Common.{◌≡◌, ℕ, ◌-◌, ◌<◌, Bool, true, false, List, [], ◌∷◌, length, map, drop, Option, if◌then◌else◌, refl, sym, ap, ◌∙◌, ◌++◌, subst, arith, append-nil, if◌then◌else◌, length-drop}
 use Rattle.std.proofs.lemmas.List.{length-map}
 use Rattle.std.proofs.lemmas.Bool.{both_ways, cond_both}
 use Rattle.gc_lines.specs.Frames.{rest_behind}
-use Rattle.gc_catalogue.specs.declared.asked.Asked.TheVariants.{Table}
-use Rattle.gc_catalogue.specs.declared.call.Call.TheVariants.{NullProc}
 use Rattle.gc_catalogue.specs.declared.answer.Reading.{Reading}
 use Rattle.gc_catalogue.specs.declared.asked.Asked.{Asked}
 use Rattle.gc_client.specs.OneForOne.{Hear, Expire}
 use Rattle.gc_client.specs.Rule.{ById, fresh, heard, hears, expired, expires}
 use Rattle.gc_client.proofs.Lists.{head_of_drop}
-use Rattle.gc_texts.specs.Tasks.{call_at}
 use Rattle.gc_texts.specs.declared.tasks.Task.{Task}
 use Rattle.gc_links.specs.declared.link.Moment.{Moment}
 use Rattle.gc_station.specs.declared.plan.Plan.{Plan}
@@ -22,20 +19,20 @@ use Rattle.gc_station.specs.declared.progress.Action.TheVariants as action
 use Rattle.gc_station.specs.declared.progress.Progress.{Progress}
 use Rattle.gc_station.specs.declared.progress.Until.{Until}
 use Rattle.gc_links.specs.Acts.{Act, Told, Gave}
-use Rattle.gc_station.specs.Deciding.{later, has_begun, is_none_left}
-use Rattle.gc_station.specs.Parts.{SyncStep, Part, only_sync_steps, only_steps, nothing, put_part, first_request_part, heard_steps, client_part, sync_part, part_of_act, sent_of, request_or_null_part, null_part}
+use Rattle.gc_station.specs.Deciding.{has_begun, is_none_left}
+use Rattle.gc_station.specs.Parts.{SyncStep, Part, only_sync_steps, only_steps, nothing, put_part, first_request_part, heard_steps, client_part, sync_part, part_of_act, sent_of, request_part}
 use Rattle.gc_station.specs.Progressing.{turned}
 use Rattle.gc_station.specs.Reasons.{HoldsBefore}
 use Rattle.gc_station.specs.Records.{Record}
 use Rattle.gc_station.specs.declared.mark.Mark.{Mark}
-use Rattle.gc_station.specs.Model.{Model, waiting_of, Performs, with_progress, with_moment, with_rest, asks_null, asks_first, unsent_record, first_unsent_record, line_came, lines_came, lines_completed, is_heard, after_piece, after_read, moved, asks_or_null}
+use Rattle.gc_station.specs.Model.{Model, waiting_of, Performs, with_progress, with_moment, with_rest, asks_first, unsent_record, first_unsent_record, line_came, lines_came, lines_completed, is_heard, after_piece, after_read, moved, request_for, null_request, request_or_null, asks_for}
 use Rattle.gc_station.specs.NextCommand.{place_next, mark_next, mark_setup}
 use Rattle.gc_station.proofs.Asked.{sync_part_only_sync_steps}
 use Rattle.gc_station.proofs.Booking.{Books, books_sync_steps, sent_of-append_records, books_both, books_nothing, books_moment, books_line, books_send}
 use Rattle.gc_station.proofs.Invariant.{Paired, Invariant}
 use Rattle.gc_station.proofs.Hearing.{hears_paired}
 use Rattle.gc_station.proofs.Tasked.{unsent_end}
-use Rattle.gc_station.proofs.Walk.{is_sent, walk, is_prepared, piece_before}
+use Rattle.gc_station.proofs.Walk.{is_sent, walk, piece_before}
 use Rattle.std.proofs.lemmas.List.Elements.{filter-append}
 
 -- the part p takes the client of one model, with its marks and records, to those of another, with these readings of replies
@@ -98,17 +95,18 @@ module _ (plan : Plan) (commands : List Task) where
       → Leads commands s (first_request_part s.progress.moment.elapsed mark left) (asks_first mark left (with_progress turned s))
   leads_first s mark [] at some room = absurd (omega (arith, some))
   leads_first s mark (task ∷ others) at some room =
-      books_send s.reads commands s.client s.marks (sent_of s.records) task.command.target (call_at task mark.sent) (later s.progress.moment.elapsed task.deadline)
-      (Some mark) room (task, head_of_drop commands mark.place task others at, refl)
+      books_send s.reads commands s.client s.marks (sent_of s.records) s.progress.moment.elapsed (request_for mark task) room
+      (task, head_of_drop commands mark.place task others at, refl)
 
   -- a null procedure of the station's own, if there is room for it, leads on by the part of its request once it is sent
-  leads_null : (s : Model) → length s.client.waiting < 7 → Leads commands s (null_part plan s.progress.moment.elapsed) (asks_null plan s)
-  leads_null s room = books_send s.reads commands s.client s.marks (sent_of s.records) 0 (Table NullProc) (later s.progress.moment.elapsed plan.deadline) None room refl
+  leads_null : (s : Model) → length s.client.waiting < 7 → Leads commands s (request_part s.progress.moment.elapsed (null_request plan)) (asks_for (null_request plan) s)
+  leads_null s room = books_send s.reads commands s.client s.marks (sent_of s.records) s.progress.moment.elapsed (null_request plan) room refl
 
   -- `left` are the commands from the next place of the setup on. The first of them, or a null procedure if there is none, leads
   -- on by the part of its request once it is sent, if there is room for it
   leads_setup : (s : Model) (left : List Task) → drop s.progress.prepared commands ≡ left → length s.client.waiting < 7
-      → Leads commands s (request_or_null_part plan s.progress.moment.elapsed (mark_setup commands s.progress) left) (asks_or_null plan (mark_setup commands s.progress) left (with_progress turned s))
+      → Leads commands s (request_part s.progress.moment.elapsed (request_or_null plan (mark_setup commands s.progress) left))
+      (asks_for (request_or_null plan (mark_setup commands s.progress) left) (with_progress turned s))
   leads_setup s [] at room = leads_null s room
   leads_setup s (task ∷ others) at room = leads_first s (mark_setup commands s.progress) (task ∷ others) at (omega arith) room
 
@@ -143,8 +141,7 @@ module _ (plan : Plan) (commands : List Task) where
   leads_synchronized s action.Flush act fine is obeys begun =
       walk plan commands (LeadsSo action.Flush s) action.Flush (with_progress turned s) act obeys (λ m. leads_null s is.4.1, λ n. leads_null s is.4.1)
   leads_synchronized s action.Prepare act fine is obeys begun =
-      let prepares = subst (λ (t : Model). Leads commands s (put_part plan commands s action.Prepare) t) (sym (is_prepared plan commands (with_progress turned s)))
-      (leads_setup s (drop s.progress.prepared commands) refl is.3.1) in
+      let prepares = leads_setup s (drop s.progress.prepared commands) refl is.3.1 in
       walk plan commands (LeadsSo action.Prepare s) action.Prepare (with_progress turned s) act obeys (λ m. prepares, λ n. prepares)
   leads_synchronized s action.Send act fine is obeys begun =
       let left = drop (place_next commands s.progress) commands in

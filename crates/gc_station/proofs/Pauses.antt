@@ -7,7 +7,7 @@ use Rattle.std.proofs.lemmas.Bool.{lt-ltb, le-ltb, cond-true, cond-false, and_fr
 use Rattle.gc_texts.specs.declared.tasks.Task.{Task}
 use Rattle.gc_links.specs.Acts.{Act}
 use Rattle.gc_station.specs.Deciding.{later}
-use Rattle.gc_station.specs.Pauses.{doubled, pause_after, LeavesTries, TriesAndPausesAreCounted}
+use Rattle.gc_station.specs.Pauses.{doubled, pause_after, LeavesTries, HasTriesAndPause, TriesAndPausesAreCounted}
 use Rattle.gc_station.specs.Progressing.{is_finished, is_spared, after_failure, bytes_noted, gives_back}
 use Rattle.gc_station.specs.Model.{Model, moved}
 use Rattle.gc_station.specs.declared.cause.Cause.{Cause}
@@ -42,15 +42,15 @@ twice plan zero = twice_none plan.quiet
 twice plan (suc n) = twice_more (doubled n plan.quiet) plan.quiet (doubled_least n plan.quiet)
 
 -- a failure that isn't spared makes the pause after n failures the one after n + 1
-failure_lengthens_pause : (plan : Plan) (commands n : ℕ) (why : Cause) (p : Progress) → is_spared plan why p ≡ false → p.pause ≡ pause_after plan n
-    → (after_failure plan commands why p).pause ≡ pause_after plan (suc n)
-failure_lengthens_pause plan commands n why p e is =
+failure_lengthens_pause : (plan : Plan) (count n : ℕ) (why : Cause) (p : Progress) → is_spared plan why p ≡ false → p.pause ≡ pause_after plan n
+    → (after_failure plan count why p).pause ≡ pause_after plan (suc n)
+failure_lengthens_pause plan count n why p e is =
     cond-false (is_spared plan why p) (max p.pause plan.quiet) (max (min (later p.pause p.pause) 60000) plan.quiet) e
     ∙ ap (λ x. max (min (later x x) 60000) plan.quiet) is ∙ twice plan n
 
 -- a failure that isn't spared takes one try, if at least one is left
-takes : (plan : Plan) (commands : ℕ) (why : Cause) (p : Progress) → is_spared plan why p ≡ false → 0 < p.tries → (after_failure plan commands why p).tries + 1 ≡ p.tries
-takes plan commands why p e some = let less = cond-false (is_spared plan why p) p.tries (p.tries - 1) e in omega (arith, less, some)
+takes : (plan : Plan) (count : ℕ) (why : Cause) (p : Progress) → is_spared plan why p ≡ false → 0 < p.tries → (after_failure plan count why p).tries + 1 ≡ p.tries
+takes plan count why p e some = let less = cond-false (is_spared plan why p) p.tries (p.tries - 1) e in omega (arith, less, some)
 
 -- a failure that isn't spared (`spared`), without a try left (`some`), ends the run: as done, if all is done, else for its cause
 over_by : (done spared some : Bool) (why : Cause) → spared ≡ false → some ≡ false
@@ -61,9 +61,9 @@ over_by false false true why e f = cc
 over_by false false false why e f = inr refl
 
 -- a failure that isn't spared, without a try left, ends the run: as done, or for its cause
-ends_without_try : (plan : Plan) (commands : ℕ) (why : Cause) (p : Progress) → is_spared plan why p ≡ false → p.tries ≡ 0
-    → ((after_failure plan commands why p).phase ≡ phase.Over cause.Done) ⊎ ((after_failure plan commands why p).phase ≡ phase.Over why)
-ends_without_try plan commands why p e none = over_by (is_finished commands p) (is_spared plan why p) (nat_lt 0 p.tries) why e (le-ltb 0 p.tries (omega (arith, none)))
+ends_without_try : (plan : Plan) (count : ℕ) (why : Cause) (p : Progress) → is_spared plan why p ≡ false → p.tries ≡ 0
+    → ((after_failure plan count why p).phase ≡ phase.Over cause.Done) ⊎ ((after_failure plan count why p).phase ≡ phase.Over why)
+ends_without_try plan count why p e none = over_by (is_finished count p) (is_spared plan why p) (nat_lt 0 p.tries) why e (le-ltb 0 p.tries (omega (arith, none)))
 
 -- a pause that was made from d, cut to a minute and then raised to the quiet time, is the same once it is raised to the quiet
 -- time again
@@ -71,12 +71,12 @@ spared_stays : (d quiet : ℕ) → max (max (min d 60000) quiet) quiet ≡ max (
 spared_stays d quiet = omega arith
 
 -- a spared close takes no try, and leaves the pause as it is, if that is the pause after n + 1 failures
-spared : (plan : Plan) (commands n : ℕ) (why : Cause) (p : Progress) → is_spared plan why p ≡ true → p.pause ≡ pause_after plan (suc n)
-    → ((after_failure plan commands why p).pause ≡ pause_after plan (suc n)) × ((after_failure plan commands why p).tries ≡ p.tries)
-spared plan commands n why p e is = (
+spared : (plan : Plan) (count n : ℕ) (why : Cause) (p : Progress) → is_spared plan why p ≡ true → p.pause ≡ pause_after plan (suc n)
+    → HasTriesAndPause (after_failure plan count why p) p.tries (pause_after plan (suc n))
+spared plan count n why p e is = (
+  cond-true (is_spared plan why p) p.tries (p.tries - 1) e,
   cond-true (is_spared plan why p) (max p.pause plan.quiet) (max (min (later p.pause p.pause) 60000) plan.quiet) e
       ∙ ap (λ x. max x plan.quiet) is ∙ spared_stays (doubled n plan.quiet) plan.quiet,
-  cond-true (is_spared plan why p) p.tries (p.tries - 1) e,
 )
 
 -- if there was no pause, the pause that a spared close makes, the quiet time, is the one after a first failure
@@ -84,24 +84,24 @@ spared_none : (quiet : ℕ) → max 0 quiet ≡ max (min quiet 60000) quiet
 spared_none quiet = omega arith
 
 -- a spared close takes no try, and makes a pause of 0 that of one failure
-spared_first : (plan : Plan) (commands : ℕ) (why : Cause) (p : Progress) → is_spared plan why p ≡ true → p.pause ≡ pause_after plan 0
-    → ((after_failure plan commands why p).pause ≡ pause_after plan 1) × ((after_failure plan commands why p).tries ≡ p.tries)
-spared_first plan commands why p e is = (
+spared_first : (plan : Plan) (count : ℕ) (why : Cause) (p : Progress) → is_spared plan why p ≡ true → p.pause ≡ pause_after plan 0
+    → HasTriesAndPause (after_failure plan count why p) p.tries (pause_after plan 1)
+spared_first plan count why p e is = (
+  cond-true (is_spared plan why p) p.tries (p.tries - 1) e,
   cond-true (is_spared plan why p) (max p.pause plan.quiet) (max (min (later p.pause p.pause) 60000) plan.quiet) e
       ∙ ap (λ x. max x plan.quiet) is ∙ spared_none plan.quiet,
-  cond-true (is_spared plan why p) p.tries (p.tries - 1) e,
 )
 
 -- a read that settled a command, and after which `preparing` is false, gives all tries back, and makes the pause 0
 settled : (plan : Plan) (until : Until) (before : ℕ) (after : Waiting) (p : Progress) → after.commands < before → p.preparing ≡ false
-    → ((bytes_noted plan until before after p).tries ≡ plan.retries) × ((bytes_noted plan until before after p).pause ≡ pause_after plan 0)
+    → HasTriesAndPause (bytes_noted plan until before after p) plan.retries (pause_after plan 0)
 settled plan until before after p fewer done =
     let e = and_from (nat_lt after.commands before) (not p.preparing) (lt-ltb after.commands before fewer) (not_from_false p.preparing done) in
     (cond-true (gives_back before after p) plan.retries p.tries e, cond-true (gives_back before after p) 0 p.pause e)
 
 -- a read that settled no command, or after which `preparing` is true, changes neither the tries nor the pause
 unsettled : (plan : Plan) (until : Until) (before : ℕ) (after : Waiting) (p : Progress) → (before ≤ after.commands) ⊎ (p.preparing ≡ true)
-    → ((bytes_noted plan until before after p).tries ≡ p.tries) × ((bytes_noted plan until before after p).pause ≡ p.pause)
+    → HasTriesAndPause (bytes_noted plan until before after p) p.tries p.pause
 unsettled plan until before after p why =
     let e = by_cause (nat_lt after.commands before) (p.preparing) refl refl why in
     (cond-false (gives_back before after p) plan.retries p.tries e, cond-false (gives_back before after p) 0 p.pause e) where
@@ -114,7 +114,7 @@ unsettled plan until before after p why =
 
 -- an action of `LeavesTries` changes neither the tries nor the pause
 leaves_tries : (plan : Plan) (commands : List Task) (action : Action) (s : Model) (act : Act) → LeavesTries action
-    → ((moved plan commands action s act).progress.tries ≡ s.progress.tries) × ((moved plan commands action s act).progress.pause ≡ s.progress.pause)
+    → HasTriesAndPause (moved plan commands action s act).progress s.progress.tries s.progress.pause
 leaves_tries plan commands actions.Open s act leaves = absurd leaves
 leaves_tries plan commands (actions.Read until) s act leaves = absurd leaves
 leaves_tries plan commands (actions.Close why) s act leaves = absurd leaves
@@ -122,8 +122,8 @@ leaves_tries plan commands action s act leaves =
     let is = moved_changed plan commands action s act in (ap (λ (x : Model). x.progress.tries) is, ap (λ (x : Model). x.progress.pause) is)
 
 -- the law on tries and pauses: what a failure, a spared close, a read and any other act make of them
-pub counted : TriesAndPausesAreCounted
-counted = record {
+pub tries_counted : TriesAndPausesAreCounted
+tries_counted = record {
   start = λ plan turns. (refl, refl);
   failed = failure_lengthens_pause;
   takes = takes;

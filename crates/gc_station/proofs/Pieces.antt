@@ -1,5 +1,5 @@
 -- The lines of the piece that an act brings, heard one by one: the outstanding requests were put among the acts before
--- (`WaitsAt` of `Waiting`), and each record that is written is true (`IsJustified`). An act is one call on the link, with its
+-- (`StillWaitsAt` of `Waiting`), and each record that is written is true (`IsJustified`). An act is one call on the link, with its
 -- result. `HonestSoFar` says both of the model after some of the lines.
 use Rattle.std.proofs.Common.{◌≡◌, inl, inr, ℕ, ◌<◌, ◌≤◌, Bool, true, false, List, [], ◌∷◌, ◌++◌, length, Option, Some, refl, sym, ap, ◌∙◌, subst, arith, append_assoc, append-nil}
 use Rattle.std.specs.List.{AllByRecursion}
@@ -24,11 +24,11 @@ use Rattle.gc_station.specs.Progressing.{moment_noted}
 use Rattle.gc_station.specs.Records.{Record}
 use Rattle.gc_station.specs.Runs.{state_after}
 use Rattle.gc_station.specs.ActKinds.{Puts}
-use Rattle.gc_station.specs.Model.{Model, action_at, request_text, with_rest, line_came, lines_came, lines_completed, after_piece}
+use Rattle.gc_station.specs.Model.{Model, action_at, next_request_text, with_rest, line_came, lines_came, lines_completed, after_piece}
 use Rattle.gc_station.proofs.Growing.{lines_records}
 use Rattle.gc_station.proofs.Lists.{all_append, all_split, cuts_on, AllRisingAt}
 use Rattle.gc_station.proofs.Meets.{HasPlace, EndedBy, heard_ended, hears_settles_oldest, left_window, left_waits, all_records_at, IsRecordOf, was_answered, was_late, was_lost}
-use Rattle.gc_station.proofs.Waiting.{WasAsked, StayedAt, WaitsAt, IsJustified, IsHonest, past_more, past_here, expired_waits, expired_window, behind_moment, honest_told}
+use Rattle.gc_station.proofs.Waiting.{WasAsked, StayedAt, StillWaitsAt, IsJustified, IsHonest, past_more, past_here, expired_waits, expired_window, behind_moment, honest_told}
 use Rattle.gc_station.specs.Scopes.{Scope}
 use Rattle.gc_station.proofs.Walk.{piece_before}
 
@@ -66,15 +66,15 @@ module _ (plan : Plan) (commands : List Task) (scope : Scope) (acts : List Act) 
   abbrev IsRecorded : (now : ℕ) → ById Asked → (line : List ℕ) → Record → Type 0
   IsRecorded now c line r =
       (at : ℕ) × (mark : Mark) × (x : Settlement Asked) × (r.cycle ≡ mark.cycle) × (r.place ≡ mark.place) × (r.sent ≡ Some mark.sent) × IsRecordOf r x
-      × EndedBy (WaitsAt plan commands scope acts (state acts).client now c.next (length c.waiting)) c (heard line) line at x (Some mark)
+      × EndedBy (StillWaitsAt plan commands scope acts (state acts).client now c.next (length c.waiting)) c (heard line) line at x (Some mark)
 
-  -- where `WaitsAt` holds of the requests that wait, with their marks, each record of a line is of a request that the line
+  -- where `StillWaitsAt` holds of the requests that wait, with their marks, each record of a line is of a request that the line
   -- settles (`IsRecorded`)
   line_written : (reads : Asked → List ℕ → Reading) (now utc : ℕ) (c : ById Asked) (marks : List (Option Mark)) (line : List ℕ)
-      → AllRisingAt (WaitsAt plan commands scope acts (state acts).client now c.next (length c.waiting)) 0 0 c.waiting marks
+      → AllRisingAt (StillWaitsAt plan commands scope acts (state acts).client now c.next (length c.waiting)) 0 0 c.waiting marks
       → AllByRecursion (IsRecorded now c line) (records_of reads utc marks (hears c line (heard line)).settlements)
   line_written reads now utc c marks line waits =
-      let W = WaitsAt plan commands scope acts (state acts).client now c.next (length c.waiting) in
+      let W = StillWaitsAt plan commands scope acts (state acts).client now c.next (length c.waiting) in
       all_records_at (EndedBy W c (heard line) line) (IsRecorded now c line) reads utc 0 (hears c line (heard line)).settlements marks
       (λ i y mark ended. (i, mark, y, refl, refl, refl, record { reads = reads; expected = mark.expected; command = refl; ended = refl }, ended)) (heard_ended W c marks line (heard line) waits)
 
@@ -87,7 +87,7 @@ module _ (plan : Plan) (commands : List Task) (scope : Scope) (acts : List Act) 
     -- so far are true by the acts up to it
     record HonestSoFar (x : Model) : Type 0 where
       window : IsWithinLimits x.client
-      waiting : AllRisingAt (WaitsAt plan commands scope acts (state acts).client m.elapsed x.client.next (length x.client.waiting)) 0 0 x.client.waiting x.marks
+      waiting : AllRisingAt (StillWaitsAt plan commands scope acts (state acts).client m.elapsed x.client.next (length x.client.waiting)) 0 0 x.client.waiting x.marks
       written : AllByRecursion (IsJustified plan commands scope up_to_piece) x.records
       news : List Record
       grew : x.records ≡ (state acts).records ++ news
@@ -129,7 +129,7 @@ module _ (plan : Plan) (commands : List Task) (scope : Scope) (acts : List Act) 
             cycle = cycle ∙ its.cycle;
             place = place ∙ its.place;
             sent = sent ∙ ap Some its.sent;
-            put = subst (λ (y : Asked). Puts (request_text (state s.before).client y) s.request) asks s.put;
+            put = subst (λ (y : Asked). Puts (next_request_text (state s.before).client y) s.request) asks s.put;
           };
           written = record {
             earlier = news ++ earlier;
@@ -191,7 +191,7 @@ module _ (plan : Plan) (commands : List Task) (scope : Scope) (acts : List Act) 
     -- if a line of the piece has the id of a request q that waits, and that was put after the request p, p is overtaken at the
     -- read that gave the piece (`IsOvertaken`)
     overtaken : (c : ById Asked) (line : List ℕ) (number number' at there : ℕ) (p q : Pending Asked) (mark mark' : Option Mark) → IsLineOfPiece c line
-        → (s : WasPut c number at p mark) → WaitsAt plan commands scope acts (state acts).client m.elapsed c.next (length c.waiting) number' there q mark'
+        → (s : WasPut c number at p mark) → StillWaitsAt plan commands scope acts (state acts).client m.elapsed c.next (length c.waiting) number' there q mark'
         → number < number' → at < there → HasPlace c (heard line) there → IsOvertaken plan commands scope s.before s.request s.between (Gave piece m)
     overtaken c line number number' at there p q mark mark' l s waits low above has =
         let t = waits.0 in
@@ -206,7 +206,7 @@ module _ (plan : Plan) (commands : List Task) (scope : Scope) (acts : List Act) 
           order = cut.splits;
           asks = subst (λ (xs : List Act). IsAsking (action_at plan (state xs))) on (t.asks above_none);
           call = q.call;
-          put = subst (λ (xs : List Act). Puts (request_text (state xs).client q.call) t.request) on t.put;
+          put = subst (λ (xs : List Act). Puts (next_request_text (state xs).client q.call) t.request) on t.put;
           waits = subst (λ (xs : List Act). Waits (state (s.before ++ s.request ∷ s.between)).client (state xs).client.next) on
               (subst (λ (i : ℕ). Waits (state (s.before ++ s.request ∷ s.between)).client i) t.id
               (subst (λ (xs : List Act). Waits (state xs).client (id_of c there)) s.order waits.1));

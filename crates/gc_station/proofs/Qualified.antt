@@ -22,7 +22,7 @@ use Rattle.gc_texts.specs.declared.quality.Quality.{Quality}
 use Rattle.gc_texts.specs.declared.quality.Quality.TheVariants as quality
 use Rattle.gc_station.specs.Marks.{value_as, warned_as, refused_as, answer_as, end_of}
 use Rattle.gc_station.specs.Nearness.{HasAnswer}
-use Rattle.gc_station.specs.Qualities.{answer_in, IsRefusal, IsOfQuality}
+use Rattle.gc_station.specs.Qualities.{answer_in, IsRefusedReading, IsOfQuality}
 use Rattle.gc_station.specs.Scopes.{AreReadings}
 use Rattle.gc_station.specs.Zeros.{IsZeroOf}
 use Rattle.gc_station.proofs.Meets.{answered_so}
@@ -139,9 +139,9 @@ module _ (reads : Asked → List ℕ → Reading) (expected : Expected) (call : 
       warned (reading.Unreadable fault) listed zs e = let same : quality.Warning ≡ k = cc in let has : ◌≡◌ {A = Option Answer} None said = cc in warning (reading.Unreadable fault) listed zs same has
 
     -- a line that is a refusal without an accepted code has the quality `Refused`, and no answer
-    refusal : (x : Reading) → reads call line ≡ x → IsRefusal expected.accepted x → quality.Refused ≡ k → ◌≡◌ {A = Option Answer} None said → LineIsOfQuality
+    refusal : (x : Reading) → reads call line ≡ x → IsRefusedReading expected.accepted x → quality.Refused ≡ k → ◌≡◌ {A = Option Answer} None said → LineIsOfQuality
     refusal x is none same has =
-        subst (λ (q : Quality). IsOfQuality reads expected.accepted call q said line) same (sym has, subst (IsRefusal expected.accepted) (sym is) none)
+        subst (λ (q : Quality). IsOfQuality reads expected.accepted call q said line) same (sym has, subst (IsRefusedReading expected.accepted) (sym is) none)
 
     -- a refusal, whether its code is accepted (b) or not, has the quality with which it ends a command as answered
     refused : (code : ℕ) (b : Bool) (z : Reading) → lists_code expected.accepted code ≡ b → reads call line ≡ reading.Refused code → reads call (as_zero line) ≡ z

@@ -21,10 +21,10 @@ use Rattle.gc_links.specs.Acts.{Act, Told, Put, Gave, Silent, Closed, Opened}
 use Rattle.gc_station.specs.Beginnings.{IsClearedAndQuiet}
 use Rattle.gc_station.specs.Deciding.{has_begun, is_quiet}
 use Rattle.gc_station.specs.Progressing.{turned, time_passed, drained}
-use Rattle.gc_station.specs.Quiet.{IsRequest, TellsMoment, IsListening, IsSilent, StaysConnected}
+use Rattle.gc_station.specs.Quiet.{SendsRequest, TellsMoment, IsListening, IsSilent, StaysConnected}
 use Rattle.gc_station.specs.Reasons.{HoldsBefore}
 use Rattle.gc_station.specs.Runs.{state_after}
-use Rattle.gc_station.specs.Model.{Model, null_text, request_text, first_text, opening, action_at, waiting_of, with_progress, lines_completed, is_heard, Performs, Runs, text_or_null}
+use Rattle.gc_station.specs.Model.{Model, null_text, next_request_text, first_text, opening, action_at, waiting_of, with_progress, lines_completed, is_heard, Performs, Runs, text_or_null}
 use Rattle.gc_station.specs.NextCommand.{place_next}
 use Rattle.gc_station.proofs.Closings.{runs_split}
 use Rattle.gc_station.proofs.Connected.{is_in_use, OnLine, on_line_always}
@@ -309,7 +309,7 @@ module _ (plan : Plan) (commands : List Task) (scope : Scope) where
       let p = s.progress in λ m. stage_ready (has_begun p) (has_begun p) p.clock_due true p.since p.since p.phase acts
       (Put (first_text s.progress.moment.utc s.client (drop (place_next commands p) commands))) tt needs.0 st
   stage_line actions.Flush s acts there needs time st = let p = s.progress in
-      λ m. stage_ready (has_begun p) (has_begun p) p.clock_due true p.since p.since p.phase acts (Put (request_text s.client (Table NullProc))) tt needs.0 st
+      λ m. stage_ready (has_begun p) (has_begun p) p.clock_due true p.since p.since p.phase acts (Put (next_request_text s.client (Table NullProc))) tt needs.0 st
   stage_line actions.Renew s acts there needs time st = let p = s.progress in λ m. stage_ready (has_begun p) false p.clock_due false p.since m.elapsed p.phase acts (Told m) tt needs.0 st
   stage_line next s acts there needs time st = let p = s.progress in λ m. stage_ready (has_begun p) (has_begun p) p.clock_due false p.since m.elapsed p.phase acts (Told m) tt needs.0 st
 
@@ -326,25 +326,25 @@ module _ (plan : Plan) (commands : List Task) (scope : Scope) where
 -- Requests are sent only in the phase for requests.
 
 -- a close is no request
-close_is_no_request : (act : Act) → act ≡ Closed → IsRequest act → ⊥
-close_is_no_request act o asks = subst IsRequest o asks
+close_is_no_request : (act : Act) → act ≡ Closed → SendsRequest act → ⊥
+close_is_no_request act o asks = subst SendsRequest o asks
 
 -- by any action but `Ask`, `Send`, `Flush` and `Prepare` no request is sent
 asks_not : (plan : Plan) (commands : List Task) (next : Action) (s : Model) (act : Act) → Performs commands s next act
-    → (next ≡ actions.Ask → ⊥) × (next ≡ actions.Send → ⊥) × (next ≡ actions.Flush → ⊥) × (next ≡ actions.Prepare → ⊥) → IsRequest act → ⊥
+    → (next ≡ actions.Ask → ⊥) × (next ≡ actions.Send → ⊥) × (next ≡ actions.Flush → ⊥) × (next ≡ actions.Prepare → ⊥) → SendsRequest act → ⊥
 asks_not plan commands actions.Ask s act o other = absurd (other.0 refl)
 asks_not plan commands actions.Prepare s act o other = absurd (other.3 refl)
 asks_not plan commands actions.Send s act o other = absurd (other.1 refl)
 asks_not plan commands actions.Flush s act o other = absurd (other.2 refl)
-asks_not plan commands actions.Clear s act o other = walk plan commands (λ a (t : Model). IsRequest a → ⊥) actions.Clear s act o (λ m asks. asks refl, λ n asks. asks refl)
+asks_not plan commands actions.Clear s act o other = walk plan commands (λ a (t : Model). SendsRequest a → ⊥) actions.Clear s act o (λ m asks. asks refl, λ n asks. asks refl)
 asks_not plan commands (actions.Read until) s act o other =
-    walk plan commands (λ a (t : Model). IsRequest a → ⊥) (actions.Read until) s act o (λ bytes m asks. asks, λ m asks. asks, λ asks. asks, λ asks. asks, λ asks. asks)
+    walk plan commands (λ a (t : Model). SendsRequest a → ⊥) (actions.Read until) s act o (λ bytes m asks. asks, λ m asks. asks, λ asks. asks, λ asks. asks, λ asks. asks)
 asks_not plan commands (actions.Close why) s act o other = close_is_no_request act o
 asks_not plan commands (actions.Stop why) s act o other = absurd o
-asks_not plan commands next s act o other = walk plan commands (λ a (t : Model). IsRequest a → ⊥) next s act o (λ m asks. asks, λ n asks. asks)
+asks_not plan commands next s act o other = walk plan commands (λ a (t : Model). SendsRequest a → ⊥) next s act o (λ m asks. asks, λ n asks. asks)
 
 -- the only request that is sent while the station synchronizes is that of `Ask`
-pub asks_only : (plan : Plan) (commands : List Task) (next : Action) (s : Model) (act : Act) → Performs commands s next act → IsRequest act
+pub asks_only : (plan : Plan) (commands : List Task) (next : Action) (s : Model) (act : Act) → Performs commands s next act → SendsRequest act
     → HoldsBefore plan s.progress (waiting_of s) next → has_begun s.progress ≡ false → next ≡ actions.Ask
 asks_only plan commands actions.Ask s act o asks needs begins = refl
 asks_only plan commands actions.Prepare s act o asks needs begins = absurd (both_ways (has_begun s.progress) begins needs.1)
@@ -353,7 +353,7 @@ asks_only plan commands actions.Flush s act o asks needs begins = absurd (both_w
 asks_only plan commands next s act o asks needs begins = absurd (asks_not plan commands next s act o (λ is. cc, λ is. cc, λ is. cc, λ is. cc) asks)
 
 -- if a request is sent, the phase is `Ready`
-asks_there : (plan : Plan) (commands : List Task) (next : Action) (s : Model) (act : Act) → Performs commands s next act → IsRequest act
+asks_there : (plan : Plan) (commands : List Task) (next : Action) (s : Model) (act : Act) → Performs commands s next act → SendsRequest act
     → HoldsBefore plan s.progress (waiting_of s) next → s.progress.phase ≡ phase.Ready
 asks_there plan commands actions.Ask s act o asks needs = needs.0
 asks_there plan commands actions.Prepare s act o asks needs = needs.0
@@ -363,7 +363,7 @@ asks_there plan commands next s act o asks needs = absurd (asks_not plan command
 
 -- if a request is sent, its connection is as `IsClearedAndQuiet` says
 pub cleared_and_quiet : (plan : Plan) (commands : List Task) (scope : Scope) (earlier later : List Act) (act : Act)
-    → Runs plan commands (opening plan scope) (earlier ++ act ∷ later) → IsRequest act → IsClearedAndQuiet plan commands scope earlier
+    → Runs plan commands (opening plan scope) (earlier ++ act ∷ later) → SendsRequest act → IsClearedAndQuiet plan commands scope earlier
 cleared_and_quiet plan commands scope earlier later act runs asks =
     let s = state_after plan commands scope earlier in
     let split = runs_split plan commands (opening plan scope) earlier later act runs in

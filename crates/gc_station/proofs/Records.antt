@@ -3,10 +3,10 @@
 -- `WritesPart text before all old new`: a book that had taken `old` has taken the records `before` whole and broken off within
 -- the others of `all`; `new` is what it has taken then.
 use Rattle.std.proofs.Common.{◌≡◌, ℕ, ◌+◌, ◌<◌, Bool, true, false, List, [], ◌∷◌, ◌++◌, length, take, drop, map, get_or, Option, Some, None, is_some, if◌then◌else◌, refl, sym, ap, ◌∙◌, subst, arith, append_assoc, append-nil}
-use Rattle.std.specs.Prelude.{slice_get, unwrap_or}
 use Rattle.std.proofs.lemmas.List.{get_or_default, length-map, length-take, map-append, map_more, take_more, take-append-drop}
 use Rattle.std.specs.Io.KnownBytes.{Appends}
 use Rattle.std.proofs.KnownBytes.{Appends-trans}
+use Rattle.gc_lines.specs.Ports.{TakesFront}
 use Rattle.gc_catalogue.specs.declared.answer.Answer.{Answer}
 use Rattle.gc_catalogue.specs.declared.answer.Reading.{Reading}
 use Rattle.gc_catalogue.specs.declared.answer.Reading.TheVariants as reading
@@ -24,7 +24,7 @@ use Rattle.gc_texts.specs.declared.near.Near.{Near}
 use Rattle.gc_texts.specs.declared.quality.Quality.{Quality}
 use Rattle.gc_texts.specs.declared.quality.Quality.TheVariants.{Fine, Warning, Refused}
 use Rattle.gc_station.specs.Attempts.{code_of, listed_after, listed_by}
-use Rattle.gc_station.specs.Marks.{commands_in, value_as, warned_as, refused_as, answer_as, command_of, end_of, record_of, records_of, is_well, last_well, fresh_after}
+use Rattle.gc_station.specs.Marks.{commands_in, first_mark, value_as, warned_as, refused_as, answer_as, end_of, record_as, record_of, records_of, is_well, last_well, fresh_after}
 use Rattle.gc_station.specs.Records.{Record, Grew, texts_of, WritesPart}
 use Rattle.gc_station.specs.Tallies.{counted_in, tallied}
 use Rattle.gc_station.specs.Writing.{recorded_after}
@@ -105,13 +105,9 @@ records_here : (reads : Asked → List ℕ → Reading) (utc : ℕ) (mark : Opti
 records_here reads utc None marks x = records-none reads utc marks
 records_here reads utc (Some mark) marks x = ap (λ rs. record_of reads utc mark x ∷ rs) (records-none reads utc marks)
 
--- the first of these marks; `None` also if there is none
-abbrev pub first_of : List (Option Mark) → Option Mark
-first_of marks = unwrap_or (slice_get marks 0) None
-
 -- the record of one settlement is made by the first mark alone
 records_first : (reads : Asked → List ℕ → Reading) (utc : ℕ) (marks : List (Option Mark)) (x : Rule.Settlement Asked)
-    → records_of reads utc marks (x ∷ []) ≡ records_of reads utc (first_of marks ∷ []) (x ∷ [])
+    → records_of reads utc marks (x ∷ []) ≡ records_of reads utc (first_mark marks ∷ []) (x ∷ [])
 records_first reads utc [] x = refl
 records_first reads utc (m ∷ marks) x = records_here reads utc m marks x
 
@@ -149,7 +145,7 @@ listed_here reads b (Some mark) marks x = listed-none reads _ marks
 
 -- `listed_by` of one settlement depends, but for b, on the first mark alone
 listed_first : (reads : Asked → List ℕ → Reading) (b : Bool) (marks : List (Option Mark)) (x : Rule.Settlement Asked)
-    → listed_by reads b marks (x ∷ []) ≡ listed_by reads b (first_of marks ∷ []) (x ∷ [])
+    → listed_by reads b marks (x ∷ []) ≡ listed_by reads b (first_mark marks ∷ []) (x ∷ [])
 listed_first reads b [] x = refl
 listed_first reads b (m ∷ marks) x = listed_here reads b m marks x
 
@@ -180,17 +176,16 @@ grew_then a b c g h = (g.0 ++ h.0, h.1 ∙ ap (λ rs. rs ++ h.0) g.1 ∙ append_
 
 -- if a book took the records `before`, and then a part of the record r alone, it broke off within r (`WritesPart`)
 pub part_one : (text : Record → List ℕ) (before : List Record) (r : Record) (start old new : Option (List ℕ)) (part : ℕ)
-    → Appends start old (texts_of text before) → part < length (text r) → Appends old new (take part (text r))
-    → WritesPart text before (before ++ r ∷ []) start new
-part_one text before r start old new part so not_all took = record {
+    → Appends start old (texts_of text before) → TakesFront old new part (text r) → WritesPart text before (before ++ r ∷ []) start new
+part_one text before r start old new part so took = record {
   earlier = [];
   next = r;
   later = [];
   order = refl;
   part = part;
-  not_all = not_all;
+  not_all = took.0;
   took = subst (λ (rs : List Record). Appends start new (texts_of text rs ++ take part (text r))) (sym (append-nil before))
-      (Appends-trans start old new (texts_of text before) (take part (text r)) so took);
+      (Appends-trans start old new (texts_of text before) (take part (text r)) so took.1);
 }
 
 -- a write that broke off within the records `all` broke off within `all` and more
@@ -275,7 +270,7 @@ recorded-none reads now marks r =
 
 -- `s` is the settlement at place i, and `mark` the first of the marks from place i on
 module _ (reads : Asked → List ℕ → Reading) (marks : List (Option Mark)) (ss : List (Settlement Asked)) (i : ℕ) (s : Settlement Asked) (mark : Option Mark)
-    (below : i < length ss) (is : s ≡ get_or ss i s) (first : mark ≡ first_of (drop i marks)) where
+    (below : i < length ss) (is : s ≡ get_or ss i s) (first : mark ≡ first_mark (drop i marks)) where
   -- the first i settlements are i
   front_length : length (map settlement_seen (take i ss)) ≡ i
   front_length = length-map (take i ss) settlement_seen ∙ omega (arith, length-take i ss, below)
@@ -314,10 +309,6 @@ module _ (reads : Asked → List ℕ → Reading) (marks : List (Option Mark)) (
       (fold_more last_well last-append a.well b.well c.well front one _ (ap (λ (r : Recorded). r.well) so) (ap (λ (r : Recorded). r.well) more) next)
       (listed_more a.listed b.listed c.listed (ap (λ (r : Recorded). r.listed) so) (ap (λ (r : Recorded). r.listed) more))
       (fold_more (fresh_after now.elapsed) (fresh-append now.elapsed) a.fresh b.fresh c.fresh front one _ (ap (λ (r : Recorded). r.fresh) so) (ap (λ (r : Recorded). r.fresh) more) next)
-
--- the record of a settlement, with this ending in place of its own
-abbrev pub record_as : ℕ → Mark → Rule.Settlement Asked → End → Record
-record_as utc mark settlement end = record { sent = Some mark.sent; utc = utc; cycle = mark.cycle; place = mark.place; turn = mark.expected.turn; command = command_of settlement; end = end }
 
 -- the record with the ending that a settlement gives is the record of the settlement
 pub record_same : (reads : Asked → List ℕ → Reading) (utc : ℕ) (mark : Mark) (x : Rule.Settlement Asked) (end : End) → end ≡ end_of reads mark.expected x.call x.outcome

@@ -5,7 +5,7 @@ use Rattle.gc_texts.specs.declared.tasks.Task.{Task}
 use Rattle.gc_links.specs.Acts.{Act, Told, Cut}
 use Rattle.gc_station.specs.Marks.{commands_in}
 use Rattle.gc_station.specs.Model.{Model, opening, action_at, with_progress, moved, Runs, waiting_of, cycle_length}
-use Rattle.gc_station.specs.NextCommand.{place_next, is_chained, others_in, others_after, commands_before}
+use Rattle.gc_station.specs.NextCommand.{place_next, commands_left, first_is_chained, others_in, others_after, commands_before}
 use Rattle.gc_station.specs.Progressing.{turned, failing}
 use Rattle.gc_station.specs.Runs.{state_after}
 use Rattle.gc_station.specs.Scopes.{Scope}
@@ -14,7 +14,7 @@ use Rattle.gc_station.specs.declared.progress.Action.{Action}
 use Rattle.gc_station.specs.declared.progress.Action.TheVariants as actions
 use Rattle.gc_station.specs.declared.progress.Progress.{Progress}
 use Rattle.gc_station.proofs.Lists.{all_on}
-use Rattle.gc_station.proofs.Walk.{moved_changed, sending, is_sent}
+use Rattle.gc_station.proofs.Walk.{moved_changed, model_sent, is_sent}
 use Rattle.std.proofs.lemmas.Bool.{ltb-true, ltb-false, both_ways}
 use Rattle.gc_station.specs.declared.cause.Cause.TheVariants as cause
 use Rattle.gc_station.specs.declared.progress.Waiting.{Waiting}
@@ -38,7 +38,7 @@ module _ (plan : Plan) (commands : List Task) (scope : Scope) where
 
   -- `next_others` is what the text says of the next command, if that isn't the first of its cycle, and else 0
   abbrev OthersFit : Progress → Type 0
-  OthersFit p = (plan.setup < place_next commands p → p.next_others ≡ others_in (drop (place_next commands p) commands)) × (place_next commands p ≤ plan.setup → p.next_others ≡ 0)
+  OthersFit p = (plan.setup < place_next commands p → p.next_others ≡ others_in (commands_left commands p)) × (place_next commands p ≤ plan.setup → p.next_others ≡ 0)
 
   -- `OthersFit` is preserved if the next command stays the same
   others_kept : (p q : Progress) → q.unsent ≡ p.unsent → q.next_others ≡ p.next_others → OthersFit p → OthersFit q
@@ -76,12 +76,12 @@ module _ (plan : Plan) (commands : List Task) (scope : Scope) where
   moved_others actions.Begin s w (Told m) needs within h = others_at_beginning (progress_after actions.Begin s (Told m)) refl refl
   moved_others actions.Send s w (Cut bytes n) needs within h =
       let t = with_progress turned s in
-      let q = failing (cause.Write (commands_before plan commands t.progress) n) (sending plan commands t).progress in
+      let q = failing (cause.Write (commands_before plan commands t.progress) n) (model_sent plan commands t).progress in
       subst (λ (x : Model). OthersFit (failing (cause.Write (commands_before plan commands t.progress) n) x.progress)) (is_sent plan commands t)
       (others_after_turn s.progress q refl refl needs.2 within)
   moved_others actions.Send s w act needs within h =
       let t = with_progress turned s in
-      subst (λ (x : Model). OthersFit x.progress) (is_sent plan commands t) (others_after_turn s.progress (sending plan commands t).progress refl refl needs.2 within)
+      subst (λ (x : Model). OthersFit x.progress) (is_sent plan commands t) (others_after_turn s.progress (model_sent plan commands t).progress refl refl needs.2 within)
   moved_others actions.Skip s w (Told m) needs within h = others_after_turn s.progress (progress_after actions.Skip s (Told m)) refl refl needs.2 within
   moved_others actions.Pass s w (Told m) needs within h = others_after_pass s.progress (progress_after actions.Pass s (Told m)) refl refl needs.2 needs.4 within
   moved_others actions.Begin s w act needs within h = others_kept s.progress (progress_after actions.Begin s act) refl refl h
@@ -115,12 +115,9 @@ module _ (plan : Plan) (commands : List Task) (scope : Scope) where
     by_may (inl none) = let others = (others_hold acts runs).0 further.0 in let more = further.1 in absurd (omega (arith, none, others, more))
     by_may (inr may) = (may.0, listed_has scope.reads commands s.records (sym (kept_all plan commands scope acts).listed ∙ may.1))
 
-  -- if attempts are left out, they are further ones and each command before them is settled; and none of the attempt before
-  -- ended as its rule names, or the cycle is missed, or the next command is chained
+  -- if attempts are left out, they are further ones, each command before them is settled, and there is a reason (`MayLeaveOut`)
   passes_over : (acts : List Act) → Runs plan commands (opening plan scope) acts → action_at plan (state acts) ≡ actions.Pass
-      → IsFurtherAttempt plan commands (state acts) × (commands_in (state acts).marks ≡ 0)
-      × ((HasListed scope.reads commands (state acts).records → ⊥)
-      ⊎ (((state acts).progress.missed ≡ true) ⊎ (is_chained (drop (place_next commands (state acts).progress) commands) ≡ true)))
+      → IsFurtherAttempt plan commands (state acts) × (commands_in (state acts).marks ≡ 0) × MayLeaveOut scope.reads commands (state acts)
   passes_over acts runs is = ((above, further), needs.3, by_why needs.5) where
     -- the model after these acts
     s : Model
@@ -144,7 +141,7 @@ module _ (plan : Plan) (commands : List Task) (scope : Scope) where
     above = by_place (nat_lt plan.setup (place_next commands s.progress)) refl
 
     -- the next command begins a further attempt
-    further : 0 < others_in (drop (place_next commands s.progress) commands)
+    further : 0 < others_in (commands_left commands s.progress)
     further = subst (λ (n : ℕ). 0 < n) (as_text.0 above) needs.4
 
     -- why a command counts as chained: its cycle is missed, or the text says so
@@ -157,7 +154,7 @@ module _ (plan : Plan) (commands : List Task) (scope : Scope) where
         → MayLeaveOut scope.reads commands s
     by_why (inl none) = inl (λ h. both_ways s.listed none ((kept_all plan commands scope acts).listed ∙ has_listed scope.reads commands s.records false h))
     by_why (inr bound) =
-        inr (by_missed s.progress.missed (is_chained (drop (place_next commands s.progress) commands)) refl (sym (chained_as_text_says plan commands scope acts runs above) ∙ bound))
+        inr (by_missed s.progress.missed (first_is_chained (drop (place_next commands s.progress) commands)) refl (sym (chained_as_text_says plan commands scope acts runs above) ∙ bound))
 
 -- the law: further attempts of a chain are sent, and left out, only for a cause
 pub goes_out_again : FurtherAttemptsHaveACause

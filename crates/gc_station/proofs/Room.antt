@@ -6,7 +6,7 @@ use Rattle.gc_station.specs.declared.progress.Action.{Action}
 use Rattle.gc_station.specs.declared.progress.Action.TheVariants as actions
 use Rattle.gc_station.specs.declared.progress.Progress.{Progress}
 use Rattle.gc_station.specs.declared.progress.Waiting.{Waiting}
-use Rattle.gc_station.specs.Reasons.{HoldsBefore, HasRoom}
+use Rattle.gc_station.specs.Reasons.{HoldsBefore, HasRoomToAsk}
 use Rattle.gc_station.specs.Quiet.{IsAsking}
 use Rattle.gc_station.specs.Room.{RequestsHaveRoom}
 use Rattle.gc_station.specs.Runs.{state_after}
@@ -14,14 +14,14 @@ use Rattle.gc_station.specs.Model.{action_at, waiting_of}
 use Rattle.gc_station.proofs.Facts.{action_for}
 
 -- if a request of the client is next, there is room
-room_of : (plan : Plan) (p : Progress) (w : Waiting) (next : Action) → IsAsking next → HoldsBefore plan p w next → HasRoom plan w
+room_of : (plan : Plan) (p : Progress) (w : Waiting) (next : Action) → IsAsking next → HoldsBefore plan p w next → HasRoomToAsk plan w
 room_of plan p w actions.Prepare puts is = is.3
 room_of plan p w actions.Send puts is = is.3
 room_of plan p w actions.Flush puts is = is.4
 room_of plan p w next puts is = absurd puts
 
 -- if there is room, none is in flight that hasn't timed out, or fewer than the plan's width
-few : (plan : Plan) (w : Waiting) → HasRoom plan w → (w.current ≡ 0) ⊎ (w.current < plan.width)
+few : (plan : Plan) (w : Waiting) → HasRoomToAsk plan w → (w.current ≡ 0) ⊎ (w.current < plan.width)
 few plan w room = elim (leb_tells plan.width 0) as (λ _. (w.current ≡ 0) ⊎ (w.current < plan.width)) [
   | inl none ↦ let least = none.1 in let here = room.0 in inl (omega (arith, least, here))
   | inr some ↦ let least = some.1 in let here = room.0 in inr (omega (arith, least, here))

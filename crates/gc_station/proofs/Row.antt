@@ -20,25 +20,25 @@ use Rattle.gc_station.specs.declared.progress.Action.TheVariants as action
 use Rattle.gc_station.specs.declared.progress.Progress.{Progress}
 use Rattle.gc_station.specs.declared.progress.Until.{Until}
 use Rattle.gc_station.specs.Deciding.{later}
-use Rattle.gc_station.specs.EachOnce.{Request, of_record, of_cycles, of_text, in_text, of_waiting}
+use Rattle.gc_station.specs.EachOnce.{RunRequest, of_record, of_cycles, of_text, in_text, of_waiting}
 use Rattle.gc_station.specs.Marks.{commands_in}
 use Rattle.gc_station.specs.Progressing.{moment_noted, turned, loses_all}
 use Rattle.gc_station.specs.Reasons.{HoldsBefore}
 use Rattle.gc_station.specs.Runs.{state_after}
 use Rattle.gc_station.specs.Scopes.{Scope}
-use Rattle.gc_station.specs.Model.{Model, opening, action_at, waiting_of, Performs, Runs, is_heard, asks_first, asks_null, after_piece, line_came, losing, moved, piece_at, with_progress, with_moment}
+use Rattle.gc_station.specs.Model.{Model, opening, action_at, waiting_of, Performs, Runs, is_heard, asks_first, after_piece, line_came, losing, moved, piece_at, with_progress, with_moment, null_request, asks_for}
 use Rattle.gc_station.specs.NextCommand.{cycles_begun, place_next, mark_next}
 use Rattle.gc_station.proofs.Always.{always}
 use Rattle.gc_station.proofs.Each.{row, row_moment, row_settles, more_waiting, marked_none, waiting_marked}
 use Rattle.gc_station.proofs.EachRun.{invariant_holds}
 use Rattle.gc_station.proofs.Facts.{action_for, not_none}
 use Rattle.gc_station.proofs.Invariant.{Paired, Invariant}
-use Rattle.gc_station.proofs.Midway.{client_behind}
+use Rattle.gc_station.proofs.Midway.{sent_with_room}
 use Rattle.gc_station.proofs.Walk.{came_along, losing_along, closed_along, moved_changed, walk}
 use Rattle.std.proofs.lemmas.List.Elements.{filter-append}
 
 -- the row of a model
-abbrev pub row_of : Model → List Request
+abbrev pub row_of : Model → List RunRequest
 row_of s = row s.marks s.client.waiting s.records
 
 -- a line that is heard leaves the row as it is
@@ -77,12 +77,12 @@ row_read plan commands o s act bytes m obeys is =
 -- If a chain is unbroken, the last request of the row is of a cycle.
 
 -- the cycle of the last of these requests; `n` if there is none
-abbrev pub last_cycle : ℕ → List Request → ℕ
+abbrev pub last_cycle : ℕ → List RunRequest → ℕ
 last_cycle n [] = n
 last_cycle n (x ∷ xs) = last_cycle x.cycle xs
 
 -- where x comes after some requests, the cycle of the last request of all (`last_cycle`) is that of x
-last_behind : (n : ℕ) (xs : List Request) (x : Request) → last_cycle n (xs ++ x ∷ []) ≡ x.cycle
+last_behind : (n : ℕ) (xs : List RunRequest) (x : RunRequest) → last_cycle n (xs ++ x ∷ []) ≡ x.cycle
 last_behind n [] x = refl
 last_behind n (y ∷ xs) x = last_behind y.cycle xs x
 
@@ -92,8 +92,8 @@ LastIsOfCycle s = s.progress.chain_unbroken ≡ true → 0 < last_cycle 0 (row_o
 
 -- what `LastIsOfCycle` says of the row `xs`, where b is whether the chain is unbroken, holds of the row `ys` that is equal to
 -- `xs`
-of_same_row : {xs ys : List Request} {b : Bool} → ys ≡ xs → (b ≡ true → 0 < last_cycle 0 xs) → b ≡ true → 0 < last_cycle 0 ys
-of_same_row same h e = subst (λ (zs : List Request). 0 < last_cycle 0 zs) (sym same) (h e)
+of_same_row : {xs ys : List RunRequest} {b : Bool} → ys ≡ xs → (b ≡ true → 0 < last_cycle 0 xs) → b ≡ true → 0 < last_cycle 0 ys
+of_same_row same h e = subst (λ (zs : List RunRequest). 0 < last_cycle 0 zs) (sym same) (h e)
 
 -- if each request that waits has a mark, there is room, and the first of these commands, of which there are some, is sent with a
 -- mark of a cycle, the last request of the row is of a cycle
@@ -107,8 +107,8 @@ sent_last mark (task ∷ others) s paired room some many =
     let is : row (s.marks ++ Some mark ∷ []) (s.client.waiting ++ p ∷ []) s.records ≡ row_of s ++ one ∷ [] =
     ap (λ xs. map of_record s.records ++ xs) (more_waiting s.marks s.client.waiting (Some mark) p paired) ∙ sym (append_assoc (map of_record s.records) _ (one ∷ [])) in
     let last : 0 < last_cycle 0 (row_of s ++ one ∷ []) = subst (λ (n : ℕ). 0 < n) (sym (last_behind 0 (row_of s) one)) many in
-    subst (λ (c : _). 0 < last_cycle 0 (row (s.marks ++ Some mark ∷ []) c.waiting s.records)) (sym (client_behind s.client task.command.target (call_at task mark.sent) d room))
-    (subst (λ (xs : List Request). 0 < last_cycle 0 xs) (sym is) last)
+    subst (λ (c : _). 0 < last_cycle 0 (row (s.marks ++ Some mark ∷ []) c.waiting s.records)) (sym (sent_with_room s.client task.command.target (call_at task mark.sent) d room))
+    (subst (λ (xs : List RunRequest). 0 < last_cycle 0 xs) (sym is) last)
 
 module _ (plan : Plan) (commands : List Task) where
   -- `LastIsOfCycle` is preserved by an act of each action, if `Invariant` holds before it, and `HoldsBefore` of the action
@@ -140,8 +140,8 @@ module _ (plan : Plan) (commands : List Task) where
   last_moved action.Flush s act fine is o h =
       let d = later s.progress.moment.elapsed plan.deadline in
       let p = pending_of 0 (Table NullProc) d in
-      let same : row_of (asks_null plan (with_progress turned s)) ≡ row_of s =
-      ap (λ (c : _). row (s.marks ++ None ∷ []) c.waiting s.records) (client_behind s.client 0 (Table NullProc) d is.4.1)
+      let same : row_of (asks_for (null_request plan) (with_progress turned s)) ≡ row_of s =
+      ap (λ (c : _). row (s.marks ++ None ∷ []) c.waiting s.records) (sent_with_room s.client 0 (Table NullProc) d is.4.1)
       ∙ ap (λ xs. map of_record s.records ++ xs) (more_waiting s.marks s.client.waiting None p fine.paired ∙ append-nil _) in
       walk plan commands (λ a (u : Model). LastIsOfCycle u) action.Flush (with_progress turned s) act o (λ m. of_same_row same h, λ n. of_same_row same h)
   last_moved (action.Read until) s act fine is o h =
@@ -180,7 +180,7 @@ module _ (plan : Plan) (commands : List Task) (scope : Scope) where
 
   -- after a run, if no command is outstanding and the chain is unbroken, the last record is of a cycle
   pub last_of_cycle : (acts : List Act) → Runs plan commands (opening plan scope) acts
-      → commands_in (state acts).marks ≡ 0 → (state acts).progress.chain_unbroken ≡ true → (xs : List Request) (x : Request)
+      → commands_in (state acts).marks ≡ 0 → (state acts).progress.chain_unbroken ≡ true → (xs : List RunRequest) (x : RunRequest)
       → map of_record (state acts).records ≡ xs ++ x ∷ [] → 0 < x.cycle
   last_of_cycle acts runs none whole xs x is =
       let s = state acts in
@@ -189,9 +189,9 @@ module _ (plan : Plan) (commands : List Task) (scope : Scope) where
       subst (λ (n : ℕ). 0 < n) (ap (last_cycle 0) all ∙ last_behind 0 xs x) (last_holds plan commands scope acts runs whole)
 
 -- if the last of some requests is of a cycle, it is also the last of those among them that are (`of_cycles`)
-of_cycles_last : (xs : List Request) (x : Request) → 0 < x.cycle → of_cycles (xs ++ x ∷ []) ≡ of_cycles xs ++ x ∷ []
+of_cycles_last : (xs : List RunRequest) (x : RunRequest) → 0 < x.cycle → of_cycles (xs ++ x ∷ []) ≡ of_cycles xs ++ x ∷ []
 of_cycles_last xs x many = filter-append _ xs (x ∷ []) ∙ ap (λ b. of_cycles xs ++ (if not b then x ∷ [] else [])) (not_none x.cycle many)
 
 -- if the last of some requests is of a cycle, it is, as the text has it, also the last of those that `of_text` gives
-pub of_text_last : (commands : List Task) (xs : List Request) (x : Request) → 0 < x.cycle → of_text commands (xs ++ x ∷ []) ≡ of_text commands xs ++ in_text commands x ∷ []
+pub of_text_last : (commands : List Task) (xs : List RunRequest) (x : RunRequest) → 0 < x.cycle → of_text commands (xs ++ x ∷ []) ≡ of_text commands xs ++ in_text commands x ∷ []
 of_text_last commands xs x many = ap (map (in_text commands)) (of_cycles_last xs x many) ∙ map-append (in_text commands) (of_cycles xs) (x ∷ [])

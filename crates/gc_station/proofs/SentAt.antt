@@ -14,11 +14,11 @@ use Rattle.gc_station.specs.declared.progress.Action.TheVariants.{Send, Flush, P
 use Rattle.gc_links.specs.Acts.{Act, Put, Cut}
 use Rattle.gc_station.specs.Deciding.{has_begun}
 use Rattle.gc_station.specs.Links.{RecordsStay}
-use Rattle.gc_station.specs.Parts.{Part, nothing, joined, first_request_part, put_part, client_part, sync_part, part_of_act, ends_part, in_front, parts_of, request_or_null_part}
+use Rattle.gc_station.specs.Parts.{Part, nothing, joined, request_part, first_request_part, put_part, client_part, sync_part, part_of_act, ends_part, in_front, parts_of}
 use Rattle.gc_station.specs.Progressing.{turned, loses_all}
 use Rattle.gc_station.specs.Runs.{state_after}
 use Rattle.gc_station.proofs.Outs.{SendsMarked}
-use Rattle.gc_station.specs.Model.{Model, opening, action_at, with_progress, moved, after, after_all}
+use Rattle.gc_station.specs.Model.{Model, opening, action_at, with_progress, moved, after, after_all, request_or_null}
 use Rattle.gc_station.specs.NextCommand.{place_next, mark_next, mark_setup}
 use Rattle.gc_station.proofs.Asked.{marks_none}
 use Rattle.gc_station.proofs.Going.{after_all-append}
@@ -75,7 +75,8 @@ null_mark (suc n) mark e = none-some (Some mark) e
 
 -- the part of the request for the first of some commands of the setup, sent with the mark `its`, or for a null procedure if
 -- there is no command, has no other mark, and that at place 0
-pub setup_mark : (plan : Plan) (now : ℕ) (its : Mark) (left : List Task) (n : ℕ) (mark : Mark) → slice_get (request_or_null_part plan now its left).marks n ≡ Some (Some mark) → (n ≡ 0) × (mark ≡ its)
+pub setup_mark : (plan : Plan) (now : ℕ) (its : Mark) (left : List Task) (n : ℕ) (mark : Mark)
+    → slice_get (request_part now (request_or_null plan its left)).marks n ≡ Some (Some mark) → (n ≡ 0) × (mark ≡ its)
 setup_mark plan now its [] n mark e = absurd (null_mark n mark e)
 setup_mark plan now its (task ∷ others) n mark e = put_mark now its (task ∷ others) n mark e
 

@@ -22,14 +22,14 @@ use Rattle.gc_station.specs.Reasons.{HoldsBefore}
 use Rattle.gc_station.specs.Records.{Record}
 use Rattle.gc_station.specs.Runs.{state_after}
 use Rattle.gc_station.specs.Scopes.{Scope}
-use Rattle.gc_station.specs.Model.{Model, opening, action_at, waiting_of, is_heard, asks_first, asks_or_null, after_piece, line_came, losing, moved, piece_at, first_unsent_record, with_progress, with_moment, with_rest, after, after_all}
-use Rattle.gc_station.specs.NextCommand.{cycles_begun, place_next, mark_next, mark_setup}
+use Rattle.gc_station.specs.Model.{Model, opening, action_at, waiting_of, is_heard, asks_first, after_piece, line_came, losing, moved, piece_at, first_unsent_record, with_progress, with_moment, with_rest, after, after_all, request_or_null, asks_for}
+use Rattle.gc_station.specs.NextCommand.{cycles_begun, place_next, commands_left, mark_next, mark_setup}
 use Rattle.gc_station.specs.Setups.{Dispatch, dispatch_of_record, dispatch_of_mark, dispatches_of, of_setup, sent_first, setup_sent_at, setup_sent_by, EachSetUpOnce, GoOn, AreInOrder, SetUpsGoOn, dispatch_row}
 use Rattle.gc_station.proofs.Counts.{ended_progress}
 use Rattle.gc_station.proofs.EachRun.{invariant_all, invariant_opening, invariant_holds, stopped}
 use Rattle.gc_station.proofs.Facts.{action_for, not_none}
 use Rattle.gc_station.proofs.Invariant.{Invariant}
-use Rattle.gc_station.proofs.Walk.{came_along, losing_along, closed_along, is_prepared, moved_changed}
+use Rattle.gc_station.proofs.Walk.{came_along, losing_along, closed_along, moved_changed}
 use Rattle.std.proofs.lemmas.List.Elements.{filter-append}
 
 -- The row.
@@ -87,7 +87,7 @@ first_row mark [] s = sym (append-nil (dispatch_row s))
 first_row mark (task ∷ others) s = row_more s.records s.marks (Some mark)
 
 -- the first of these commands of the setup adds itself to the row if it is sent; a null procedure adds nothing
-setup_row : (plan : Plan) (mark : Mark) (left : List Task) (s : Model) → dispatch_row (asks_or_null plan mark left s) ≡ dispatch_row s ++ sent_first mark left
+setup_row : (plan : Plan) (mark : Mark) (left : List Task) (s : Model) → dispatch_row (asks_for (request_or_null plan mark left) s) ≡ dispatch_row s ++ sent_first mark left
 setup_row plan mark [] s = row_more s.records s.marks None
 setup_row plan mark (task ∷ others) s = first_row mark (task ∷ others) s
 
@@ -99,7 +99,7 @@ module _ (plan : Plan) (commands : List Task) where
 
   -- an act that sends the next command of a cycle adds it to the row, if there is one
   row_sent : (s : Model) (act : Act) → dispatch_row (moved plan commands action.Send s act)
-      ≡ dispatch_row s ++ sent_first (mark_next plan commands s.progress) (drop (place_next commands s.progress) commands)
+      ≡ dispatch_row s ++ sent_first (mark_next plan commands s.progress) (commands_left commands s.progress)
   row_sent s (Cut bytes n) = first_row (mark_next plan commands s.progress) (drop (place_next commands s.progress) commands) s
   row_sent s act = first_row (mark_next plan commands s.progress) (drop (place_next commands s.progress) commands) s
 
@@ -234,10 +234,8 @@ resets plan commands o s act other =
 -- an act that sends a command of the setup keeps the attempt, and makes the setup's next place one more, at most `plan.setup`
 pub prepares : (plan : Plan) (commands : List Task) (s : Model) (act : Act)
     → ((moved plan commands action.Prepare s act).progress.attempt ≡ s.progress.attempt) × ((moved plan commands action.Prepare s act).progress.prepared ≡ min (s.progress.prepared + 1) plan.setup)
-prepares plan commands s (Cut bytes n) =
-    subst (λ (x : Model). (x.progress.attempt ≡ s.progress.attempt) × (x.progress.prepared ≡ min (s.progress.prepared + 1) plan.setup)) (is_prepared plan commands s) (refl, refl)
-prepares plan commands s act =
-    subst (λ (x : Model). (x.progress.attempt ≡ s.progress.attempt) × (x.progress.prepared ≡ min (s.progress.prepared + 1) plan.setup)) (is_prepared plan commands s) (refl, refl)
+prepares plan commands s (Cut bytes n) = (refl, refl)
+prepares plan commands s act = (refl, refl)
 
 -- the next command of the setup, at the progress p, goes after x: it is at the place after x in the same attempt, or the first of
 -- the next attempt

@@ -11,10 +11,10 @@ use Rattle.gc_station.specs.declared.progress.Action.{Action}
 use Rattle.gc_station.specs.declared.progress.Action.TheVariants as actions
 use Rattle.gc_station.specs.declared.progress.Progress.{Progress}
 use Rattle.gc_links.specs.Acts.{Act, Told, Gave, Silent, Closed}
-use Rattle.gc_station.specs.Closing.{Shows, Ends, EndsAfter}
+use Rattle.gc_station.specs.Closing.{Shows, EndsRun, EndsAfter}
 use Rattle.gc_station.specs.Deciding.{is_up, is_past, is_quiet}
 use Rattle.gc_station.specs.Progressing.{turned, cleared, quieted, is_idle, drained}
-use Rattle.gc_station.specs.Quiet.{TellsMoment}
+use Rattle.gc_station.specs.Quiet.{TellsMoment, HasLast}
 use Rattle.gc_station.specs.Reasons.{IsAtItsEnd}
 use Rattle.gc_station.specs.Runs.{state_after}
 use Rattle.gc_station.specs.Scopes.{Scope}
@@ -39,7 +39,7 @@ quieted_up plan at p is = ap is_up is
 
 -- the last of these acts read this moment
 abbrev pub LastTells : ℕ → List Act → Type 0
-LastTells now acts = (front : List Act) × (last : Act) × (acts ≡ front ++ last ∷ []) × TellsMoment now last
+LastTells now acts = HasLast acts (λ front last. TellsMoment now last)
 
 -- while a connection is drained, and where requests may be sent: the last act read the moment `now`, if the moment read last
 -- isn't out of date (`due`)
@@ -135,7 +135,7 @@ ends_for_same plan p n other why never (inr used) = sym used.0
 -- an act that ends the run for `why` is a close, which was next for that cause; if `why` is neither `Done` nor `Open`, and the
 -- act doesn't show it
 pub ended_by_close : (plan : Plan) (s : Model) (why : Cause) (last : Act) → (why ≡ cause.Done → ⊥) → (why ≡ cause.Open → ⊥) → (Shows why last → ⊥)
-    → Ends plan s why last → (last ≡ Closed) × (action_at plan s ≡ actions.Close why)
+    → EndsRun plan s why last → (last ≡ Closed) × (action_at plan s ≡ actions.Close why)
 ended_by_close plan s why last not_done not_open not_shown (inl failed) = absurd (not_shown failed.1)
 ended_by_close plan s why last not_done not_open not_shown (inr (inl (other, is_close, next, ends))) =
     (is_close, next ∙ ap actions.Close (ends_for_same plan s.progress (waiting_of s).commands other why not_done ends))

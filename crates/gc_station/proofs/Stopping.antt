@@ -22,7 +22,7 @@ use Rattle.gc_station.specs.declared.progress.Phase.TheVariants as phase
 use Rattle.gc_station.specs.declared.progress.Progress.{Progress}
 use Rattle.gc_station.specs.declared.progress.Until.{Until}
 use Rattle.gc_station.specs.declared.progress.Waiting.{Waiting}
-use Rattle.gc_station.specs.Closing.{Shows, Ends}
+use Rattle.gc_station.specs.Closing.{Shows, EndsRun}
 use Rattle.gc_station.specs.Deciding.{is_stale, action_of, action_in, action_on}
 use Rattle.gc_station.specs.Marks.{records_of, is_well, fresh_after}
 use Rattle.gc_station.specs.Model.{Model, opening, action_at, waiting_of, unsent_record, first_unsent_record, with_progress, with_moment, with_rest, is_heard, line_came, lines_completed, after_piece, piece_at, Performs, moved, losing, after, Runs}
@@ -32,7 +32,7 @@ use Rattle.gc_station.specs.Records.{Record}
 use Rattle.gc_station.specs.Runs.{state_after}
 use Rattle.gc_station.specs.Scopes.{Scope}
 use Rattle.gc_station.specs.Stopping.{least_moment, asked_after, IsNotWell, NoneWellSince, ClosesStale, StopsAtItsClose, EndsOnceStale, GoesOnInItsChain, ClosesBetweenChains}
-use Rattle.gc_station.specs.Quiet.{IsListening}
+use Rattle.gc_station.specs.Quiet.{IsListening, HasLast}
 use Rattle.gc_station.proofs.Always.{always, always_of_progress}
 use Rattle.gc_station.proofs.Closings.{cause_in, no_cause_shown, Decided, after_decided, runs_split, stopped_for, needs_of, done_sent}
 use Rattle.gc_station.proofs.Counts.{ended_progress}
@@ -297,7 +297,7 @@ stops_at why quits plan commands scope acts runs stop = by_shown (stopped_for pl
 
   -- the lemma above, by why the run stopped
   by_shown : ((why ≡ cause.Turns) × ((state_after plan commands scope acts).progress.turns ≡ 0))
-      ⊎ ((earlier : List Act) × (last : Act) × (acts ≡ earlier ++ last ∷ []) × Ends plan (state_after plan commands scope earlier) why last) → Claim
+      ⊎ HasLast acts (λ earlier last. EndsRun plan (state_after plan commands scope earlier) why last) → Claim
   by_shown (inl turns) = absurd (alike cause.Turns turns.0)
   by_shown (inr (earlier, last, order, ends)) =
       let closed = ended_by_close plan (state_after plan commands scope earlier) why last (alike cause.Done) (alike cause.Open) (quits_never_shown why last quits) ends in

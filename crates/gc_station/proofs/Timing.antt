@@ -7,7 +7,7 @@ use Rattle.gc_catalogue.specs.declared.call.Call.TheVariants.{SetDate}
 use Rattle.gc_texts.specs.Stamps.{date_time}
 use Rattle.gc_texts.specs.Tasks.{call_at}
 use Rattle.gc_texts.specs.declared.tasks.Task.{Task}
-use Rattle.gc_station.specs.Requests.{Request, asked_at, in_text, of_command, of_task, sets_clock, untimed}
+use Rattle.gc_station.specs.Requests.{RunRequest, asked_at, in_text, of_command, of_task, sets_clock, untimed}
 
 -- what a task asks at any moment is what the text says, if the moment of a command that sets the clock is left out (`untimed`)
 untimed_at : (task : Task) (utc : ℕ) → untimed task.now (call_at task utc) ≡ untimed task.now task.command.call
@@ -21,7 +21,7 @@ untimed_at task utc = by_clock task.now where
 pub asked_text : (commands : List Task) (cycle place utc : ℕ) (task : Task) (others : List Task) → drop place commands ≡ task ∷ others
     → in_text commands (record { cycle = cycle; place = place; asked = asked_at utc task }) ≡ record { cycle = cycle; place = place; asked = of_task task }
 asked_text commands cycle place utc task others at =
-    let request : Asked → Request = λ (call : Asked). record { cycle = cycle; place = place; asked = record { target = task.command.target; call = call } } in
+    let request : Asked → RunRequest = λ (call : Asked). record { cycle = cycle; place = place; asked = record { target = task.command.target; call = call } } in
     ap (λ (left : List Task). request (untimed (sets_clock left) (call_at task utc))) at ∙ ap request (untimed_at task utc)
 
 -- the request of a command that isn't sent, as the text has it, is that of the command's task

@@ -44,8 +44,8 @@ phase_down false true why = refl
 phase_down false false why = refl
 
 -- in the progress after a connection that ended or couldn't be made, there is none
-pub again_down : (plan : Plan) (commands : ℕ) (why : Cause) (p : Progress) → is_up (after_failure plan commands why p).phase ≡ false
-again_down plan commands why p = phase_down (is_finished commands p) (is_spared plan why p || nat_lt 0 p.tries) why
+pub again_down : (plan : Plan) (count : ℕ) (why : Cause) (p : Progress) → is_up (after_failure plan count why p).phase ≡ false
+again_down plan count why p = phase_down (is_finished count p) (is_spared plan why p || nat_lt 0 p.tries) why
 
 -- after a close there is no connection
 pub closed_down : (plan : Plan) (w : Waiting) (why : Cause) (p : Progress) → is_up (closed plan w why p).phase ≡ false

@@ -12,15 +12,16 @@ use Rattle.gc_texts.specs.Endings.{Skipped, Missed}
 use Rattle.gc_texts.specs.declared.tasks.Task.{Task}
 use Rattle.gc_links.specs.Acts.{Act, Told, Gave}
 use Rattle.gc_links.specs.declared.link.Moment.{Moment}
+use Rattle.gc_station.specs.Chains.{IsChained}
 use Rattle.gc_station.specs.Cycles.{ClockRises, IsMissedIn, IsSkippedIn, UnsentIsJustified, UnsentForACause}
 use Rattle.gc_station.specs.Marks.{record_of, records_of}
 use Rattle.gc_station.specs.Parts.{went_out}
-use Rattle.gc_station.specs.Progressing.{turned, moment_noted, cycle_begun, skipped_at, loses_all}
+use Rattle.gc_station.specs.Progressing.{turned, moment_noted, cycle_begun, unsent_at, loses_all}
 use Rattle.gc_station.specs.Records.{Record}
 use Rattle.gc_station.specs.Runs.{state_after}
 use Rattle.gc_station.specs.Scopes.{Scope}
 use Rattle.gc_station.specs.Model.{Model, opening, action_at, is_heard, with_progress, with_moment, first_unsent_record, after_piece, moved, losing, Performs, Runs}
-use Rattle.gc_station.specs.NextCommand.{cycles_begun, place_next, mark_next, is_chained}
+use Rattle.gc_station.specs.NextCommand.{cycles_begun, place_next, mark_next}
 use Rattle.gc_station.specs.declared.mark.Mark.{Mark}
 use Rattle.gc_station.specs.declared.plan.Plan.{Plan}
 use Rattle.gc_station.specs.declared.progress.Action.{Action}
@@ -123,7 +124,7 @@ module _ (plan : Plan) (commands : List Task) (scope : Scope) (some : 0 < plan.e
   -- where `Begun` holds, the record of a command of a missed cycle, which isn't sent, came about as `IsMissedIn` says
   skip_missed : (acts : List Act) (m : Moment) (p : Progress) (r : Record) → HasBegun acts p → (here : 0 < p.unsent) → (cycle : r.cycle ≡ cycles_begun plan p)
       → (sent : r.sent ≡ None)
-      → (utc : r.utc ≡ skipped_at m p) → (missed : p.missed ≡ true) → IsMissedIn plan commands scope (acts ++ Told m ∷ []) r
+      → (utc : r.utc ≡ unsent_at m p) → (missed : p.missed ≡ true) → IsMissedIn plan commands scope (acts ++ Told m ∷ []) r
   skip_missed acts m p r (inl none) here cycle sent utc missed = let nothing = none.1 in absurd (omega (arith, nothing, here))
   skip_missed acts m p r (inr c) here cycle sent utc missed = record {
     its = record {
@@ -140,7 +141,7 @@ module _ (plan : Plan) (commands : List Task) (scope : Scope) (some : 0 < plan.e
 
   -- in a cycle that isn't missed, a command that waits for the answer of the one before it is of a chain, and not its first
   waits_in_its_chain : (p : Progress) → WaitsForAnswer plan commands scope some p → p.missed ≡ false
-      → (plan.setup < place_next commands p) × (is_chained (drop (place_next commands p) commands) ≡ true)
+      → IsChained plan commands p
   waits_in_its_chain p (inl missed) free = absurd (both_ways p.missed free missed)
   waits_in_its_chain p (inr chain) free = chain
 
@@ -149,7 +150,7 @@ module _ (plan : Plan) (commands : List Task) (scope : Scope) (some : 0 < plan.e
   skip_skipped : (acts : List Act) (m : Moment) (r : Record) → HasBegun acts (state acts).progress
       → (is_next : action_at plan (state acts) ≡ actions.Skip)
       → (cycle : r.cycle ≡ cycles_begun plan (state acts).progress) → (place : r.place ≡ place_next commands (state acts).progress)
-      → (sent : r.sent ≡ None) → (utc : r.utc ≡ skipped_at m (state acts).progress)
+      → (sent : r.sent ≡ None) → (utc : r.utc ≡ unsent_at m (state acts).progress)
       → (free : (state acts).progress.missed ≡ false) → IsSkippedIn plan commands scope (acts ++ Told m ∷ []) r
   skip_skipped acts m r cycle_begun is cycle place sent utc free = by_begun cycle_begun where
     -- the model before the act

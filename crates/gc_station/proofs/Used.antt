@@ -8,8 +8,9 @@ use Rattle.gc_station.specs.declared.cause.Cause.TheVariants as cause
 use Rattle.gc_station.specs.declared.progress.Action.TheVariants as actions
 use Rattle.gc_station.specs.declared.progress.Progress.{Progress}
 use Rattle.gc_links.specs.Acts.{Act}
-use Rattle.gc_station.specs.Closing.{Ends}
+use Rattle.gc_station.specs.Closing.{EndsRun}
 use Rattle.gc_station.specs.Progressing.{turned}
+use Rattle.gc_station.specs.Quiet.{HasLast}
 use Rattle.gc_station.specs.Runs.{state_after}
 use Rattle.gc_station.specs.Model.{Model, opening, action_at, with_progress, moved, after, after_all, Runs}
 use Rattle.gc_station.proofs.Closings.{runs_split, stopped_for}
@@ -57,7 +58,7 @@ module _ (plan : Plan) (commands : List Task) (scope : Scope) where
 
     -- the lemma above, by why the run stopped: no turn is left, or the last act closed a connection for the turns
     by_shown : ((cause.Turns ≡ cause.Turns) × ((state acts).progress.turns ≡ 0))
-        ⊎ ((earlier : List Act) × (last : Act) × (acts ≡ earlier ++ last ∷ []) × Ends plan (state earlier) cause.Turns last)
+        ⊎ HasLast acts (λ earlier last. EndsRun plan (state earlier) cause.Turns last)
         → scope.turns ≤ length acts
     by_shown (inl none) = used_up acts none.1
     by_shown (inr (earlier, last, order, ends)) =

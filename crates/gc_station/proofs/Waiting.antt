@@ -8,7 +8,7 @@ use Rattle.std.proofs.lemmas.List.{length-map}
 use Rattle.gc_catalogue.specs.declared.asked.Asked.{Asked}
 use Rattle.gc_client.specs.declared.pending.Pending.{Pending}
 use Rattle.gc_client.specs.Ids
-use Rattle.gc_client.specs.Ids.{id_at, IsWithinLimits}
+use Rattle.gc_client.specs.Ids.{id_at_place, IsWithinLimits}
 use Rattle.gc_client.specs.Rule.{ById, expired, expires}
 use Rattle.gc_texts.specs.declared.tasks.Task.{Task}
 use Rattle.gc_station.specs.declared.mark.Mark.{Mark}
@@ -22,7 +22,7 @@ use Rattle.gc_station.specs.Quiet.{IsAsking}
 use Rattle.gc_station.specs.Records.{Record}
 use Rattle.gc_station.specs.Runs.{state_after}
 use Rattle.gc_station.specs.ActKinds.{Puts}
-use Rattle.gc_station.specs.Model.{Model, IsSending, action_at, cycle_to_send, place_to_send, request_text, Performs}
+use Rattle.gc_station.specs.Model.{Model, IsSending, action_at, cycle_to_send, place_to_send, next_request_text, Performs}
 use Rattle.gc_station.proofs.Lists.{all_append, all_on, AllRisingAt, rising_follow, rising_map}
 use Rattle.gc_station.specs.Scopes.{Scope}
 
@@ -95,20 +95,20 @@ module _ (plan : Plan) (commands : List Task) (scope : Scope) where
     pub asks : 0 < at → IsAsking (action_at plan (state before))
     pub its : (m : Mark) → mark ≡ Some m → Marked before m
     pub id : with_id ≡ (state before).client.next
-    pub put : Puts (request_text (state before).client p.call) request
+    pub put : Puts (next_request_text (state before).client p.call) request
     pub deadline : (m : Mark) → mark ≡ Some m → p.deadline ≡ deadline_after plan commands scope before
     pub stays : Stays p.given_up p.deadline between
 
   -- an outstanding request at the place `at` was put among these acts, with the id of that place, and `Stayed` holds of it since.
   -- The client's next id is `next`, and `count` requests wait
-  abbrev pub Waits : List Act → (next count : ℕ) → (number at : ℕ) → Pending Asked → Option Mark → Type 0
-  Waits acts next count number at p mark = WasAsked acts Stayed number at (id_at next count at) p mark
+  abbrev pub StillWaits : List Act → (next count : ℕ) → (number at : ℕ) → Pending Asked → Option Mark → Type 0
+  StillWaits acts next count number at p mark = WasAsked acts Stayed number at (id_at_place next count at) p mark
 
-  -- as `Waits`, at the moment `now`, which isn't among the acts yet; and a request with that id waited at the client as it was
+  -- as `StillWaits`, at the moment `now`, which isn't among the acts yet; and a request with that id waited at the client as it was
   -- after the acts
-  abbrev pub WaitsAt : List Act → (client : ById Asked) → (now : ℕ) → (next count : ℕ) → (number at : ℕ) → Pending Asked → Option Mark → Type 0
-  WaitsAt acts client now next count number at p mark =
-      WasAsked acts (StayedAt now) number at (id_at next count at) p mark × Ids.Waits client (id_at next count at)
+  abbrev pub StillWaitsAt : List Act → (client : ById Asked) → (now : ℕ) → (next count : ℕ) → (number at : ℕ) → Pending Asked → Option Mark → Type 0
+  StillWaitsAt acts client now next count number at p mark =
+      WasAsked acts (StayedAt now) number at (id_at_place next count at) p mark × Ids.Waits client (id_at_place next count at)
 
   -- a record is true: if it is of a reply in time, late or lost, it came about as the law on such records says
   pub record IsJustified (acts : List Act) (r : Record) : Type 0 where
@@ -117,9 +117,9 @@ module _ (plan : Plan) (commands : List Task) (scope : Scope) where
     pub lost : LostIsJustified plan commands scope acts r
 
   -- what every run keeps: the outstanding requests at the client c, with these marks, were put among the acts, in order
-  -- (`Waits`); and the records are true by `all` acts
+  -- (`StillWaits`); and the records are true by `all` acts
   pub record Honest (acts all : List Act) (c : ById Asked) (marks : List (Option Mark)) (records : List Record) : Type 0 where
-    pub waiting : AllRisingAt (Waits acts c.next (length c.waiting)) 0 0 c.waiting marks
+    pub waiting : AllRisingAt (StillWaits acts c.next (length c.waiting)) 0 0 c.waiting marks
     pub written : AllByRecursion (IsJustified all) records
 
   -- `Honest`, of the client, the marks and the records of a model
@@ -256,7 +256,7 @@ module _ (plan : Plan) (commands : List Task) (scope : Scope) where
   pub honest_untold : (acts : List Act) (act : Act) (c : ById Asked) (marks : List (Option Mark)) (rs : List Record) → ((d : ℕ) → ReadsBefore d act)
       → Honest acts (acts ++ act ∷ []) c marks rs → Honest (acts ++ act ∷ []) (acts ++ act ∷ []) c marks rs
   honest_untold acts act c marks rs on h = record {
-    waiting = rising_follow (Waits acts c.next (length c.waiting)) (Waits (acts ++ act ∷ []) c.next (length c.waiting)) 0 0 c.waiting marks
+    waiting = rising_follow (StillWaits acts c.next (length c.waiting)) (StillWaits (acts ++ act ∷ []) c.next (length c.waiting)) 0 0 c.waiting marks
         (λ n j p mark w. asked_more acts act Stayed Stayed n j _ p mark (stays_still act on) w) h.waiting;
     written = h.written;
   }
@@ -280,23 +280,23 @@ module _ (plan : Plan) (commands : List Task) (scope : Scope) where
     stays = stays_at now p.given_up p.deadline s.between s.stays;
   }
 
-  -- once the moment `now` has timed out the requests whose deadline has come, the same requests wait, as `WaitsAt` says
+  -- once the moment `now` has timed out the requests whose deadline has come, the same requests wait, as `StillWaitsAt` says
   pub expired_waits : (acts : List Act) (now : ℕ) (c : ById Asked) (marks : List (Option Mark))
-      → AllRisingAt (Waits acts c.next (length c.waiting)) 0 0 c.waiting marks
-      → AllRisingAt (WaitsAt acts c now c.next (length (map (expired now) c.waiting))) 0 0 (map (expired now) c.waiting) marks
+      → AllRisingAt (StillWaits acts c.next (length c.waiting)) 0 0 c.waiting marks
+      → AllRisingAt (StillWaitsAt acts c now c.next (length (map (expired now) c.waiting))) 0 0 (map (expired now) c.waiting) marks
   expired_waits acts now c marks all =
-      subst (λ (n : ℕ). AllRisingAt (WaitsAt acts c now c.next n) 0 0 (map (expired now) c.waiting) marks) (sym (length-map c.waiting (expired now)))
-      (rising_map (Waits acts c.next (length c.waiting)) (WaitsAt acts c now c.next (length c.waiting)) (expired now) 0 0 c.waiting marks
+      subst (λ (n : ℕ). AllRisingAt (StillWaitsAt acts c now c.next n) 0 0 (map (expired now) c.waiting) marks) (sym (length-map c.waiting (expired now)))
+      (rising_map (StillWaits acts c.next (length c.waiting)) (StillWaitsAt acts c now c.next (length c.waiting)) (expired now) 0 0 c.waiting marks
       (λ n j p mark low w. let below : j < length c.waiting = omega (arith, low) in (at_moment acts now n j _ p mark w, (j, below, refl))) all)
 
-  -- requests that wait as `WaitsAt` says, at the moment `now`, wait as `Waits` says once the act that reads that moment is among
+  -- requests that wait as `StillWaitsAt` says, at the moment `now`, wait as `StillWaits` says once the act that reads that moment is among
   -- the acts
   pub behind_moment : (acts : List Act) (act : Act) (client : ById Asked) (now next count : ℕ) (ps : List (Pending Asked))
       (marks : List (Option Mark))
       → ((d : ℕ) → now < d → ReadsBefore d act) → ((d : ℕ) → d ≤ now → ReadsAtOrPast d act)
-      → AllRisingAt (WaitsAt acts client now next count) 0 0 ps marks → AllRisingAt (Waits (acts ++ act ∷ []) next count) 0 0 ps marks
+      → AllRisingAt (StillWaitsAt acts client now next count) 0 0 ps marks → AllRisingAt (StillWaits (acts ++ act ∷ []) next count) 0 0 ps marks
   behind_moment acts act client now next count ps marks on past all =
-      rising_follow (WaitsAt acts client now next count) (Waits (acts ++ act ∷ []) next count) 0 0 ps marks
+      rising_follow (StillWaitsAt acts client now next count) (StillWaits (acts ++ act ∷ []) next count) 0 0 ps marks
       (λ n j p mark w. asked_more acts act (StayedAt now) Stayed n j _ p mark (stays_behind act now on past) w.0) all
 
   -- an act that reads a moment, and so times requests out, preserves `Honest`

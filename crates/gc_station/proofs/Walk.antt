@@ -1,12 +1,11 @@
 -- One walk over the actions: which fields an act of each action changes (`changed`), and what has to hold for a fact to hold
 -- after it (`HoldsInEachCase`). A new action is a row in each of these tables; a fact about all actions is an instance. An act is
 -- one call on the link, with its result.
-use Rattle.std.proofs.Common.{◌≡◌, ℕ, Bool, true, false, List, [], ◌∷◌, drop, Some, if◌then◌else◌, refl, sym, subst}
+use Rattle.std.proofs.Common.{◌≡◌, ℕ, Bool, true, false, List, [], ◌∷◌, drop, if◌then◌else◌, refl, sym, subst}
 use Rattle.gc_lines.specs.Frames.{rest_behind}
 use Rattle.gc_catalogue.specs.declared.asked.Asked.TheVariants.{Table}
 use Rattle.gc_catalogue.specs.declared.call.Call.TheVariants.{NullProc}
 use Rattle.gc_client.specs.Rule.{restarts}
-use Rattle.gc_texts.specs.Tasks.{call_at}
 use Rattle.gc_texts.specs.declared.tasks.Task.{Task}
 use Rattle.gc_links.specs.declared.link.Moment.{Moment}
 use Rattle.gc_station.specs.declared.mark.Mark.{Mark}
@@ -26,8 +25,8 @@ use Rattle.gc_station.specs.Deciding.{is_quiet}
 use Rattle.gc_station.specs.Marks.{commands_in}
 use Rattle.gc_station.specs.Progressing.{turned, moment_noted, cycle_begun, skipped, failing, opened, after_failure, cleared, request_noted, null_sent, renewed, sent, line_synchronizing, lines_synchronizing, pause_ended, drained, quieted, time_passed, early_noted, ended_for, closed, setup_sent}
 use Rattle.gc_station.specs.ActKinds.{Puts}
-use Rattle.gc_station.specs.Model.{Model, waiting_of, request_text, null_text, first_text, listed_after_skip, with_listed, after_pass, Performs, is_heard, with_progress, with_moment, with_rest, with_more_records, asks, asks_null, asks_first, asks_next, unsent_record, line_came, lines_came, lines_completed, piece_came, after_piece, piece_noted, piece_at, after_read, after_put, after_close, moved, settles, losing, after, after_all, cycle_length, text_or_null, asks_or_null, asks_setup}
-use Rattle.gc_station.specs.NextCommand.{place_next, mark_next, commands_before, upcoming_after, mark_setup}
+use Rattle.gc_station.specs.Model.{Model, waiting_of, next_request_text, null_text, first_text, listed_after_skip, with_listed, after_pass, Performs, is_heard, with_progress, with_moment, with_rest, with_more_records, asks_for, asks_first, asks_next, unsent_record, line_came, lines_came, lines_completed, piece_came, after_piece, piece_noted, piece_at, after_read, after_put, after_close, moved, settles, losing, after, after_all, cycle_length, text_or_null, asks_setup, request_for, null_request, request_or_null}
+use Rattle.gc_station.specs.NextCommand.{place_next, commands_left, mark_next, commands_before, upcoming_after}
 
 -- Parts of an act.
 
@@ -78,14 +77,14 @@ closed_along P plan w why p ends on = on
 -- a fact of models holds after the send of the first of these commands, with this mark, if it holds after the send of any task
 -- with it, and before the send, as nothing is sent if there is no command
 pub first_along : (P : Model → Type 0) (mark : Mark) (left : List Task) (s : Model)
-    → ((task : Task) → P (asks task.deadline task.command.target (call_at task mark.sent) (Some mark) s)) → P s → P (asks_first mark left s)
+    → ((task : Task) → P (asks_for (request_for mark task) s)) → P s → P (asks_first mark left s)
 first_along P mark [] s sends none = none
 first_along P mark (task ∷ others) s sends none = sends task
 
 -- a fact of models holds after the send of the first of these commands of the setup, with this mark, or of a null procedure if
 -- there is none, if it holds after the send of any task with that mark, and after that of the null procedure
 pub setup_along : (P : Model → Type 0) (plan : Plan) (mark : Mark) (left : List Task) (s : Model)
-    → ((task : Task) → P (asks task.deadline task.command.target (call_at task mark.sent) (Some mark) s)) → P (asks_null plan s) → P (asks_or_null plan mark left s)
+    → ((task : Task) → P (asks_for (request_for mark task) s)) → P (asks_for (null_request plan) s) → P (asks_for (request_or_null plan mark left) s)
 setup_along P plan mark [] s sends null = null
 setup_along P plan mark (task ∷ others) s sends null = sends task
 
@@ -103,8 +102,8 @@ acts_along plan commands P step s (act ∷ acts) p = acts_along plan commands P 
 -- The next command was sent, whatever it is.
 
 -- the model that sent the next command, by its fields
-abbrev pub sending : Plan → List Task → Model → Model
-sending plan commands s = record s {
+abbrev pub model_sent : Plan → List Task → Model → Model
+model_sent plan commands s = record s {
   progress = sent (upcoming_after 1 commands s.progress) s.progress;
   client = (asks_next plan commands s).client;
   marks = (asks_next plan commands s).marks;
@@ -117,30 +116,11 @@ first_sent : (next : Upcoming) (mark : Mark) (left : List Task) (s : Model)
 first_sent next mark [] s = refl
 first_sent next mark (task ∷ others) s = refl
 
--- the model that sent the next command, by its fields (`sending`), is that after the act that sends
+-- the model that sent the next command, by its fields (`model_sent`), is that after the act that sends
 pub is_sent : (plan : Plan) (commands : List Task) (s : Model)
-    → sending plan commands s ≡ with_progress (sent (upcoming_after 1 commands s.progress)) (asks_next plan commands s)
+    → model_sent plan commands s ≡ with_progress (sent (upcoming_after 1 commands s.progress)) (asks_next plan commands s)
 is_sent plan commands s = first_sent (upcoming_after 1 commands s.progress) (mark_next plan commands s.progress)
     (drop (place_next commands s.progress) commands) s
-
--- the model that sent the next command of the setup, by its fields
-abbrev pub sending_setup : Plan → List Task → Model → Model
-sending_setup plan commands s = record s {
-  progress = setup_sent plan s.progress;
-  client = (asks_setup plan commands s).client;
-  marks = (asks_setup plan commands s).marks;
-}
-
--- the model that sent the first of these commands of the setup, by its fields, is that after the send
-first_prepared : (plan : Plan) (mark : Mark) (left : List Task) (s : Model)
-    → record s { progress = setup_sent plan s.progress; client = (asks_or_null plan mark left s).client; marks = (asks_or_null plan mark left s).marks }
-    ≡ with_progress (setup_sent plan) (asks_or_null plan mark left s)
-first_prepared plan mark [] s = refl
-first_prepared plan mark (task ∷ others) s = refl
-
--- the model that sent the next command of the setup, by its fields (`sending_setup`), is that after the act that sends
-pub is_prepared : (plan : Plan) (commands : List Task) (s : Model) → sending_setup plan commands s ≡ with_progress (setup_sent plan) (asks_setup plan commands s)
-is_prepared plan commands s = first_prepared plan (mark_setup commands s.progress) (drop s.progress.prepared commands) s
 
 -- Which fields change.
 
@@ -311,10 +291,8 @@ moved_changed plan commands Clear s (Cut bytes n) = refl
 moved_changed plan commands Clear s act = refl
 moved_changed plan commands Ask s (Cut bytes n) = refl
 moved_changed plan commands Ask s act = refl
-moved_changed plan commands Prepare s (Cut bytes n) =
-    let cut = with_progress (failing (cause.Write (commands_before plan commands s.progress) n)) in
-    subst (λ (u : Model). cut u ≡ changed Prepare s (cut u)) (is_prepared plan commands s) refl
-moved_changed plan commands Prepare s act = subst (λ (u : Model). u ≡ changed Prepare s u) (is_prepared plan commands s) refl
+moved_changed plan commands Prepare s (Cut bytes n) = refl
+moved_changed plan commands Prepare s act = refl
 moved_changed plan commands Send s (Cut bytes n) =
     let cut = with_progress (failing (cause.Write (commands_before plan commands s.progress) n)) in
     subst (λ (u : Model). cut u ≡ changed Send s (cut u)) (is_sent plan commands s) refl
@@ -351,16 +329,17 @@ HoldsInEachCase plan commands P Open s = ((m : Moment) → P Opened (with_progre
 HoldsInEachCase plan commands P Clear s = HoldsAfterPut P (commands_before plan commands s.progress) (10 ∷ []) (with_progress cleared s)
 HoldsInEachCase plan commands P Ask s = HoldsAfterPut P (commands_before plan commands s.progress) (null_text s.progress.word) (with_progress (null_sent plan) s)
 HoldsInEachCase plan commands P Prepare s =
-    HoldsAfterPut P (commands_before plan commands s.progress) (text_or_null s.progress.moment.utc s.client (drop s.progress.prepared commands)) (sending_setup plan commands s)
+    HoldsAfterPut P (commands_before plan commands s.progress) (text_or_null s.progress.moment.utc s.client (drop s.progress.prepared commands))
+    (with_progress (setup_sent plan) (asks_setup plan commands s))
 HoldsInEachCase plan commands P Send s =
-    HoldsAfterPut P (commands_before plan commands s.progress) (first_text s.progress.moment.utc s.client (drop (place_next commands s.progress) commands)) (sending plan commands s)
+    HoldsAfterPut P (commands_before plan commands s.progress) (first_text s.progress.moment.utc s.client (commands_left commands s.progress)) (model_sent plan commands s)
 HoldsInEachCase plan commands P Skip s =
     ((m : Moment) → P (Told m) (with_moment m (with_progress (λ p. early_noted plan (commands_in s.marks)
     (skipped (upcoming_after 1 commands s.progress) m p)) (with_listed (listed_after_skip plan commands s (Told m))
     (with_more_records (unsent_record plan commands s.progress (Told m)) s)))))
     × ((n : ℕ) → P Untold (with_progress (failing cause.Clock) (with_more_records [] s)))
 HoldsInEachCase plan commands P Pass s = ((m : Moment) → P (Told m) (after_pass plan commands s (Told m))) × ((n : ℕ) → P Untold (with_progress (failing cause.Clock) s))
-HoldsInEachCase plan commands P Flush s = HoldsAfterPut P (commands_before plan commands s.progress) (request_text s.client (Table NullProc)) (with_progress request_noted (asks_null plan s))
+HoldsInEachCase plan commands P Flush s = HoldsAfterPut P (commands_before plan commands s.progress) (next_request_text s.client (Table NullProc)) (with_progress request_noted (asks_for (null_request plan) s))
 HoldsInEachCase plan commands P (Read until) s =
     ((bytes : List ℕ) (m : Moment) → P (Gave bytes m) (piece_at plan until bytes m s)) × ((m : Moment) → P (Silent m) (after_read plan until s (Silent m)))
     × P Ended (with_progress (failing cause.End) s) × P Broke (with_progress (failing cause.Read) s) × P Untold (with_progress (failing cause.Clock) s)
@@ -394,8 +373,7 @@ walk plan commands P Ask s act o h = put_walk P (commands_before plan commands s
 walk plan commands P Prepare s act o h =
     let requests = commands_before plan commands s.progress in
     let text = text_or_null s.progress.moment.utc s.client (drop s.progress.prepared commands) in
-    put_walk P requests text (λ (x : Model). with_progress (setup_sent plan) (asks_setup plan commands x)) s act o
-    (subst (λ (u : Model). HoldsAfterPut P requests text u) (is_prepared plan commands s) h)
+    put_walk P requests text (λ (x : Model). with_progress (setup_sent plan) (asks_setup plan commands x)) s act o h
 walk plan commands P Send s act o h =
     let requests = commands_before plan commands s.progress in
     let text = first_text s.progress.moment.utc s.client (drop (place_next commands s.progress) commands) in
@@ -407,8 +385,8 @@ walk plan commands P Skip s act o h = absurd o
 walk plan commands P Pass s (Told m) o h = h.0 m
 walk plan commands P Pass s Untold o h = h.1 0
 walk plan commands P Pass s act o h = absurd o
-walk plan commands P Flush s act o h = put_walk P (commands_before plan commands s.progress) (request_text s.client (Table NullProc))
-    (λ (x : Model). with_progress request_noted (asks_null plan x)) s act o h
+walk plan commands P Flush s act o h = put_walk P (commands_before plan commands s.progress) (next_request_text s.client (Table NullProc))
+    (λ (x : Model). with_progress request_noted (asks_for (null_request plan) x)) s act o h
 walk plan commands P (Read until) s (Gave bytes m) o h = h.0 bytes m
 walk plan commands P (Read until) s (Silent m) o h = h.1 m
 walk plan commands P (Read until) s Ended o h = h.2

@@ -30,10 +30,10 @@ IsOpening Unopened = Unit {0}
 IsOpening _ = ⊥
 
 -- the act is a read, whatever came of it: bytes, nothing, the end of the connection, a failure, or a clock that can't be read
-abbrev pub IsReading : Act → Type 0
-IsReading (Gave bytes m) = Unit {0}
-IsReading (Silent m) = Unit {0}
-IsReading Ended = Unit {0}
-IsReading Broke = Unit {0}
-IsReading Untold = Unit {0}
-IsReading _ = ⊥
+abbrev pub ReadsLink : Act → Type 0
+ReadsLink (Gave bytes m) = Unit {0}
+ReadsLink (Silent m) = Unit {0}
+ReadsLink Ended = Unit {0}
+ReadsLink Broke = Unit {0}
+ReadsLink Untold = Unit {0}
+ReadsLink _ = ⊥

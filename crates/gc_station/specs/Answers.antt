@@ -12,7 +12,7 @@ use Rattle.gc_station.specs.Deciding.{later}
 use Rattle.gc_station.specs.Records.{Record}
 use Rattle.gc_station.specs.Runs.{state_after}
 use Rattle.gc_station.specs.ActKinds.{Puts, moment_in}
-use Rattle.gc_station.specs.Model.{IsSending, cycle_to_send, place_to_send, request_text, lines_completed, Model}
+use Rattle.gc_station.specs.Model.{IsSending, cycle_to_send, place_to_send, next_request_text, lines_completed, Model}
 use Rattle.gc_station.specs.Scopes.{Scope}
 
 -- the act reads no moment, or one before `deadline`
@@ -38,7 +38,7 @@ pub record IsOwnRequest (plan : Plan) (commands : List Task) (s : Model) (act : 
   pub cycle : r.cycle ≡ cycle_to_send plan s
   pub place : r.place ≡ place_to_send plan commands s
   pub sent : r.sent ≡ Some s.progress.moment.utc
-  pub put : Puts (request_text s.client r.command.call) act
+  pub put : Puts (next_request_text s.client r.command.call) act
 
 -- the act `act`, made after `acts`, adds the record `r`; it may add other records before it (`earlier`) and after it (`later`)
 pub record IsWrittenAt (plan : Plan) (commands : List Task) (scope : Scope) (acts : List Act) (act : Act) (r : Record) : Type 0 where

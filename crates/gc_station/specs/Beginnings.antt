@@ -13,7 +13,7 @@ use Rattle.gc_station.specs.declared.plan.Plan.{Plan}
 use Rattle.gc_links.specs.Acts.{Act, Put, Gave, Opened}
 use Rattle.gc_station.specs.Deciding.{has_begun}
 use Rattle.gc_station.specs.Ends.{Resynchronizes}
-use Rattle.gc_station.specs.Quiet.{IsAsking, IsRequest, IsQuietFirst, StaysConnected}
+use Rattle.gc_station.specs.Quiet.{IsAsking, SendsRequest, IsQuietFirst, StaysConnected}
 use Rattle.gc_station.specs.Runs.{state_after}
 use Rattle.gc_station.specs.Scopes.{Scope}
 use Rattle.gc_station.specs.ActKinds.{Puts}
@@ -45,7 +45,7 @@ pub record IsSynchronizing (s : Model) (act : Act) (t : Model) : Type 0 where
   pub client : s.client ≡ fresh
   pub marks : s.marks ≡ []
   -- a request that is sent is the null procedure of the first id that isn't answered
-  pub asks : IsRequest act → Puts (null_text s.progress.word) act
+  pub asks : SendsRequest act → Puts (null_text s.progress.word) act
   -- the ids that are left after the act: each line that it brings answers the first id that is left if it has that id, and
   -- otherwise none
   pub left : t.progress.word ≡ unanswered_after s.progress.word (lines_heard_at s act)

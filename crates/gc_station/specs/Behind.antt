@@ -22,8 +22,8 @@ use Rattle.gc_station.specs.Progressing.{is_over}
 use Rattle.gc_station.specs.Runs.{state_after, OfEachRun}
 
 -- the settlement `x` is of a call of the table, and a reply ended it: it was answered, or late
-abbrev pub IsReplied : Settlement Asked → Type 0
-IsReplied x = (is_of_table x.call ≡ true) × (x.outcome ≡ Lost → ⊥)
+abbrev pub IsEndedByReply : Settlement Asked → Type 0
+IsEndedByReply x = (is_of_table x.call ≡ true) × (x.outcome ≡ Lost → ⊥)
 
 -- of the requests that a client sent since its synchronization (`x.sent`), one of the last seven is a call of the table that a
 -- reply ended: request `k`, with its settlement `s`. Or fewer than seven were sent, so that the last null procedure of the
@@ -31,7 +31,7 @@ IsReplied x = (is_of_table x.call ≡ true) × (x.outcome ≡ Lost → ⊥)
 abbrev pub IsNearTheTable : Course Asked → Type 0
 IsNearTheTable x =
     (length x.sent < WINDOW)
-    ⊎ ((k : ℕ) × (s : Settlement Asked) × (slice_get x.settlements k ≡ Some s) × IsReplied s × (length x.sent ≤ k + WINDOW))
+    ⊎ ((k : ℕ) × (s : Settlement Asked) × (slice_get x.settlements k ≡ Some s) × IsEndedByReply s × (length x.sent ≤ k + WINDOW))
 
 -- wherever a command is sent in this part of a run, one of the seven requests before it is a call of the table that a reply
 -- ended, or the last null procedure of the part's synchronization (`IsNearTheTable`). `front` are the client's steps before the

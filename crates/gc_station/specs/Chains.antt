@@ -1,10 +1,11 @@
 -- Chains, this project's own: a command that goes on with a chain is sent only once the one before it in its cycle was answered
 -- well, on the connection on which that was sent. An act is one call on the link, with its result.
-use Rattle.std.specs.Prelude.{◌≡◌, ◌+◌, ◌<◌, true, List, [], ◌∷◌, ◌++◌, drop}
+use Rattle.std.specs.Prelude.{◌≡◌, ◌+◌, ◌<◌, true, List, [], ◌∷◌, ◌++◌}
 use Rattle.std.specs.List.{AllByRecursion}
 use Rattle.gc_texts.specs.declared.tasks.Task.{Task}
 use Rattle.gc_station.specs.declared.plan.Plan.{Plan}
 use Rattle.gc_station.specs.declared.progress.Action.TheVariants.{Send}
+use Rattle.gc_station.specs.declared.progress.Progress.{Progress}
 use Rattle.gc_links.specs.Acts.{Act}
 use Rattle.gc_station.specs.Answers.{IsAnsweredIn}
 use Rattle.gc_station.specs.Qualities.{IsGoodAnswer}
@@ -12,13 +13,13 @@ use Rattle.gc_station.specs.Quiet.{KeepsOpen}
 use Rattle.gc_station.specs.Records.{Record}
 use Rattle.gc_station.specs.Runs.{state_after}
 use Rattle.gc_station.specs.Scopes.{Scope}
-use Rattle.gc_station.specs.Model.{Model, action_at}
-use Rattle.gc_station.specs.NextCommand.{cycles_begun, place_next, is_chained}
+use Rattle.gc_station.specs.Model.{action_at}
+use Rattle.gc_station.specs.NextCommand.{cycles_begun, place_next, commands_left, first_is_chained}
 
--- the cycle's next command isn't the cycle's first, which comes after the setup, and is sent only once the one before it was
--- answered well
-abbrev pub IsChained : Plan → List Task → Model → Type 0
-IsChained plan commands s = (plan.setup < place_next commands s.progress) × (is_chained (drop (place_next commands s.progress) commands) ≡ true)
+-- at the progress `p` the cycle's next command isn't the cycle's first, which comes after the setup, and is sent only once the
+-- one before it was answered well
+abbrev pub IsChained : Plan → List Task → Progress → Type 0
+IsChained plan commands p = (plan.setup < place_next commands p) × (first_is_chained (commands_left commands p) ≡ true)
 
 -- among `acts` the act `request` sent the command before the cycle's next one, in the same cycle. No connection was closed
 -- since (`stays`), and the last record of all is of that command, by its cycle and place (`answer`): an answer of a good quality

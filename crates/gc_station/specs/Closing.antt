@@ -1,5 +1,5 @@
 -- Why each act is made, and why a connection is closed: this project's own. An act is one call on the link, with its result.
-use Rattle.std.specs.Prelude.{◌≡◌, ◌⊎◌, ◌≤◌, ℕ, false, List, [], ◌∷◌, ◌++◌, length}
+use Rattle.std.specs.Prelude.{◌≡◌, ◌⊎◌, ◌≤◌, ℕ, false, List, [], length}
 use Rattle.gc_client.specs.Rule.{fresh}
 use Rattle.gc_texts.specs.declared.tasks.Task.{Task}
 use Rattle.gc_station.specs.declared.cause.Cause.{Cause}
@@ -12,6 +12,7 @@ use Rattle.gc_station.specs.declared.progress.Waiting.{Waiting}
 use Rattle.gc_links.specs.Acts.{Act, Untold, Cut, Ended, Broke, Closed, Unopened}
 use Rattle.gc_station.specs.Deciding.{is_up}
 use Rattle.gc_station.specs.Progressing.{is_finished, is_spared}
+use Rattle.gc_station.specs.Quiet.{HasLast}
 use Rattle.gc_station.specs.Reasons.{HoldsBefore, IsAtItsEnd, IsFinished}
 use Rattle.gc_station.specs.Runs.{state_after, OfEachRun}
 use Rattle.gc_station.specs.Model.{Model, waiting_of, action_at, Performs}
@@ -45,31 +46,31 @@ pub record ClosesForACause (plan : Plan) (commands : List Task) (scope : Scope) 
   pub why : Cause
   pub closes : action_at plan (state_after plan commands scope acts) ≡ Close why
   pub shown : IsAtItsEnd plan (state_after plan commands scope acts).progress (waiting_of (state_after plan commands scope acts)) why
-      ⊎ ((earlier : List Act) × (last : Act) × (acts ≡ earlier ++ last ∷ []) × Shows why last)
+      ⊎ HasLast acts (λ earlier last. Shows why last)
 
--- a run ends as done at the progress `p` with `commands` outstanding commands: no command is left to be sent, and none is
+-- a run ends as done at the progress `p` with `count` outstanding commands: no command is left to be sent, and none is
 -- outstanding
-abbrev pub EndsDone : Progress → (commands : ℕ) → Cause → Type 0
-EndsDone p commands why = (why ≡ cause.Done) × IsFinished commands p
+abbrev pub EndsDone : Progress → (count : ℕ) → Cause → Type 0
+EndsDone p count why = (why ≡ cause.Done) × IsFinished count p
 
--- at the progress `p` with `commands` outstanding commands a connection was closed, or couldn't be made, for the cause `other`;
+-- at the progress `p` with `count` outstanding commands a connection was closed, or couldn't be made, for the cause `other`;
 -- then the run ends for the cause `why`: it is done (`EndsDone`); or it isn't, `why` is `other`, a new connection would take a
 -- try, and no try is left
-abbrev pub EndsAtFailure : Plan → Progress → (commands : ℕ) (other why : Cause) → Type 0
-EndsAtFailure plan p commands other why =
-    EndsDone p commands why ⊎ ((why ≡ other) × (is_finished commands p ≡ false) × (is_spared plan other p ≡ false) × (p.tries ≡ 0))
+abbrev pub EndsAtFailure : Plan → Progress → (count : ℕ) (other why : Cause) → Type 0
+EndsAtFailure plan p count other why =
+    EndsDone p count why ⊎ ((why ≡ other) × (is_finished count p ≡ false) × (is_spared plan other p ≡ false) × (p.tries ≡ 0))
 
--- at the progress `p` with `commands` outstanding commands a connection was closed, or couldn't be made, for the cause `other`;
+-- at the progress `p` with `count` outstanding commands a connection was closed, or couldn't be made, for the cause `other`;
 -- then the run ends for the cause `why`. After `Clock` (the clock can't be read), `Turns` (all turns are used up), `Stale` and
 -- `Stopped`, `why` is that same cause. After `Done` the run is done: no command is left to be sent, and none is outstanding.
 -- After any other cause it ends as `EndsAtFailure` says
-abbrev pub EndsAfter : Plan → Progress → (commands : ℕ) (other why : Cause) → Type 0
-EndsAfter plan p commands cause.Done why = EndsDone p commands why
-EndsAfter plan p commands cause.Clock why = why ≡ cause.Clock
-EndsAfter plan p commands cause.Turns why = why ≡ cause.Turns
-EndsAfter plan p commands cause.Stale why = why ≡ cause.Stale
-EndsAfter plan p commands cause.Stopped why = why ≡ cause.Stopped
-EndsAfter plan p commands other why = EndsAtFailure plan p commands other why
+abbrev pub EndsAfter : Plan → Progress → (count : ℕ) (other why : Cause) → Type 0
+EndsAfter plan p count cause.Done why = EndsDone p count why
+EndsAfter plan p count cause.Clock why = why ≡ cause.Clock
+EndsAfter plan p count cause.Turns why = why ≡ cause.Turns
+EndsAfter plan p count cause.Stale why = why ≡ cause.Stale
+EndsAfter plan p count cause.Stopped why = why ≡ cause.Stopped
+EndsAfter plan p count other why = EndsAtFailure plan p count other why
 
 -- the act, which performed the action `next`, closed the connection for some cause, or couldn't make one; and the run ends then
 -- for the cause `why`, as `EndsAfter` says. `p` and `w` are of the station before the act
@@ -80,15 +81,15 @@ EndsDisconnected plan p w next why act =
 
 -- the act ends a run for the cause `why`, if the station has the model `s` before it: a call failed while there was no
 -- connection; or the act closed the connection or couldn't make one, and no other one is made
-abbrev pub Ends : Plan → Model → Cause → Act → Type 0
-Ends plan s why act = ((is_up s.progress.phase ≡ false) × Shows why act) ⊎ EndsDisconnected plan s.progress (waiting_of s) (action_at plan s) why act
+abbrev pub EndsRun : Plan → Model → Cause → Act → Type 0
+EndsRun plan s why act = ((is_up s.progress.phase ≡ false) × Shows why act) ⊎ EndsDisconnected plan s.progress (waiting_of s) (action_at plan s) why act
 
 -- after `acts` a run stops for the cause `why`: there is no connection; and all turns are used up, or the last act ends the run
 -- for that cause
 pub record StopsForACause (plan : Plan) (commands : List Task) (scope : Scope) (acts : List Act) (why : Cause) : Type 0 where
   pub down : is_up (state_after plan commands scope acts).progress.phase ≡ false
   pub shown : ((why ≡ cause.Turns) × ((state_after plan commands scope acts).progress.turns ≡ 0))
-      ⊎ ((earlier : List Act) × (last : Act) × (acts ≡ earlier ++ last ∷ []) × Ends plan (state_after plan commands scope earlier) why last)
+      ⊎ HasLast acts (λ earlier last. EndsRun plan (state_after plan commands scope earlier) why last)
 
 -- a connection is closed, or a run stops, because its turns are used up only after as many acts as it had turns
 abbrev pub EndsForTurnsOnlyAfterAsManyActs : Type 0

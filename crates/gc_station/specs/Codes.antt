@@ -16,6 +16,10 @@ use Rattle.gc_values.specs.declared.fault.ValueFault.{ValueFault}
 use Rattle.gc_station.specs.Marks.{end_of, is_well}
 use Rattle.gc_station.specs.Scopes.{AreReadings}
 
+-- `claim` is true if these fields of a reply have communication code 0 and an accepted return code other than 0
+abbrev pub IfAccepted : Expected → ReplyFields → (claim : Type 0) → Type 0
+IfAccepted expected r claim = r.rc_com ≡ 0 → r.rc ≢ 0 → lists_code expected.accepted r.rc ≡ true → claim
+
 -- how a command ended (`ended`) that asked for `call`, and whose reply, `line`, came in time. `r` has the reply's fields.
 -- `expected` says where the command's target is, if the text says so, and which return codes are accepted of it
 pub record EndsByItsCodes (expected : Expected) (call : Asked) (line : List ℕ) (r : ReplyFields) (ended : end.End) : Type 0 where
@@ -34,15 +38,14 @@ pub record EndsByItsCodes (expected : Expected) (call : Asked) (line : List ℕ)
   pub away : (answer : Answer) → IsAskedReading call r (reading.Value answer) → is_elsewhere expected.near answer ≡ true
       → ended ≡ end.Elsewhere line
   -- as `found`, with an accepted return code other than 0
-  pub warned : (answer : Answer) → r.rc_com ≡ 0 → r.rc ≢ 0 → lists_code expected.accepted r.rc ≡ true → IsAskedReading call (record r { rc = 0 }) (reading.Value answer)
-      → is_well ended ≡ not (is_elsewhere expected.near answer)
+  pub warned : (answer : Answer)
+      → IfAccepted expected r (IsAskedReading call (record r { rc = 0 }) (reading.Value answer) → is_well ended ≡ not (is_elsewhere expected.near answer))
   -- as `away`, with an accepted return code other than 0
-  pub warned_away : (answer : Answer) → r.rc_com ≡ 0 → r.rc ≢ 0 → lists_code expected.accepted r.rc ≡ true
-      → IsAskedReading call (record r { rc = 0 }) (reading.Value answer) → is_elsewhere expected.near answer ≡ true
-      → ended ≡ end.Elsewhere line
+  pub warned_away : (answer : Answer)
+      → IfAccepted expected r (IsAskedReading call (record r { rc = 0 }) (reading.Value answer) → is_elsewhere expected.near answer ≡ true → ended ≡ end.Elsewhere line)
   -- with an accepted return code other than 0, and parameters that don't read, it is answered with a warning, and without values
-  pub warned_without : (fault : ValueFault) → r.rc_com ≡ 0 → r.rc ≢ 0 → lists_code expected.accepted r.rc ≡ true
-      → IsAskedReading call (record r { rc = 0 }) (reading.Unreadable fault) → ended ≡ end.Answered quality.Warning None line
+  pub warned_without : (fault : ValueFault)
+      → IfAccepted expected r (IsAskedReading call (record r { rc = 0 }) (reading.Unreadable fault) → ended ≡ end.Answered quality.Warning None line)
 
 -- which commands are answered well; `reads` gives what a line says of a call
 pub record WellIsAnAcceptedCode : Type 0 where

@@ -11,39 +11,39 @@ how_many holds [] = 0
 how_many holds (r ∷ others) = if holds r.end then suc (how_many holds others) else how_many holds others
 
 -- whether an ending is `Answered`
-abbrev pub is_answered : End → Bool
-is_answered (Answered quality answer line) = true
-is_answered _ = false
+abbrev pub ended_answered : End → Bool
+ended_answered (Answered quality answer line) = true
+ended_answered _ = false
 
 -- whether an ending is `Unreadable`
-abbrev pub is_unreadable : End → Bool
-is_unreadable (Unreadable line fault) = true
-is_unreadable _ = false
+abbrev pub ended_unreadable : End → Bool
+ended_unreadable (Unreadable line fault) = true
+ended_unreadable _ = false
 
 -- whether an ending is `Elsewhere`
-abbrev pub is_elsewhere : End → Bool
-is_elsewhere (Elsewhere line) = true
-is_elsewhere _ = false
+abbrev pub ended_elsewhere : End → Bool
+ended_elsewhere (Elsewhere line) = true
+ended_elsewhere _ = false
 
 -- whether an ending is `Late`
-abbrev pub is_late : End → Bool
-is_late Late = true
-is_late _ = false
+abbrev pub ended_late : End → Bool
+ended_late Late = true
+ended_late _ = false
 
 -- whether an ending is `Lost`
-abbrev pub is_lost : End → Bool
-is_lost Lost = true
-is_lost _ = false
+abbrev pub ended_lost : End → Bool
+ended_lost Lost = true
+ended_lost _ = false
 
 -- whether an ending is `Skipped`
-abbrev pub is_skipped : End → Bool
-is_skipped Skipped = true
-is_skipped _ = false
+abbrev pub ended_skipped : End → Bool
+ended_skipped Skipped = true
+ended_skipped _ = false
 
 -- whether an ending is `Missed`
-abbrev pub is_missed : End → Bool
-is_missed Missed = true
-is_missed _ = false
+abbrev pub ended_missed : End → Bool
+ended_missed Missed = true
+ended_missed _ = false
 
 -- whether the attempt before these records is followed by a further one of its chain: the next command among them that begins
 -- an attempt (its link is 0) has an attempt above 1. Records of cycle 0, which are of the setup, are passed over, as they
@@ -70,11 +70,11 @@ CountsEndings count holds = (records : List Record) → count (tally_of records)
 
 -- each count of a tally counts the records of last attempts with its ending; `again` is how many times a chain was sent again
 pub record TalliesCountRecords : Type 0 where
-  pub answered : CountsEndings (λ t. t.answered) is_answered
-  pub unreadable : CountsEndings (λ t. t.unreadable) is_unreadable
-  pub late : CountsEndings (λ t. t.late) is_late
-  pub lost : CountsEndings (λ t. t.lost) is_lost
-  pub skipped : CountsEndings (λ t. t.skipped) is_skipped
-  pub missed : CountsEndings (λ t. t.missed) is_missed
-  pub elsewhere : CountsEndings (λ t. t.elsewhere) is_elsewhere
+  pub answered : CountsEndings (λ t. t.answered) ended_answered
+  pub unreadable : CountsEndings (λ t. t.unreadable) ended_unreadable
+  pub late : CountsEndings (λ t. t.late) ended_late
+  pub lost : CountsEndings (λ t. t.lost) ended_lost
+  pub skipped : CountsEndings (λ t. t.skipped) ended_skipped
+  pub missed : CountsEndings (λ t. t.missed) ended_missed
+  pub elsewhere : CountsEndings (λ t. t.elsewhere) ended_elsewhere
   pub again : (records : List Record) → (tally_of records).again ≡ capped (further_attempts records)

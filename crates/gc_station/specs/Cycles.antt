@@ -93,7 +93,7 @@ pub record IsSkippedIn (plan : Plan) (commands : List Task) (scope : Scope) (act
   pub skips : action_at plan (state_after plan commands scope before) ≡ Skip
   pub cycle : r.cycle ≡ cycles_begun plan (state_after plan commands scope before).progress
   pub place : r.place ≡ place_next commands (state_after plan commands scope before).progress
-  pub chained : IsChained plan commands (state_after plan commands scope before)
+  pub chained : IsChained plan commands (state_after plan commands scope before).progress
   pub broken : may_go (state_after plan commands scope before).progress (waiting_of (state_after plan commands scope before)) ≡ false
   pub last : LastBegan plan commands scope before
   pub in_time : last.late < plan.every

@@ -65,13 +65,13 @@ is_stale plan p w = nat_lt 0 plan.stale && nat_le plan.stale (p.moment.elapsed -
 -- whether the station is between two chains: no command of the cycle is left, or the next one begins a chain or a further attempt
 -- of one; or there is a setup, and since the connection was made and the station synchronized no cycle began or went on
 -- (`preparing`), so that no chain goes on. In a missed cycle each command, the first one too, counts as going on with a chain
-abbrev pub is_between : Progress → Bool
-is_between p = (nat_eq p.unsent 0 || not p.next_is_chained) || p.preparing
+abbrev pub is_between_chains : Progress → Bool
+is_between_chains p = (nat_eq p.unsent 0 || not p.next_is_chained) || p.preparing
 
 -- whether the run may end here if that is asked for: there is no connection, or the station synchronizes, or it is between two
 -- chains and nothing is in flight that hasn't timed out
 abbrev pub is_resting : Progress → Waiting → Bool
-is_resting p w = (not (is_up p.phase) || not (has_begun p)) || (nat_eq w.current 0 && is_between p)
+is_resting p w = (not (is_up p.phase) || not (has_begun p)) || (nat_eq w.current 0 && is_between_chains p)
 
 -- whether the run ends now because its end was asked for: it was asked for, and the run may end here (`is_resting`)
 abbrev pub is_stopping : Progress → Waiting → Bool
@@ -80,7 +80,7 @@ is_stopping p w = p.stops && is_resting p w
 -- whether the end of the run was asked for, and the station is between two chains, but something is in flight that hasn't timed
 -- out: then nothing more is sent, until that is settled or has timed out
 abbrev pub is_held_back : Progress → Waiting → Bool
-is_held_back p w = (p.stops && is_between p) && nat_lt 0 w.current
+is_held_back p w = (p.stops && is_between_chains p) && nat_lt 0 w.current
 
 -- the next action if nothing may be sent: to close a dead line; to resynchronize, if all outstanding requests have timed out; and
 -- else to read, as a reply may still come
@@ -101,9 +101,9 @@ is_idle plan p = p.early && not (is_due plan p)
 abbrev pub goes_on : Plan → Progress → Bool
 goes_on plan p = nat_lt 0 p.unsent || is_due plan p
 
--- whether no command of any cycle is left to be sent, and none is outstanding: `commands` is how many are outstanding
-abbrev pub is_finished : (commands : ℕ) → Progress → Bool
-is_finished commands p = nat_eq p.left 0 && nat_eq p.unsent 0 && nat_eq commands 0
+-- whether no command of any cycle is left to be sent, and none is outstanding: `count` is how many are outstanding
+abbrev pub is_finished : (count : ℕ) → Progress → Bool
+is_finished count p = nat_eq p.left 0 && nat_eq p.unsent 0 && nat_eq count 0
 
 -- the next action while the station synchronizes: to send the null procedure of the first id that isn't answered, for the first
 -- time or again at its deadline, and to read until then. Nothing is sent if no command is left to be sent and none is outstanding
@@ -124,12 +124,12 @@ action_done plan p = if nat_eq p.left 0 then Close Done else if is_due plan p th
 
 -- whether another request may be sent: fewer that haven't timed out are in flight than `width_of` allows, and fewer are
 -- outstanding in all than the window has places
-abbrev pub has_room : Plan → Waiting → Bool
-has_room plan w = nat_lt w.current (width_of plan) && nat_lt w.all WINDOW
+abbrev pub has_room_to_ask : Plan → Waiting → Bool
+has_room_to_ask plan w = nat_lt w.current (width_of plan) && nat_lt w.all WINDOW
 
 -- `action`, which sends a request, if there is room for one; otherwise the action of a station that waits
 abbrev pub action_room : Plan → Progress → Waiting → Action → Action
-action_room plan p w action = if has_room plan w then action else action_waiting plan p w
+action_room plan p w action = if has_room_to_ask plan w then action else action_waiting plan p w
 
 -- the next action if nothing but a null procedure may be sent: to send one, if all outstanding requests have timed out or none is
 -- outstanding, and there is room; its reply settles them. Otherwise it is the action of a station that waits

@@ -19,7 +19,7 @@ use Rattle.gc_station.specs.Quiet.{IsAsking}
 use Rattle.gc_station.specs.Records.{Record}
 use Rattle.gc_station.specs.Runs.{state_after}
 use Rattle.gc_station.specs.ActKinds.{Puts, moment_in}
-use Rattle.gc_station.specs.Model.{action_at, request_text, Model}
+use Rattle.gc_station.specs.Model.{action_at, next_request_text, Model}
 use Rattle.gc_station.specs.Scopes.{Scope}
 
 -- the act reads a moment at or past `deadline`
@@ -55,7 +55,7 @@ pub record IsOvertaken (plan : Plan) (commands : List Task) (scope : Scope) (bef
   pub order : between ≡ first ++ other ∷ next
   pub asks : IsAsking (action_at plan (state_after plan commands scope (before ++ request ∷ first)))
   pub call : Asked
-  pub put : Puts (request_text (state_after plan commands scope (before ++ request ∷ first)).client call) other
+  pub put : Puts (next_request_text (state_after plan commands scope (before ++ request ∷ first)).client call) other
   pub waits : Waits (state_after plan commands scope (before ++ request ∷ between)).client (state_after plan commands scope (before ++ request ∷ first)).client.next
   pub piece : List ℕ
   pub moment : Moment

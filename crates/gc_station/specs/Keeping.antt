@@ -7,7 +7,7 @@ use Rattle.std.specs.Io.KnownBytes.{Appends}
 use Rattle.gc_texts.specs.declared.tasks.Task.{Task}
 use Rattle.gc_texts.specs.declared.fault.RunFault.{RunFault}
 use Rattle.gc_texts.specs.declared.fault.RunFault.TheVariants.{Output}
-use Rattle.gc_links.specs.Acts.{Act, Closed, Tells}
+use Rattle.gc_links.specs.Acts.{Act, Closed, AddsActs}
 use Rattle.gc_links.specs.Coding.{acts_code}
 use Rattle.gc_station.specs.declared.plan.Plan.{Plan}
 use Rattle.gc_station.specs.Records.{Record, texts_of}
@@ -29,7 +29,7 @@ module _ (plan : Plan) (commands : List Task) (scope : Scope) (text : Record →
   -- before the act of this turn the link had recorded `acts` after those of `told`, and the book had taken, after `taken`, the
   -- texts of all records that these acts settled; and they were durable
   pub record IsKept (acts : List Act) (turn : Snapshot) : Type 0 where
-    pub tells : Tells told turn.acts acts
+    pub tells : AddsActs told turn.acts acts
     pub took : Appends taken turn.taken (texts_of text (state_after plan commands scope acts).records)
     pub lasts : turn.lasts ≡ true
 
@@ -50,7 +50,7 @@ module _ (plan : Plan) (commands : List Task) (scope : Scope) (text : Record →
   -- (`AreKept`)
   pub record KeepsUp (others : List Act) : Type 0 where
     pub acts : List Act
-    pub tells : Tells told told' (acts ++ others)
+    pub tells : AddsActs told told' (acts ++ others)
     pub runs : Runs plan commands (opening plan scope) acts
     pub turns : List Snapshot
     pub saw : seen' ≡ seen ++ turns
@@ -82,21 +82,21 @@ close_at_output (Err fault) = []
 -- How the logic stores what was seen.
 
 -- a snapshot as nested pairs, which can be stored in ghost state
-abbrev Parts : Type 0
-Parts = Option (List Act) × (Option (List ℕ) × Bool)
+abbrev Pairs : Type 0
+Pairs = Option (List Act) × (Option (List ℕ) × Bool)
 
 -- a snapshot as nested pairs
-abbrev to_parts : Snapshot → Parts
-to_parts turn = (turn.acts, (turn.taken, turn.lasts))
+abbrev to_pairs : Snapshot → Pairs
+to_pairs turn = (turn.acts, (turn.taken, turn.lasts))
 
 -- the snapshot that nested pairs are of
-abbrev from_parts : Parts → Snapshot
-from_parts p = record { acts = p.0; taken = p.1.0; lasts = p.1.1 }
+abbrev from_pairs : Pairs → Snapshot
+from_pairs p = record { acts = p.0; taken = p.1.0; lasts = p.1.1 }
 
 -- a snapshot that is turned into pairs and back is itself
-pub from_parts-to_parts : (turn : Snapshot) → from_parts (to_parts turn) ≡ turn
-from_parts-to_parts turn = refl
+pub from_pairs-to_pairs : (turn : Snapshot) → from_pairs (to_pairs turn) ≡ turn
+from_pairs-to_pairs turn = refl
 
 -- how a list of snapshots is stored in ghost state
 abbrev pub snapshots_code : Coded (List Snapshot)
-snapshots_code = coded_list (code_by Parts (coded× (coded_option acts_code) (coded× (coded_option (coded_list coded_ℕ)) coded_bool)) to_parts from_parts from_parts-to_parts)
+snapshots_code = coded_list (code_by Pairs (coded× (coded_option acts_code) (coded× (coded_option (coded_list coded_ℕ)) coded_bool)) to_pairs from_pairs from_pairs-to_pairs)

@@ -13,14 +13,14 @@ use Rattle.gc_station.specs.Records.{Record, Grew}
 use Rattle.gc_station.specs.Runs.{state_after, OfEachRun}
 use Rattle.gc_station.specs.Scopes.{Scope}
 use Rattle.gc_station.specs.Model.{opening}
-use Rattle.gc_station.specs.NextCommand.{is_chained}
+use Rattle.gc_station.specs.NextCommand.{first_is_chained}
 use Rattle.gc_station.specs.declared.mark.Mark.{Mark}
 use Rattle.gc_station.specs.declared.plan.Plan.{Plan}
 
 -- each command of the list after the one at place `a`, up to the one at place `b`, is sent only once the one before it was
 -- answered well
 abbrev pub AreChained : List Task → (a b : ℕ) → Type 0
-AreChained commands a b = (p : ℕ) → a < p → p ≤ b → is_chained (drop p commands) ≡ true
+AreChained commands a b = (p : ℕ) → a < p → p ≤ b → first_is_chained (drop p commands) ≡ true
 
 -- the pair of i and m comes before the pair of j and n: by the first numbers or, if these are equal, by the second ones
 abbrev pub IsBefore : (i m j n : ℕ) → Type 0

@@ -1,6 +1,6 @@
 -- Marks, this project's own: for each outstanding request, which command of which cycle it is; a null procedure of the
 -- station's own has none.
-use Rattle.std.specs.Prelude.{ℕ, suc, Bool, true, false, if◌then◌else◌, List, [], ◌∷◌, Option, Some, None}
+use Rattle.std.specs.Prelude.{ℕ, suc, Bool, true, false, if◌then◌else◌, List, [], ◌∷◌, map, Option, Some, None, slice_get, unwrap_or}
 use Rattle.gc_catalogue.specs.declared.answer.Answer.{Answer}
 use Rattle.gc_catalogue.specs.declared.answer.Reading.{Reading}
 use Rattle.gc_catalogue.specs.declared.answer.Reading.TheVariants as reading
@@ -25,6 +25,18 @@ abbrev pub commands_in : List (Option Mark) → ℕ
 commands_in [] = 0
 commands_in (None ∷ marks) = commands_in marks
 commands_in (Some mark ∷ marks) = suc (commands_in marks)
+
+-- the first of these marks; `None` also if there is none
+abbrev pub first_mark : List (Option Mark) → Option Mark
+first_mark marks = unwrap_or (slice_get marks 0) None
+
+-- those of `xs` that are of commands, each with its mark. The marks are those of all outstanding requests, the oldest first, and
+-- `xs` has one for each of these, or for each of the oldest ones; a null procedure has no mark, and is left out
+abbrev pub with_marks : {A : Type 0} → List (Option Mark) → (xs : List A) → List (Mark × A)
+with_marks [] xs = []
+with_marks (mark ∷ marks) [] = []
+with_marks (None ∷ marks) (x ∷ xs) = with_marks marks xs
+with_marks (Some mark ∷ marks) (x ∷ xs) = (mark, x) ∷ with_marks marks xs
 
 -- how a command ends whose reply, `line`, has this answer. If the answer was measured elsewhere than the command's target is
 -- (`away`): as elsewhere. Otherwise as answered, with this quality
@@ -68,27 +80,40 @@ end_of reads expected call Lost = end.Lost
 abbrev pub command_of : Settlement Asked → Wish
 command_of settlement = record { target = settlement.target; call = settlement.call }
 
--- the record of the command with `mark` whose request was settled at the moment `utc`, by the clock of time stamps. `reads`
--- gives what a line says of a call
-abbrev pub record_of : (Asked → List ℕ → Reading) → (utc : ℕ) → Mark → Settlement Asked → Record
-record_of reads utc mark settlement = record {
+-- the record of the command with `mark` whose request was settled at the moment `utc`, by the clock of time stamps, with this
+-- ending
+abbrev pub record_as : (utc : ℕ) → Mark → Settlement Asked → (ending : End) → Record
+record_as utc mark settlement ending = record {
   sent = Some mark.sent;
   utc = utc;
   cycle = mark.cycle;
   place = mark.place;
   turn = mark.expected.turn;
   command = command_of settlement;
-  end = end_of reads mark.expected settlement.call settlement.outcome;
+  end = ending;
 }
 
--- the records of these settlements, all made at the moment `utc`. The marks are those of all outstanding requests, the oldest
--- first: the first settlement is of the first mark, and so on, and marks without a settlement are still outstanding. A null
--- procedure has no mark, and no record. `reads` gives what a reply's line says of a call
+-- the record of the command with `mark` whose request was settled at the moment `utc`, as `record_as` says. `reads` gives what a
+-- line says of a call
+abbrev pub record_of : (Asked → List ℕ → Reading) → (utc : ℕ) → Mark → Settlement Asked → Record
+record_of reads utc mark settlement = record_as utc mark settlement (end_of reads mark.expected settlement.call settlement.outcome)
+
+-- the record of a command with `mark` that wasn't sent, made at the moment `utc`, by the clock of time stamps, with this ending
+abbrev pub unsent_as : (utc : ℕ) → Mark → (command : Wish) → (ending : End) → Record
+unsent_as utc mark command ending = record {
+  sent = None;
+  utc = utc;
+  cycle = mark.cycle;
+  place = mark.place;
+  turn = mark.expected.turn;
+  command = command;
+  end = ending;
+}
+
+-- the records of these settlements, by the marks of all outstanding requests (`with_marks`), all made at the moment `utc`.
+-- `reads` gives what a reply's line says of a call
 abbrev pub records_of : (Asked → List ℕ → Reading) → (utc : ℕ) → List (Option Mark) → List (Settlement Asked) → List Record
-records_of reads utc [] settlements = []
-records_of reads utc (mark ∷ marks) [] = []
-records_of reads utc (None ∷ marks) (settlement ∷ others) = records_of reads utc marks others
-records_of reads utc (Some mark ∷ marks) (settlement ∷ others) = record_of reads utc mark settlement ∷ records_of reads utc marks others
+records_of reads utc marks settlements = map (λ (x : Mark × Settlement Asked). record_of reads utc x.0 x.1) (with_marks marks settlements)
 
 -- whether a command with this ending was answered well: with an answer of a good quality, fine or with a warning
 abbrev pub is_well : End → Bool

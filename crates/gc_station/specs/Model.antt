@@ -28,16 +28,17 @@ use Rattle.gc_station.specs.declared.progress.Progress.{Progress}
 use Rattle.gc_station.specs.declared.progress.Until.{Until}
 use Rattle.gc_station.specs.declared.progress.Waiting.{Waiting}
 use Rattle.gc_station.specs.declared.mark.Mark.{Mark}
+use Rattle.gc_station.specs.declared.station.sending.Outgoing.{Outgoing}
 use Rattle.gc_links.specs.Acts.{Act, Told, Cut, Gave, Silent, Ended, Broke, Closed, Opened}
-use Rattle.gc_station.specs.ActKinds.{Puts, ReadsClock, IsOpening, IsReading}
+use Rattle.gc_station.specs.ActKinds.{Puts, ReadsClock, IsOpening, ReadsLink}
 use Rattle.gc_station.specs.Deciding.{later, is_none_left, is_preparing, action_of}
 pub use Rattle.gc_station.specs.Lines.{is_reply}
 use Rattle.gc_station.specs.Attempts.{listed_after, listed_by}
-use Rattle.gc_station.specs.Marks.{commands_in, records_of, last_well, fresh_after}
-use Rattle.gc_station.specs.NextCommand.{place_next, cycles_begun, mark_next, mark_setup, commands_before, upcoming_after}
-use Rattle.gc_station.specs.Progressing.{at_start, turned, moment_noted, cycle_begun, skipped, attempts_left_out, skipped_at, failing, opened, after_failure, cleared, request_noted, null_sent, renewed, sent, behind_noted, line_noted, lines_synchronizing, bytes_noted, silent, early_noted, closed, loses_all, setup_sent}
+use Rattle.gc_station.specs.Marks.{commands_in, records_of, unsent_as, last_well, fresh_after}
+use Rattle.gc_station.specs.NextCommand.{place_next, commands_left, cycles_begun, mark_next, mark_setup, commands_before, upcoming_after}
+use Rattle.gc_station.specs.Progressing.{at_start, turned, moment_noted, cycle_begun, skipped, attempts_left_out, unsent_at, failing, opened, after_failure, cleared, request_noted, null_sent, renewed, sent, behind_noted, line_noted, lines_synchronizing, bytes_noted, silent, early_noted, closed, loses_all, setup_sent}
 use Rattle.gc_station.specs.Records.{Record}
-use Rattle.gc_station.specs.Requests.{Request, requests, of_task}
+use Rattle.gc_station.specs.Requests.{RunRequest, requests, of_task, command_at}
 use Rattle.gc_station.specs.Scopes.{Scope}
 use Rattle.gc_texts.specs.Endings.{End, Skipped, Missed}
 
@@ -57,7 +58,7 @@ pub record Model : Type 0 where
   -- text sends its chain again; false before the first. A command of the setup leaves it as it is
   pub listed : Bool
   -- the commands of further attempts that were left out so far, in order
-  pub passes : List Request
+  pub passes : List RunRequest
   -- the moment at which a command that was answered well was recorded last, by the clock for deadlines; 0 if none was; an earlier
   -- moment if the clock went back past it since
   pub fresh : ℕ
@@ -113,8 +114,8 @@ abbrev pub place_to_send : Plan → List Task → Model → ℕ
 place_to_send plan commands s = if is_preparing plan s.progress (waiting_of s) then s.progress.prepared else place_next commands s.progress
 
 -- the bytes of the next request of `client`, for `call`: its line with CR LF
-abbrev pub request_text : ById Asked → Asked → List ℕ
-request_text client call = with_end (asked_line (Some client.next) call)
+abbrev pub next_request_text : ById Asked → Asked → List ℕ
+next_request_text client call = with_end (asked_line (Some client.next) call)
 
 -- the bytes of the null procedure that is sent next while the station synchronizes. The list is of the ids that aren't
 -- answered, and the null procedure has the first of them. No bytes if all are answered
@@ -126,13 +127,13 @@ null_text (asked ∷ others) = with_end (request_line (Some asked) NullProc)
 -- no command
 abbrev pub first_text : (utc : ℕ) → ById Asked → List Task → List ℕ
 first_text utc client [] = []
-first_text utc client (task ∷ others) = request_text client (call_at task utc)
+first_text utc client (task ∷ others) = next_request_text client (call_at task utc)
 
 -- the bytes of the request of `client` for the first of these commands, which is one of the setup, if it is sent at the moment
 -- `utc`. If there is no command, the bytes of its request for a null procedure; that doesn't happen if the station's list has at
 -- least `plan.setup` commands
 abbrev pub text_or_null : (utc : ℕ) → ById Asked → List Task → List ℕ
-text_or_null utc client [] = request_text client (Table NullProc)
+text_or_null utc client [] = next_request_text client (Table NullProc)
 text_or_null utc client (task ∷ others) = first_text utc client (task ∷ others)
 
 -- the action sends a command, of a cycle or of the setup
@@ -153,11 +154,11 @@ Performs commands s Open act = IsOpening act
 Performs commands s Clear act = Puts (10 ∷ []) act
 Performs commands s Ask act = Puts (null_text s.progress.word) act
 Performs commands s Prepare act = Puts (text_or_null s.progress.moment.utc s.client (drop s.progress.prepared commands)) act
-Performs commands s Send act = Puts (first_text s.progress.moment.utc s.client (drop (place_next commands s.progress) commands)) act
+Performs commands s Send act = Puts (first_text s.progress.moment.utc s.client (commands_left commands s.progress)) act
 Performs commands s Skip act = ReadsClock act
 Performs commands s Pass act = ReadsClock act
-Performs commands s Flush act = Puts (request_text s.client (Table NullProc)) act
-Performs commands s (Read until) act = IsReading act
+Performs commands s Flush act = Puts (next_request_text s.client (Table NullProc)) act
+Performs commands s (Read until) act = ReadsLink act
 Performs commands s (Close cause) act = act ≡ Closed
 Performs commands s (Stop cause) act = ⊥
 
@@ -181,37 +182,42 @@ client_sent client (Some x) = x.client
 abbrev pub sent_to : (width : ℕ) (ids : ById Asked) (command : Wish) (now wait : ℕ) → ById Asked
 sent_to width ids command now wait = client_sent ids (sends width ids command.target command.call (later now wait))
 
--- the model `s` once a request for the target `target` was sent, with `call` and `mark`. The request waits for `wait`
--- milliseconds from the moment read last
-abbrev pub asks : (wait target : ℕ) (call : Asked) (mark : Option Mark) → Model → Model
-asks wait target call mark s = record s {
-  client = sent_to WINDOW s.client (record { target = target; call = call }) s.progress.moment.elapsed wait;
-  marks = s.marks ++ mark ∷ [];
-}
+-- the request for the command of `task`, with `mark`
+abbrev pub request_for : Mark → Task → Outgoing
+request_for mark task = record { command = command_at mark.sent task; wait = task.deadline; mark = Some mark }
 
--- the model `s` once a null procedure of the station's own was sent: it is for no target, has no mark, and waits for the plan's
--- deadline
-abbrev pub asks_null : Plan → Model → Model
-asks_null plan s = asks plan.deadline 0 (Table NullProc) None s
+-- the request for a null procedure of the station's own: it is for no target, and waits for the plan's deadline
+abbrev pub null_request : Plan → Outgoing
+null_request plan = record { command = record { target = 0; call = Table NullProc }; wait = plan.deadline; mark = None }
+
+-- the request for the first of these commands of the setup, with `mark`; if there is no command, the request for a null procedure
+abbrev pub request_or_null : Plan → Mark → List Task → Outgoing
+request_or_null plan mark [] = null_request plan
+request_or_null plan mark (task ∷ others) = request_for mark task
+
+-- the request for the setup's next command at the progress `p`; if the list has none, the request for a null procedure
+abbrev pub request_of_setup : Plan → List Task → Progress → Outgoing
+request_of_setup plan commands p = request_or_null plan (mark_setup commands p) (drop p.prepared commands)
+
+-- the model `s` once the request `x` was sent, which waits from the moment read last on
+abbrev pub asks_for : Outgoing → Model → Model
+asks_for x s = record s {
+  client = sent_to WINDOW s.client x.command s.progress.moment.elapsed x.wait;
+  marks = s.marks ++ x.mark ∷ [];
+}
 
 -- the model `s` once the first of these commands was sent with `mark`; `s` itself if there is no command
 abbrev pub asks_first : Mark → List Task → Model → Model
 asks_first mark [] s = s
-asks_first mark (task ∷ others) s = asks task.deadline task.command.target (call_at task mark.sent) (Some mark) s
+asks_first mark (task ∷ others) s = asks_for (request_for mark task) s
 
 -- the model `s` once the cycle's next command was sent
 abbrev pub asks_next : Plan → List Task → Model → Model
-asks_next plan commands s = asks_first (mark_next plan commands s.progress) (drop (place_next commands s.progress) commands) s
-
--- the model `s` once the first of these commands of the setup was sent with `mark`; if there is no command, once a null
--- procedure was sent
-abbrev pub asks_or_null : Plan → Mark → List Task → Model → Model
-asks_or_null plan mark [] s = asks_null plan s
-asks_or_null plan mark (task ∷ others) s = asks_first mark (task ∷ others) s
+asks_next plan commands s = asks_first (mark_next plan commands s.progress) (commands_left commands s.progress) s
 
 -- the model `s` once the setup's next command was sent
 abbrev pub asks_setup : Plan → List Task → Model → Model
-asks_setup plan commands s = asks_or_null plan (mark_setup commands s.progress) (drop s.progress.prepared commands) s
+asks_setup plan commands s = asks_for (request_of_setup plan commands s.progress) s
 
 -- the model `s` with `client` in place of its own client
 abbrev pub with_client : ById Asked → Model → Model
@@ -225,20 +231,11 @@ end_unsent p = if p.missed then Missed else Skipped
 -- command has `mark`. No record if there is no command
 abbrev pub first_unsent_record : Progress → Moment → Mark → List Task → List Record
 first_unsent_record p m mark [] = []
-first_unsent_record p m mark (task ∷ others) =
-    record {
-      sent = None;
-      utc = skipped_at m p;
-      cycle = mark.cycle;
-      place = mark.place;
-      turn = mark.expected.turn;
-      command = task.command;
-      end = end_unsent p;
-    } ∷ []
+first_unsent_record p m mark (task ∷ others) = unsent_as (unsent_at m p) mark task.command (end_unsent p) ∷ []
 
 -- the record of the cycle's next command, which isn't sent, if the act read the clock; no record if the clock couldn't be read
 abbrev pub unsent_record : Plan → List Task → Progress → Act → List Record
-unsent_record plan commands p (Told m) = first_unsent_record p m (mark_next plan commands p) (drop (place_next commands p) commands)
+unsent_record plan commands p (Told m) = first_unsent_record p m (mark_next plan commands p) (commands_left commands p)
 unsent_record plan commands p _ = []
 
 -- whether a command of the current attempt has ended as its rule names, once the cycle's next command was recorded without being
@@ -254,12 +251,12 @@ listed_after_skip plan commands s _ = s.listed
 
 -- the commands that are left out if the cycle's next one begins a further attempt: those of this attempt, and of the chain's
 -- later attempts
-abbrev pub next_left_out : Plan → List Task → Progress → List Request
+abbrev pub next_left_out : Plan → List Task → Progress → List RunRequest
 next_left_out plan commands p =
-    requests (cycles_begun plan p) (place_next commands p) (map of_task (take p.next_others (drop (place_next commands p) commands)))
+    requests (cycles_begun plan p) (place_next commands p) (map of_task (take p.next_others (commands_left commands p)))
 
 -- the model `s` with `passes` added to the commands that were left out
-abbrev pub with_more_passes : List Request → Model → Model
+abbrev pub with_more_passes : List RunRequest → Model → Model
 with_more_passes passes s = record s { passes = s.passes ++ passes }
 
 -- the model `s` with `listed` in place of its own
@@ -407,7 +404,7 @@ moved plan commands Skip s act = after_clock
     (with_listed (listed_after_skip plan commands s act) (with_more_records (unsent_record plan commands s.progress act) s)) act
 moved plan commands Pass s act = after_pass plan commands s act
 moved plan commands Flush s act = after_put (commands_before plan commands s.progress)
-    (λ (s : Model). with_progress request_noted (asks_null plan s)) s act
+    (λ (s : Model). with_progress request_noted (asks_for (null_request plan) s)) s act
 moved plan commands (Read until) s act = after_read plan until s act
 moved plan commands (Close cause) s act = after_close plan cause s
 moved plan commands (Stop cause) s act = s

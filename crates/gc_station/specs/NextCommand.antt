@@ -17,6 +17,10 @@ use Rattle.gc_station.specs.declared.mark.Mark.{Mark}
 abbrev pub place_next : List Task → Progress → ℕ
 place_next commands p = length commands - p.unsent
 
+-- the commands of the cycle that are left at the progress `p`: those of the list `commands` from the cycle's next one on
+abbrev pub commands_left : List Task → Progress → List Task
+commands_left commands p = drop (place_next commands p) commands
+
 -- how many cycles have begun at the progress `p`, missed ones included
 abbrev pub cycles_begun : Plan → Progress → ℕ
 cycles_begun plan p = plan.cycles - p.left
@@ -38,7 +42,7 @@ mark_next plan commands p = record {
   cycle = cycles_begun plan p;
   place = place_next commands p;
   sent = p.moment.utc;
-  expected = expected_first (drop (place_next commands p) commands);
+  expected = expected_first (commands_left commands p);
 }
 
 -- the turn of a command of the setup, of which the text says `turn`, in the attempt `attempt` of the setup. No attempt of a chain
@@ -48,16 +52,16 @@ turn_of_setup attempt turn = record turn { attempt = attempt; link = 1 }
 
 -- `expected` as it is for a command of the setup in the attempt `attempt` of the setup: no ending sends such a command again
 -- (`no_again`), and its turn is `turn_of_setup`
-abbrev pub in_attempt : (attempt : ℕ) → Expected → Expected
-in_attempt attempt expected = record expected { again = no_again; turn = turn_of_setup attempt expected.turn }
+abbrev pub expected_of_setup : (attempt : ℕ) → Expected → Expected
+expected_of_setup attempt expected = record expected { again = no_again; turn = turn_of_setup attempt expected.turn }
 
--- the mark of the setup's next command at the progress `p`: it has cycle 0, and the attempt of the setup (`in_attempt`)
+-- the mark of the setup's next command at the progress `p`: it has cycle 0, and the attempt of the setup (`expected_of_setup`)
 abbrev pub mark_setup : List Task → Progress → Mark
 mark_setup commands p = record {
   cycle = 0;
   place = p.prepared;
   sent = p.moment.utc;
-  expected = in_attempt p.attempt (expected_first (drop p.prepared commands));
+  expected = expected_of_setup p.attempt (expected_first (drop p.prepared commands));
 }
 
 -- how many commands come before the cycle's next one in the list `commands`, those of the setup included; 0 before the first
@@ -66,9 +70,9 @@ abbrev pub commands_before : Plan → List Task → Progress → ℕ
 commands_before plan commands p = if nat_eq p.left plan.cycles then 0 else place_next commands p
 
 -- whether the first of these commands is sent only once the one before it was answered well; false if there is no command
-abbrev pub is_chained : List Task → Bool
-is_chained [] = false
-is_chained (task ∷ others) = task.chained
+abbrev pub first_is_chained : List Task → Bool
+first_is_chained [] = false
+first_is_chained (task ∷ others) = task.chained
 
 -- if the first of these commands begins a further attempt of its chain, the number of commands that this attempt and the
 -- chain's later attempts have together; otherwise 0
@@ -79,7 +83,7 @@ others_in (task ∷ others) = task.others
 -- whether the command `count` places after the cycle's next one is sent only once the one before it was answered well; false if
 -- there is no such command. In a missed cycle, in which none is sent, always true
 abbrev pub is_chained_after : (count : ℕ) → List Task → Progress → Bool
-is_chained_after count commands p = p.missed || is_chained (drop (place_next commands p + count) commands)
+is_chained_after count commands p = p.missed || first_is_chained (drop (place_next commands p + count) commands)
 
 -- if the command `count` places after the cycle's next one begins a further attempt of its chain, the number of commands of
 -- this and the chain's later attempts (`others_in`); otherwise 0, also if there is no such command

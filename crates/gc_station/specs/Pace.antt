@@ -70,9 +70,3 @@ has_overrun plan p = not p.early && not p.missed && is_due plan p && nat_lt 0 p.
 -- that was reported
 abbrev pub overrun : Plan → Progress → (reported : ℕ) → Option ℕ
 overrun plan p reported = if has_overrun plan p && nat_lt reported (cycles_begun plan p) then Some (cycles_begun plan p) else None
-
--- the number of the last cycle that was reported as overrun, 0 if none was: the cycle that is reported now, if any, otherwise
--- `reported`, the last one before
-abbrev pub reported_then : (reported : ℕ) → Option ℕ → ℕ
-reported_then reported None = reported
-reported_then reported (Some cycle) = cycle

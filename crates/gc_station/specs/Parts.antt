@@ -1,7 +1,7 @@
 -- A run of a station as its client has it, this project's own: a part for each synchronization, with what happens while the
 -- station synchronizes, then the client's steps, and which command each request is that is sent. An act is one call on the
 -- link, with its result.
-use Rattle.std.specs.Prelude.{◌≡◌, ℕ, ◌&&◌, Bool, true, false, if◌then◌else◌, List, [], ◌∷◌, ◌++◌, drop, map, Option, Some, None, slice_get, unwrap_or, filter}
+use Rattle.std.specs.Prelude.{◌≡◌, ℕ, ◌&&◌, Bool, true, false, if◌then◌else◌, List, [], ◌∷◌, ◌++◌, map, Option, Some, None, slice_get, unwrap_or, filter}
 use Rattle.gc_catalogue.specs.declared.asked.Asked.{Asked}
 use Rattle.gc_catalogue.specs.declared.asked.Asked.TheVariants.{Table}
 use Rattle.gc_catalogue.specs.declared.call.Call.TheVariants.{NullProc}
@@ -10,11 +10,11 @@ use Rattle.gc_client.specs.OneForOne.{Wanted, Step, Send, Hear, Expire, course_a
 pub use Rattle.gc_client.specs.OneForOne.{course_at}
 use Rattle.gc_client.specs.Rule.{ById}
 use Rattle.gc_texts.specs.declared.near.Expected.{Expected}
-use Rattle.gc_texts.specs.Tasks.{call_at}
 use Rattle.gc_texts.specs.declared.tasks.Task.{Task}
 use Rattle.gc_texts.specs.Endings.{End, Answered, Unreadable, Elsewhere, Late, Lost, Skipped, Missed}
 use Rattle.gc_station.specs.declared.plan.Plan.{Plan}
 use Rattle.gc_station.specs.declared.mark.Mark.{Mark}
+use Rattle.gc_station.specs.declared.station.sending.Outgoing.{Outgoing}
 use Rattle.gc_station.specs.declared.progress.Action.{Action}
 use Rattle.gc_station.specs.declared.progress.Action.TheVariants as action
 use Rattle.gc_links.specs.Acts.{Act, Told, Put, Cut, Gave, Silent}
@@ -22,8 +22,8 @@ use Rattle.gc_station.specs.Deciding.{later, has_begun}
 use Rattle.gc_station.specs.Progressing.{loses_all}
 use Rattle.gc_station.specs.Records.{Record}
 use Rattle.gc_station.specs.Requests.{asked_at}
-use Rattle.gc_station.specs.Model.{Model, action_at, lines_completed, is_heard, after}
-use Rattle.gc_station.specs.NextCommand.{place_next, mark_next, mark_setup}
+use Rattle.gc_station.specs.Model.{Model, action_at, lines_completed, is_heard, after, request_for, null_request, request_of_setup}
+use Rattle.gc_station.specs.NextCommand.{commands_left, mark_next}
 
 -- one step of a station while it synchronizes
 pub data SyncStep : Type 0 where
@@ -66,34 +66,24 @@ client_after c (s ∷ ss) = client_after (client_stepped c s) ss
 abbrev pub joined : (p q : Part) → Part
 joined p q = record { sync_steps = p.sync_steps ++ q.sync_steps; steps = p.steps ++ q.steps; marks = p.marks ++ q.marks }
 
--- the part that consists of one request: for `target`, with `call`, `deadline` and `mark` (`None` for a null procedure)
-abbrev pub request_part : (target : ℕ) (call : Asked) (deadline : ℕ) → Option Mark → Part
-request_part target call deadline mark = record { sync_steps = []; steps = Send target call deadline ∷ []; marks = mark ∷ [] }
-
--- the part that consists of one null procedure of the station's own, sent at the moment `now`
-abbrev pub null_part : Plan → (now : ℕ) → Part
-null_part plan now = request_part 0 (Table NullProc) (later now plan.deadline) None
+-- the part that consists of the request `x`, sent at the moment `now`
+abbrev pub request_part : (now : ℕ) → Outgoing → Part
+request_part now x = record { sync_steps = []; steps = Send x.command.target x.command.call (later now x.wait) ∷ []; marks = x.mark ∷ [] }
 
 -- the part that consists of the request for the first of these commands, sent at the moment `now` with `mark`; nothing if there
 -- is no command
 abbrev pub first_request_part : (now : ℕ) → Mark → List Task → Part
 first_request_part now mark [] = nothing
-first_request_part now mark (task ∷ others) = request_part task.command.target (call_at task mark.sent) (later now task.deadline) (Some mark)
-
--- the part that consists of the request for the first of these commands of the setup, sent at the moment `now` with `mark`; if
--- there is no command, of a null procedure
-abbrev pub request_or_null_part : Plan → (now : ℕ) → Mark → List Task → Part
-request_or_null_part plan now mark [] = null_part plan now
-request_or_null_part plan now mark (task ∷ others) = first_request_part now mark (task ∷ others)
+first_request_part now mark (task ∷ others) = request_part now (request_for mark task)
 
 -- the part of an action that writes bytes, all of them or some, if the station has the model `s`: one request for `Flush`,
 -- `Prepare` and `Send`; nothing otherwise, as the line feed of `Clear` is no request
 abbrev pub put_part : Plan → List Task → Model → Action → Part
-put_part plan commands s action.Flush = null_part plan s.progress.moment.elapsed
+put_part plan commands s action.Flush = request_part s.progress.moment.elapsed (null_request plan)
 put_part plan commands s action.Prepare =
-    request_or_null_part plan s.progress.moment.elapsed (mark_setup commands s.progress) (drop s.progress.prepared commands)
+    request_part s.progress.moment.elapsed (request_of_setup plan commands s.progress)
 put_part plan commands s action.Send =
-    first_request_part s.progress.moment.elapsed (mark_next plan commands s.progress) (drop (place_next commands s.progress) commands)
+    first_request_part s.progress.moment.elapsed (mark_next plan commands s.progress) (commands_left commands s.progress)
 put_part plan commands s _ = nothing
 
 -- the client's steps for `piece`, if `rest` are the bytes before it since the last line feed: if the piece is heard (`ready`),

@@ -33,33 +33,37 @@ LeavesTries (Read until) = ⊥
 LeavesTries (Close why) = ⊥
 LeavesTries _ = Unit {0}
 
+-- at the progress `p` this many tries are left, and the pause is this long
+abbrev pub HasTriesAndPause : (p : Progress) (tries pause : ℕ) → Type 0
+HasTriesAndPause p tries pause = (p.tries ≡ tries) × (p.pause ≡ pause)
+
 -- how the tries and the pause change at each act. `plan.retries` tries are there at the start
 pub record TriesAndPausesAreCounted : Type 0 where
   -- at the start all tries are left, and the pause is 0
-  pub start : (plan : Plan) (turns : ℕ) → ((at_start plan turns).tries ≡ plan.retries) × ((at_start plan turns).pause ≡ pause_after plan 0)
+  pub start : (plan : Plan) (turns : ℕ) → HasTriesAndPause (at_start plan turns) plan.retries (pause_after plan 0)
   -- a failure, the loss of a connection that isn't spared (`is_spared`) or an attempt that failed, makes the pause that of one
   -- failure more
-  pub failed : (plan : Plan) (commands n : ℕ) (why : Cause) (p : Progress) → is_spared plan why p ≡ false → p.pause ≡ pause_after plan n
-      → (after_failure plan commands why p).pause ≡ pause_after plan (suc n)
+  pub failed : (plan : Plan) (count n : ℕ) (why : Cause) (p : Progress) → is_spared plan why p ≡ false → p.pause ≡ pause_after plan n
+      → (after_failure plan count why p).pause ≡ pause_after plan (suc n)
   -- a failure takes one try, if one is left
-  pub takes : (plan : Plan) (commands : ℕ) (why : Cause) (p : Progress) → is_spared plan why p ≡ false → 0 < p.tries
-      → (after_failure plan commands why p).tries + 1 ≡ p.tries
+  pub takes : (plan : Plan) (count : ℕ) (why : Cause) (p : Progress) → is_spared plan why p ≡ false → 0 < p.tries
+      → (after_failure plan count why p).tries + 1 ≡ p.tries
   -- after a failure without a try left the run is over: as done, or for the cause of the failure
-  pub none_left : (plan : Plan) (commands : ℕ) (why : Cause) (p : Progress) → is_spared plan why p ≡ false → p.tries ≡ 0
-      → ((after_failure plan commands why p).phase ≡ phase.Over cause.Done) ⊎ ((after_failure plan commands why p).phase ≡ phase.Over why)
+  pub none_left : (plan : Plan) (count : ℕ) (why : Cause) (p : Progress) → is_spared plan why p ≡ false → p.tries ≡ 0
+      → ((after_failure plan count why p).phase ≡ phase.Over cause.Done) ⊎ ((after_failure plan count why p).phase ≡ phase.Over why)
   -- a close while no connection is wanted (`is_spared`) takes no try, and leaves the pause as it is
-  pub spared : (plan : Plan) (commands n : ℕ) (why : Cause) (p : Progress) → is_spared plan why p ≡ true → p.pause ≡ pause_after plan (suc n)
-      → ((after_failure plan commands why p).pause ≡ pause_after plan (suc n)) × ((after_failure plan commands why p).tries ≡ p.tries)
+  pub spared : (plan : Plan) (count n : ℕ) (why : Cause) (p : Progress) → is_spared plan why p ≡ true → p.pause ≡ pause_after plan (suc n)
+      → HasTriesAndPause (after_failure plan count why p) p.tries (pause_after plan (suc n))
   -- but such a close makes a pause of 0 that of one failure
-  pub spared_first : (plan : Plan) (commands : ℕ) (why : Cause) (p : Progress) → is_spared plan why p ≡ true → p.pause ≡ pause_after plan 0
-      → ((after_failure plan commands why p).pause ≡ pause_after plan 1) × ((after_failure plan commands why p).tries ≡ p.tries)
+  pub spared_first : (plan : Plan) (count : ℕ) (why : Cause) (p : Progress) → is_spared plan why p ≡ true → p.pause ≡ pause_after plan 0
+      → HasTriesAndPause (after_failure plan count why p) p.tries (pause_after plan 1)
   -- bytes that settle a command give all tries back, and make the pause 0; if there is a setup, only once a cycle began or went
   -- on after it (`preparing` is false)
   pub settled : (plan : Plan) (until : Until) (before : ℕ) (after : Waiting) (p : Progress) → after.commands < before → p.preparing ≡ false
-      → ((bytes_noted plan until before after p).tries ≡ plan.retries) × ((bytes_noted plan until before after p).pause ≡ pause_after plan 0)
+      → HasTriesAndPause (bytes_noted plan until before after p) plan.retries (pause_after plan 0)
   -- bytes that settle none, or come before that, change neither
   pub unsettled : (plan : Plan) (until : Until) (before : ℕ) (after : Waiting) (p : Progress) → (before ≤ after.commands) ⊎ (p.preparing ≡ true)
-      → ((bytes_noted plan until before after p).tries ≡ p.tries) × ((bytes_noted plan until before after p).pause ≡ p.pause)
+      → HasTriesAndPause (bytes_noted plan until before after p) p.tries p.pause
   -- nor does an act that makes no connection, reads nothing and closes none
   pub other : (plan : Plan) (commands : List Task) (action : Action) (s : Model) (act : Act) → LeavesTries action
-      → ((moved plan commands action s act).progress.tries ≡ s.progress.tries) × ((moved plan commands action s act).progress.pause ≡ s.progress.pause)
+      → HasTriesAndPause (moved plan commands action s act).progress s.progress.tries s.progress.pause

@@ -103,8 +103,8 @@ cycle_begun plan count m p =
 
 -- the moment in the record of a command that isn't sent, by the clock of time stamps: if its cycle is missed, the moment at which
 -- the cycle was due; otherwise `m`, the moment read for that record
-abbrev pub skipped_at : Moment → Progress → ℕ
-skipped_at m p = if p.missed then p.due else m.utc
+abbrev pub unsent_at : Moment → Progress → ℕ
+unsent_at m p = if p.missed then p.due else m.utc
 
 -- the progress once the next `count` commands of the cycle had their turn: they were sent, recorded without being sent, or left
 -- out. `next` is noted of the command after them. `were_sent`: whether they were sent, so that their chain is unbroken
@@ -141,11 +141,11 @@ abbrev pub is_spared : Plan → Cause → Progress → Bool
 is_spared plan cause.Open p = false
 is_spared plan _ p = is_idle plan p
 
--- the phase after the loss of a connection, or after an attempt that failed, while `commands` commands are outstanding: the run
+-- the phase after the loss of a connection, or after an attempt that failed, while `count` commands are outstanding: the run
 -- is done; or it tries again, if a try is left or none is needed (`is_spared`); or it is over for this cause
-abbrev pub phase_again : Plan → (commands : ℕ) → Cause → Progress → Phase
-phase_again plan commands why p =
-    if is_finished commands p then phase.Over cause.Done
+abbrev pub phase_again : Plan → (count : ℕ) → Cause → Progress → Phase
+phase_again plan count why p =
+    if is_finished count p then phase.Over cause.Done
     else if is_spared plan why p || nat_lt 0 p.tries then phase.Pausing
     else phase.Over why
 
@@ -164,13 +164,13 @@ next_attempt p = if nat_eq p.prepared 0 then p.attempt else later p.attempt 1
 abbrev pub setup_restarted : Plan → Progress → Progress
 setup_restarted plan p = record p { preparing = nat_lt 0 plan.setup; prepared = 0; attempt = next_attempt p }
 
--- the progress after a connection was closed for the cause `why`, or couldn't be made, with `commands` commands outstanding. The
+-- the progress after a connection was closed for the cause `why`, or couldn't be made, with `count` commands outstanding. The
 -- next attempt to connect takes a try, unless it is spared (`is_spared`); no chain goes on, and the setup is sent again on the
 -- next connection
-abbrev pub after_failure : Plan → (commands : ℕ) → Cause → Progress → Progress
-after_failure plan commands why p =
+abbrev pub after_failure : Plan → (count : ℕ) → Cause → Progress → Progress
+after_failure plan count why p =
     setup_restarted plan (record p {
-      phase = phase_again plan commands why p;
+      phase = phase_again plan count why p;
       clock_due = true;
       tries = if is_spared plan why p then p.tries else p.tries - 1;
       pause = pause_again plan why p;
@@ -290,9 +290,9 @@ abbrev pub silent : Plan → Until → Moment → Progress → Progress
 silent plan until m p = quieted plan p.phase (time_passed until m p)
 
 -- the progress once it is noted whether the cycle was done early: none of its commands is left, no command is outstanding
--- (`commands` counts these), and the next cycle isn't due yet; or it was noted before that the cycle was done early
-abbrev pub early_noted : Plan → (commands : ℕ) → Progress → Progress
-early_noted plan commands p = record p { early = p.early || (nat_eq commands 0 && nat_eq p.unsent 0 && not (is_due plan p)) }
+-- (`count` is how many are), and the next cycle isn't due yet; or it was noted before that the cycle was done early
+abbrev pub early_noted : Plan → (count : ℕ) → Progress → Progress
+early_noted plan count p = record p { early = p.early || (nat_eq count 0 && nat_eq p.unsent 0 && not (is_due plan p)) }
 
 -- the progress at the end of a run for the cause `why`: no further connection is made, and no chain goes on
 abbrev pub ended_for : Cause → Progress → Progress

@@ -25,11 +25,11 @@ answer_in (reading.ComFault code) = None
 answer_in (reading.Unreadable fault) = None
 
 -- a reading is a refusal with a return code that isn't in `accepted`, or a fault of communication
-abbrev pub IsRefusal : Codes → Reading → Type 0
-IsRefusal accepted (reading.Value answer) = ⊥
-IsRefusal accepted (reading.Refused code) = lists_code accepted code ≡ false
-IsRefusal accepted (reading.ComFault code) = Unit {0}
-IsRefusal accepted (reading.Unreadable fault) = ⊥
+abbrev pub IsRefusedReading : Codes → Reading → Type 0
+IsRefusedReading accepted (reading.Value answer) = ⊥
+IsRefusedReading accepted (reading.Refused code) = lists_code accepted code ≡ false
+IsRefusedReading accepted (reading.ComFault code) = Unit {0}
+IsRefusedReading accepted (reading.Unreadable fault) = ⊥
 
 -- what `line`, the reply to `call`, says if its answer is of this quality, and which values its record has (`said`). `accepted`
 -- are the codes that are accepted, and `reads` gives what a line says of a call. `Fine`: the line says an answer, and the
@@ -40,7 +40,7 @@ abbrev pub IsOfQuality : (Asked → List ℕ → Reading) → (accepted : Codes)
 IsOfQuality reads accepted call Fine said line = (answer : Answer) × (said ≡ Some answer) × (reads call line ≡ reading.Value answer)
 IsOfQuality reads accepted call Warning said line =
     (code : ℕ) × (reads call line ≡ reading.Refused code) × (lists_code accepted code ≡ true) × (said ≡ answer_in (reads call (as_zero line)))
-IsOfQuality reads accepted call Refused said line = (said ≡ None) × IsRefusal accepted (reads call line)
+IsOfQuality reads accepted call Refused said line = (said ≡ None) × IsRefusedReading accepted (reads call line)
 
 -- the return codes that are accepted of the command at `place` in the list `commands`
 abbrev pub accepted_at : List Task → (place : ℕ) → Codes

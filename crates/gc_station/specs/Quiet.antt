@@ -8,11 +8,15 @@ use Rattle.gc_station.specs.declared.progress.Action.TheVariants.{Prepare, Send,
 use Rattle.gc_links.specs.Acts.{Act, Put, Cut, Silent, Closed, Opened, Unopened}
 use Rattle.gc_station.specs.ActKinds.{moment_in}
 
+-- one of these acts is the last, and `Holds` is true of the acts before it and of it
+abbrev pub HasLast : List Act → (Holds : (earlier : List Act) → Act → Type 0) → Type 0
+HasLast acts Holds = (earlier : List Act) × (last : Act) × (acts ≡ earlier ++ last ∷ []) × Holds earlier last
+
 -- the act sends a request, whole or in part: bytes that aren't the lone line feed
-abbrev pub IsRequest : Act → Type 0
-IsRequest (Put bytes) = bytes ≢ 10 ∷ []
-IsRequest (Cut bytes count) = bytes ≢ 10 ∷ []
-IsRequest _ = ⊥
+abbrev pub SendsRequest : Act → Type 0
+SendsRequest (Put bytes) = bytes ≢ 10 ∷ []
+SendsRequest (Cut bytes count) = bytes ≢ 10 ∷ []
+SendsRequest _ = ⊥
 
 -- the action sends a request of the client: a command, or by `Flush` a null procedure, but none of a synchronization
 abbrev pub IsAsking : Action → Type 0

@@ -14,8 +14,8 @@ use Rattle.gc_station.specs.Deciding.{width_of, has_begun, is_up, is_idle, is_de
 
 -- another request may be sent: fewer that haven't timed out are in flight than `width_of` allows, and fewer are outstanding in
 -- all than the window has places
-abbrev pub HasRoom : Plan → Waiting → Type 0
-HasRoom plan w = (w.current < width_of plan) × (w.all < WINDOW)
+abbrev pub HasRoomToAsk : Plan → Waiting → Type 0
+HasRoomToAsk plan w = (w.current < width_of plan) × (w.all < WINDOW)
 
 -- no further command may be sent before those that were sent are settled: no command of the cycle is left, or the next one waits
 -- for the answer of the one before it in its chain, or begins a further attempt of its chain
@@ -25,13 +25,13 @@ IsHeld p = (p.unsent ≡ 0) ⊎ ((p.next_is_chained ≡ true) ⊎ (0 < p.next_ot
 -- the station is between two chains: no command of the cycle is left, or the next one begins a chain or a further attempt of one;
 -- or there is a setup, and since the connection was made and the station synchronized no cycle began or went on (`preparing`). In
 -- a missed cycle each command, the first one too, counts as going on with a chain
-abbrev pub IsBetween : Progress → Type 0
-IsBetween p = (p.unsent ≡ 0) ⊎ ((p.next_is_chained ≡ false) ⊎ (p.preparing ≡ true))
+abbrev pub IsBetweenChains : Progress → Type 0
+IsBetweenChains p = (p.unsent ≡ 0) ⊎ ((p.next_is_chained ≡ false) ⊎ (p.preparing ≡ true))
 
 -- the run may end here if that is asked for: there is no connection, or the station synchronizes, or it is between two chains
 -- and nothing is in flight that hasn't timed out
 abbrev pub IsResting : Progress → Waiting → Type 0
-IsResting p w = (is_up p.phase ≡ false) ⊎ ((has_begun p ≡ false) ⊎ ((w.current ≡ 0) × IsBetween p))
+IsResting p w = (is_up p.phase ≡ false) ⊎ ((has_begun p ≡ false) ⊎ ((w.current ≡ 0) × IsBetweenChains p))
 
 -- if the end of the run was asked for, the next command goes on with a chain (`next_is_chained`)
 abbrev pub StaysInItsChain : Progress → Type 0
@@ -51,9 +51,9 @@ AwaitsSettlements plan p w = IsHeld p ⊎ SetUpHasBegun plan p w
 abbrev pub WaitsForWhatIsInFlight : Plan → Progress → Waiting → Type 0
 WaitsForWhatIsInFlight plan p w =
     (AwaitsSettlements plan p w × (0 < w.commands) × (0 < w.current))
-    ⊎ (((WINDOW ≤ p.behind) × (0 < w.current)) ⊎ ((p.stops ≡ true) × IsBetween p × (0 < w.current)))
+    ⊎ (((WINDOW ≤ p.behind) × (0 < w.current)) ⊎ ((p.stops ≡ true) × IsBetweenChains p × (0 < w.current)))
 
--- no command may be sent: the station hasn't synchronized; or there is no room for a request (`HasRoom`); or the station waits
+-- no command may be sent: the station hasn't synchronized; or there is no room for a request (`HasRoomToAsk`); or the station waits
 -- for what is in flight
 abbrev pub NothingMayGo : Plan → Progress → Waiting → Type 0
 NothingMayGo plan p w =
@@ -81,9 +81,9 @@ abbrev pub WantsNull : Plan → Progress → Waiting → Type 0
 WantsNull plan p w =
     (AwaitsSettlements plan p w × (0 < w.commands)) ⊎ ((((0 < p.unsent) × MayGo p w) ⊎ MayPrepare plan p w) × (WINDOW ≤ p.behind))
 
--- no command of any cycle is left to be sent, and none is outstanding: `commands` is how many are outstanding
-abbrev pub IsFinished : (commands : ℕ) → Progress → Type 0
-IsFinished commands p = (p.left ≡ 0) × (p.unsent ≡ 0) × (commands ≡ 0)
+-- no command of any cycle is left to be sent, and none is outstanding: `count` is how many are outstanding
+abbrev pub IsFinished : (count : ℕ) → Progress → Type 0
+IsFinished count p = (p.left ≡ 0) × (p.unsent ≡ 0) × (count ≡ 0)
 
 -- the connection is to be closed though no call of the link failed: all is done; all turns are used up; no command may be sent,
 -- and the line is dead; a command of the setup wasn't answered well; the run is stale; or its end was asked for, and it may end
@@ -119,10 +119,10 @@ HoldsBefore plan p w action.Clear = p.phase ≡ phase.Clearing
 HoldsBefore plan p w action.Ask = (p.phase ≡ phase.Ready) × (has_begun p ≡ false) × (p.again ≤ p.moment.elapsed) × (is_idle plan p ≡ false)
 -- no command of the setup is sent if the end of the run was asked for
 HoldsBefore plan p w action.Prepare =
-    (p.phase ≡ phase.Ready) × (has_begun p ≡ true) × MayPrepare plan p w × HasRoom plan w × (p.behind < WINDOW) × (p.stops ≡ false)
+    (p.phase ≡ phase.Ready) × (has_begun p ≡ true) × MayPrepare plan p w × HasRoomToAsk plan w × (p.behind < WINDOW) × (p.stops ≡ false)
 -- a command of a cycle has its turn only once the setup is done
 HoldsBefore plan p w action.Send =
-    (p.phase ≡ phase.Ready) × (has_begun p ≡ true) × (0 < p.unsent) × HasRoom plan w × MayGo p w × (p.behind < WINDOW) × MayRetry p w
+    (p.phase ≡ phase.Ready) × (has_begun p ≡ true) × (0 < p.unsent) × HasRoomToAsk plan w × MayGo p w × (p.behind < WINDOW) × MayRetry p w
     × StaysInItsChain p × (is_preparing plan p w ≡ false)
 HoldsBefore plan p w action.Skip =
     (p.phase ≡ phase.Ready) × (has_begun p ≡ true) × (0 < p.unsent) × (w.commands ≡ 0) × (p.next_is_chained ≡ true)
@@ -132,7 +132,7 @@ HoldsBefore plan p w action.Skip =
 HoldsBefore plan p w action.Pass =
     (p.phase ≡ phase.Ready) × (has_begun p ≡ true) × (0 < p.unsent) × (w.commands ≡ 0) × (0 < p.next_others)
     × ((w.listed ≡ false) ⊎ (p.next_is_chained ≡ true)) × (is_preparing plan p w ≡ false)
-HoldsBefore plan p w action.Flush = (p.phase ≡ phase.Ready) × (has_begun p ≡ true) × WantsNull plan p w × (w.current ≡ 0) × HasRoom plan w
+HoldsBefore plan p w action.Flush = (p.phase ≡ phase.Ready) × (has_begun p ≡ true) × WantsNull plan p w × (w.current ≡ 0) × HasRoomToAsk plan w
 HoldsBefore plan p w (action.Read until) = Unit {0}
 HoldsBefore plan p w (action.Close cause) = HasConnectionFor cause p × ((p.phase ≡ phase.Closing cause) ⊎ IsAtItsEnd plan p w cause)
 HoldsBefore plan p w (action.Stop cause) = (is_up p.phase ≡ false) × ((p.phase ≡ phase.Over cause) ⊎ ((cause ≡ Turns) × (p.turns ≡ 0)))

@@ -3,6 +3,7 @@
 use Rattle.std.specs.Prelude.{◌≡◌, ℕ, ◌<◌, List, ◌∷◌, ◌++◌, length, take, Option, Result, Ok, Err}
 use Rattle.std.specs.List.{flat_map}
 use Rattle.std.specs.Io.KnownBytes.{Appends}
+use Rattle.gc_lines.specs.Ports.{TakesFront}
 use Rattle.gc_texts.specs.declared.stamp.Stamp.{Stamp}
 use Rattle.gc_texts.specs.declared.turn.Turn.{Turn}
 use Rattle.gc_texts.specs.declared.wish.Wish.{Wish}
@@ -49,7 +50,7 @@ Grew {A = A} old new = (more : List A) × (new ≡ old ++ more)
 -- failed (`Err`) a first part that isn't all of it
 abbrev pub Writes : {X E : Type 0} → (old new : Option (List ℕ)) → (text : List ℕ) → Result X E → Type 0
 Writes old new text (Ok _) = Appends old new text
-Writes old new text (Err _) = (part : ℕ) × (part < length text) × Appends old new (take part text)
+Writes old new text (Err _) = (part : ℕ) × TakesFront old new part text
 
 -- the texts of `records`, one after the other, each as `text` writes it
 abbrev pub texts_of : (Record → List ℕ) → List Record → List ℕ
@@ -69,16 +70,16 @@ pub record WritesPart (text : Record → List ℕ) (before all : List Record) (o
 
 -- a book that had taken `old` has taken `new`: the texts of the records `all`, whole; or if it failed (`Err`), those of
 -- `before`, and a part of the others
-abbrev pub WritesAll : {X E : Type 0} → (Record → List ℕ) → (before all : List Record) → (old new : Option (List ℕ)) → Result X E → Type 0
-WritesAll text before all old new (Ok _) = Appends old new (texts_of text all)
-WritesAll text before all old new (Err _) = WritesPart text before all old new
+abbrev pub WritesBy : {X E : Type 0} → (Record → List ℕ) → (before all : List Record) → (old new : Option (List ℕ)) → Result X E → Type 0
+WritesBy text before all old new (Ok _) = Appends old new (texts_of text all)
+WritesBy text before all old new (Err _) = WritesPart text before all old new
 
 -- a book that had taken `old`, which ends with the texts of some records `before`, has taken `new`: the texts of the records
 -- `news` besides, whole, or if it failed (`Err`) a part of them
 abbrev pub WritesMore : {X E : Type 0} → (Record → List ℕ) → (old new : Option (List ℕ)) → (news : List Record) → Result X E → Type 0
 WritesMore text old new news result =
     (start : Option (List ℕ)) (before : List Record)
-    → Appends start old (texts_of text before) → WritesAll text before (before ++ news) start new result
+    → Appends start old (texts_of text before) → WritesBy text before (before ++ news) start new result
 
 -- as `WritesMore`, of the records `news reads`, for each function `reads` that gives each line's reading for a call
 abbrev pub WritesNews : {X E : Type 0} → (Record → List ℕ) → (old new : Option (List ℕ)) → (news : (Asked → List ℕ → Reading) → List Record)

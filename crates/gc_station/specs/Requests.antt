@@ -11,7 +11,7 @@ use Rattle.gc_texts.specs.declared.tasks.Task.{Task}
 use Rattle.gc_texts.specs.declared.wish.Wish.{Wish}
 
 -- a request of a run
-pub record Request : Type 0 where
+pub record RunRequest : Type 0 where
   -- its cycle, counted from 1; 0 for the setup
   pub cycle : ℕ
   -- its command's place in the station's list, counted from 0
@@ -21,7 +21,7 @@ pub record Request : Type 0 where
 
 -- the requests of the cycle `cycle` for these targets and calls; the first one has the place `place`, and each further one the
 -- next place
-abbrev pub requests : (cycle place : ℕ) → List (Wanted Asked) → List Request
+abbrev pub requests : (cycle place : ℕ) → List (Wanted Asked) → List RunRequest
 requests cycle place [] = []
 requests cycle place (a ∷ others) = record { cycle = cycle; place = place; asked = a } ∷ requests cycle (place + 1) others
 
@@ -58,5 +58,5 @@ sets_clock [] = false
 sets_clock (task ∷ others) = task.now
 
 -- the request `x` for one of these commands, as the text has it: without its moment if its command sets the clock
-abbrev pub in_text : List Task → Request → Request
+abbrev pub in_text : List Task → RunRequest → RunRequest
 in_text commands x = record x { asked = record x.asked { call = untimed (sets_clock (drop x.place commands)) x.asked.call } }

@@ -12,17 +12,17 @@ use Rattle.gc_texts.specs.declared.tasks.Task.{Task}
 use Rattle.gc_station.specs.Attempts.{code_in}
 use Rattle.gc_station.specs.Marks.{commands_in}
 use Rattle.gc_station.specs.Model.{Model}
-use Rattle.gc_station.specs.NextCommand.{place_next, expected_first, in_attempt, is_chained, others_in}
+use Rattle.gc_station.specs.NextCommand.{place_next, commands_left, expected_first, expected_of_setup, first_is_chained, others_in}
 use Rattle.gc_station.specs.Records.{Record}
 use Rattle.gc_station.specs.Runs.{state_after, WhereNext, OfAnyRecord}
 use Rattle.gc_station.specs.declared.plan.Plan.{Plan}
 use Rattle.gc_station.specs.declared.progress.Action.TheVariants.{Send, Pass}
 
 -- what is expected of the answer of the command at this cycle and place, and its turn: what the text says; for a command of the
--- setup, which has cycle 0, as it is in the attempt `attempt` of the setup (`in_attempt`)
+-- setup, which has cycle 0, as it is in the attempt `attempt` of the setup (`expected_of_setup`)
 abbrev pub expected_of : List Task → (cycle attempt place : ℕ) → Expected
 expected_of commands cycle attempt place =
-    if nat_eq cycle 0 then in_attempt attempt (expected_first (drop place commands)) else expected_first (drop place commands)
+    if nat_eq cycle 0 then expected_of_setup attempt (expected_first (drop place commands)) else expected_first (drop place commands)
 
 -- the return code other than 0 of the reply to `call`, if the command ended as answered and the reply has one, with
 -- communication code 0. `reads` gives what a line says of a call
@@ -51,7 +51,7 @@ pub record HasListed (reads : Asked → List ℕ → Reading) (commands : List T
 
 -- the next command isn't the first of its cycle, which comes after the setup, and begins a further attempt of its chain
 abbrev pub IsFurtherAttempt : Plan → List Task → Model → Type 0
-IsFurtherAttempt plan commands s = (plan.setup < place_next commands s.progress) × (0 < others_in (drop (place_next commands s.progress) commands))
+IsFurtherAttempt plan commands s = (plan.setup < place_next commands s.progress) × (0 < others_in (commands_left commands s.progress))
 
 -- the station, which has the model `s`, has a reason to leave out the further attempt that the next command begins: none of the
 -- attempt before ended as its rule names; or the cycle is missed; or the next command is chained, which the first one of an
@@ -59,7 +59,7 @@ IsFurtherAttempt plan commands s = (plan.setup < place_next commands s.progress)
 abbrev pub MayLeaveOut : (Asked → List ℕ → Reading) → List Task → Model → Type 0
 MayLeaveOut reads commands s =
     (HasListed reads commands s.records → ⊥)
-    ⊎ ((s.progress.missed ≡ true) ⊎ (is_chained (drop (place_next commands s.progress) commands) ≡ true))
+    ⊎ ((s.progress.missed ≡ true) ⊎ (first_is_chained (commands_left commands s.progress) ≡ true))
 
 -- why further attempts are sent or left out
 pub record FurtherAttemptsHaveACause : Type 0 where

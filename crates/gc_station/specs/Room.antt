@@ -1,17 +1,14 @@
 -- How many requests may be in flight if one is sent: this project's own. An act is one call on the link, with its result.
-use Rattle.std.specs.Prelude.{◌≡◌, ◌⊎◌, ◌<◌, List, length}
+use Rattle.std.specs.Prelude.{◌≡◌, ◌⊎◌, ◌<◌, length}
 use Rattle.gc_client.specs.Rule.{deadlines}
-use Rattle.gc_texts.specs.declared.tasks.Task.{Task}
-use Rattle.gc_station.specs.declared.plan.Plan.{Plan}
-use Rattle.gc_links.specs.Acts.{Act}
 use Rattle.gc_station.specs.Quiet.{IsAsking}
-use Rattle.gc_station.specs.Runs.{state_after}
-use Rattle.gc_station.specs.Scopes.{Scope}
+use Rattle.gc_station.specs.Runs.{state_after, OfAnyActs}
 use Rattle.gc_station.specs.Model.{action_at}
 
 -- if a request of the client is sent next (`IsAsking`), fewer requests that haven't timed out are in flight than the plan's
 -- width, or none is; and fewer than seven are outstanding in all
 abbrev pub RequestsHaveRoom : Type 0
-RequestsHaveRoom =
-    (plan : Plan) (commands : List Task) (scope : Scope) (acts : List Act) → let s = state_after plan commands scope acts in IsAsking (action_at plan s)
-    → ((length (deadlines s.client.waiting) ≡ 0) ⊎ (length (deadlines s.client.waiting) < plan.width)) × (length s.client.waiting < 7)
+RequestsHaveRoom = OfAnyActs (λ plan commands scope acts.
+    let s = state_after plan commands scope acts in
+    IsAsking (action_at plan s)
+    → ((length (deadlines s.client.waiting) ≡ 0) ⊎ (length (deadlines s.client.waiting) < plan.width)) × (length s.client.waiting < 7))

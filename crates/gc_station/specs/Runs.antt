@@ -7,13 +7,13 @@ use Rattle.std.specs.Io.KnownBytes.{Appends}
 use Rattle.gc_texts.specs.declared.tasks.Task.{Task}
 use Rattle.gc_texts.specs.declared.fault.RunFault.{RunFault}
 use Rattle.gc_texts.specs.declared.fault.RunFault.TheVariants.{Output}
-use Rattle.gc_station.specs.Causes.{fault_of}
+use Rattle.gc_station.specs.Causes.{fault_of_cause}
 use Rattle.gc_station.specs.declared.plan.Plan.{Plan}
 use Rattle.gc_station.specs.declared.cause.Cause.{Cause}
 use Rattle.gc_station.specs.declared.progress.Action.{Action}
 use Rattle.gc_station.specs.declared.progress.Action.TheVariants.{Stop}
 use Rattle.gc_station.specs.declared.tally.Tally.{Tally}
-use Rattle.gc_links.specs.Acts.{Act, Closed, Tells}
+use Rattle.gc_links.specs.Acts.{Act, Closed, AddsActs}
 use Rattle.gc_station.specs.Records.{Record, texts_of, WritesPart}
 use Rattle.gc_station.specs.Model.{Model, opening, action_at, after_all, Runs}
 use Rattle.gc_station.specs.Tallies.{tally_of}
@@ -23,9 +23,13 @@ use Rattle.gc_station.specs.Scopes.{Scope, scoped, ForEachReadings, ForReadings}
 abbrev pub state_after : Plan → List Task → Scope → List Act → Model
 state_after plan commands scope acts = after_all plan commands (opening plan scope) acts
 
+-- `Holds` is true of any acts, of a run or not, whatever the plan, the commands and the scope are
+abbrev pub OfAnyActs : (Plan → List Task → Scope → List Act → Type 0) → Type 0
+OfAnyActs Holds = (plan : Plan) (commands : List Task) (scope : Scope) (acts : List Act) → Holds plan commands scope acts
+
 -- `Holds` is true of the acts of each run, whatever its plan, commands and scope are
 abbrev pub OfEachRun : (Plan → List Task → Scope → List Act → Type 0) → Type 0
-OfEachRun Holds = (plan : Plan) (commands : List Task) (scope : Scope) (acts : List Act) → Runs plan commands (opening plan scope) acts → Holds plan commands scope acts
+OfEachRun Holds = OfAnyActs (λ plan commands scope acts. Runs plan commands (opening plan scope) acts → Holds plan commands scope acts)
 
 -- `Holds` is true of the acts of each run after which `action` is next
 abbrev pub WhereNext : Action → (Plan → List Task → Scope → List Act → Type 0) → Type 0
@@ -43,8 +47,7 @@ OfEachRecord Holds = OfEachRun (λ plan commands scope acts. AllByRecursion (Hol
 
 -- after any acts, of a run or not, `Holds` is true of each record
 abbrev pub OfAnyRecord : (List Task → Scope → Record → Type 0) → Type 0
-OfAnyRecord Holds =
-    (plan : Plan) (commands : List Task) (scope : Scope) (acts : List Act) → AllByRecursion (Holds commands scope) (state_after plan commands scope acts).records
+OfAnyRecord Holds = OfAnyActs (λ plan commands scope acts. AllByRecursion (Holds commands scope) (state_after plan commands scope acts).records)
 
 -- a run of `scope`. From `told` to `told'` its link recorded acts, and from `taken` to `taken'` its book took the texts of
 -- records
@@ -53,7 +56,7 @@ module _ (plan : Plan) (commands : List Task) (scope : Scope) (text : Record →
   -- The book took the texts of the records of these acts, and `tally` counts these records
   pub record RanTo (cause : Cause) (tally : Tally) : Type 0 where
     pub acts : List Act
-    pub tells : Tells told told' acts
+    pub tells : AddsActs told told' acts
     pub runs : Runs plan commands (opening plan scope) acts
     pub stops : action_at plan (state_after plan commands scope acts) ≡ Stop cause
     pub took : Appends taken taken' (texts_of text (state_after plan commands scope acts).records)
@@ -64,7 +67,7 @@ module _ (plan : Plan) (commands : List Task) (scope : Scope) (text : Record →
   pub record FailedAtRecord : Type 0 where
     pub acts : List Act
     pub last : Act
-    pub tells : Tells told told' (acts ++ last ∷ (Closed ∷ []))
+    pub tells : AddsActs told told' (acts ++ last ∷ (Closed ∷ []))
     pub runs : Runs plan commands (opening plan scope) (acts ++ last ∷ [])
     pub took : WritesPart text (state_after plan commands scope acts).records (state_after plan commands scope (acts ++ last ∷ [])).records taken taken'
 
@@ -72,7 +75,7 @@ module _ (plan : Plan) (commands : List Task) (scope : Scope) (text : Record →
   -- close. The book took the texts of all records of these acts
   pub record FailedAtSync : Type 0 where
     pub acts : List Act
-    pub tells : Tells told told' (acts ++ Closed ∷ [])
+    pub tells : AddsActs told told' (acts ++ Closed ∷ [])
     pub runs : Runs plan commands (opening plan scope) acts
     pub took : Appends taken taken' (texts_of text (state_after plan commands scope acts).records)
 
@@ -88,9 +91,9 @@ module _ (plan : Plan) (commands : List Task) (scope : Scope) (text : Record →
   -- the run with this result. `Ok`: it ended for a cause without a fault, because it is done or its end was asked for. `Err
   -- Output`: the book failed. Any other fault: it ended for a cause with that fault
   abbrev pub Ran : Result Tally RunFault → Type 0
-  Ran (Ok tally) = (cause : Cause) × RanTo cause tally × (fault_of cause ≡ None)
+  Ran (Ok tally) = (cause : Cause) × RanTo cause tally × (fault_of_cause cause ≡ None)
   Ran (Err Output) = BookFailed
-  Ran (Err fault) = (cause : Cause) × (tally : Tally) × RanTo cause tally × (fault_of cause ≡ Some fault)
+  Ran (Err fault) = (cause : Cause) × (tally : Tally) × RanTo cause tally × (fault_of_cause cause ≡ Some fault)
 
 -- a run with this many turns. From `told` to `told'` its link recorded the acts, and from `taken` to `taken'` its book took the
 -- records by `text`

@@ -15,7 +15,7 @@ use Rattle.gc_station.specs.Model.{Model, opening, action_at, after}
 use Rattle.gc_station.specs.NextCommand.{mark_setup}
 use Rattle.gc_station.specs.Quiet.{KeepsOpen}
 use Rattle.gc_station.specs.Records.{Record}
-use Rattle.gc_station.specs.Runs.{state_after, OfEachRun, WhereNext}
+use Rattle.gc_station.specs.Runs.{state_after, OfAnyActs, OfEachRun, WhereNext}
 use Rattle.gc_station.specs.Scopes.{Scope}
 
 -- Which commands of the setup were sent.
@@ -49,22 +49,22 @@ dispatches_of (Some mark ∷ marks) = dispatch_of_mark mark ∷ dispatches_of ma
 abbrev pub dispatch_row : Model → List Dispatch
 dispatch_row s = map dispatch_of_record s.records ++ dispatches_of s.marks
 
--- those of these commands that are of the setup, which has cycle 0
+-- those of these dispatches that are of commands of the setup, which has cycle 0
 abbrev pub of_setup : List Dispatch → List Dispatch
 of_setup xs = filter (λ (x : Dispatch). nat_eq x.cycle 0) xs
 
--- the first of these commands, as it is sent with `mark`; none if there is no command
+-- the dispatch of the first of these commands, which is sent with `mark`; none if there is no command
 abbrev pub sent_first : Mark → List Task → List Dispatch
 sent_first mark [] = []
 sent_first mark (task ∷ others) = dispatch_of_mark mark ∷ []
 
--- the command of the setup that an act of this action sends, if the station has the model `s` before it; none if the action is
--- another one
+-- the dispatch of the command of the setup that an act of this action sends, if the station has the model `s` before it; none
+-- if the action is another one
 abbrev pub setup_sent_at : Action → List Task → Model → List Dispatch
 setup_sent_at Prepare commands s = sent_first (mark_setup commands s.progress) (drop s.progress.prepared commands)
 setup_sent_at _ commands s = []
 
--- the commands of the setup that these acts send, in order, from the model `s` on
+-- the dispatches of the commands of the setup that these acts send, in order, from the model `s` on
 abbrev pub setup_sent_by : Plan → List Task → Model → List Act → List Dispatch
 setup_sent_by plan commands s [] = []
 setup_sent_by plan commands s (act ∷ acts) = setup_sent_at (action_at plan s) commands s ++ setup_sent_by plan commands (after plan commands s act) acts
@@ -96,9 +96,7 @@ AreInOrder (x ∷ xs) = (x.attempt ≡ 1) × (x.place ≡ 0) × GoOn x xs
 
 -- the commands of the setup that a run sends are in order, as `AreInOrder` says, if the list has at least `plan.setup` commands
 abbrev pub SetUpsGoOn : Type 0
-SetUpsGoOn =
-    (plan : Plan) (commands : List Task) (scope : Scope) (acts : List Act)
-    → plan.setup ≤ length commands → AreInOrder (setup_sent_by plan commands (opening plan scope) acts)
+SetUpsGoOn = OfAnyActs (λ plan commands scope acts. plan.setup ≤ length commands → AreInOrder (setup_sent_by plan commands (opening plan scope) acts))
 
 -- Before a command is sent.
 

@@ -42,6 +42,10 @@ pub record WentBack (from : ℕ) (acts : List Act) : Type 0 where
   pub tells : TellsMoment told act
   pub later : from < latest told others
 
+-- the first of these acts sent all its bytes
+abbrev pub PutsFirst : List Act → Type 0
+PutsFirst acts = (text : List ℕ) × (others : List Act) × (acts ≡ Put text ∷ others)
+
 -- among `acts` the act `start` read the moment `from`. After it, on the same connection, no line came that reads as a reply,
 -- and the moment that was read last is at least `wait` milliseconds later. After `start` nothing was sent, or bytes were sent at
 -- once, so that a reply to them had all that time; or the clock went back at `start`
@@ -54,5 +58,5 @@ pub record IsMuteFor (wait : ℕ) (plan : Plan) (commands : List Task) (scope : 
   pub starts : TellsMoment from start
   pub stays : AllByRecursion StaysConnected behind
   pub mute : IsMute plan commands (state_after plan commands scope (before ++ start ∷ [])) behind
-  pub asked : AllByRecursion IsListening behind ⊎ (((text : List ℕ) × (others : List Act) × (behind ≡ Put text ∷ others)) ⊎ WentBack from before)
+  pub asked : AllByRecursion IsListening behind ⊎ (PutsFirst behind ⊎ WentBack from before)
   pub long : wait ≤ latest from behind - from

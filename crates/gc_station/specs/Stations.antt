@@ -1,6 +1,6 @@
 -- No part of a promise: what the functions of a station do to it, in terms of its model. An act is one call on the link, with
 -- its result.
-use Rattle.std.specs.Prelude.{◌≡◌, ℕ, ◌<◌, Bool, false, min, List, [], ◌∷◌, ◌++◌, length, drop, Option, Some, None, Result, Ok, Err}
+use Rattle.std.specs.Prelude.{◌≡◌, ℕ, ◌<◌, ◌≤◌, Bool, false, min, List, [], ◌∷◌, ◌++◌, length, drop, Option, Some, None, Result, Ok, Err}
 use Rattle.std.specs.Io.KnownBytes.{Appends}
 use Rattle.std.specs.Option.{option_to_list}
 use Rattle.gc_lines.specs.Assembler.{StandsFor}
@@ -19,10 +19,7 @@ use Rattle.gc_station.specs.declared.progress.Until.{Until}
 use Rattle.gc_station.specs.declared.progress.Waiting.{Waiting}
 use Rattle.gc_station.specs.declared.station.Station.{Station}
 use Rattle.gc_station.specs.declared.station.sending.Outgoing.{Outgoing}
-use Rattle.gc_station.specs.declared.mark.Mark.{Mark}
-use Rattle.gc_catalogue.specs.declared.asked.Asked.TheVariants.{Table}
-use Rattle.gc_catalogue.specs.declared.call.Call.TheVariants.{NullProc}
-use Rattle.gc_links.specs.Acts.{Act, Told, Untold, Tells}
+use Rattle.gc_links.specs.Acts.{Act, Told, Untold, AddsActs}
 use Rattle.gc_links.specs.declared.link.Moment.{Moment}
 use Rattle.gc_station.specs.Deciding.{has_begun}
 use Rattle.gc_station.specs.Marks.{commands_in, last_well}
@@ -30,13 +27,13 @@ use Rattle.gc_station.specs.NextCommand.{upcoming_after}
 use Rattle.gc_station.specs.Scopes.{AreReadings}
 use Rattle.gc_station.specs.Progressing.{failing, moment_noted, advanced, early_noted}
 use Rattle.gc_station.specs.Records.{Record, texts_of, WritesPart}
-use Rattle.gc_station.specs.Requests.{command_at}
 use Rattle.gc_station.specs.Model.{Model, Performs, moved, stepped, waiting_by, lines_taken, sent_to, unsent_record, listed_unsent}
 use Rattle.gc_station.specs.Tallies.{nothing_yet, tallied}
+use Rattle.gc_station.specs.Writing.{recorded_unsent}
 
 -- what a decision looks at besides the progress, of a station
-abbrev pub waiting_in : Station → Waiting
-waiting_in station = waiting_by station.client.ids station.marks.items station.recorded.well station.recorded.listed station.recorded.fresh
+abbrev pub waiting_of_station : Station → Waiting
+waiting_of_station station = waiting_by station.client.ids station.marks.items station.recorded.well station.recorded.listed station.recorded.fresh
 
 -- a station has one mark for each outstanding request
 abbrev pub IsPaired : Station → Type 0
@@ -92,15 +89,15 @@ pub record Seen : Type 0 where
   pub station : Station
 
 -- what is seen of a run, from its four parts
-abbrev pub seen : Option (List Act) → (Record → List ℕ) → Option (List ℕ) → Station → Seen
-seen acts text taken station = record { acts = acts; text = text; taken = taken; station = station }
+abbrev pub as_seen : Option (List Act) → (Record → List ℕ) → Option (List ℕ) → Station → Seen
+as_seen acts text taken station = record { acts = acts; text = text; taken = taken; station = station }
 
 -- between `old` and `new` the link recorded one act, and it performs `action`. If the model `s` describes the station before
 -- it, and the book had taken the records of `s`, then `next s act` describes the station after it, and the book has taken the
 -- records of that model
 pub record Makes (commands : List Task) (action : Action) (next : Model → Act → Model) (old new : Seen) : Type 0 where
   pub act : Act
-  pub tells : Tells old.acts new.acts (act ∷ [])
+  pub tells : AddsActs old.acts new.acts (act ∷ [])
   pub goes : (s : Model) (start : Option (List ℕ)) → Refines old.station s → Took old.text start old.taken s
       → Performs commands s action act × Refines new.station (next s act) × Took new.text start new.taken (next s act)
 
@@ -110,7 +107,7 @@ pub record Makes (commands : List Task) (action : Action) (next : Model → Act 
 pub record Breaks (commands : List Task) (action : Action) (next : Model → Act → Model) (old : Seen) (told : Option (List Act))
     (taken : Option (List ℕ)) : Type 0 where
   pub act : Act
-  pub tells : Tells old.acts told (act ∷ [])
+  pub tells : AddsActs old.acts told (act ∷ [])
   pub goes : (s : Model) (start : Option (List ℕ)) → Refines old.station s → Took old.text start old.taken s
       → Performs commands s action act × TookPart old.text s.records start taken (next s act)
 
@@ -128,7 +125,7 @@ Does plan commands action old new = Makes commands action (moved plan commands a
 -- `told` and `told'` are what the link had recorded before the act and after it
 abbrev pub DoesAlone : Plan → List Task → Action → (told told' : Option (List Act)) → (old new : Station) → Type 0
 DoesAlone plan commands action told told' old new =
-    (text : Record → List ℕ) (known : Option (List ℕ)) → Does plan commands action (seen told text known old) (seen told' text known new)
+    (text : Record → List ℕ) (known : Option (List ℕ)) → Does plan commands action (as_seen told text known old) (as_seen told' text known new)
 
 -- from `old` to `new` a station made an act that performs `action` (`Made`), and its model changed as `moved` says
 abbrev pub Moves : {X E : Type 0} → Plan → List Task → Action → (old new : Seen) → Result X E → Type 0
@@ -150,13 +147,20 @@ cut_progress (Err n) requests p = failing (cause.Write requests n) p
 
 -- what an action needs, at the progress `p` with `waiting` outstanding requests: room in the window for a request, a command
 -- that is left to be sent or skipped, and for a null procedure of a synchronization that the station hasn't synchronized
-abbrev pub IsFitting : Progress → (waiting : ℕ) → Action → Type 0
-IsFitting p waiting Send = (0 < p.unsent) × (waiting < WINDOW)
-IsFitting p waiting Prepare = waiting < WINDOW
-IsFitting p waiting Skip = 0 < p.unsent
-IsFitting p waiting Ask = has_begun p ≡ false
-IsFitting p waiting Flush = waiting < WINDOW
-IsFitting p waiting _ = Unit {0}
+abbrev pub SuitsAction : Progress → (waiting : ℕ) → Action → Type 0
+SuitsAction p waiting Send = (0 < p.unsent) × (waiting < WINDOW)
+SuitsAction p waiting Prepare = waiting < WINDOW
+SuitsAction p waiting Skip = 0 < p.unsent
+SuitsAction p waiting Ask = has_begun p ≡ false
+SuitsAction p waiting Flush = waiting < WINDOW
+SuitsAction p waiting _ = Unit {0}
+
+-- a station can perform this action, if these are all commands: its window is the widest, each outstanding request has a mark, no
+-- more commands are left than there are, and it has what the action needs (`SuitsAction`)
+abbrev pub CanPerform : List Task → Action → Station → Type 0
+CanPerform commands action station =
+    (station.client.width ≡ WINDOW) × IsPaired station × (station.progress.unsent ≤ length commands)
+    × SuitsAction station.progress (length station.client.ids.waiting) action
 
 -- after a call with this result: the model `s` describes the station, and the book, which had taken `start` before the run, has
 -- taken the records of `s` (`Ok`); or the book failed at one of the records of `s` that come after `before` (`Err`)
@@ -166,21 +170,13 @@ ComesTo text before station start taken s (Err _) = TookPart text before start t
 
 -- if the model `s` describes the station `old`, and a book that has taken `taken` has taken the records of `s`, then after a call
 -- with this result, which left the station `new` and the book with `taken'`, they are as `ComesTo` says of the model `next s`
-abbrev pub Becomes : {X E : Type 0} → (next : Model → Model) → (Record → List ℕ) → (taken taken' : Option (List ℕ)) → (old new : Station) → Result X E → Type 0
-Becomes next text taken taken' old new result =
+abbrev pub KeepsToModel : {X E : Type 0} → (next : Model → Model) → (Record → List ℕ) → (taken taken' : Option (List ℕ)) → (old new : Station) → Result X E → Type 0
+KeepsToModel next text taken taken' old new result =
     (s : Model) (start : Option (List ℕ)) → Refines old s → Took text start taken s → ComesTo text s.records new start taken' (next s) result
 
 -- the model `s` after the line of this frame, if it is a line, was heard as `lines_taken` says
 abbrev pub frame_came : (begun : Bool) → Lent → Model → Model
 frame_came begun frame s = lines_taken begun (option_to_list (line_in (lent_seen frame))) s
-
--- the request for the command of `task`, with `mark`
-abbrev pub request_for : Mark → Task → Outgoing
-request_for mark task = record { command = command_at mark.sent task; wait = task.deadline; mark = Some mark }
-
--- the request for a null procedure of the station's own: it is for no target, and waits for the plan's deadline
-abbrev pub null_request : Plan → Outgoing
-null_request plan = record { command = record { target = 0; call = Table NullProc }; wait = plan.deadline; mark = None }
 
 -- the station once it sent the request `asking`
 abbrev pub station_asking : Outgoing → Station → Station
@@ -200,8 +196,8 @@ station_expiring now station = record station {
 -- have timed out as `station_expiring` says. If the clock couldn't be read (`None`), that is the cause to close the connection;
 -- without one the run is over (`failing`)
 abbrev pub ReadsMoment : (told told' : Option (List Act)) → (old new : Station) → Option Moment → Type 0
-ReadsMoment told told' old new (Some m) = Tells told told' (Told m ∷ []) × (new ≡ station_expiring m.elapsed old)
-ReadsMoment told told' old new None = Tells told told' (Untold ∷ []) × (new ≡ record old { progress = failing cause.Clock old.progress })
+ReadsMoment told told' old new (Some m) = AddsActs told told' (Told m ∷ []) × (new ≡ station_expiring m.elapsed old)
+ReadsMoment told told' old new None = AddsActs told told' (Untold ∷ []) × (new ≡ record old { progress = failing cause.Clock old.progress })
 
 -- the station once the next `count` commands of the cycle had their turn at the moment `moment` without being sent
 abbrev pub station_advancing : Plan → List Task → (count : ℕ) → Moment → Station → Station
@@ -213,26 +209,17 @@ station_advancing plan commands count moment station =
 -- the station once the record of its next command, which isn't sent, is written at the moment `moment`, counted and noted
 abbrev pub station_skipping : Plan → List Task → Moment → Station → Station
 station_skipping plan commands moment station = record station {
-  recorded = record station.recorded {
-    tally = tallied station.recorded.tally (unsent_record plan commands station.progress (Told moment));
-    well = false;
-    listed = listed_unsent plan commands station.progress station.recorded.listed;
-  };
+  recorded = recorded_unsent (unsent_record plan commands station.progress (Told moment))
+      (listed_unsent plan commands station.progress station.recorded.listed) station.recorded;
 }
 
--- from `old` to `new` a station dropped the marks of the requests that it settled; its tally and what it notes of its last
--- records may have changed, and the rest didn't
-abbrev pub DropsSettledMarks : (old new : Station) → Type 0
-DropsSettledMarks old new = new ≡ record old {
-  marks = record { items = drop (length old.settled.items) old.marks.items };
+-- from `old` to `new` a station dropped the marks of the oldest `count` outstanding requests; what it keeps of its records may
+-- have changed, and the rest didn't
+abbrev pub DropsMarks : (old new : Station) → (count : ℕ) → Type 0
+DropsMarks old new count = new ≡ record old {
+  marks = record { items = drop count old.marks.items };
   recorded = new.recorded;
 }
-
--- what `next_setup` of a station returns: the request for the first of these commands of the setup, with `mark`; if there is no
--- command, the request for a null procedure
-abbrev pub setup_asked : Plan → Mark → List Task → Outgoing
-setup_asked plan mark [] = null_request plan
-setup_asked plan mark (task ∷ others) = request_for mark task
 
 -- the claim, for an action that makes a call of the link; nothing for `Stop`, which makes none
 abbrev pub OnCall : Action → Type 0 → Type 0

@@ -1,5 +1,5 @@
 -- No part of a promise: what is written and noted of the settlements of outstanding requests.
-use Rattle.std.specs.Prelude.{◌≡◌, ℕ, List, map, Option, Result, OnOk, if◌then◌else◌}
+use Rattle.std.specs.Prelude.{◌≡◌, ℕ, Bool, false, List, map, Option, Result, OnOk, if◌then◌else◌}
 use Rattle.gc_catalogue.specs.declared.answer.Reading.{Reading}
 use Rattle.gc_catalogue.specs.declared.asked.Asked.{Asked}
 use Rattle.gc_client.specs.Rule
@@ -30,6 +30,10 @@ noted mark now code end r = record {
   listed = listed_after r.listed mark.expected code end;
   fresh = if is_well end then now else r.fresh;
 }
+
+-- what is kept of the records, `r`, once `records`, of commands that weren't sent, are written; with `listed` in place of its own
+abbrev pub recorded_unsent : (records : List Record) → (listed : Bool) → Recorded → Recorded
+recorded_unsent records listed r = record r { tally = tallied r.tally records; well = false; listed = listed }
 
 -- what is kept of the records, `r`, once these settlements of the requests with these marks were recorded at the moment `now`, if
 -- `reads` gives what a line says of a call

@@ -1,7 +1,7 @@
 //! Causes: why a connection is closed, or a run ends, and the fault that the program reports then.
 
 ghost use Rattle.std.specs.Prelude.{◌≡◌};
-ghost use Rattle.gc_station.specs.Causes.{fault_of};
+ghost use Rattle.gc_station.specs.Causes.{fault_of_cause};
 
 use gc_texts::RunFault;
 
@@ -38,7 +38,7 @@ pub enum Cause {
 impl Cause {
     /// The fault of a run that stopped for this cause; `None` if the run is done, or its end was asked for.
     pub fn fault(self) -> Option<RunFault>
-        ensures { result ≡ fault_of self }
+        ensures { result ≡ fault_of_cause self }
     {
         match self {
             Cause::Done => None,

@@ -56,7 +56,7 @@
 //! follows, and without a connection `Over`.
 
 ghost use Rattle.std.specs.Prelude.{◌≡◌};
-ghost use Rattle.gc_station.specs.Deciding.{is_dead, is_due, goes_on, is_finished, has_room, may_go, waits_for_all, action_again, action_of, action_on, action_ready, action_begun, action_beginning, action_next, action_room, action_flush, action_sent, action_settled, action_done, action_waiting, is_stale, is_between, is_resting, is_stopping, is_held_back, action_cycle, action_next_of_setup, action_preparing, is_preparing};
+ghost use Rattle.gc_station.specs.Deciding.{is_dead, is_due, goes_on, is_finished, has_room_to_ask, may_go, waits_for_all, action_again, action_of, action_on, action_ready, action_begun, action_beginning, action_next, action_room, action_flush, action_sent, action_settled, action_done, action_waiting, is_stale, is_between_chains, is_resting, is_stopping, is_held_back, action_cycle, action_next_of_setup, action_preparing, is_preparing};
 
 use crate::cause::Cause;
 use crate::plan::Plan;
@@ -82,9 +82,9 @@ impl Progress {
 
     // Whether the station is between two chains: no command of the cycle is left, or the next one begins a chain or a further attempt of
     // one; or there is a setup, and since the connection was made and the station synchronized no cycle began or went on (`preparing`),
-    // so that no chain goes on. In a missed cycle all commands count as one chain.
-    fn is_between(&self) -> bool
-        ensures { result ≡ is_between self.now }
+    // so that no chain goes on. In a missed cycle each command, the first one too, counts as going on with a chain.
+    fn is_between_chains(&self) -> bool
+        ensures { result ≡ is_between_chains self.now }
     {
         self.unsent == 0 || !self.next_is_chained || self.preparing
     }
@@ -94,7 +94,9 @@ impl Progress {
     fn is_resting(&self, waiting: Waiting) -> bool
         ensures { result ≡ is_resting self.now waiting }
     {
-        !self.phase.is_up() || !self.has_begun() || (waiting.current == 0 && self.is_between())
+        !self.phase.is_up()
+            || !self.has_begun()
+            || (waiting.current == 0 && self.is_between_chains())
     }
 
     // Whether the run ends now because its end was asked for: it was asked for, and the run may end here.
@@ -109,7 +111,7 @@ impl Progress {
     fn is_held_back(&self, waiting: Waiting) -> bool
         ensures { result ≡ is_held_back self.now waiting }
     {
-        (self.stops && self.is_between()) && waiting.current > 0
+        self.stops && self.is_between_chains() && waiting.current > 0
     }
 
     // Whether the next cycle is due: the first at once, and each other one `every` milliseconds after `began`, the moment that counts
@@ -187,11 +189,11 @@ impl Progress {
         }
     }
 
-    // Whether no command of any cycle is left to be sent, and none is outstanding: `commands` is how many are outstanding.
-    pub(crate) fn is_finished(&self, commands: usize) -> bool
-        ensures { result ≡ is_finished commands self.now }
+    // Whether no command of any cycle is left to be sent, and none is outstanding: `count` is how many are outstanding.
+    pub(crate) fn is_finished(&self, count: usize) -> bool
+        ensures { result ≡ is_finished count self.now }
     {
-        self.left == 0 && self.unsent == 0 && commands == 0
+        self.left == 0 && self.unsent == 0 && count == 0
     }
 
     // The next action while the station synchronizes: to send the null procedure of the first id that isn't answered, for the
@@ -373,7 +375,7 @@ impl Progress {
     fn action_room(&self, plan: &Plan, waiting: Waiting, action: Action) -> Action
         ensures { result ≡ action_room plan.now self.now waiting action }
     {
-        if waiting.has_room(plan) {
+        if waiting.has_room_to_ask(plan) {
             action
         } else {
             self.action_waiting(plan, waiting)
@@ -412,8 +414,8 @@ impl Progress {
 impl Waiting {
     // Whether another request may be sent: fewer that haven't timed out are in flight than `width` allows, and fewer are outstanding
     // in all than the window has places.
-    pub(crate) fn has_room(self, plan: &Plan) -> bool
-        ensures { result ≡ has_room plan.now self }
+    pub(crate) fn has_room_to_ask(self, plan: &Plan) -> bool
+        ensures { result ≡ has_room_to_ask plan.now self }
     {
         self.current < usize::from(width(plan)) && self.all < WINDOW
     }

@@ -31,8 +31,8 @@ ghost use Rattle.gc_station.specs.Ends.{LateIsJustified, LostIsJustified};
 ghost use Rattle.gc_station.specs.Given.{bytes_heard};
 ghost use Rattle.gc_station.specs.Nearness.{AnswersAreAtTheirTargets};
 ghost use Rattle.gc_station.specs.Qualities.{QualitiesAreAsListed, GoodIsAnAnswer};
-ghost use Rattle.gc_station.specs.Quiet.{IsRequest};
-ghost use Rattle.gc_station.specs.Runs.{state_after, OfEachRun, WhereNext, OfEachAct, OfEachRecord};
+ghost use Rattle.gc_station.specs.Quiet.{SendsRequest};
+ghost use Rattle.gc_station.specs.Runs.{state_after, OfAnyActs, OfEachRun, WhereNext, OfEachAct, OfEachRecord};
 ghost use Rattle.gc_station.specs.Scopes.{Scope, OneReadingForALine, SomeReadings};
 ghost use Rattle.gc_station.specs.Setups.{EachSetUpOnce, SetUpsGoOn, NoneBeforeTheSetUp, SetUpInOrder};
 ghost use Rattle.gc_station.specs.Silences.{IsMuteFor};
@@ -47,7 +47,7 @@ ghost use Rattle.gc_station.specs.Tries.{StopsOnlyAfterAllTries};
 /// commands of the setup, which have cycle 0, don't count here: `each_command_of_the_set_up_once` is of them. Commands that set the
 /// clock are compared without their times, which `each_record_is_of_its_task` gives.
 pub fn each_command_once()
-    ensures { (plan : Plan) (commands : List Task) (scope : Scope) (acts : List Act) → EachOnce plan commands scope acts }
+    ensures { OfAnyActs EachOnce }
 {}
 
 /// No command of a cycle is sent before the setup of its connection was answered well. Each command of the setup was sent among
@@ -62,7 +62,7 @@ pub fn no_command_of_a_cycle_goes_out_before_the_set_up()
 /// Each command of the setup that was sent has one record, in order, or is outstanding after the records; if the run stopped,
 /// none is outstanding.
 pub fn each_command_of_the_set_up_once()
-    ensures { (plan : Plan) (commands : List Task) (scope : Scope) (acts : List Act) → EachSetUpOnce plan commands scope acts }
+    ensures { OfAnyActs EachSetUpOnce }
 {}
 
 /// The attempts of the setup count over the run, from 1. Each begins with the first command of the setup, and goes on one by
@@ -121,7 +121,7 @@ pub fn each_send_goes_on()
 /// time, with the id of the request of that cycle and place, and gave an answer of a good quality. By `each_send_goes_on` only one
 /// request has that cycle and place. `each_command_once` says that each command's end is recorded.
 pub fn each_chain_is_kept()
-    ensures { WhereNext Send (λ plan commands scope acts. IsChained plan commands (state_after plan commands scope acts) → IsLinked plan commands scope acts) }
+    ensures { WhereNext Send (λ plan commands scope acts. IsChained plan commands (state_after plan commands scope acts).progress → IsLinked plan commands scope acts) }
 {}
 
 /// Each record of a reply in time (answered, unreadable or elsewhere) has a line that arrived with the id of the record's own
@@ -174,7 +174,7 @@ pub fn ends_for_turns_only_after_as_many_acts()
 /// a synchronization goes on with it, it was quiet, too: before anything else was sent on it, nothing arrived for the quiet
 /// time, by the clock.
 pub fn each_connection_is_cleared_and_quiet()
-    ensures { OfEachAct (λ plan commands scope earlier act. IsRequest act → IsClearedAndQuiet plan commands scope earlier) }
+    ensures { OfEachAct (λ plan commands scope earlier act. SendsRequest act → IsClearedAndQuiet plan commands scope earlier) }
 {}
 
 /// The bytes that a station stores of a line that hasn't ended are those that arrived on this connection while bytes were

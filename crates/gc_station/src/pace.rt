@@ -2,12 +2,12 @@
 //! done in time. No record, and nothing that is sent, rests on these; records have the number of their cycle (`cycle`). Moments
 //! are by the clock for deadlines, in milliseconds.
 
-ghost use Rattle.std.specs.Prelude.{◌≡◌, ℕ, Option};
+ghost use Rattle.std.specs.Prelude.{◌≡◌, ℕ, Option, unwrap_or};
 ghost use Rattle.std.specs.Option.{option_to_list};
 ghost use Rattle.std.specs.Io.KnownBytes.{Appends};
 ghost use Rattle.gc_client.specs.Rule.{IsEarliest, deadlines};
 ghost use Rattle.gc_station.specs.NextCommand.{cycles_begun};
-ghost use Rattle.gc_station.specs.Pace.{dead_at, due_at, retry_at, stale_at, longest_timeout, read_end_in, read_end_without_deadline, read_end, read_timeout, overrun, reported_then};
+ghost use Rattle.gc_station.specs.Pace.{dead_at, due_at, retry_at, stale_at, longest_timeout, read_end_in, read_end_without_deadline, read_end, read_timeout, overrun};
 
 use crate::book::{Book, LinkHealth};
 use crate::plan::Plan;
@@ -165,13 +165,8 @@ impl Station {
 
     // Reports to a book the health of the link before the next act; and, at most once for a cycle, that it wasn't done when the next
     // was due. `reported` is the last cycle that was reported as not done, 0 if none was; the result is the last one after the call.
-    pub(crate) fn report_health_and_overrun<B: Book>(
-        &self,
-        book: &mut B,
-        plan: &Plan,
-        reported: u64,
-    ) -> u64
-        ensures reported { result ≡ reported_then reported (overrun plan.now self.now.progress reported) }
+    pub(crate) fn report_to<B: Book>(&self, book: &mut B, plan: &Plan, reported: u64) -> u64
+        ensures reported { result ≡ unwrap_or (overrun plan.now self.now.progress reported) reported }
         ensures reports { Appends (B.overruns book.old) (B.overruns book.new) (option_to_list (overrun plan.now self.now.progress reported)) }
         ensures taken { B.taken book.new ≡ B.taken book.old }
         ensures failed { B.failed book.new ≡ B.failed book.old }

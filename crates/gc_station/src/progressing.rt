@@ -7,7 +7,7 @@ ghost use Rattle.gc_client.specs.Hearing.{HearsInto};
 ghost use Rattle.gc_client.specs.Rule.{ById};
 ghost use Rattle.gc_client.specs.declared.settlement.Settlement.{Settlement};
 ghost use Rattle.gc_station.specs.Deciding.{later};
-ghost use Rattle.gc_station.specs.Progressing.{turned, moment_noted, cycle_start, is_missed_at, due_of, cycle_begun, advanced, skipped_at, failing, opened, is_finished, is_idle, is_spared, phase_again, pause_again, after_failure, cleared, request_noted, null_sent, renewed, line_synchronizing, sent, behind_noted, line_noted, early_after, bytes_noted, pause_ended, drained, quieted, time_passed, silent, early_noted, ended_for, closed, is_over, loses_all, next_attempt, setup_restarted, setup_sent, gives_back};
+ghost use Rattle.gc_station.specs.Progressing.{turned, moment_noted, cycle_start, is_missed_at, due_of, cycle_begun, advanced, unsent_at, failing, opened, is_finished, is_idle, is_spared, phase_again, pause_again, after_failure, cleared, request_noted, null_sent, renewed, line_synchronizing, sent, behind_noted, line_noted, early_after, bytes_noted, pause_ended, drained, quieted, time_passed, silent, early_noted, ended_for, closed, is_over, loses_all, next_attempt, setup_restarted, setup_sent, gives_back};
 ghost use Rattle.gc_station.specs.Lines.{is_reply};
 
 use crate::cause::Cause;
@@ -39,10 +39,7 @@ fn early_after(until: Until, early: bool) -> bool
 fn reads_as_reply(line: &[u8]) -> bool
     ensures { result ≡ is_reply line.now }
 {
-    match read_reply(line) {
-        Ok(_) => true,
-        Err(_) => false,
-    }
+    read_reply(line).is_ok()
 }
 
 // Whether the line that the client heard was a reply.
@@ -139,8 +136,8 @@ impl Progress {
 
     // The moment in the record of a command that isn't sent, in milliseconds since 1970-01-01, UTC: where its cycle is missed, the
     // moment at which the cycle was due; otherwise `moment`.
-    pub(crate) fn skipped_at(&self, moment: Moment) -> u64
-        ensures { result ≡ skipped_at moment self.now }
+    pub(crate) fn unsent_at(&self, moment: Moment) -> u64
+        ensures { result ≡ unsent_at moment self.now }
     {
         if self.missed { self.due } else { moment.utc }
     }
@@ -193,12 +190,12 @@ impl Progress {
         }
     }
 
-    // The phase after the loss of a connection, or after an attempt that failed, while `commands` commands are outstanding: the
+    // The phase after the loss of a connection, or after an attempt that failed, while `count` commands are outstanding: the
     // run is done; or it tries again, if a try is left or none is needed (`is_spared`); or it is over for this cause.
-    fn phase_again(&self, plan: &Plan, commands: usize, cause: Cause) -> Phase
-        ensures { result ≡ phase_again plan.now commands cause self.now }
+    fn phase_again(&self, plan: &Plan, count: usize, cause: Cause) -> Phase
+        ensures { result ≡ phase_again plan.now count cause self.now }
     {
-        if self.is_finished(commands) {
+        if self.is_finished(count) {
             Phase::Over(Cause::Done)
         } else if self.is_spared(plan, cause) || self.tries > 0 {
             Phase::Pausing
@@ -239,14 +236,14 @@ impl Progress {
         self.prepared = 0;
     }
 
-    // Notes that a connection was closed, or couldn't be made: the phase is `phase_again`, the pause `pause_again`, and a try
-    // is taken unless the next attempt is spared. The setup, if there is one, is sent again on the next connection.
-    pub(crate) fn note_unconnected(&mut self, plan: &Plan, commands: usize, cause: Cause)
-        ensures { self.new ≡ after_failure plan.now commands cause self.old }
+    // Notes that a connection was closed, or couldn't be made, with `count` commands outstanding: the phase is `phase_again`, the
+    // pause `pause_again`, and a try is taken unless the next attempt is spared. The setup, if there is one, is sent again on the next connection.
+    pub(crate) fn note_unconnected(&mut self, plan: &Plan, count: usize, cause: Cause)
+        ensures { self.new ≡ after_failure plan.now count cause self.old }
     {
         let spared = self.is_spared(plan, cause);
         self.pause = self.pause_again(plan, cause);
-        self.phase = self.phase_again(plan, commands, cause);
+        self.phase = self.phase_again(plan, count, cause);
         self.clock_due = true;
         self.chain_unbroken = false;
         if !spared {
@@ -426,12 +423,12 @@ impl Progress {
         self.end_quiet_phase(plan);
     }
 
-    // Notes whether the cycle was done early: none of its commands is left, no command is outstanding (`commands` counts these),
+    // Notes whether the cycle was done early: none of its commands is left, no command is outstanding (`count` is how many are),
     // and the next cycle isn't due yet. A cycle that was noted as done early stays so until the next one begins.
-    pub(crate) fn note_early(&mut self, plan: &Plan, commands: usize)
-        ensures { self.new ≡ early_noted plan.now commands self.old }
+    pub(crate) fn note_early(&mut self, plan: &Plan, count: usize)
+        ensures { self.new ≡ early_noted plan.now count self.old }
     {
-        self.early = self.early || (commands == 0 && self.unsent == 0 && !self.is_due(plan));
+        self.early = self.early || (count == 0 && self.unsent == 0 && !self.is_due(plan));
     }
 
     // Notes that the connection, if there was one, was closed: for `Done`, `Clock`, `Turns`, `Stale` and `Stopped` the run is

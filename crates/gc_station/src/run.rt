@@ -47,7 +47,7 @@ pub(crate) fn run<L: Link, B: Book>(
         if let Action::Stop(cause) = action {
             return Ok((cause, station.recorded.tally.total()));
         }
-        reported = station.report_health_and_overrun(book, plan, reported);
+        reported = station.report_to(book, plan, reported);
         *kept = kept.with_snapshot(link, book);
         if let Err(failed) = station.step(link, book, plan, commands, action) {
             link.close();

@@ -1,6 +1,6 @@
 //! A station's steps: each makes the one call of the link that is next, and lets the client handle what came of it.
 
-ghost use Rattle.std.specs.Prelude.{◌≡◌, ℕ, ◌≤◌, List, length, drop, Option, OnOk, true};
+ghost use Rattle.std.specs.Prelude.{◌≡◌, ℕ, List, length, drop, Option, OnOk, true};
 ghost use Rattle.gc_lines.specs.Ports.{FailsWith};
 ghost use Rattle.gc_catalogue.specs.declared.answer.Reading.{Reading};
 ghost use Rattle.gc_catalogue.specs.declared.asked.Asked.{Asked};
@@ -11,8 +11,8 @@ ghost use Rattle.gc_station.specs.Marks.{commands_in};
 ghost use Rattle.gc_station.specs.Scopes.{AreReadings, scoped};
 ghost use Rattle.gc_station.specs.Records.{WritesNews};
 ghost use Rattle.gc_station.specs.Model.{Model, opening, action_at, ended};
-ghost use Rattle.gc_station.specs.NextCommand.{place_next, expected_first, mark_next, commands_before, is_chained, others_in, is_chained_after, others_after, upcoming_after, mark_setup};
-ghost use Rattle.gc_station.specs.Stations.{waiting_in, IsPaired, Refines, DoesAlone, Moves, Steps, seen, OnCall, Becomes, DropsSettledMarks, IsFitting, ReadsMoment, station_expiring};
+ghost use Rattle.gc_station.specs.NextCommand.{place_next, expected_first, mark_next, commands_before, first_is_chained, others_in, is_chained_after, others_after, upcoming_after, mark_setup};
+ghost use Rattle.gc_station.specs.Stations.{waiting_of_station, CanPerform, Refines, DoesAlone, Moves, Steps, as_seen, OnCall, KeepsToModel, DropsMarks, SuitsAction, ReadsMoment, station_expiring};
 ghost use Rattle.gc_station.specs.Writing.{news_settled, NotesSettled};
 ghost use Rattle.gc_station.specs.declared.progress.Action.TheVariants.{ReadClock, Renew, Begin, Open, Close};
 ghost use Rattle.gc_texts.specs.declared.tasks.Task.{Task};
@@ -36,8 +36,8 @@ use gc_links::{Link, Moment};
 use gc_texts::{Again, Codes, Expected, Task, Turn};
 
 // Whether a command at this place is sent only once the one before it was answered well; `false` if there is no such command.
-fn is_chained(commands: &[Task], place: usize) -> bool
-    ensures { result ≡ is_chained (drop place commands.now) }
+fn is_chained_at(commands: &[Task], place: usize) -> bool
+    ensures { result ≡ first_is_chained (drop place commands.now) }
 {
     match commands.get(place) {
         Some(task) => task.chained,
@@ -114,7 +114,7 @@ impl Station {
 
     // What a decision looks at besides the progress: how many requests are outstanding, and what `recorded` has but for the tally.
     fn waiting(&self) -> Waiting
-        ensures { result ≡ waiting_in self.now }
+        ensures { result ≡ waiting_of_station self.now }
     {
         Waiting {
             all: self.client.waiting(),
@@ -136,8 +136,8 @@ impl Station {
     // The next action, as `deciding.rt` decides it.
     pub(crate) fn action(&self, plan: &Plan) -> Action
         ensures action { (s : Model) → Refines self.now s → AreReadings s.reads → result ≡ action_at plan.now s }
-        ensures room { IsFitting self.now.progress (length self.now.client.ids.waiting) result }
-        ensures is { result ≡ action_of plan.now self.now.progress (waiting_in self.now) }
+        ensures room { SuitsAction self.now.progress (length self.now.client.ids.waiting) result }
+        ensures is { result ≡ action_of plan.now self.now.progress (waiting_of_station self.now) }
     {
         self.progress.action(plan, self.waiting())
     }
@@ -184,7 +184,7 @@ impl Station {
     fn is_chained_after(&self, count: usize, commands: &[Task]) -> bool
         ensures { result ≡ is_chained_after count commands.now self.now.progress }
     {
-        self.progress.missed || is_chained(commands, self.place(commands).saturating_add(count))
+        self.progress.missed || is_chained_at(commands, self.place(commands).saturating_add(count))
     }
 
     // If the command `count` places after the next one begins a further attempt of its chain: how many commands this attempt
@@ -292,7 +292,7 @@ impl Station {
     fn write<B: Book>(&mut self, book: &mut B) -> Result<(), PortFailed>
         requires { AreReadBy IsAskedReading self.old.settled.items }
         ensures wrote { WritesNews (B.text book.old) (B.taken book.old) (B.taken book.new) (news_settled self.old) result }
-        ensures after { OnOk result (DropsSettledMarks self.old self.new) }
+        ensures after { OnOk result (DropsMarks self.old self.new (length self.old.settled.items)) }
         ensures notes { NotesSettled self.old self.new result }
         ensures fails { FailsWith result (B.failed book.old) (B.failed book.new) }
         ensures form { B.text book.new ≡ B.text book.old }
@@ -328,13 +328,10 @@ impl Station {
         commands: &[Task],
         action: Action,
     ) -> Result<(), PortFailed>
-        requires width { self.old.client.width ≡ WINDOW }
-        requires paired { IsPaired self.old }
-        requires within { self.old.progress.unsent ≤ length commands.now }
-        requires room { IsFitting self.old.progress (length self.old.client.ids.waiting) action }
+        requires { CanPerform commands.now action self.old }
         ensures does { OnCall action (Moves plan.now commands.now action
-            (seen (L.acts link.old) (B.text book.old) (B.taken book.old) self.old)
-            (seen (L.acts link.new) (B.text book.old) (B.taken book.new) self.new) result) }
+            (as_seen (L.acts link.old) (B.text book.old) (B.taken book.old) self.old)
+            (as_seen (L.acts link.new) (B.text book.old) (B.taken book.new) self.new) result) }
         ensures fails { FailsWith result (B.failed book.old) (B.failed book.new) }
         ensures form { B.text book.new ≡ B.text book.old }
     {
@@ -359,7 +356,7 @@ impl Station {
     // Records all outstanding commands as lost, and restarts the client, if the station synchronizes or no act follows
     // (`loses_all`); otherwise does nothing. `Err`: the book failed at a record.
     fn record_lost<B: Book>(&mut self, book: &mut B) -> Result<(), PortFailed>
-        ensures ends { Becomes ended (B.text book.old) (B.taken book.old) (B.taken book.new) self.old self.new result }
+        ensures ends { KeepsToModel ended (B.text book.old) (B.taken book.old) (B.taken book.new) self.old self.new result }
         ensures fails { FailsWith result (B.failed book.old) (B.failed book.new) }
         ensures form { B.text book.new ≡ B.text book.old }
     {
@@ -381,13 +378,10 @@ impl Station {
         action: Action,
     ) -> Result<(), PortFailed>
         requires is_durable { B.is_durable book.old ≡ true }
-        requires width { self.old.client.width ≡ WINDOW }
-        requires paired { IsPaired self.old }
-        requires within { self.old.progress.unsent ≤ length commands.now }
-        requires room { IsFitting self.old.progress (length self.old.client.ids.waiting) action }
+        requires able { CanPerform commands.now action self.old }
         ensures does { OnCall action (Steps plan.now commands.now action
-            (seen (L.acts link.old) (B.text book.old) (B.taken book.old) self.old)
-            (seen (L.acts link.new) (B.text book.old) (B.taken book.new) self.new) result) }
+            (as_seen (L.acts link.old) (B.text book.old) (B.taken book.old) self.old)
+            (as_seen (L.acts link.new) (B.text book.old) (B.taken book.new) self.new) result) }
         ensures fails { FailsWith result (B.failed book.old) (B.failed book.new) }
         ensures form { B.text book.new ≡ B.text book.old }
     {

@@ -80,7 +80,7 @@ impl Tally {
 /// The tallies of a run: of the chains that are over, and of the current attempt, which a further one may replace.
 #[derive(Clone, Copy)]
 pub(crate) struct Counts {
-    /// Of the last attempts of the chains that are over. Only `again` has how many times the current chain was sent again, too.
+    /// Of the last attempts of the chains that are over; but `again` also has how many times the current chain was sent again.
     pub settled: Tally,
     /// Of the current attempt.
     pub attempt: Tally,

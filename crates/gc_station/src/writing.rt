@@ -1,13 +1,13 @@
 //! Writing settlements into a book, and counting them.
 
-ghost use Rattle.std.specs.Prelude.{◌≡◌, ℕ, List, [], ◌∷◌, length, drop, map, Option, None, unwrap_or, slice_get, OnOk};
+ghost use Rattle.std.specs.Prelude.{◌≡◌, ℕ, List, [], ◌∷◌, length, drop, map, OnOk};
 ghost use Rattle.gc_lines.specs.Ports.{FailsWith};
 ghost use Rattle.gc_catalogue.specs.declared.answer.Reading.{Reading};
 ghost use Rattle.gc_catalogue.specs.declared.asked.Asked.{Asked};
 ghost use Rattle.gc_catalogue.specs.Asked.{IsAskedReading};
 ghost use Rattle.gc_client.specs.Settlements.{settlement_seen, outcome_seen, IsReadBy, AreReadBy};
 ghost use Rattle.gc_station.specs.Attempts.{code_of, listed_after};
-ghost use Rattle.gc_station.specs.Marks.{value_as, refused_as, end_of, is_well};
+ghost use Rattle.gc_station.specs.Marks.{first_mark, value_as, refused_as, end_of, is_well};
 ghost use Rattle.gc_station.specs.Model.{ends_with_table};
 ghost use Rattle.gc_station.specs.Zeros.{IsZeroOf};
 ghost use Rattle.gc_station.specs.Scopes.{AreReadings};
@@ -31,12 +31,9 @@ use gc_texts::{Ending, Expected, Near, Quality, Stamp, Wish, is_elsewhere, readi
 // outstanding.
 fn take_mark(marks: &mut ArrayVec<Option<Mark>, WINDOW>) -> Option<Mark>
     ensures goes { marks.new.items ≡ drop 1 marks.old.items }
-    ensures first { result ≡ unwrap_or (slice_get marks.old.items 0) None }
+    ensures first { result ≡ first_mark marks.old.items }
 {
-    match marks.pop_at(0) {
-        Some(mark) => mark,
-        None => None,
-    }
+    marks.pop_at(0).flatten()
 }
 
 // The ending of a command whose reply, this line, has this answer: elsewhere if the answer has a direction that isn't near where

@@ -1,6 +1,6 @@
 //! A link that plays steps, and stores the calls that open, close or write as text.
 
-ghost use Rattle.gc_links.specs.Acts.{IsWithin};
+ghost use Rattle.gc_links.specs.Acts.{CameWithin};
 
 use crate::fixed_text::{note, note_number};
 use crate::setting::Setting;
@@ -152,39 +152,44 @@ impl<'a> Script<'a> {
         self.nulls = 0;
     }
 
+    // Whether a request is the null procedure with which a row of those of a synchronization goes on or begins.
+    fn is_next_null(&self, request: &[u8]) -> bool {
+        request.starts_with(b"%R1Q,0,") && id_of(request) == NULL_IDS.get(self.nulls).copied()
+    }
+
     // Counts the null procedures of a synchronization that are put one after the other, with the ids of `NULL_IDS` in order, and stores
     // where the text of the first begins and when it was put. Any other request starts the count again: at 1 if it is a null
     // procedure with the first of these ids, else at 0.
     fn count_null(&mut self, request: &[u8]) {
-        let id = if request.starts_with(b"%R1Q,0,") {
-            id_of(request)
-        } else {
-            None
-        };
-        if id != NULL_IDS.get(self.nulls).copied() {
+        if !self.is_next_null(request) {
             self.nulls = 0;
         }
         if self.nulls == 0 {
             self.first = self.text.len();
             self.first_at = self.clock;
         }
-        if id == NULL_IDS.get(self.nulls).copied() {
+        if self.is_next_null(request) {
             self.nulls = self.nulls.saturating_add(1);
         }
     }
 
-    // Counts a call of the link, and returns whether it is the one that fails.
-    fn next_call_fails(&mut self) -> bool {
+    // Counts a call of the link. `Err`: it is the one that fails.
+    fn count_call(&mut self) -> Result<(), PortFailed> {
         let call = self.calls;
         self.calls = self.calls.saturating_add(1);
-        call == self.setting.failing
+        if call == self.setting.failing {
+            return Err(PortFailed);
+        }
+        Ok(())
     }
 
-    // Counts an attempt to connect, and returns whether it is one of those that fail.
-    fn next_attempt_fails(&mut self) -> bool {
-        let fails = self.setting.shut > 0;
-        self.setting.shut = self.setting.shut.saturating_sub(1);
-        fails
+    // Counts an attempt to connect. `Err`: it is one of those that fail.
+    fn count_attempt(&mut self) -> Result<(), PortFailed> {
+        if self.setting.shut > 0 {
+            self.setting.shut -= 1;
+            return Err(PortFailed);
+        }
+        Ok(())
     }
 
     // Lets `later` milliseconds pass, and returns the moment then.
@@ -200,7 +205,7 @@ impl<'a> Script<'a> {
     // Lets `later` milliseconds pass, and returns what a read gives then: as many bytes of `line` as `buf` has room for, which are written
     // there, or silence if that is none. The rest of the line never comes.
     fn bring(&mut self, buf: &mut [u8], line: &[u8], later: u64) -> Came
-        ensures { IsWithin result buf.new }
+        ensures { CameWithin result buf.new }
     {
         let moment = self.moment_after(later);
         let n = line.len().min(buf.len());
@@ -213,7 +218,7 @@ impl<'a> Script<'a> {
 
     // Lets `later` milliseconds pass, and returns what a read gives then: the reply to a null procedure. `id` is the digit of its id.
     fn bring_id(&mut self, buf: &mut [u8], id: u8, later: u64) -> Came
-        ensures { IsWithin result buf.new }
+        ensures { CameWithin result buf.new }
     {
         let mut line = *b"%R1P,0,0:0\r\n";
         line[7] = id;
@@ -223,8 +228,8 @@ impl<'a> Script<'a> {
     // Counts the last request as answered, lets `later` milliseconds pass, and returns what a read gives then: the reply to that
     // request. Its one value is the last digit of the request's number among all requests, counted from 0 modulo 256. If none was
     // sent yet, the reply is one with id 0 and value 5.
-    fn reply(&mut self, buf: &mut [u8], later: u64) -> Came
-        ensures { IsWithin result buf.new }
+    fn bring_reply(&mut self, buf: &mut [u8], later: u64) -> Came
+        ensures { CameWithin result buf.new }
     {
         self.answered = self.requests;
         let mut line = *b"%R1P,0,0:0,0\r\n";
@@ -235,13 +240,13 @@ impl<'a> Script<'a> {
 
     // What a read of `Answers` gives that waits for at most `millis` milliseconds: after 5 milliseconds, or `millis` if that is less, the
     // reply to the last request, if that isn't answered yet and there is a connection; otherwise silence for all that time.
-    fn answer(&mut self, buf: &mut [u8], millis: u64) -> Came
-        ensures { IsWithin result buf.new }
+    fn bring_answer(&mut self, buf: &mut [u8], millis: u64) -> Came
+        ensures { CameWithin result buf.new }
     {
         if self.answered == self.requests || !self.up {
             return Came::Silence(self.moment_after(millis));
         }
-        self.reply(buf, millis.min(5))
+        self.bring_reply(buf, millis.min(5))
     }
 
     // The step of the next read, if there is one. `Dead`, `Noise` and `Answers` last: each is the step of all further reads,
@@ -268,7 +273,7 @@ impl<'a> Link for Script<'a> {
 
     // The moment now. `Err`: this is the failing call, or the clock can't be read.
     fn now(&mut self) -> Result<Moment, PortFailed> {
-        if self.next_call_fails() || self.setting.blind {
+        if self.count_call().is_err() || self.setting.blind {
             return Err(PortFailed);
         }
         Ok(self.moment_after(0))
@@ -276,7 +281,7 @@ impl<'a> Link for Script<'a> {
 
     // Plays the next step, or fails if this is the failing call. If no step is left, nothing comes for `millis` milliseconds.
     fn read(&mut self, buf: &mut [u8], millis: u64) -> Came {
-        if self.next_call_fails() {
+        if self.count_call().is_err() {
             return Came::Failure;
         }
         let Some(step) = self.next() else {
@@ -285,11 +290,11 @@ impl<'a> Link for Script<'a> {
         match step {
             Step::Line(line, later) => self.bring(buf, line, later),
             Step::Id(id, later) => self.bring_id(buf, id, later),
-            Step::Reply(later) => self.reply(buf, later),
+            Step::Reply(later) => self.bring_reply(buf, later),
             Step::Silence(later) => Came::Silence(self.moment_after(later)),
             Step::Dead => Came::Silence(self.moment_after(millis)),
             Step::Noise => self.bring(buf, b"noise\r\n", millis.min(5)),
-            Step::Answers => self.answer(buf, millis),
+            Step::Answers => self.bring_answer(buf, millis),
             Step::Back(earlier) => {
                 self.clock = self.clock.saturating_sub(earlier);
                 Came::Silence(self.moment_after(0))
@@ -305,7 +310,7 @@ impl<'a> Link for Script<'a> {
     // the last one that was sent.
     fn put(&mut self, bytes: &[u8]) -> Result<(), usize> {
         self.puts = self.puts.saturating_add(1);
-        if self.next_call_fails() || self.puts == self.setting.cut {
+        if self.count_call().is_err() || self.puts == self.setting.cut {
             self.nulls = 0;
             note(&mut self.text, b"cut:");
             self.note_put(bytes);
@@ -334,10 +339,10 @@ impl<'a> Link for Script<'a> {
         }
     }
 
-    // Makes a connection, and stores `open`. `Err`: this is the failing call, or an attempt that fails (`next_attempt_fails`), and `shut`
-    // is stored.
+    // Makes a connection, and stores `open`. `Err`: this is the failing call, or an attempt that fails (`shut` of the setting), and
+    // `shut` is stored.
     fn open(&mut self) -> Result<(), PortFailed> {
-        if self.next_call_fails() || self.next_attempt_fails() {
+        if self.count_call().is_err() || self.count_attempt().is_err() {
             self.note_now(b"shut");
             return Err(PortFailed);
         }

@@ -116,17 +116,17 @@ struct CaseRun<'a> {
 }
 
 impl CaseRun<'_> {
-    // Plays the rows of the case, or its run if it has no rows. Beside rows a case has no value under `put`, `ends`, `end`, `log` or
-    // `counts`: each that it has there is reported as wrong; and a line `each` has no effect.
+    // Plays the rows of the case, or its run if it has no rows.
     fn play(&self, wrong: &mut Told) {
         if self.case.value("row").is_empty() {
-            return self.play_each(wrong);
+            self.play_each(wrong);
+        } else {
+            self.play_rows(wrong);
         }
-        self.play_rows(wrong);
-        Outcome::new(self.alloc).tell(&self.case, wrong);
     }
 
-    // Plays the rows of the case, at most `MOST_ROWS`. Each that came to something else is reported, as it came.
+    // Plays the rows of the case, at most `MOST_ROWS`. Beside rows a case has no value under `put`, `ends`, `end`, `log` or `counts`:
+    // each that it has there is reported as wrong; and a line `each` has no effect.
     fn play_rows(&self, wrong: &mut Told) {
         for place in 0..MOST_ROWS {
             match self.case.value_at("row", place) {
@@ -134,6 +134,8 @@ impl CaseRun<'_> {
                 None => break,
             }
         }
+        let nothing = Outcome::new(self.alloc);
+        nothing.tell(&self.case, wrong);
     }
 
     // Plays a row: the run with the row's word more, which is what stands before the first `: `. Reports the row as it came, if that
@@ -141,25 +143,25 @@ impl CaseRun<'_> {
     fn play_row(&self, row: &str, wrong: &mut Told) {
         let mut came = Told::new(self.alloc);
         let word = row.split_once(": ").map_or(row, |cut| cut.0);
-        self.play_into_row(word, &mut came);
+        came.text(word);
+        self.outcome_with(word).tell_row(&mut came);
         if came.as_bytes() != row.as_bytes() || came.is_lacking() {
             self.case.tell_wrong("rows", came.as_bytes(), wrong);
         }
     }
 
-    // Plays the run with the setting words of `word` more, and appends the row to `came`: `word`, and what the run came to.
-    fn play_into_row(&self, word: &str, came: &mut Told) {
+    // What the run comes to with the setting words of `word` more, which may be empty.
+    fn outcome_with(&self, word: &str) -> Outcome {
         let mut outcome = Outcome::new(self.alloc);
         self.run.play(self.alloc, word, &mut outcome);
-        came.text(word);
-        outcome.tell_row(came);
+        outcome
     }
 
     // Plays the run. Where the case has a line `each KEY=COUNT`, it is played once for each number below COUNT (`play_below`); a COUNT
     // that is 0 or no number is reported as wrong. Without such a line the run is played once, as it is set.
     fn play_each(&self, wrong: &mut Told) {
         let Some((key, count)) = self.case.value("each").split_once('=') else {
-            self.play_once("", wrong);
+            self.outcome_with("").tell(&self.case, wrong);
             return;
         };
         match number(count) {
@@ -170,32 +172,24 @@ impl CaseRun<'_> {
     }
 
     // Plays the run once for each number N below `count`, with the setting word `KEY=N` more, up to the first that comes otherwise than
-    // the case has it.
+    // the case has it: what came otherwise is reported.
     fn play_below(&self, key: &str, count: u64, wrong: &mut Told) {
         for n in 0..count {
-            if !self.play_with_value(key, n, wrong) {
+            let mut report = Told::new(self.alloc);
+            self.outcome_at(key, n).tell(&self.case, &mut report);
+            wrong.append(&report);
+            if !report.is("") {
                 break;
             }
         }
     }
 
-    // Plays the run with one setting word more, which sets `key` to the number `n`; with a part of that word if memory runs out for
-    // it. Returns whether it came as the case has it.
-    fn play_with_value(&self, key: &str, n: u64, wrong: &mut Told) -> bool {
+    // What the run comes to with one setting word more, which sets `key` to the number `n`; with a part of that word if memory runs
+    // out for it.
+    fn outcome_at(&self, key: &str, n: u64) -> Outcome {
         let mut word = Told::new(self.alloc);
         word.text(key);
         word.titled("=", &n);
-        self.play_once(text_of(word.as_bytes()), wrong)
-    }
-
-    // Plays the run once, with the setting words of `word` more, which may be empty. Reports what came otherwise than the case has
-    // it, and returns whether nothing did.
-    fn play_once(&self, word: &str, wrong: &mut Told) -> bool {
-        let mut outcome = Outcome::new(self.alloc);
-        let mut report = Told::new(self.alloc);
-        self.run.play(self.alloc, word, &mut outcome);
-        outcome.tell(&self.case, &mut report);
-        wrong.append(&report);
-        report.is("")
+        self.outcome_with(text_of(word.as_bytes()))
     }
 }

@@ -50,7 +50,7 @@ fn push_word<'a>(steps: &mut Vec<Step<'a>>, word: &'a str, split: u64) -> bool {
         return false;
     };
     if let Some(line) = what.strip_prefix("<<") {
-        let (front, back) = cut_line(line.as_bytes(), split);
+        let (front, back) = split_line(line.as_bytes(), split);
         return push(steps, Step::Line(front, millis)) && push(steps, Step::Line(back, millis));
     }
     match timed_step(what, millis) {
@@ -65,7 +65,7 @@ fn push<'a>(steps: &mut Vec<Step<'a>>, step: Step<'a>) -> bool {
 }
 
 // A line, cut in two after `split` bytes; the second part is empty where the line is no longer than that.
-fn cut_line(line: &[u8], split: u64) -> (&[u8], &[u8]) {
+fn split_line(line: &[u8], split: u64) -> (&[u8], &[u8]) {
     let at = usize::try_from(split).unwrap_or(usize::MAX).min(line.len());
     line.split_at(at)
 }

@@ -10,28 +10,28 @@ use Rattle.gc_texts.specs.declared.fault.RunFault.{RunFault}
 use Rattle.gc_world.specs.declared.event.Event.{Event}
 
 -- if the status is 0, the text was a schedule, and the sink took its output
-played_at_0 : (text_of : List Event → Bool → List ℕ) (given : List ℕ) (totals : Bool) (old new : Option (List ℕ))
+schedule_at_0 : (text_of : List Event → Bool → List ℕ) (given : List ℕ) (totals : Bool) (old new : Option (List ℕ))
     (end : Result (Unit {0}) RunFault) (status : ℕ) (told told' : Option (List ℕ))
     → DrillsAs text_of given totals old new end → Tells run_fault_text end status told told' → status ≡ 0
     → (events : List Event) × IsSchedule given events × Appends old new (text_of events totals)
-played_at_0 text_of given totals old new (Ok x) status told told' drills tells zero = drills.1
-played_at_0 text_of given totals old new (Err fault) status told told' drills tells zero = absurd (omega (arith, tells.0, zero))
+schedule_at_0 text_of given totals old new (Ok x) status told told' drills tells zero = drills.1
+schedule_at_0 text_of given totals old new (Err fault) status told told' drills tells zero = absurd (omega (arith, tells.0, zero))
 
 -- if the status is 0, the result shows that the source was read to its end (`is_read_whole`)
-read_at_0 : (end : Result (Unit {0}) RunFault) (status : ℕ) (told told' : Option (List ℕ))
+whole_at_0 : (end : Result (Unit {0}) RunFault) (status : ℕ) (told told' : Option (List ℕ))
     → Tells run_fault_text end status told told' → status ≡ 0 → is_read_whole end ≡ true
-read_at_0 (Ok x) status told told' tells zero = refl
-read_at_0 (Err fault) status told told' tells zero = absurd (omega (arith, tells.0, zero))
+whole_at_0 (Ok x) status told told' tells zero = refl
+whole_at_0 (Err fault) status told told' tells zero = absurd (omega (arith, tells.0, zero))
 
 -- if the status is 0, the source gave a schedule, and the sink took the output of its events
 pub plays_at_0 : (text_of : List Event → Bool → List ℕ) (totals : Bool) (old new : Ports) (status : ℕ) (told told' : Option (List ℕ))
     → TellsWithin text_of totals old new status told told' → status ≡ 0 → PlaysWhole text_of totals old new
 plays_at_0 text_of totals old new status told told' (inl refused) zero = absurd (omega (arith, refused.0.0, zero))
 plays_at_0 text_of totals old new status told told' (inr s) zero =
-    let w = s.ends.writes in (w.0, w.1, played_at_0 text_of w.0 totals old.taken new.taken s.end status told told' w.3 s.tells zero)
+    let w = s.ends.writes in (w.0, w.1, schedule_at_0 text_of w.0 totals old.taken new.taken s.end status told told' w.3 s.tells zero)
 
 -- if the status is 0, the source was read to its end (`ReadsWholeSource`)
 pub reads_at_0 : (text_of : List Event → Bool → List ℕ) (totals : Bool) (old new : Ports) (status : ℕ) (told told' : Option (List ℕ))
     → TellsWithin text_of totals old new status told told' → status ≡ 0 → ReadsWholeSource old new
 reads_at_0 text_of totals old new status told told' (inl refused) zero = absurd (omega (arith, refused.0.0, zero))
-reads_at_0 text_of totals old new status told told' (inr s) zero = s.ends.whole (read_at_0 s.end status told told' s.tells zero)
+reads_at_0 text_of totals old new status told told' (inr s) zero = s.ends.whole (whole_at_0 s.end status told told' s.tells zero)

@@ -1,5 +1,5 @@
 -- How `exec` and `check` report how their loop over frames ended: this project's own. `told` is what had been written on the
--- messages before, and `told'` what has been written now. 4294967295 is the most reads that a u32 counts.
+-- messages before, and `told'` what has been written now.
 use Rattle.std.specs.Prelude.{◌≡◌, ℕ, ◌+◌, ◌<◌, ◌⊎◌, ◌↔◌, Bool, true, false, List, Option, Result}
 use Rattle.gc_subcommands.specs.Refusing.{TellsEnd}
 use Rattle.gc_subcommands.specs.Scenes.{RefusesScene, HoldsOfInstrument}
@@ -7,9 +7,13 @@ use Rattle.gc_engines.specs.Checking.{IsChecking}
 use Rattle.gc_engines.specs.LogChecking.{IsCheckingLog}
 use Rattle.gc_instrument.specs.Serving.{IsServing}
 use Rattle.gc_scenes.specs.SceneServing.{IsSceneServing}
-use Rattle.gc_lines.specs.Answering.{Ports, fault_text}
+use Rattle.gc_lines.specs.Answering.{Ports, serve_fault_text}
 use Rattle.gc_lines.specs.declared.served.Served.{Served}
 use Rattle.gc_lines.specs.declared.served.ServeFault.{ServeFault}
+
+-- the most reads of an input: as many as a `u32` counts
+abbrev pub most_reads : ℕ
+most_reads = 4294967295
 
 -- an instrument with this opening state served a source, and the status and the messages tell how that ended (`TellsEnd`). `Serves` says
 -- what serving does to instruments with these states: `IsServing` to the table's, `IsSceneServing` to that of a scene with
@@ -17,7 +21,7 @@ use Rattle.gc_lines.specs.declared.served.ServeFault.{ServeFault}
 abbrev pub TellsServing : {S : Type 0} → (Serves : (from to : S) → (ports ports' : Ports) → (most : ℕ) → Result Served ServeFault → Type 0)
     → (start : S) → (old new : Ports) → (status : ℕ) → (told told' : Option (List ℕ)) → Type 0
 TellsServing {S} Serves start old new status told told' =
-    TellsEnd fault_text (λ end. (after : S) × Serves start after old new 4294967295 end) status told told'
+    TellsEnd serve_fault_text (λ end. (after : S) × Serves start after old new most_reads end) status told told'
 
 -- the scene was refused, or its instrument (`HoldsOfInstrument`) served a source, and how that ended is reported
 abbrev pub TellsExec : {Name : Type 0} → (scene : Option Name) → (old new : Ports) → (status : ℕ) → (told told' : Option (List ℕ)) → Type 0
@@ -28,17 +32,17 @@ TellsExec scene old new status told told' =
 
 -- an input was checked, as a log (`is_log`) or as a stream, with this result
 abbrev pub ChecksInput : (is_log : Bool) → (old new : Ports) → Result Served ServeFault → Type 0
-ChecksInput true old new end = IsCheckingLog old new 4294967295 end
-ChecksInput false old new end = IsChecking old new 4294967295 end
+ChecksInput true old new end = IsCheckingLog old new most_reads end
+ChecksInput false old new end = IsChecking old new most_reads end
 
 -- an input was checked, as a log (`is_log`) or as a stream, and the status and the messages tell how that ended (`TellsEnd`)
 abbrev pub TellsChecking : (is_log : Bool) → (old new : Ports) → (status : ℕ) → (told told' : Option (List ℕ)) → Type 0
-TellsChecking is_log old new status told told' = TellsEnd fault_text (ChecksInput is_log old new) status told told'
+TellsChecking is_log old new status told told' = TellsEnd serve_fault_text (ChecksInput is_log old new) status told told'
 
 -- status 0 exactly where the last read was the end
 abbrev pub IsDoneAtEnd : (old new : Ports) → (status : ℕ) → Type 0
 IsDoneAtEnd old new status = (status ≡ 0) ↔ ((old.reads < new.reads) × (new.ended ≡ true))
 
--- status 1 only where a port failed, or all reads that a u32 counts were used up
+-- status 1 only where a port failed, or all reads (`most_reads`) were used up
 abbrev pub FailsByPorts : (old new : Ports) → (status : ℕ) → Type 0
-FailsByPorts old new status = status ≡ 1 → (new.source_failed ≡ true) ⊎ ((new.sink_failed ≡ true) ⊎ (new.reads ≡ old.reads + 4294967295))
+FailsByPorts old new status = status ≡ 1 → (new.source_failed ≡ true) ⊎ ((new.sink_failed ≡ true) ⊎ (new.reads ≡ old.reads + most_reads))

@@ -4,18 +4,22 @@ ghost use Rattle.std.specs.Prelude.{ℕ, Result};
 ghost use Rattle.gc_lines.specs.Answering.{HasEnded, Ports, ports_of};
 ghost use Rattle.gc_lines.specs.declared.served.Served.{Served};
 ghost use Rattle.gc_lines.specs.declared.served.ServeFault.{ServeFault};
+ghost use Rattle.gc_subcommands.specs.declared.answerer.TheConstants.{MOST_READS};
 
 use gc_instrument::{Instrument, serve};
 use gc_lines::{ServeFault, Served, Sink, Source};
 use gc_scenes::{SceneInstrument, serve_scene};
+
+/// The most reads of an input or a link: as many as a `u32` counts.
+pub(crate) const MOST_READS: u32 = 4294967295;
 
 /// An instrument that answers requests.
 pub(crate) trait Answerer: Drop {
     /// What serving may do: the instrument before and after it, the ports before and after it, the most reads, and how it ended.
     ghost serving: { Self → Self → Ports → Ports → ℕ → Result Served ServeFault → Type 0 };
 
-    /// Answers the requests of a source until its end, in at most as many reads as a `u32` counts. The faults are those of `serve`; the
-    /// replies that were written before a fault stay written.
+    /// Answers the requests of a source until its end, in at most `MOST_READS` reads. The faults are those of `serve`; the replies that
+    /// were written before a fault stay written.
     fn answer_all<S: Source, K: Sink>(
         &mut self,
         source: &mut S,
@@ -24,11 +28,11 @@ pub(crate) trait Answerer: Drop {
         ensures serves { serving self.old self.new
             (ports_of S.Source source.old K.Sink sink.old)
             (ports_of S.Source source.new K.Sink sink.new)
-            4294967295 result }
+            MOST_READS result }
         ensures ended { HasEnded
             (ports_of S.Source source.old K.Sink sink.old)
             (ports_of S.Source source.new K.Sink sink.new)
-            4294967295 result };
+            MOST_READS result };
 }
 
 impl Answerer for Instrument {
@@ -42,7 +46,7 @@ impl Answerer for Instrument {
         source: &mut S,
         sink: &mut K,
     ) -> Result<Served, ServeFault> {
-        serve(self, source, sink, u32::MAX)
+        serve(self, source, sink, MOST_READS)
     }
 }
 
@@ -57,6 +61,6 @@ impl Answerer for SceneInstrument {
         source: &mut S,
         sink: &mut K,
     ) -> Result<Served, ServeFault> {
-        serve_scene(self, source, sink, u32::MAX)
+        serve_scene(self, source, sink, MOST_READS)
     }
 }

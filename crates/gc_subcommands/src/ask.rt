@@ -3,6 +3,7 @@
 ghost use Rattle.std.specs.Prelude.{◌≤◌, IfOk};
 ghost use Rattle.std.specs.Process.{exit_status};
 
+use crate::answerer::MOST_READS;
 use clap::Command;
 use gc_ask::ask_at;
 use gc_lines::{Sink, Source};
@@ -52,6 +53,6 @@ pub fn ask_place<
 ) -> io::Result<ExitCode>
     ensures { IfOk result (λ status. exit_status status ≤ 1) }
 {
-    let end = ask_at(rt, alloc, place, source, sink, u32::MAX);
+    let end = ask_at(rt, alloc, place, source, sink, MOST_READS);
     report_end_at(place, end, messages)
 }

@@ -3,8 +3,10 @@
 ghost use Rattle.std.specs.Prelude.{◌≤◌, IfOk};
 ghost use Rattle.std.specs.Process.{exit_status};
 ghost use Rattle.gc_subcommands.specs.Serves.{ChecksInput, TellsChecking, IsDoneAtEnd};
+ghost use Rattle.gc_subcommands.specs.declared.answerer.TheConstants.{MOST_READS};
 ghost use Rattle.gc_lines.specs.Answering.{ports_of, HasEnded};
 
+use crate::answerer::MOST_READS;
 use clap::Command;
 use gc_engines::{run_check, run_check_log};
 use gc_lines::{ServeFault, Served, Sink, Source};
@@ -70,10 +72,10 @@ fn check_input<S: Source, K: Sink>(
     ensures ended { HasEnded
         (ports_of S.Source source.old K.Sink sink.old)
         (ports_of S.Source source.new K.Sink sink.new)
-        4294967295 result }
+        MOST_READS result }
 {
     match log {
-        true => run_check_log(source, sink, u32::MAX),
-        false => run_check(source, sink, u32::MAX),
+        true => run_check_log(source, sink, MOST_READS),
+        false => run_check(source, sink, MOST_READS),
     }
 }

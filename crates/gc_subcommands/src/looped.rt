@@ -3,6 +3,7 @@
 ghost use Rattle.std.specs.Prelude.{◌≤◌, IfOk};
 ghost use Rattle.std.specs.Process.{exit_status};
 
+use crate::answerer::MOST_READS;
 use crate::scene::{Staged, instrument_of};
 use clap::Command;
 use gc_ask::loop_tcp_on;
@@ -54,10 +55,10 @@ pub fn loop_scene<
 {
     let end = match instrument_of::<Staged, R>(rt, alloc, scene) {
         Ok(Staged::Plain(instrument)) => {
-            loop_tcp_on(rt, alloc, instrument, source, sink, u32::MAX)
+            loop_tcp_on(rt, alloc, instrument, source, sink, MOST_READS)
         }
         Ok(Staged::Ruled(instrument)) => {
-            loop_tcp_on(rt, alloc, instrument, source, sink, u32::MAX)
+            loop_tcp_on(rt, alloc, instrument, source, sink, MOST_READS)
         }
         Err(refusal) => return refusal.tell_with_file(scene, messages),
     };

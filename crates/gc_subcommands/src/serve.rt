@@ -4,6 +4,7 @@
 ghost use Rattle.std.specs.Prelude.{◌≡◌, ◌≤◌, true, IfOk};
 ghost use Rattle.std.specs.Process.{exit_status};
 
+use crate::answerer::MOST_READS;
 use crate::scene::{Staged, Timed, instrument_of};
 use clap::{ArgMatches, Command};
 use gc_ask::{
@@ -196,7 +197,7 @@ fn serve_or_keep<
             let keeping = Keeping {
                 connections,
                 idle,
-                max_reads: u32::MAX,
+                max_reads: MOST_READS,
             };
             keep_place(rt, place, keeping, &mut instrument, messages)
         }
@@ -242,19 +243,19 @@ fn serve_place<
     match endpoint_of(place) {
         None => refuse_numbers(messages),
         Some(Endpoint::Address(address)) => {
-            let end = serve_tcp(rt, address, connections, instrument, u32::MAX);
+            let end = serve_tcp(rt, address, connections, instrument, MOST_READS);
             report_end(end, messages)
         }
         Some(Endpoint::Device(path)) => {
-            let end = serve_device(rt, path, connections, instrument, u32::MAX);
+            let end = serve_device(rt, path, connections, instrument, MOST_READS);
             report_end_at(place, end, messages)
         }
     }
 }
 
-// Keeps a port, an address or a device: goes on after a connection that fails (`--keep`), and reports how that ended. Numbers out
-// of their range are refused with status 2. So is a device with 0 connections, or with a `keeping.idle` out of its range, though
-// it doesn't use that. The status is 0 also where the line of a connection's fault couldn't be written.
+// Keeps a port, an address or a device: goes on after a connection that fails (`--keep`), and reports how that ended. It refuses
+// with status 2 a number of connections or a `keeping.idle` out of its range, the latter also of a device, which doesn't use it.
+// The status is 0 also where the line of a connection's fault couldn't be written.
 fn keep_place<
     'c,
     R: Net<Listener = TcpListener, Stream = TcpStream> + Clock + Files<File = File>,
@@ -286,7 +287,7 @@ fn keep_place<
 
 // Whether this number of connections is in its range.
 fn is_in_range(connections: u32) -> bool
-    ensures { result ≡ true → (1 ≤ connections) × (connections ≤ 1000) }
+    ensures { result ≡ true → (1 ≤ connections) × (connections ≤ MOST_CONNECTIONS) }
 {
     1 <= connections && connections <= MOST_CONNECTIONS
 }

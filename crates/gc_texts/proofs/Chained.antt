@@ -17,9 +17,8 @@ use Rattle.gc_texts.specs.declared.again.Again.{Again}
 use Rattle.gc_texts.specs.declared.attempts.Planned.{Planned}
 use Rattle.gc_texts.specs.Again.{no_again}
 use Rattle.gc_texts.specs.Nears.{near_of}
-use Rattle.gc_texts.specs.Tasks.{IsTasks, opening, mode_after, continues_group, is_chained, turn_at, task_at, setup_at, setup_of, planned_at, planned_of, tasks_of, placed}
+use Rattle.gc_texts.specs.Tasks.{TasksSeen, IsTasks, first_mode, mode_after, continues_group, chained_at, turn_at, task_at, setup_at, setup_of, planned_at, planned_of, tasks_of, placed}
 use Rattle.gc_texts.specs.declared.wish.Wish.{Wish}
-use Rattle.gc_texts.specs.declared.name.Name.{Name}
 use Rattle.gc_texts.specs.declared.near.Near.{Near}
 use Rattle.gc_texts.specs.declared.task_line.TaskLine.{TaskLine}
 use Rattle.gc_texts.specs.declared.task_line.TaskLine.TheVariants as says
@@ -165,8 +164,8 @@ says_all deadline chained done mode (line ∷ later) h =
     subst (λ xs. Says deadline chained xs (mode_after_lines (mode_after mode line) later)) (append_assoc done (line ∷ []) later)
     (says_all deadline chained (done ++ line ∷ []) (mode_after mode line) later (says_more deadline chained done mode line h))
 
--- before all lines the opening mode holds, which has the caller's deadline and chaining: no line has said otherwise
-says_opening : (deadline : ℕ) (chained : Bool) → Says deadline chained [] (opening deadline chained)
+-- before all lines the first mode holds, which has the caller's deadline and chaining: no line has said otherwise
+says_opening : (deadline : ℕ) (chained : Bool) → Says deadline chained [] (first_mode deadline chained)
 says_opening deadline chained = record {
   deadline_is = inl (tt, refl);
   chained_is = inl (tt, refl);
@@ -216,14 +215,14 @@ group_continued : (group : Option ℕ) (target : ℕ) → group ≡ Some target 
 group_continued group target e = ap (λ r. continues_group r target) e ∙ eq-eqb target target refl
 
 -- a command of the cycle is chained exactly where the mode chains commands and the command continues the group
-cycle_joined : (mode : Mode) (target : ℕ) → mode.setup ≡ false → is_chained mode target ≡ (mode.chained && continues_group mode.group target)
+cycle_joined : (mode : Mode) (target : ℕ) → mode.setup ≡ false → chained_at mode target ≡ (mode.chained && continues_group mode.group target)
 cycle_joined mode target e = ap (λ b. if b then nat_lt 0 mode.begun else mode.chained && continues_group mode.group target) e
 
 -- the task of the command after the lines `front`, with any rule, place and count of others
 module _ (deadline : ℕ) (chained : Bool) (front : List TaskLine) (command : Wish) (now : Bool) (near : Option Near) (again : Again) (others : ℕ) where
   -- the mode before the command
   abbrev mode : Mode
-  mode = mode_after_lines (opening deadline chained) front
+  mode = mode_after_lines (first_mode deadline chained) front
 
   -- the task of the command
   abbrev its_task : Task
@@ -231,18 +230,18 @@ module _ (deadline : ℕ) (chained : Bool) (front : List TaskLine) (command : Wi
       record {
         command = command;
         deadline = mode.deadline;
-        chained = is_chained mode command.target;
+        chained = chained_at mode command.target;
         near = near;
         accepted = mode.accepted;
         again = again;
-        turn = turn_at mode (is_chained mode command.target);
+        turn = turn_at mode (chained_at mode command.target);
         others = others;
         now = now;
       }
 
   -- the mode before the command is what the lines before the command say (`Says`)
   said_so : Says deadline chained front mode
-  said_so = says_all deadline chained [] (opening deadline chained) front (says_opening deadline chained)
+  said_so = says_all deadline chained [] (first_mode deadline chained) front (says_opening deadline chained)
 
   -- `its_task` is as the lines before the command say, as `IsTaskOf` has it
   goes_out : IsTaskOf deadline chained front command now its_task
@@ -254,34 +253,33 @@ module _ (deadline : ℕ) (chained : Bool) (front : List TaskLine) (command : Wi
         deadline_is = said_so.deadline_is;
         accepted_are = said_so.accepted_are;
         at_start = λ e.
-            let setup : mode.setup ≡ true = section_after_lines (opening deadline chained) front ∙ e in
-            let begun : mode.begun ≡ setup_commands false front = let counted = setup_counted (opening deadline chained) front in omega (arith, counted) in
+            let setup : mode.setup ≡ true = section_after_lines (first_mode deadline chained) front ∙ e in
+            let begun : mode.begun ≡ setup_commands false front = let counted = setup_counted (first_mode deadline chained) front in omega (arith, counted) in
             record {
               place = ap (λ b. if b then mode.begun else mode.place) setup ∙ begun;
               chained = ap (λ b. if b then nat_lt 0 mode.begun else mode.chained && continues_group mode.group command.target) setup ∙ ap (nat_lt 0) begun;
             };
         in_cycle = λ e.
-            let cycle : mode.setup ≡ false = section_after_lines (opening deadline chained) front ∙ e in
-            let place : mode.place ≡ cycle_commands false front = let counted = cycle_counted (opening deadline chained) front in omega (arith, counted) in
+            let cycle : mode.setup ≡ false = section_after_lines (first_mode deadline chained) front ∙ e in
+            let place : mode.place ≡ cycle_commands false front = let counted = cycle_counted (first_mode deadline chained) front in omega (arith, counted) in
             let so = cycle_joined mode command.target cycle in
             record {
               place = ap (λ b. if b then mode.begun else mode.place) cycle ∙ place;
               only = λ is.
                   let both = and_parts mode.chained (continues_group mode.group command.target) (sym so ∙ is) in
                   (subst (λ b. IsChainingAfter chained front b) both.0 said_so.chained_is, said_so.group command.target (continued_group mode.group command.target both.1));
-              found = λ a b. so ∙ and_from mode.chained (continues_group mode.group command.target) (chaining_of_lines (opening deadline chained) front true a)
-                  (group_continued mode.group command.target (group_of (opening deadline chained) front command.target b));
+              found = λ a b. so ∙ and_from mode.chained (continues_group mode.group command.target) (chaining_of_lines (first_mode deadline chained) front true a)
+                  (group_continued mode.group command.target (group_of (first_mode deadline chained) front command.target b));
             };
       }
 
 -- a command of a text, after the lines `front`
 module _
-    (text : List ℕ) (deadline : ℕ) (chained : Bool) (setup : ℕ) (tasks : List Task) (names : List Name) (nears : List Near)
-    (is : IsTasks text deadline chained setup tasks names nears)
+    (text : List ℕ) (deadline : ℕ) (chained : Bool) (given : TasksSeen) (is : IsTasks text deadline chained given)
     (front later : List TaskLine) (command : Wish) (now : Bool) (at : is.said ≡ front ++ says.Command command now ∷ later) where
   -- the mode before the command
   abbrev here : Mode
-  here = mode_after_lines (opening deadline chained) front
+  here = mode_after_lines (first_mode deadline chained) front
 
   -- the task of the command, before it has its place
   abbrev own : Task
@@ -289,11 +287,11 @@ module _
 
   -- the setup tasks before the command
   abbrev setups : List Task
-  setups = setup_of (opening deadline chained) front
+  setups = setup_of (first_mode deadline chained) front
 
   -- the cycle's commands before the command
   abbrev planned : List Planned
-  planned = planned_of (opening deadline chained) front
+  planned = planned_of (first_mode deadline chained) front
 
   -- the mode after the command
   abbrev next : Mode
@@ -307,49 +305,50 @@ module _
 
   -- where b says whether the command is of the setup, the text's tasks are `all b`, each with the place of its target, if a line
   -- of the text says that place
-  all_are : (b : Bool) → here.setup ≡ b → tasks ≡ map (placed nears) (all b)
+  all_are : (b : Bool) → here.setup ≡ b → given.tasks ≡ map (placed given.nears) (all b)
   all_are b e =
-      is.tasks_are ∙ ap (λ said. map (placed nears) (tasks_of (opening deadline chained) said)) at
-      ∙ ap (λ ts. map (placed nears) (ts ++ laid_out (planned_of (opening deadline chained) (front
-      ++ says.Command command now ∷ later)))) (given_both setup_at (opening deadline chained) front (says.Command command now ∷ later))
-      ∙ ap (λ ps. map (placed nears) ((setups ++ setup_of here (says.Command command now ∷ later)) ++ laid_out ps))
-      (given_both planned_at (opening deadline chained) front (says.Command command now ∷ later))
-      ∙ ap (λ t. map (placed nears) (all t)) e
+      is.tasks_are ∙ ap (λ said. map (placed given.nears) (tasks_of (first_mode deadline chained) said)) at
+      ∙ ap (λ ts. map (placed given.nears) (ts ++ laid_out (planned_of (first_mode deadline chained) (front
+      ++ says.Command command now ∷ later)))) (given_both setup_at (first_mode deadline chained) front (says.Command command now ∷ later))
+      ∙ ap (λ ps. map (placed given.nears) ((setups ++ setup_of here (says.Command command now ∷ later)) ++ laid_out ps))
+      (given_both planned_at (first_mode deadline chained) front (says.Command command now ∷ later))
+      ∙ ap (λ t. map (placed given.nears) (all t)) e
 
   -- the law for this command, by whether it is of the setup (`b`)
   by_section : (b : Bool) → here.setup ≡ b
-      → (earlier : List Task) × (task : Task) × (others : List Task) × (tasks ≡ earlier ++ task ∷ others)
-      × (section_after false front ≡ true → length earlier ≡ setup_commands false front) × (section_after false front ≡ false → setup ≤ length earlier)
-      × IsTaskOf deadline chained front command now task × (task.near ≡ near_of command.target nears)
+      → (earlier : List Task) × (task : Task) × (others : List Task) × (given.tasks ≡ earlier ++ task ∷ others)
+      × (section_after false front ≡ true → length earlier ≡ setup_commands false front) × (section_after false front ≡ false → given.setup ≤ length earlier)
+      × IsTaskOf deadline chained front command now task × (task.near ≡ near_of command.target given.nears)
   by_section true e =
       let rest = setup_of next later ++ laid_out (planned ++ planned_of next later) in (
-        map (placed nears) setups,
-        placed nears own,
-        map (placed nears) rest,
-        all_are true e ∙ ap (map (placed nears)) (append_assoc setups (own ∷ setup_of next later) (laid_out (planned ++ planned_of next later))) ∙ map-append (placed nears) setups (own ∷ rest),
-        (λ s. length-map setups (placed nears) ∙ setup_count (opening deadline chained) front),
-        (λ s. let bad : true ≡ false = sym e ∙ section_after_lines (opening deadline chained) front ∙ s in cc),
-        goes_out deadline chained front command now (near_of command.target nears) no_again 0,
+        map (placed given.nears) setups,
+        placed given.nears own,
+        map (placed given.nears) rest,
+        all_are true e ∙ ap (map (placed given.nears)) (append_assoc setups (own ∷ setup_of next later) (laid_out (planned ++ planned_of next later)))
+            ∙ map-append (placed given.nears) setups (own ∷ rest),
+        (λ s. length-map setups (placed given.nears) ∙ setup_count (first_mode deadline chained) front),
+        (λ s. let bad : true ≡ false = sym e ∙ section_after_lines (first_mode deadline chained) front ∙ s in cc),
+        goes_out deadline chained front command now (near_of command.target given.nears) no_again 0,
         refl,
       )
   by_section false e =
       let p : Planned = record { task = own; retry = here.retry } in
       let among = chains_have_first no_retry [] planned (planned_of next later) p in
       let in_front = setups ++ setup_of next later in
-      let many : setup ≡ length in_front =
-      is.setup_is ∙ ap (λ said. length (setup_of (opening deadline chained) said)) at ∙ ap length (given_both setup_at (opening deadline chained) front (says.Command command now ∷ later))
+      let many : given.setup ≡ length in_front =
+      is.setup_is ∙ ap (λ said. length (setup_of (first_mode deadline chained) said)) at ∙ ap length (given_both setup_at (first_mode deadline chained) front (says.Command command now ∷ later))
       ∙ ap (λ b. length (setups ++ ((if b then own ∷ [] else []) ++ setup_of next later))) e in
-      let long : length (map (placed nears) (in_front ++ among.earlier)) ≡ length in_front + length among.earlier = length-map (in_front ++ among.earlier) (placed nears)
+      let long : length (map (placed given.nears) (in_front ++ among.earlier)) ≡ length in_front + length among.earlier = length-map (in_front ++ among.earlier) (placed given.nears)
       ∙ length-append in_front among.earlier in (
-        map (placed nears) (in_front ++ among.earlier),
-        placed nears (in_attempt 1 among.again among.commands p),
-        map (placed nears) among.others,
-        all_are false e ∙ ap (λ ts. map (placed nears) (in_front ++ ts)) among.are
-            ∙ ap (map (placed nears)) (sym (append_assoc in_front among.earlier (in_attempt 1 among.again among.commands p ∷ among.others)))
-            ∙ map-append (placed nears) (in_front ++ among.earlier) (in_attempt 1 among.again among.commands p ∷ among.others),
-        (λ s. let bad : false ≡ true = sym e ∙ section_after_lines (opening deadline chained) front ∙ s in cc),
+        map (placed given.nears) (in_front ++ among.earlier),
+        placed given.nears (in_attempt 1 among.again among.commands p),
+        map (placed given.nears) among.others,
+        all_are false e ∙ ap (λ ts. map (placed given.nears) (in_front ++ ts)) among.are
+            ∙ ap (map (placed given.nears)) (sym (append_assoc in_front among.earlier (in_attempt 1 among.again among.commands p ∷ among.others)))
+            ∙ map-append (placed given.nears) (in_front ++ among.earlier) (in_attempt 1 among.again among.commands p ∷ among.others),
+        (λ s. let bad : false ≡ true = sym e ∙ section_after_lines (first_mode deadline chained) front ∙ s in cc),
         (λ s. omega (arith, many, long)),
-        goes_out deadline chained front command now (near_of command.target nears) among.again 0,
+        goes_out deadline chained front command now (near_of command.target given.nears) among.again 0,
         refl,
       )
 
@@ -357,13 +356,13 @@ module _
 -- any. Before the task of a command of the setup there are as many tasks as commands of the setup before that command, and before
 -- that of one of the cycle at least as many as the setup has
 pub tasks_follow_their_lines : TasksFollowTheirLines
-tasks_follow_their_lines text deadline chained setup tasks names nears is front later command now at =
-    by_section text deadline chained setup tasks names nears is front later command now at (mode_after_lines (opening deadline chained) front).setup refl
+tasks_follow_their_lines text deadline chained given is front later command now at =
+    by_section text deadline chained given is front later command now at (mode_after_lines (first_mode deadline chained) front).setup refl
 
 -- the law: a command of the cycle has the retry that the last line `retry` before it says, and without such a line isn't repeated
 pub retries_hold : RetriesHold
 retries_hold deadline chained front later command now cycle =
-    let first = opening deadline chained in
+    let first = first_mode deadline chained in
     let mode = mode_after_lines first front in
     let said : Says deadline chained front mode = says_all deadline chained [] first front (says_opening deadline chained) in
     let p : Planned = record { task = task_at mode command now; retry = mode.retry } in (

@@ -3,10 +3,11 @@ use Rattle.std.proofs.Common.{◌≡◌, ℕ, List, Option, Some, None, ap, subs
 use Rattle.std.specs.Prelude.{filter}
 use Rattle.std.proofs.lemmas.Option.{same_Some}
 use Rattle.gc_catalogue.specs.declared.call.Call.{Call}
-use Rattle.gc_texts.specs.Commands.{IsCommand, IsCommands}
+use Rattle.gc_texts.specs.Commands.{IsCommand}
 use Rattle.gc_texts.specs.Cuts.{Cuts}
+use Rattle.gc_texts.specs.Laws.{OneCommandList}
 use Rattle.gc_texts.specs.LineForms.{is_kept, text_lines}
-use Rattle.gc_texts.specs.Procedures.{IsNumber, IsProcedure}
+use Rattle.gc_texts.specs.Procedures.{IsNumber, IsProcedureText}
 use Rattle.gc_texts.specs.declared.commands.Command.{Command}
 use Rattle.gc_texts.proofs.Cutting.{cut_found, one_front, digits_lack_spaces}
 use Rattle.gc_texts.proofs.OneReading.{one_procedure, one_list}
@@ -29,8 +30,8 @@ module _ (line : List ℕ) (command : Command) (is : IsCommand line command) whe
 
   -- a line with no call after its first space is no command's
   pub callless_is_no_command : (target procedure : List ℕ) → Cuts 32 line target (Some procedure)
-      → ((c : Call) → IsProcedure procedure c → ⊥) → ⊥
-  callless_is_no_command target procedure cut none = none command.call (subst (λ (p : List ℕ). IsProcedure p command.call)
+      → ((c : Call) → IsProcedureText procedure c → ⊥) → ⊥
+  callless_is_no_command target procedure cut none = none command.call (subst (λ (p : List ℕ). IsProcedureText p command.call)
       (sym (same_Some procedure is.procedure (the_cut target (Some procedure) cut).1)) is.procedure_is)
 
 -- two commands with equal targets and equal calls are equal
@@ -44,8 +45,8 @@ one_command line c d r s =
     (digits_lack_spaces r.target_text r.target_is.names.digits) (digits_lack_spaces s.target_text s.target_is.names.digits) in
     same_command c d
     (one_number s.target_text c.target d.target 4294967295 (subst (λ (x : List ℕ). IsNumber x c.target 4294967295) parts.0 r.target_is) s.target_is)
-    (one_procedure s.procedure c.call d.call (subst (λ (x : List ℕ). IsProcedure x c.call) parts.1 r.procedure_is) s.procedure_is)
+    (one_procedure s.procedure c.call d.call (subst (λ (x : List ℕ). IsProcedureText x c.call) parts.1 r.procedure_is) s.procedure_is)
 
--- a text gives one list of commands at most
-pub one_command_list : (text : List ℕ) (xs ys : List Command) → IsCommands text xs → IsCommands text ys → xs ≡ ys
+-- the law: a text gives one list of commands at most
+pub one_command_list : OneCommandList
 one_command_list text xs ys h k = one_list IsCommand one_command (filter is_kept (text_lines text)) xs ys h k

@@ -2,7 +2,7 @@
 use Rattle.std.proofs.Common.{◌≡◌, ℕ, List, [], ◌∷◌, ◌++◌, refl, sym, ap, append_assoc}
 use Rattle.std.specs.Prelude.{codes}
 use Rattle.std.specs.Fmt.{decimal}
-use Rattle.gc_lines.specs.Answering.{numbered}
+use Rattle.gc_lines.specs.Answering.{numbered_fault}
 use Rattle.gc_texts.specs.Faults.{fault_detail, fault_line}
 use Rattle.gc_texts.specs.declared.fault.RunFault.{RunFault}
 use Rattle.gc_texts.specs.declared.fault.RunFault.TheVariants.{Write, Schedule}
@@ -17,5 +17,5 @@ plain_detail _ no_write no_schedule = refl
 -- `geocom: fault `, the number, what is printed after it (`detail`) and a line feed (10), one after the other, are the
 -- fault's line
 pub line_with : (number : ℕ) (detail : List ℕ)
-    → codes "geocom: fault " ++ (decimal number ++ (detail ++ (10 ∷ []))) ≡ fault_line (numbered number ++ detail)
+    → codes "geocom: fault " ++ (decimal number ++ (detail ++ (10 ∷ []))) ≡ fault_line (numbered_fault number ++ detail)
 line_with number detail = ap (λ l. codes "geocom: fault " ++ l) (sym (append_assoc (decimal number) detail (10 ∷ [])))

@@ -1,21 +1,21 @@
 -- Lines of a log: each byte reads back, and so does each line. A log line is a moment, a space, a mark (which says whether
 -- bytes went or came, whole or in part, or that it is about the link), a space and the escaped bytes.
 use Rattle.std.proofs.Common.{◌≡◌, ◌≢◌, ℕ, ◌+◌, ◌/◌, ◌%◌, ◌<◌, ◌≤◌, true, false, cond, List, [], ◌∷◌, ◌++◌, length, Option, Some, None, refl, sym, ap, subst, ◌∙◌, arith, append_assoc, append-nil, length-append}
-use Rattle.std.specs.List.{All, AllByRecursion}
+use Rattle.std.specs.List.{AllByRecursion}
 use Rattle.std.specs.Prelude.{nat_lt, ◌==◌, codes}
 use Rattle.std.proofs.Math.Nat.{div-add-mod}
 use Rattle.std.proofs.lemmas.Bool.{cond_both, eqb-true, ltb-true, ltb-false}
 use Rattle.std.proofs.lemmas.List.Elements.{recursion_from_All}
 use Rattle.std.proofs.lemmas.Option.{same_Some}
 use Rattle.gc_texts.specs.Cuts.{Lacks, Cuts}
-use Rattle.gc_texts.specs.Logs.{mark_text, is_unescaped, hex_digit, escape, escaped, IsPrintable, IsLogLine}
+use Rattle.gc_texts.specs.Logs.{mark_text, is_unescaped, hex_digit, escape, escaped, AreBytes, IsPrintable, IsLogLine}
 use Rattle.gc_texts.specs.declared.log_line.LogMark.{LogMark}
 use Rattle.gc_texts.specs.declared.log_line.LogMark.TheVariants.{Went, WentPart, Came, CamePart, Link}
 use Rattle.gc_texts.proofs.Cutting.{lacks_by_test, cut_found, one_front}
 
--- a byte is a number below 256
-abbrev IsByte : ℕ → Type 0
-IsByte b = b < 256
+-- a number is below 256, as each byte is
+abbrev IsBelow256 : ℕ → Type 0
+IsBelow256 b = b < 256
 
 -- a byte's text is it alone, where it is written as it is (`is_unescaped`), and else `\x` and its two digits
 data IsEscape (b : ℕ) (text : List ℕ) : Type 0 where
@@ -75,12 +75,12 @@ escape_not_empty b s xs (as_digits is so) e = let bad : 92 ∷ 120 ∷ hex_digit
 record IsRestOf (bytes left all : List ℕ) : Type 0 where
   more : List ℕ
   joins : all ≡ bytes ++ more
-  are : AllByRecursion IsByte more
+  are : AllByRecursion IsBelow256 more
   so : left ≡ escaped more
 
 -- where the escaped form of `bytes`, and `left` after it, are the escaped form of `all`, `left` is the escaped form of what `all`
 -- has after `bytes` (`IsRestOf`)
-behind_bytes : (bytes left all : List ℕ) → AllByRecursion IsByte bytes → AllByRecursion IsByte all
+behind_bytes : (bytes left all : List ℕ) → AllByRecursion IsBelow256 bytes → AllByRecursion IsBelow256 all
     → escaped bytes ++ left ≡ escaped all → IsRestOf bytes left all
 behind_bytes [] left all h k e = record { more = all; joins = refl; are = k; so = e }
 behind_bytes (b ∷ bs) left [] h k e = absurd (escape_not_empty b (escape b) (escaped bs ++ left) (escapes b) (sym (append_assoc (escape b) (escaped bs) left) ∙ e))
@@ -93,7 +93,7 @@ behind_bytes (b ∷ bs) left (c ∷ cs) h k e =
 -- wasn't
 pub record ReadsBytes (text bytes left : List ℕ) : Type 0 where
   pub so : text ≡ escaped bytes ++ left
-  pub are : All IsByte bytes
+  pub are : AreBytes bytes
 
 -- a list whose length isn't 0 isn't empty
 pub left_not_empty : (left : List ℕ) → false ≡ (length left == 0) → left ≢ []
@@ -105,7 +105,7 @@ full_is_514 n full = omega (arith, eqb-true n 514 (sym full))
 
 -- a text that isn't empty, and doesn't begin with an escaped byte, isn't the escaped form of any bytes
 no_more : (left more : List ℕ) → left ≢ [] → ((b : ℕ) (rest : List ℕ) → b < 256 → left ≡ escape b ++ rest → ⊥)
-    → AllByRecursion IsByte more → left ≡ escaped more → ⊥
+    → AllByRecursion IsBelow256 more → left ≡ escaped more → ⊥
 no_more left [] some none h e = some e
 no_more left (b ∷ bs) some none h e = none b (escaped bs) h.0 e
 
@@ -113,9 +113,9 @@ no_more left (b ∷ bs) some none h e = none b (escaped bs) h.0 e
 -- bytes
 pub reads_no_more : (text bytes left : List ℕ) (read : ReadsBytes text bytes left) (some : left ≢ [])
     (none : (b : ℕ) (rest : List ℕ) → b < 256 → left ≡ escape b ++ rest → ⊥)
-    → (all : List ℕ) → All IsByte all → text ≡ escaped all → ⊥
+    → (all : List ℕ) → AreBytes all → text ≡ escaped all → ⊥
 reads_no_more text bytes left h some none all are e =
-    let k = behind_bytes bytes left all (recursion_from_All IsByte bytes h.are) (recursion_from_All IsByte all are) (sym h.so ∙ e) in
+    let k = behind_bytes bytes left all (recursion_from_All IsBelow256 bytes h.are) (recursion_from_All IsBelow256 all are) (sym h.so ∙ e) in
     no_more left k.more some none k.are k.so
 
 -- where a text isn't empty, and is the escaped form of bytes, there is at least one byte
@@ -125,9 +125,9 @@ some_bytes_left left (b ∷ bs) some e = omega arith
 
 -- where at least 514 bytes were read and something is left, the text isn't the escaped form of at most 514 bytes
 pub reads_too_many : (text bytes left : List ℕ) (read : ReadsBytes text bytes left) (some : left ≢ []) (full : 514 ≤ length bytes)
-    → (all : List ℕ) → length all ≤ 514 → All IsByte all → text ≡ escaped all → ⊥
+    → (all : List ℕ) → length all ≤ 514 → AreBytes all → text ≡ escaped all → ⊥
 reads_too_many text bytes left h some full all room are e =
-    let k = behind_bytes bytes left all (recursion_from_All IsByte bytes h.are) (recursion_from_All IsByte all are) (sym h.so ∙ e) in
+    let k = behind_bytes bytes left all (recursion_from_All IsBelow256 bytes h.are) (recursion_from_All IsBelow256 all are) (sym h.so ∙ e) in
     omega (arith, full, room, ap length k.joins, length-append bytes k.more, some_bytes_left left k.more some k.so)
 
 -- where `ys` are `xs` and then `more`, and the escaped form of `more` is empty, `xs` are `ys`
@@ -136,9 +136,9 @@ none_left xs ys [] joins so = sym (joins ∙ append-nil xs)
 none_left xs ys (b ∷ bs) joins so = absurd (escape_not_empty b (escape b) (escaped bs) (escapes b) (sym so))
 
 -- two lists of bytes with the same escaped form are the same
-pub escaped_injective : (xs ys : List ℕ) → All IsByte xs → All IsByte ys → escaped xs ≡ escaped ys → xs ≡ ys
+pub escaped_injective : (xs ys : List ℕ) → AreBytes xs → AreBytes ys → escaped xs ≡ escaped ys → xs ≡ ys
 escaped_injective xs ys h j e =
-    let k = behind_bytes xs [] ys (recursion_from_All IsByte xs h) (recursion_from_All IsByte ys j) (append-nil (escaped xs) ∙ e) in
+    let k = behind_bytes xs [] ys (recursion_from_All IsBelow256 xs h) (recursion_from_All IsBelow256 ys j) (append-nil (escaped xs) ∙ e) in
     none_left xs ys k.more k.joins k.so
 
 -- a mark has no space
@@ -183,7 +183,7 @@ module _
 
   -- a line whose text after the mark isn't the escaped form of any bytes, 514 at most, is no log line of 514 bytes at most
   pub other_bytes : (behind word text : List ℕ) → rest ≡ Some behind → Cuts 32 behind word (Some text) → length bytes ≤ 514
-      → ((all : List ℕ) → length all ≤ 514 → All IsByte all → text ≡ escaped all → ⊥) → ⊥
+      → ((all : List ℕ) → length all ≤ 514 → AreBytes all → text ≡ escaped all → ⊥) → ⊥
   other_bytes behind word text so next room none = none bytes room is.are_bytes (same_Some text (escaped bytes) (mark_cut behind word (Some text) so next).1)
 
 -- one of two marks by the text after a mark's first byte: `whole` where there is none, else `part`

@@ -6,7 +6,7 @@ use Rattle.gc_catalogue.specs.declared.call.Call.{Call}
 use Rattle.gc_catalogue.specs.Calls.{IsCall}
 use Rattle.gc_catalogue.proofs.CallLaws.{one_call}
 use Rattle.gc_texts.specs.Cuts.{Cuts, Lacks}
-use Rattle.gc_texts.specs.Procedures.{IsNumber, IsProcedure, params_text_of}
+use Rattle.gc_texts.specs.Procedures.{IsNumber, IsProcedureText, params_text_of}
 use Rattle.gc_texts.proofs.Cutting.{digits_lack_spaces}
 use Rattle.gc_texts.proofs.Procedures.{one_number, procedure_parts}
 
@@ -17,7 +17,7 @@ params_cut text digits None e lacks = (e ∙ append-nil digits, lacks)
 params_cut text digits (Some params) e lacks = (e, lacks)
 
 -- a procedure's text gives one call at most
-pub one_procedure : (text : List ℕ) (c d : Call) → IsProcedure text c → IsProcedure text d → c ≡ d
+pub one_procedure : (text : List ℕ) (c d : Call) → IsProcedureText text c → IsProcedureText text d → c ≡ d
 one_procedure text c d p q =
     let cut : Cuts 32 text q.rpc_text q.params = params_cut text q.rpc_text q.params q.text_is (digits_lack_spaces q.rpc_text q.number.names.digits) in
     let parts = procedure_parts text q.rpc_text q.params c cut p in

@@ -9,7 +9,7 @@ use Rattle.gc_values.proofs.NearLemmas.{near_is_within}
 use Rattle.gc_lines.proofs.Lists.{cons_head, cons_tail}
 use Rattle.gc_texts.specs.Chained.{PlacesHoldForAll}
 use Rattle.gc_texts.specs.Nears.{has_near, near_of, direction_of, is_away, is_elsewhere}
-use Rattle.gc_texts.specs.Tasks.{opening, tasks_of, name_at, near_at, nears_of, placed, MayFollow}
+use Rattle.gc_texts.specs.Tasks.{first_mode, tasks_of, name_at, near_at, nears_of, placed, MayFollow}
 use Rattle.gc_texts.specs.declared.name.Name.{Name}
 use Rattle.gc_texts.specs.declared.near.Near.{Near}
 use Rattle.gc_texts.specs.declared.task_line.TaskLine.{TaskLine}
@@ -47,11 +47,11 @@ each_has_its_place nears (t ∷ tasks) (u ∷ earlier) others task e =
 
 -- the law: a place holds for all commands of its target
 pub places_hold : PlacesHoldForAll
-places_hold text deadline chained setup tasks names nears is front later near at earlier others task among same =
+places_hold text deadline chained all is front later near at earlier others task among same =
     let follow : MayFollow [] [] (front ++ says.Locating near ∷ later) = subst (λ said. MayFollow [] [] said) at is.lines.follow in
-    let all : nears ≡ nears_of front ++ near ∷ nears_of later = is.nears_are ∙ ap nears_of at ∙ flat_map-append near_at front (says.Locating near ∷ later) in
-    each_has_its_place nears (tasks_of (opening deadline chained) is.said) earlier others task (sym is.tasks_are ∙ among)
-    ∙ ap (λ t. near_of t nears) same ∙ ap (near_of near.target) all ∙ found_near (nears_of front) (nears_of later) near (no_place_before [] [] front later near follow)
+    let places : all.nears ≡ nears_of front ++ near ∷ nears_of later = is.nears_are ∙ ap nears_of at ∙ flat_map-append near_at front (says.Locating near ∷ later) in
+    each_has_its_place all.nears (tasks_of (first_mode deadline chained) is.said) earlier others task (sym is.tasks_are ∙ among)
+    ∙ ap (λ t. near_of t all.nears) same ∙ ap (near_of near.target) places ∙ found_near (nears_of front) (nears_of later) near (no_place_before [] [] front later near follow)
 
 -- an answer that isn't elsewhere, and has a direction, has one that is near its target's place
 pub near_unless_elsewhere : (near : Near) (answer : Answer) (d : Direction)

@@ -5,7 +5,7 @@ use Rattle.std.proofs.lemmas.List.{append-nil}
 use Rattle.gc_catalogue.specs.declared.call.Call.{Call}
 use Rattle.gc_catalogue.specs.Calls.{IsCall}
 use Rattle.gc_texts.specs.Cuts.{Cuts, Lacks}
-use Rattle.gc_texts.specs.Procedures.{IsNumber, IsProcedure, HasBytes, params_text_of}
+use Rattle.gc_texts.specs.Procedures.{IsNumber, IsProcedureText, HasBytes, params_text_of}
 use Rattle.gc_texts.specs.LineForms.{IsReadAs}
 use Rattle.gc_texts.proofs.Cutting.{read_alike, cut_found, cut_none, digits_lack_spaces}
 
@@ -21,12 +21,12 @@ cut_params text front digits rest (Some params) cut lacks e = cut_found 32 text 
 
 -- the parts of a procedure's text, cut at its first space, are the text of its number and its parameters
 pub procedure_parts : (text front : List ℕ) (rest : Option (List ℕ)) (call : Call)
-    → Cuts 32 text front rest → (p : IsProcedure text call) → (front ≡ p.rpc_text) × (rest ≡ p.params)
+    → Cuts 32 text front rest → (p : IsProcedureText text call) → (front ≡ p.rpc_text) × (rest ≡ p.params)
 procedure_parts text front rest call cut p = cut_params text front p.rpc_text rest p.params cut (digits_lack_spaces p.rpc_text p.number.names.digits) p.text_is
 
 -- a text that is cut at its first space, and whose front is no number up to 65535, is no procedure's
 pub no_procedure : (text front : List ℕ) (rest : Option (List ℕ)) → Cuts 32 text front rest
-    → ((n : ℕ) → IsNumber front n 65535 → ⊥) → (call : Call) → IsProcedure text call → ⊥
+    → ((n : ℕ) → IsNumber front n 65535 → ⊥) → (call : Call) → IsProcedureText text call → ⊥
 no_procedure text front rest cut none call p =
     let parts = procedure_parts text front rest call cut p in
     none p.rpc (subst (λ (t : List ℕ). IsNumber t p.rpc 65535) (sym parts.0) p.number)
@@ -46,15 +46,15 @@ one_number digits m n max h k = h.names.value ∙ sym k.names.value
 -- none, is also what is read of the text as a procedure's (`IsReadAs`)
 pub procedure_is : (text front params : List ℕ) (rest : Option (List ℕ)) (rpc : ℕ) (r : Option Call)
     (cut : Cuts 32 text front rest) (more : HasBytes rest) (same : params ≡ unwrap_or rest []) (number : IsNumber front rpc 65535)
-    → IsReadAs (IsCall rpc params) r → IsReadAs (IsProcedure text) r
-procedure_is text front params rest rpc r cut more same number = read_alike (IsCall rpc params) (IsProcedure text) r of_call of_text where
+    → IsReadAs (IsCall rpc params) r → IsReadAs (IsProcedureText text) r
+procedure_is text front params rest rpc r cut more same number = read_alike (IsCall rpc params) (IsProcedureText text) r of_call of_text where
   -- a text that is cut at its first space is its front and what follows that, with the space
   cut_text : (text front : List ℕ) (rest : Option (List ℕ)) → Cuts 32 text front rest → text ≡ front ++ params_text_of rest
   cut_text text front None cut = cut.0 ∙ sym (append-nil front)
   cut_text text front (Some rest) cut = cut.0
 
   -- the call of `rpc` and `params` is the text's
-  of_call : (call : Call) → IsCall rpc params call → IsProcedure text call
+  of_call : (call : Call) → IsCall rpc params call → IsProcedureText text call
   of_call call calls = record {
     rpc_text = front;
     rpc = rpc;
@@ -66,7 +66,7 @@ procedure_is text front params rest rpc r cut more same number = read_alike (IsC
   }
 
   -- the text's call is that of `rpc` and `params`
-  of_text : (call : Call) → IsProcedure text call → IsCall rpc params call
+  of_text : (call : Call) → IsProcedureText text call → IsCall rpc params call
   of_text call p =
       let parts = procedure_parts text front rest call cut p in
       let rpcs : p.rpc ≡ rpc = one_number front p.rpc rpc 65535 (subst (λ (t : List ℕ). IsNumber t p.rpc 65535) (sym parts.0) p.number) number in
@@ -83,12 +83,12 @@ with_rest mark text front o rest cut e = let P : Option (List ℕ) → Type 0 = 
 -- (`IsReadAs`)
 pub with_parameters : (text front params : List ℕ) (o : Option (List ℕ)) (rpc : ℕ) (r : Option Call)
     (cut : Cuts 32 text front o) (is : o ≡ Some params) (more : 0 < length params) (number : IsNumber front rpc 65535)
-    → IsReadAs (IsCall rpc params) r → IsReadAs (IsProcedure text) r
+    → IsReadAs (IsCall rpc params) r → IsReadAs (IsProcedureText text) r
 with_parameters text front params o rpc r cut e more number called =
     procedure_is text front params (Some params) rpc r (with_rest 32 text front o (Some params) cut e) more refl number called
 
 -- a text that has a first space and nothing after it is no procedure's
 pub without_parameters : (text front params : List ℕ) (o : Option (List ℕ)) → Cuts 32 text front o → o ≡ Some params → length params ≡ 0
-    → (call : Call) → IsProcedure text call → ⊥
+    → (call : Call) → IsProcedureText text call → ⊥
 without_parameters text front [] o cut e none call p = let parts = procedure_parts text front o call cut p in no_bytes p.params (sym parts.1 ∙ e) p.some
 without_parameters text front (b ∷ bs) o cut e none call p = absurd (omega (arith, none))

@@ -14,7 +14,6 @@ use Rattle.gc_texts.specs.Procedures.{IsNumber}
 use Rattle.gc_texts.specs.Troubles.{raw_trouble, IsRawLine, IsRawWordsTrouble, IsAskingTrouble}
 use Rattle.gc_texts.specs.Words.{third_word, after_three_words}
 use Rattle.gc_texts.specs.declared.trouble.Trouble.{Trouble}
-use Rattle.gc_texts.specs.declared.trouble.Trouble.TheVariants as trouble
 
 -- the law: the name that is printed of a procedure's number is the catalogue's
 pub printed_names_are : NamesAreTheCatalogues

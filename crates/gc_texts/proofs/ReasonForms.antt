@@ -6,7 +6,7 @@ use Rattle.std.proofs.lemmas.Bool.{ltb-true, ltb-false}
 use Rattle.std.proofs.lemmas.List.{append_cancel_left}
 use Rattle.gc_texts.specs.Again.{no_again}
 use Rattle.gc_texts.specs.Cuts.{Cuts, Lacks, behind}
-use Rattle.gc_texts.specs.Retries.{IsReason, AreReasons, NamesRule, IsRetryRule, has_room, count_with, again_with, codes_with, named_with}
+use Rattle.gc_texts.specs.Retries.{IsReason, AreReasons, NamesRule, IsRetryRule, allows_word, count_with, again_with, codes_with, named_with}
 use Rattle.gc_texts.specs.TaskLines.{SetsRetry}
 use Rattle.gc_texts.specs.Words.{first_word}
 use Rattle.gc_texts.specs.declared.again.Again.{Again}
@@ -160,7 +160,7 @@ codes_both count [] later = refl
 codes_both count (x ∷ read) later = codes_both (count_with count x) read later
 
 -- where there is no room for a word, there are more than 16 codes with it
-no_room : (count : ℕ) (r : Reason) → has_room count r ≡ false → 16 < count_with count r
+no_room : (count : ℕ) (r : Reason) → allows_word count r ≡ false → 16 < count_with count r
 no_room count (reason.Code code) e = let full : 16 ≤ count = ltb-false count 16 e in omega (arith, full)
 no_room count reason.Unreadable e = cc
 no_room count reason.Elsewhere e = cc
@@ -169,7 +169,7 @@ no_room count reason.Lost e = cc
 no_room count reason.Skipped e = cc
 
 -- where there is room for a word, there are at most 16 codes with it
-room_for : (count : ℕ) (r : Reason) → count ≤ 16 → has_room count r ≡ true → count_with count r ≤ 16
+room_for : (count : ℕ) (r : Reason) → count ≤ 16 → allows_word count r ≡ true → count_with count r ≤ 16
 room_for count (reason.Code code) few e = let more : count < 16 = ltb-true count 16 e in omega (arith, more)
 room_for count reason.Unreadable few e = few
 room_for count reason.Elsewhere few e = few
@@ -193,7 +193,7 @@ module _
       none next.0 next.3
 
   -- where the next word is a code or an outcome, and there is no room for it, the text names no rule: it has more than 16 codes
-  pub reasons_too_many : (r : Reason) (room : Bool) → IsReason word r → room ≡ has_room count r → room ≡ false
+  pub reasons_too_many : (r : Reason) (room : Bool) → IsReason word r → room ≡ allows_word count r → room ≡ false
       → (found : Again) → NamesRule text found → ⊥
   reasons_too_many r room says tested none found is =
       let next = next_reason is.reasons is.are in
@@ -208,7 +208,7 @@ module _
   -- where the next word is a code or an outcome, and there is room for it, one more is read
   pub reason_reads : (r : Reason) (new : Again) (next : ℕ) (room : Bool)
       (is : IsReason word r) (more : new ≡ again_with old count r) (counted : next ≡ count_with count r)
-      → room ≡ has_room count r → room ≡ true → NamesSoFar text rest new next
+      → room ≡ allows_word count r → room ≡ true → NamesSoFar text rest new next
   reason_reads r new next room is more counted tested has =
       record {
         read = f.read ++ r ∷ [];

@@ -11,7 +11,7 @@ use Rattle.gc_texts.specs.Laws.{IsOneChain}
 use Rattle.gc_texts.specs.Nears.{near_of}
 use Rattle.gc_texts.specs.Repeats.{as_planned, IsAttempt, AreAttempts, Chain, planned_in, placed_planned, AreLaidOut, ChainsGoOutAgain}
 use Rattle.gc_texts.specs.Retries.{no_retry}
-use Rattle.gc_texts.specs.Tasks.{opening, mode_after, continues_group, task_at, setup_of, planned_of, placed}
+use Rattle.gc_texts.specs.Tasks.{first_mode, mode_after, continues_group, task_at, setup_of, planned_of, placed}
 use Rattle.gc_texts.specs.declared.again.Again.{Again}
 use Rattle.gc_texts.specs.declared.near.Near.{Near}
 use Rattle.gc_texts.specs.declared.retry.Retry.{Retry}
@@ -217,15 +217,15 @@ module _ (nears : List Near) where
 -- the law: the tasks after the setup are the attempts of chains, in order, whose commands are the text's commands of the cycle,
 -- in order, each with the retry that holds for it
 pub chains_go_out_again : ChainsGoOutAgain
-chains_go_out_again text deadline chained setup tasks names nears is =
-    let first = opening deadline chained in
+chains_go_out_again text deadline chained all is =
+    let first = first_mode deadline chained in
     let planned = planned_of first is.said in
-    let laid = all_laid nears planned (commands_keep first None is.said (inr (inl refl))) (all_as_their_lines_say first is.said) (same_retries first no_retry is.said (inr (inl refl))) in (
+    let laid = all_laid all.nears planned (commands_keep first None is.said (inr (inl refl))) (all_as_their_lines_say first is.said) (same_retries first no_retry is.said (inr (inl refl))) in (
       laid.0,
-      map (placed nears) (setup_of first is.said),
-      map (placed nears) (laid_out planned),
-      is.tasks_are ∙ map-append (placed nears) (setup_of first is.said) (laid_out planned),
-      is.setup_is ∙ sym (length-map (setup_of first is.said) (placed nears)),
+      map (placed all.nears) (setup_of first is.said),
+      map (placed all.nears) (laid_out planned),
+      is.tasks_are ∙ map-append (placed all.nears) (setup_of first is.said) (laid_out planned),
+      is.setup_is ∙ sym (length-map (setup_of first is.said) (placed all.nears)),
       laid.1,
       laid.2,
     )

@@ -16,9 +16,9 @@ use Rattle.gc_texts.specs.Retries.{no_retry}
 use Rattle.gc_texts.specs.declared.again.Again.{Again}
 use Rattle.gc_texts.specs.declared.retry.Retry.{Retry}
 use Rattle.gc_texts.specs.declared.attempts.Planned.{Planned}
-use Rattle.gc_texts.specs.LineForms.{is_kept, text_lines, AreItems}
+use Rattle.gc_texts.specs.LineForms.{is_kept, text_lines, AreLinesOf}
 use Rattle.gc_texts.specs.TaskLines.{IsTaskLine}
-use Rattle.gc_texts.specs.Tasks.{opening, mode_after, continues_group, task_at, setup_of, planned_of, tasks_of, name_at, names_of, near_at, nears_of, placed, MayFollow}
+use Rattle.gc_texts.specs.Tasks.{TasksSeen, first_mode, mode_after, continues_group, task_at, setup_of, planned_of, tasks_of, name_at, names_of, near_at, nears_of, placed, MayFollow}
 use Rattle.gc_texts.specs.Wishes.{wish_of}
 use Rattle.gc_texts.specs.declared.commands.Command.{Command}
 use Rattle.gc_texts.specs.declared.name.Name.{Name}
@@ -30,24 +30,31 @@ use Rattle.gc_texts.specs.declared.tasks.Task.{Task}
 use Rattle.gc_texts.proofs.OneReading.{one_list}
 use Rattle.gc_texts.proofs.TaskForms.{one_said}
 
+-- what two texts give is the same if the numbers of setup tasks are, the tasks, the names and the places
+same_tasks : (a b : TasksSeen) → a.setup ≡ b.setup → a.tasks ≡ b.tasks → a.names ≡ b.names → a.nears ≡ b.nears → a ≡ b
+same_tasks a b e f g h =
+    ap (λ n. record { setup = n; tasks = a.tasks; names = a.names; nears = a.nears }) e
+    ∙ ap (λ ts. record { setup = b.setup; tasks = ts; names = a.names; nears = a.nears }) f
+    ∙ ap (λ ns. record { setup = b.setup; tasks = b.tasks; names = ns; nears = a.nears }) g
+    ∙ ap (λ ns. record { setup = b.setup; tasks = b.tasks; names = b.names; nears = ns }) h
+
 -- the law: with a caller's deadline and chaining, a text gives one number of setup tasks at most, one list of tasks, one of
 -- names, and one of places
 pub one_task_list : OneTaskList
-one_task_list text deadline chained m n xs ys ms ns ps qs h k =
+one_task_list text deadline chained one other h k =
     let same : h.said ≡ k.said = one_list IsTaskLine one_said (filter is_kept (text_lines text)) h.said k.said h.lines.forms k.lines.forms in
-    let places : ps ≡ qs = h.nears_are ∙ ap nears_of same ∙ sym k.nears_are in (
-      h.setup_is ∙ ap (λ said. length (setup_of (opening deadline chained) said)) same ∙ sym k.setup_is,
-      h.tasks_are ∙ ap (λ ns. map (placed ns) (tasks_of (opening deadline chained) h.said)) places ∙ ap (λ said. map (placed qs) (tasks_of (opening deadline chained) said)) same ∙ sym k.tasks_are,
-      h.names_are ∙ ap names_of same ∙ sym k.names_are,
-      places,
-    )
+    let places : one.nears ≡ other.nears = h.nears_are ∙ ap nears_of same ∙ sym k.nears_are in
+    same_tasks one other (h.setup_is ∙ ap (λ said. length (setup_of (first_mode deadline chained) said)) same ∙ sym k.setup_is)
+    (h.tasks_are ∙ ap (λ ns. map (placed ns) (tasks_of (first_mode deadline chained) h.said)) places
+    ∙ ap (λ said. map (placed other.nears) (tasks_of (first_mode deadline chained) said)) same ∙ sym k.tasks_are)
+    (h.names_are ∙ ap names_of same ∙ sym k.names_are) places
 
 -- what the lines of a command text say as lines of a station's text: these commands, none of which sets a clock to its moment
 abbrev lines_of : List Command → List TaskLine
 lines_of commands = map (λ command. says.Command (wish_of command) false) commands
 
 -- lines that have the forms of commands say these commands as lines of a station's text (`lines_of`)
-lines_have_forms : (lines : List (List ℕ)) (commands : List Command) → AreItems IsCommand lines commands → AreItems IsTaskLine lines (lines_of commands)
+lines_have_forms : (lines : List (List ℕ)) (commands : List Command) → AreLinesOf IsCommand lines commands → AreLinesOf IsTaskLine lines (lines_of commands)
 lines_have_forms [] [] are = tt
 lines_have_forms [] (c ∷ cs) are = absurd are
 lines_have_forms (line ∷ lines) [] are = absurd are
@@ -157,11 +164,11 @@ module _ (deadline : ℕ) (chained : Bool) where
   asked_tasks group place link [] = refl
   asked_tasks group place link (c ∷ cs) = ap (λ l. wish_of c ∷ l) (asked_tasks (Some c.target) (place + 1) (next_link group link c.target) cs)
 
-  -- the tasks of the commands, read in the opening mode, are the tasks that lines of these commands alone give
+  -- the tasks of the commands, read in the first mode, are the tasks that lines of these commands alone give
   tasks_are_asked : (commands : List Command)
-      → map (λ p. p.task) (planned_of (opening deadline chained) (lines_of commands)) ≡ map (placed []) (tasks_of (opening deadline chained) (lines_of commands))
+      → map (λ p. p.task) (planned_of (first_mode deadline chained) (lines_of commands)) ≡ map (placed []) (tasks_of (first_mode deadline chained) (lines_of commands))
   tasks_are_asked commands =
-      let planned = planned_of (opening deadline chained) (lines_of commands) in
+      let planned = planned_of (first_mode deadline chained) (lines_of commands) in
       let laid : laid_out planned ≡ map (λ p. p.task) planned = laid_once no_retry [] planned refl tt (all_once None 0 0 commands) in
       sym (unplaced (map (λ p. p.task) planned) (none_placed None 0 0 commands)) ∙ ap (map (placed [])) (sym laid)
       ∙ ap (λ ts. map (placed []) (ts ++ laid_out planned)) (sym (no_setup None 0 0 commands))
@@ -169,7 +176,7 @@ module _ (deadline : ℕ) (chained : Bool) where
 -- the law: each command text is a station's text, of the same commands in the same order, and without setup, names and places
 pub commands_are_tasks : CommandsAreTasks
 commands_are_tasks text commands deadline chained are = (
-  map (λ p. p.task) (planned_of (opening deadline chained) (lines_of commands)),
+  map (λ p. p.task) (planned_of (first_mode deadline chained) (lines_of commands)),
   record {
     said = lines_of commands;
     lines = record { forms = lines_have_forms (filter is_kept (text_lines text)) commands are; follow = lines_follow [] [] commands };
@@ -364,14 +371,14 @@ setup_chain nears mode (line ∷ later) = setup_chain nears (mode_after mode lin
 -- the law: the setup is one chain, and of the tasks after it the first isn't chained, and each chained one follows one for the
 -- same target
 pub chains_keep_targets : ChainsKeepTargets
-chains_keep_targets text deadline chained setup tasks names nears is =
-    let first = opening deadline chained in
-    let front = map (placed nears) (setup_of first is.said) in
-    let cycle = map (placed nears) (laid_out (planned_of first is.said)) in (
+chains_keep_targets text deadline chained all is =
+    let first = first_mode deadline chained in
+    let front = map (placed all.nears) (setup_of first is.said) in
+    let cycle = map (placed all.nears) (laid_out (planned_of first is.said)) in (
       front,
       cycle,
-      is.tasks_are ∙ map-append (placed nears) (setup_of first is.said) (laid_out (planned_of first is.said)),
-      is.setup_is ∙ sym (length-map (setup_of first is.said) (placed nears)),
-      setup_chain nears first is.said,
-      placed_keep nears None (laid_out (planned_of first is.said)) (laid_keep no_retry [] (planned_of first is.said) tt (commands_keep first None is.said (inr (inl refl)))),
+      is.tasks_are ∙ map-append (placed all.nears) (setup_of first is.said) (laid_out (planned_of first is.said)),
+      is.setup_is ∙ sym (length-map (setup_of first is.said) (placed all.nears)),
+      setup_chain all.nears first is.said,
+      placed_keep all.nears None (laid_out (planned_of first is.said)) (laid_keep no_retry [] (planned_of first is.said) tt (commands_keep first None is.said (inr (inl refl)))),
     )

@@ -6,10 +6,10 @@ use Rattle.std.proofs.lemmas.List.Concat.{flat_map-append}
 use Rattle.std.proofs.lemmas.Slice.Zip.{AllZip-long}
 use Rattle.std.proofs.Common.{◌⊎◌, inr, arith, if◌then◌else◌, ◌≡◌, ◌+◌, ◌≤◌, ℕ, List, [], ◌∷◌, ◌++◌, length, Option, Bool, true, false, refl, ap, subst, sym, ◌∙◌, append_assoc, append-nil}
 use Rattle.std.specs.List.{flat_map}
-use Rattle.std.specs.Prelude.{not, filter}
+use Rattle.std.specs.Prelude.{filter}
 use Rattle.gc_texts.specs.LineForms.{is_skipped, is_kept}
 use Rattle.gc_texts.specs.TaskLines.{IsTaskLine}
-use Rattle.gc_texts.specs.Tasks.{LinesGave, Grows, Counted, opening, mode_after, is_chained, place_in_chain, task_at, given_by, setup_at, setup_of, planned_at, planned_of, name_at, names_of, near_at, nears_of, may_follow, MayFollow, IsFirstFaultyTask, ReachesASoundTaskLine}
+use Rattle.gc_texts.specs.Tasks.{LinesGave, Grows, Counted, first_mode, mode_after, chained_at, place_in_chain, task_at, given_by, setup_at, setup_of, planned_at, planned_of, name_at, names_of, near_at, nears_of, may_follow, MayFollow, IsFirstFaultyTask, ReachesASoundTaskLine}
 use Rattle.gc_texts.specs.declared.name.Name.{Name}
 use Rattle.gc_texts.specs.declared.near.Near.{Near}
 use Rattle.gc_texts.specs.declared.task_line.TaskLine.{TaskLine}
@@ -17,7 +17,7 @@ use Rattle.gc_texts.specs.declared.mode.Mode.{Mode}
 use Rattle.gc_texts.specs.declared.task_line.TaskLine.TheVariants as says
 use Rattle.gc_texts.specs.declared.tasks.Given.{Given}
 use Rattle.gc_texts.proofs.TaskForms.{one_said}
-use Rattle.gc_texts.proofs.TextLines.{Reads, reads_few, ComesTo, lines_left, line_skips, line_reads}
+use Rattle.gc_texts.proofs.TextLines.{Reads, reads_few, ComesTo, is_here, line_skips, line_reads}
 
 -- the mode after these lines, where `mode` holds before the first
 abbrev pub mode_after_lines : Mode → List TaskLine → Mode
@@ -50,9 +50,9 @@ counted_line mode (says.Command c now) n h = record {
   begun = cond_both mode.setup (mode.begun + 1) mode.begun (λ k. k ≤ n + 1) (λ _. omega (arith, h.begun)) (λ _. omega (arith, h.begun));
   place = cond_both mode.setup mode.place (mode.place + 1) (λ k. k ≤ n + 1) (λ _. omega (arith, h.place)) (λ _. omega (arith, h.place));
   link =
-      let inner : (if is_chained mode c.target then mode.link else 0) ≤ n = cond_both (is_chained mode c.target) mode.link 0 (λ k. k ≤ n) (λ _. h.link) (λ _. omega arith) in
-      let low : place_in_chain mode (is_chained mode c.target) ≤ n =
-      cond_both mode.setup mode.begun (if is_chained mode c.target then mode.link else 0) (λ k. k ≤ n) (λ _. h.begun) (λ _. inner) in
+      let inner : (if chained_at mode c.target then mode.link else 0) ≤ n = cond_both (chained_at mode c.target) mode.link 0 (λ k. k ≤ n) (λ _. h.link) (λ _. omega arith) in
+      let low : place_in_chain mode (chained_at mode c.target) ≤ n =
+      cond_both mode.setup mode.begun (if chained_at mode c.target then mode.link else 0) (λ k. k ≤ n) (λ _. h.begun) (λ _. inner) in
       omega (arith, low);
 }
 counted_line mode line n h = record { begun = omega (arith, h.begun); place = omega (arith, h.place); link = omega (arith, h.link) }
@@ -132,7 +132,7 @@ pub record ReadsTasks (text : List ℕ) (first : Mode) (left : Option (List ℕ)
 -- what holds of the lines that were read of a text of at most 65,536 bytes
 module _
     (text : List ℕ) (deadline : ℕ) (chained : Bool) (left : Option (List ℕ)) (number : ℕ) (given : Given) (mode : Mode)
-    (within : length text ≤ 65536) (r : ReadsTasks text (opening deadline chained) left number given mode) where
+    (within : length text ≤ 65536) (r : ReadsTasks text (first_mode deadline chained) left number given mode) where
   -- at most 65,537 lines were read, so that a u32 counts them
   pub tasks_few : number ≤ 65537
   tasks_few = reads_few IsTaskLine text left number r.said within r.reads
@@ -147,13 +147,13 @@ module _
   -- each count of the mode is at most 65,537
   pub counted : Counted mode 65537
   counted =
-      let all = counted_lines (opening deadline chained) r.said 0 (record { begun = omega arith; place = omega arith; link = omega arith }) in
+      let all = counted_lines (first_mode deadline chained) r.said 0 (record { begun = omega arith; place = omega arith; link = omega arith }) in
       let few = said_few in
       subst (λ m. Counted m 65537) (sym r.mode_is) (record { begun = omega (arith, few, all.begun); place = omega (arith, few, all.place); link = omega (arith, few, all.link) })
 
   -- the cycle's commands are at most 65,537
   pub cycle_few : length given.cycle.items ≤ 65537
-  cycle_few = let few = said_few in let all = planned_few (opening deadline chained) r.said in let is = ap length r.gave.cycle_are in omega (arith, few, all, is)
+  cycle_few = let few = said_few in let all = planned_few (first_mode deadline chained) r.said in let is = ap length r.gave.cycle_are in omega (arith, few, all, is)
 
 -- what becomes of a line to which the reading has come
 module _
@@ -182,10 +182,8 @@ module _
       record {
         front = at.read;
         line = line;
-        rest = lines_left rest;
-        lines_are = at.lines_are;
+        here = is_here IsTaskLine text line rest number r.said at isnt;
         place = ap (λ n. n + 1) at.count;
-        kept = ap not isnt;
         before = r.said;
         lines = record { forms = at.items_are; follow = r.follow };
         faulty = λ said is. said_so said ∙ none said is;
@@ -208,9 +206,7 @@ module _
       record {
         front = at.read;
         line = line;
-        rest = lines_left rest;
-        lines_are = at.lines_are;
-        kept = ap not isnt;
+        here = is_here IsTaskLine text line rest number r.said at isnt;
         before = r.said;
         lines = record { forms = at.items_are; follow = r.follow };
         said = said;

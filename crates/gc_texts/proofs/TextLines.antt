@@ -7,7 +7,7 @@ use Rattle.std.proofs.lemmas.Bool.{cond_both}
 use Rattle.std.proofs.lemmas.List.{length-map}
 use Rattle.std.proofs.lemmas.List.Elements.{filter-append}
 use Rattle.gc_texts.specs.Cuts.{Lacks}
-use Rattle.gc_texts.specs.LineForms.{Form, CutsLine, text_pieces, without_cr, text_lines, is_skipped, is_kept, AreItems, FirstFaulty, ReachesASoundLine}
+use Rattle.gc_texts.specs.LineForms.{ItemForm, CutsLine, text_pieces, without_cr, text_lines, is_skipped, is_kept, AreLinesOf, HasKeptLine, FirstFaulty, ReachesASoundLine}
 
 -- the lines of what is left of a text; none where nothing is (`None`). What is left after a last LF is the empty text, one empty
 -- line
@@ -60,23 +60,23 @@ left_falls text line (Some rest) c =
 
 -- where the lines `xs` have the forms of the items `es`, and the lines `ys` those of the items `fs`, `xs` followed by `ys` have
 -- the forms of `es` followed by `fs`
-pub AreItems-append : {Item : Type 0} (form : Form Item) (xs ys : List (List ℕ)) (es fs : List Item)
-    → AreItems form xs es → AreItems form ys fs → AreItems form (xs ++ ys) (es ++ fs)
-AreItems-append form [] ys [] fs h k = k
-AreItems-append form [] ys (e ∷ es) fs h k = absurd h
-AreItems-append form (x ∷ xs) ys [] fs h k = absurd h
-AreItems-append form (x ∷ xs) ys (e ∷ es) fs h k = (h.0, AreItems-append form xs ys es fs h.1 k)
+pub AreLinesOf-append : {Item : Type 0} (form : ItemForm Item) (xs ys : List (List ℕ)) (es fs : List Item)
+    → AreLinesOf form xs es → AreLinesOf form ys fs → AreLinesOf form (xs ++ ys) (es ++ fs)
+AreLinesOf-append form [] ys [] fs h k = k
+AreLinesOf-append form [] ys (e ∷ es) fs h k = absurd h
+AreLinesOf-append form (x ∷ xs) ys [] fs h k = absurd h
+AreLinesOf-append form (x ∷ xs) ys (e ∷ es) fs h k = (h.0, AreLinesOf-append form xs ys es fs h.1 k)
 
 -- how far the reading of a text has come: `number` of its lines were read, and gave these items, and the others are those of what
 -- is unread (`left`)
-pub record Reads {Item : Type 0} (form : Form Item) (text : List ℕ) (left : Option (List ℕ)) (number : ℕ) (items : List Item) : Type 0 where
+pub record Reads {Item : Type 0} (form : ItemForm Item) (text : List ℕ) (left : Option (List ℕ)) (number : ℕ) (items : List Item) : Type 0 where
   pub read : List (List ℕ)
   pub lines_are : text_lines text ≡ read ++ lines_left left
   pub count : number ≡ length read
-  pub items_are : AreItems form (filter is_kept read) items
+  pub items_are : AreLinesOf form (filter is_kept read) items
 
 -- of a text of at most 65,536 bytes at most 65,537 lines are read, so that a u32 counts them
-pub reads_few : {Item : Type 0} (form : Form Item) (text : List ℕ) (left : Option (List ℕ)) (number : ℕ) (items : List Item)
+pub reads_few : {Item : Type 0} (form : ItemForm Item) (text : List ℕ) (left : Option (List ℕ)) (number : ℕ) (items : List Item)
     → length text ≤ 65536 → Reads form text left number items → number ≤ 65537
 reads_few form text left number items within r =
     let all : length (text_lines text) ≡ length r.read + length (lines_left left) = ap length r.lines_are ∙ length-append r.read (lines_left left) in
@@ -84,28 +84,28 @@ reads_few form text left number items within r =
     omega (arith, all, pieces, pieces-few [] text, within, r.count)
 
 -- these are the items of one line: none where it is skipped, else the one whose form it has
-abbrev pub LineItems : {Item : Type 0} → Form Item → List ℕ → List Item → Type 0
-LineItems form line items = AreItems form (filter is_kept (line ∷ [])) items
+abbrev pub LineItems : {Item : Type 0} → ItemForm Item → List ℕ → List Item → Type 0
+LineItems form line items = AreLinesOf form (filter is_kept (line ∷ [])) items
 
 -- a line that is skipped has no item
-skipped_line : {Item : Type 0} (form : Form Item) (line : List ℕ) → is_skipped line ≡ true → LineItems form line []
-skipped_line form line skipped = subst (λ ls. AreItems form ls []) (sym (ap (λ t. cond (not t) (line ∷ []) []) skipped)) tt
+skipped_line : {Item : Type 0} (form : ItemForm Item) (line : List ℕ) → is_skipped line ≡ true → LineItems form line []
+skipped_line form line skipped = subst (λ ls. AreLinesOf form ls []) (sym (ap (λ t. cond (not t) (line ∷ []) []) skipped)) tt
 
 -- a line that isn't skipped and has the form of an item gives that item
-kept_line : {Item : Type 0} (form : Form Item) (line : List ℕ) (item : Item)
+kept_line : {Item : Type 0} (form : ItemForm Item) (line : List ℕ) (item : Item)
     → is_skipped line ≡ false → form line item → LineItems form line (item ∷ [])
-kept_line form line item kept is = subst (λ ls. AreItems form ls (item ∷ [])) (sym (ap (λ t. cond (not t) (line ∷ []) []) kept)) (is, tt)
+kept_line form line item kept is = subst (λ ls. AreLinesOf form ls (item ∷ [])) (sym (ap (λ t. cond (not t) (line ∷ []) []) kept)) (is, tt)
 
 -- the reading of a text has come to this line: `number` lines were read before it, and gave these items, and `rest` is unread after
 -- the line
-pub record ComesTo {Item : Type 0} (form : Form Item) (text line : List ℕ) (rest : Option (List ℕ)) (number : ℕ) (items : List Item) : Type 0 where
+pub record ComesTo {Item : Type 0} (form : ItemForm Item) (text line : List ℕ) (rest : Option (List ℕ)) (number : ℕ) (items : List Item) : Type 0 where
   pub read : List (List ℕ)
   pub lines_are : text_lines text ≡ read ++ line ∷ lines_left rest
   pub count : number ≡ length read
-  pub items_are : AreItems form (filter is_kept read) items
+  pub items_are : AreLinesOf form (filter is_kept read) items
 
 -- where a line is cut off what is unread, the reading has come to that line
-pub comes_to : {Item : Type 0} (form : Form Item) (text : List ℕ) (left : Option (List ℕ)) (now line : List ℕ) (rest : Option (List ℕ))
+pub comes_to : {Item : Type 0} (form : ItemForm Item) (text : List ℕ) (left : Option (List ℕ)) (now line : List ℕ) (rest : Option (List ℕ))
     (number : ℕ) (items : List Item) → Reads form text left number items → left ≡ Some now → CutsLine now line rest
     → ComesTo form text line rest number items
 comes_to form text left now line rest number items r some cut = record {
@@ -117,7 +117,7 @@ comes_to form text left now line rest number items r some cut = record {
 
 -- what becomes of a line to which the reading has come
 module _
-    {Item : Type 0} (form : Form Item) (text line : List ℕ) (rest : Option (List ℕ)) (number : ℕ) (items : List Item)
+    {Item : Type 0} (form : ItemForm Item) (text line : List ℕ) (rest : Option (List ℕ)) (number : ℕ) (items : List Item)
     (at : ComesTo form text line rest number items) where
   -- where it gives the items `more`, it is read with them
   reads_on : (more : List Item) → LineItems form line more → Reads form text rest (number + 1) (items ++ more)
@@ -125,8 +125,8 @@ module _
     read = at.read ++ line ∷ [];
     lines_are = at.lines_are ∙ sym (append_assoc at.read (line ∷ []) (lines_left rest));
     count = omega (arith, at.count, length-append at.read (line ∷ []));
-    items_are = subst (λ ls. AreItems form ls (items ++ more)) (sym (filter-append is_kept at.read (line ∷ [])))
-        (AreItems-append form (filter is_kept at.read) (filter is_kept (line ∷ [])) items more at.items_are of_line);
+    items_are = subst (λ ls. AreLinesOf form ls (items ++ more)) (sym (filter-append is_kept at.read (line ∷ [])))
+        (AreLinesOf-append form (filter is_kept at.read) (filter is_kept (line ∷ [])) items more at.items_are of_line);
   }
 
   -- where it is skipped, it is read, and gives no item
@@ -138,16 +138,18 @@ module _
       → Reads form text rest (number + 1) new
   line_reads item new isnt is grown = subst (λ es. Reads form text rest (number + 1) es) (sym grown) (reads_on (item ∷ []) (kept_line form line item isnt is))
 
+  -- where it isn't skipped, the text has it after the lines that were read
+  pub is_here : is_skipped line ≡ false → HasKeptLine text at.read line
+  is_here isnt = record { rest = lines_left rest; lines_are = at.lines_are; kept = ap not isnt }
+
   -- where it isn't skipped and has the form of no item, it is the first faulty one
   pub line_fails : is_skipped line ≡ false → ((e : Item) → form line e → ⊥) → FirstFaulty form text (number + 1)
   line_fails isnt none =
       record {
         front = at.read;
         line = line;
-        rest = lines_left rest;
-        lines_are = at.lines_are;
+        here = is_here isnt;
         place = ap (λ n. n + 1) at.count;
-        kept = ap not isnt;
         no_item = none;
         items = items;
         before = at.items_are;
@@ -160,9 +162,7 @@ module _
       record {
         front = at.read;
         line = line;
-        rest = lines_left rest;
-        lines_are = at.lines_are;
-        kept = ap not isnt;
+        here = is_here isnt;
         item = item;
         is_item = is;
         items = items;

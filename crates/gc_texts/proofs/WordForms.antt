@@ -3,17 +3,17 @@
 -- word.
 use Rattle.std.proofs.Common.{◌≡◌, ℕ, List, [], ◌∷◌, ◌++◌, Option, Some, None, refl, ap, subst, sym, ◌∙◌, append_assoc}
 use Rattle.gc_texts.specs.Cuts.{Cuts, Lacks}
-use Rattle.gc_texts.specs.LineForms.{Form}
+use Rattle.gc_texts.specs.LineForms.{ItemForm}
 use Rattle.gc_texts.specs.Words.{AreWords}
 use Rattle.gc_texts.proofs.Cutting.{cut_found, cut_none, one_front, has_mark}
 
 -- a word of this form has no space, and is one item at most
-pub record IsWordForm {Item : Type 0} (form : Form Item) : Type 0 where
+pub record IsWordForm {Item : Type 0} (form : ItemForm Item) : Type 0 where
   pub lacks : (word : List ℕ) (item : Item) → form word item → Lacks 32 word
   pub one : (word : List ℕ) (a b : Item) → form word a → form word b → a ≡ b
 
 -- where a word of the form has no space and is one item at most (`IsWordForm`), a text is the words of one list of items at most
-pub one_word_list : {Item : Type 0} (form : Form Item) → IsWordForm form → (xs ys : List Item) (text : List ℕ)
+pub one_word_list : {Item : Type 0} (form : ItemForm Item) → IsWordForm form → (xs ys : List Item) (text : List ℕ)
     → AreWords form text xs → AreWords form text ys → xs ≡ ys
 one_word_list form f [] ys text a b = absurd a
 one_word_list form f (x ∷ xs) [] text a b = absurd b
@@ -27,18 +27,18 @@ one_word_list form f (x ∷ m ∷ xs) (y ∷ n ∷ ys) text (word, rest, at, is,
     ap (λ z. z ∷ m ∷ xs) heads ∙ ap (λ zs. y ∷ zs) tails
 
 -- what is left of a text is the words of these items; at its end there are none
-abbrev pub AreLeft : {Item : Type 0} → Form Item → Option (List ℕ) → List Item → Type 0
+abbrev pub AreLeft : {Item : Type 0} → ItemForm Item → Option (List ℕ) → List Item → Type 0
 AreLeft form None later = later ≡ []
 AreLeft form (Some text) later = AreWords form text later
 
 -- the words of the items `read` were read from the text: the items of all of it are these, and after them those of what is left
-pub record ReadsWords {Item : Type 0} (form : Form Item) (text : List ℕ) (left : Option (List ℕ)) (read : List Item) : Type 0 where
+pub record ReadsWords {Item : Type 0} (form : ItemForm Item) (text : List ℕ) (left : Option (List ℕ)) (read : List Item) : Type 0 where
   pub found : (later : List Item) → AreLeft form left later → AreWords form text (read ++ later)
   pub only : (all : List Item) → AreWords form text all → (later : List Item) × (all ≡ read ++ later) × AreLeft form left later
 
 -- where a word of the form has no space (`IsWordForm`), and a text is the words of the items `later`, the first item is that of
 -- the word before the first space, and the others are those of the rest
-first_item : {Item : Type 0} (form : Form Item) → IsWordForm form → (now word : List ℕ) (later : List Item) (rest : Option (List ℕ))
+first_item : {Item : Type 0} (form : ItemForm Item) → IsWordForm form → (now word : List ℕ) (later : List Item) (rest : Option (List ℕ))
     → Cuts 32 now word rest → AreWords form now later
     → (item : Item) × (others : List Item) × (later ≡ item ∷ others) × form word item × AreLeft form rest others
 first_item form f now word [] rest cut are = absurd are
@@ -51,7 +51,7 @@ first_item form f now word (item ∷ next ∷ others) rest cut (front, behind, a
 
 -- where a text is cut at its first space, the word before it is `item`'s, and the rest is the words of `others`, the text is the
 -- words of `item` and `others`
-words_joined : {Item : Type 0} (form : Form Item) (now word : List ℕ) (rest : Option (List ℕ)) (item : Item) (others : List Item)
+words_joined : {Item : Type 0} (form : ItemForm Item) (now word : List ℕ) (rest : Option (List ℕ)) (item : Item) (others : List Item)
     → Cuts 32 now word rest → form word item
     → AreLeft form rest others → AreWords form now (item ∷ others)
 words_joined form now word None item [] cut is left = subst (λ (w : List ℕ). form w item) (sym cut.0) is
@@ -60,13 +60,13 @@ words_joined form now word (Some behind) item [] cut is left = absurd left
 words_joined form now word (Some behind) item (next ∷ others) cut is left = (word, behind, cut.0, is, left)
 
 -- where nothing is left, the words that were read are those of the text
-pub all_read_are : {Item : Type 0} (form : Form Item) (text : List ℕ) (left : Option (List ℕ)) (read : List Item)
+pub all_read_are : {Item : Type 0} (form : ItemForm Item) (text : List ℕ) (left : Option (List ℕ)) (read : List Item)
     → ReadsWords form text left read → left ≡ None → AreWords form text (read ++ [])
 all_read_are form text left read r none = r.found [] (subst (λ (o : Option (List ℕ)). AreLeft form o []) (sym none) refl)
 
 -- the text `now` is left, and `word` is its next word
 module _
-    {Item : Type 0} (form : Form Item) (f : IsWordForm form) (text now word : List ℕ) (left rest : Option (List ℕ)) (read : List Item)
+    {Item : Type 0} (form : ItemForm Item) (f : IsWordForm form) (text now word : List ℕ) (left rest : Option (List ℕ)) (read : List Item)
     (r : ReadsWords form text left read) (some : left ≡ Some now) (cut : Cuts 32 now word rest) where
   -- the items of the text are those that were read, the one of the next word, and those of the rest
   pub next_item_of : (all : List Item) → AreWords form text all

@@ -3,12 +3,11 @@ use Rattle.std.specs.Prelude.{◌≡◌, ◌⊎◌, ℕ, ◌+◌, ◌≤◌, nat
 use Rattle.std.specs.List.{AllByRecursion}
 use Rattle.gc_texts.specs.Codes.{no_codes}
 use Rattle.gc_texts.specs.Nears.{near_of}
-use Rattle.gc_texts.specs.Tasks.{IsTasks}
+use Rattle.gc_texts.specs.Tasks.{TasksSeen, IsTasks}
 use Rattle.gc_texts.specs.Retries.{no_retry}
 use Rattle.gc_texts.specs.declared.codes.Codes.{Codes}
 use Rattle.gc_texts.specs.declared.retry.Retry.{Retry}
 use Rattle.gc_texts.specs.declared.wish.Wish.{Wish}
-use Rattle.gc_texts.specs.declared.name.Name.{Name}
 use Rattle.gc_texts.specs.declared.near.Near.{Near}
 use Rattle.gc_texts.specs.declared.task_line.TaskLine.{TaskLine}
 use Rattle.gc_texts.specs.declared.task_line.TaskLine.TheVariants as says
@@ -135,19 +134,18 @@ pub record IsTaskOf (deadline : ℕ) (chained : Bool) (front : List TaskLine) (c
 
 -- each command of a text is sent as the lines before it say, and its task has the place that the text gives its target, if
 -- any. Before the task of a command of the setup there are as many tasks as the text has commands of the setup before that
--- command, and before the task of one of the cycle there are at least `setup` tasks
+-- command, and before the task of one of the cycle there are at least all those of the setup
 abbrev pub TasksFollowTheirLines : Type 0
 TasksFollowTheirLines =
-    (text : List ℕ) (deadline : ℕ) (chained : Bool) (setup : ℕ) (tasks : List Task) (names : List Name) (nears : List Near)
-    (is : IsTasks text deadline chained setup tasks names nears)
+    (text : List ℕ) (deadline : ℕ) (chained : Bool) (all : TasksSeen) (is : IsTasks text deadline chained all)
     (front later : List TaskLine) (command : Wish) (now : Bool) → is.said ≡ front ++ says.Command command now ∷ later
-    → (earlier : List Task) × (task : Task) × (others : List Task) × (tasks ≡ earlier ++ task ∷ others)
-    × (section_after false front ≡ true → length earlier ≡ setup_commands false front) × (section_after false front ≡ false → setup ≤ length earlier)
-    × IsTaskOf deadline chained front command now task × (task.near ≡ near_of command.target nears)
+    → (earlier : List Task) × (task : Task) × (others : List Task) × (all.tasks ≡ earlier ++ task ∷ others)
+    × (section_after false front ≡ true → length earlier ≡ setup_commands false front) × (section_after false front ≡ false → all.setup ≤ length earlier)
+    × IsTaskOf deadline chained front command now task × (task.near ≡ near_of command.target all.nears)
 
 -- where a line says where a target is, it says so of each command of that target, before it and after it
 abbrev pub PlacesHoldForAll : Type 0
 PlacesHoldForAll =
-    (text : List ℕ) (deadline : ℕ) (chained : Bool) (setup : ℕ) (tasks : List Task) (names : List Name) (nears : List Near)
-    (is : IsTasks text deadline chained setup tasks names nears) (front later : List TaskLine) (near : Near) → is.said ≡ front ++ says.Locating near ∷ later
-    → (earlier others : List Task) (task : Task) → tasks ≡ earlier ++ task ∷ others → task.command.target ≡ near.target → task.near ≡ Some near
+    (text : List ℕ) (deadline : ℕ) (chained : Bool) (all : TasksSeen) (is : IsTasks text deadline chained all)
+    (front later : List TaskLine) (near : Near) → is.said ≡ front ++ says.Locating near ∷ later
+    → (earlier others : List Task) (task : Task) → all.tasks ≡ earlier ++ task ∷ others → task.command.target ≡ near.target → task.near ≡ Some near

@@ -1,10 +1,10 @@
 -- The table of the faults: which number each has. The numbers are this project's own.
 use Rattle.std.specs.Prelude.{◌≡◌, ℕ, [], ◌∷◌, map}
-use Rattle.gc_values.specs.ValueFault as of_value
+use Rattle.gc_values.specs.ValueFault.{value_fault_number}
 use Rattle.gc_values.specs.declared.fault.ValueFault.{ValueFault}
 use Rattle.gc_values.specs.declared.fault.ValueFault.TheVariants as value
-use Rattle.gc_lines.specs.Answering as of_serving
-use Rattle.gc_lines.specs.Faults as of_line
+use Rattle.gc_lines.specs.Answering.{serve_fault_number}
+use Rattle.gc_lines.specs.Faults.{line_fault_number}
 use Rattle.gc_lines.specs.declared.fault.LineFault.TheVariants as line
 use Rattle.gc_lines.specs.declared.served.ServeFault.TheVariants as serving
 use Rattle.gc_lines.specs.declared.served.TheConstants.{READ_FAILED, WRITE_FAILED, READS_SPENT}
@@ -16,17 +16,17 @@ use Rattle.gc_texts.specs.declared.fault.RunFault.TheVariants as run
 -- each fault has the number of the table
 pub record FaultsHaveTheirNumbers : Type 0 where
   -- of a line: 1 to 6
-  pub of_lines : map of_line.fault_number (line.Signature ∷ line.Number ∷ line.Id ∷ line.Colon ∷ line.Code ∷ line.TooLong ∷ [])
+  pub of_lines : map line_fault_number (line.Signature ∷ line.Number ∷ line.Id ∷ line.Colon ∷ line.Code ∷ line.TooLong ∷ [])
       ≡ 1 ∷ 2 ∷ 3 ∷ 4 ∷ 5 ∷ 6 ∷ []
   -- of a value and of a list of parameters: 11 to 15
-  pub of_values : map of_value.fault_number (value.Spelling ∷ value.Range ∷ value.OpenQuote ∷ value.TooMany ∷ value.Count ∷ [])
+  pub of_values : map value_fault_number (value.Spelling ∷ value.Range ∷ value.OpenQuote ∷ value.TooMany ∷ value.Count ∷ [])
       ≡ 11 ∷ 12 ∷ 13 ∷ 14 ∷ 15 ∷ []
   -- of a call: 21 and 22; and as it is printed, 21 or the number of the parameters' fault
   pub of_calls : (fault : ValueFault) → map call_fault_number (call.Unknown ∷ call.Parameters fault ∷ []) ≡ 21 ∷ 22 ∷ []
-  pub of_refusals : (fault : ValueFault) → map refusal_number (call.Unknown ∷ call.Parameters fault ∷ []) ≡ 21 ∷ of_value.fault_number fault ∷ []
+  pub of_refusals : (fault : ValueFault) → map refusal_number (call.Unknown ∷ call.Parameters fault ∷ []) ≡ 21 ∷ value_fault_number fault ∷ []
   -- of serving: 42 to 44
   pub of_serving : (replies bytes : ℕ)
-      → map of_serving.fault_number (serving.Read replies ∷ serving.Write replies bytes ∷ serving.TooManyReads replies ∷ [])
+      → map serve_fault_number (serving.Read replies ∷ serving.Write replies bytes ∷ serving.TooManyReads replies ∷ [])
       ≡ 42 ∷ 43 ∷ 44 ∷ []
   -- of a run: 41 to 45, and 51 to 55
   pub of_runs : (replies bytes : ℕ) → map run_fault_number (run.SceneFull ∷ run.Read ∷ run.Write replies bytes ∷ run.TooManyReads ∷ run.LinkClosed ∷ [])

@@ -2,7 +2,7 @@
 use Rattle.std.specs.Prelude.{◌≡◌, ℕ, List, [], ◌++◌, Option, Result, Ok, Err, codes}
 use Rattle.std.specs.Fmt.{decimal}
 use Rattle.std.specs.Io.KnownBytes.{Appends}
-use Rattle.gc_lines.specs.Answering.{numbered, how_far}
+use Rattle.gc_lines.specs.Answering.{numbered_fault, how_far}
 use Rattle.gc_lines.specs.declared.served.Served.{Served}
 use Rattle.gc_lines.specs.declared.served.ServeFault.{ServeFault}
 use Rattle.gc_lines.specs.declared.served.ServeFault.TheVariants as serving
@@ -43,7 +43,7 @@ fault_detail _ = []
 
 -- the text of a fault: its number, and its detail
 abbrev pub run_fault_text : RunFault → List ℕ
-run_fault_text fault = numbered (run_fault_number fault) ++ fault_detail fault
+run_fault_text fault = numbered_fault (run_fault_number fault) ++ fault_detail fault
 
 -- the line that the program writes of a fault with this text
 abbrev pub fault_line : List ℕ → List ℕ

@@ -1,20 +1,18 @@
 -- Laws of the texts: this project's own, as the texts are.
-use Rattle.std.specs.Prelude.{◌≡◌, ◌<◌, ◌^◌, ℕ, ◌+◌, ◌++◌, Bool, true, false, List, [], ◌∷◌, length, map, All, Option, None, Some}
+use Rattle.std.specs.Prelude.{◌≡◌, ◌<◌, ◌^◌, ℕ, ◌+◌, ◌++◌, Bool, true, false, List, [], ◌∷◌, length, map, Option, None, Some}
 use Rattle.gc_texts.specs.Codes.{no_codes}
 use Rattle.gc_texts.specs.Commands.{IsCommands}
 use Rattle.std.specs.List.{AllByRecursion}
 use Rattle.gc_texts.specs.Again.{no_again}
-use Rattle.gc_texts.specs.Tasks.{IsTasks}
-use Rattle.gc_texts.specs.ProcedureNames.{name_of}
+use Rattle.gc_texts.specs.Tasks.{TasksSeen, IsTasks}
+use Rattle.gc_texts.specs.ProcedureNames.{name_in_table}
 use Rattle.gc_texts.specs.Wishes.{wish_of}
 use Rattle.gc_catalogue.specs.Calls.{call_fields}
 use Rattle.gc_catalogue.specs.Names.{call_name}
 use Rattle.gc_catalogue.specs.declared.call.Call.{Call}
-use Rattle.gc_texts.specs.Logs.{log_text, IsPrintable, IsLogLine}
+use Rattle.gc_texts.specs.Logs.{log_text, AreBytes, IsPrintable, IsLogLine}
 use Rattle.gc_texts.specs.Stamps.{stamp_text}
 use Rattle.gc_texts.specs.declared.commands.Command.{Command}
-use Rattle.gc_texts.specs.declared.name.Name.{Name}
-use Rattle.gc_texts.specs.declared.near.Near.{Near}
 use Rattle.gc_texts.specs.declared.tasks.Task.{Task}
 use Rattle.gc_texts.specs.declared.log_line.LogMark.{LogMark}
 
@@ -26,14 +24,18 @@ OneCommandList = (text : List ℕ) (xs ys : List Command) → IsCommands text xs
 -- one of places
 abbrev pub OneTaskList : Type 0
 OneTaskList =
-    (text : List ℕ) (deadline : ℕ) (chained : Bool) (m n : ℕ) (xs ys : List Task) (ms ns : List Name) (ps qs : List Near) →
-    IsTasks text deadline chained m xs ms ps → IsTasks text deadline chained n ys ns qs → (m ≡ n) × (xs ≡ ys) × (ms ≡ ns) × (ps ≡ qs)
+    (text : List ℕ) (deadline : ℕ) (chained : Bool) (one other : TasksSeen)
+    → IsTasks text deadline chained one → IsTasks text deadline chained other → one ≡ other
+
+-- these tasks, without setup, names and places
+abbrev pub tasks_alone : List Task → TasksSeen
+tasks_alone tasks = record { setup = 0; tasks = tasks; names = []; nears = [] }
 
 -- each command text is a station's text: of the same commands in the same order, and without setup, names and places
 abbrev pub CommandsAreTasks : Type 0
 CommandsAreTasks =
     (text : List ℕ) (commands : List Command) (deadline : ℕ) (chained : Bool) → IsCommands text commands →
-    (tasks : List Task) × IsTasks text deadline chained 0 tasks [] [] × (map (λ task. task.command) tasks ≡ map wish_of commands)
+    (tasks : List Task) × IsTasks text deadline chained (tasks_alone tasks) × (map (λ task. task.command) tasks ≡ map wish_of commands)
 
 -- the tasks of these commands, numbered from `place` on: each is in its first attempt, has this deadline, isn't chained,
 -- doesn't set the clock to the moment at which it is sent, and has no place of its target, no accepted code and no rule of
@@ -58,7 +60,7 @@ plain_tasks deadline place (command ∷ others) =
 abbrev pub CommandsArePlain : Type 0
 CommandsArePlain =
     (text : List ℕ) (commands : List Command) (deadline : ℕ) → IsCommands text commands
-    → IsTasks text deadline false 0 (plain_tasks deadline 0 commands) [] []
+    → IsTasks text deadline false (tasks_alone (plain_tasks deadline 0 commands))
 
 -- chains keep their targets: each chained task follows one for the same target; `before` is the target of the task before all of these,
 -- if there is one
@@ -75,18 +77,18 @@ IsOneChain (first ∷ later) = (first.chained ≡ false) × AllByRecursion (λ t
 -- each chained one follows one for the same target (`KeepTargets`)
 abbrev pub ChainsKeepTargets : Type 0
 ChainsKeepTargets =
-    (text : List ℕ) (deadline : ℕ) (chained : Bool) (setup : ℕ) (tasks : List Task) (names : List Name) (nears : List Near)
-    → IsTasks text deadline chained setup tasks names nears
-    → (front : List Task) × (cycle : List Task) × (tasks ≡ front ++ cycle) × (setup ≡ length front) × IsOneChain front × KeepTargets None cycle
+    (text : List ℕ) (deadline : ℕ) (chained : Bool) (all : TasksSeen) → IsTasks text deadline chained all
+    → (front : List Task) × (cycle : List Task) × (all.tasks ≡ front ++ cycle) × (all.setup ≡ length front)
+    × IsOneChain front × KeepTargets None cycle
 
 -- the name that is printed of a procedure's number is the catalogue's
 abbrev pub NamesAreTheCatalogues : Type 0
-NamesAreTheCatalogues = (call : Call) → name_of (call_fields call).number ≡ call_name call
+NamesAreTheCatalogues = (call : Call) → name_in_table (call_fields call).number ≡ call_name call
 
 -- a log line reads back: what is written of a moment of at most 64 bits, a mark and bytes is a log line of these (`written`),
 -- and no text is a log line of two moments, marks or lists of bytes (`once`)
 pub record LogLinesReadBack : Type 0 where
-  pub written : (utc : ℕ) (mark : LogMark) (bytes : List ℕ) → utc < 2 ^ 64 → All (λ b. b < 256) bytes
+  pub written : (utc : ℕ) (mark : LogMark) (bytes : List ℕ) → utc < 2 ^ 64 → AreBytes bytes
       → IsLogLine (log_text (stamp_text utc) mark bytes) (stamp_text utc) mark bytes
   pub once : (text one other : List ℕ) (mark other_mark : LogMark) (bytes other_bytes : List ℕ)
       → IsLogLine text one mark bytes → IsLogLine text other other_mark other_bytes
@@ -95,4 +97,4 @@ pub record LogLinesReadBack : Type 0 where
 -- a log line of a moment of at most 64 bits has printable bytes alone, before its line feed
 abbrev pub LogLinesArePrintable : Type 0
 LogLinesArePrintable =
-    (utc : ℕ) (mark : LogMark) (bytes : List ℕ) → utc < 2 ^ 64 → All (λ b. b < 256) bytes → IsPrintable (log_text (stamp_text utc) mark bytes)
+    (utc : ℕ) (mark : LogMark) (bytes : List ℕ) → utc < 2 ^ 64 → AreBytes bytes → IsPrintable (log_text (stamp_text utc) mark bytes)

@@ -7,8 +7,8 @@ use Rattle.gc_texts.specs.declared.fault.RunFault.TheVariants.{Schedule, Memory,
 use Rattle.gc_texts.specs.declared.text.TheConstants.{TEXT_LIMIT}
 
 -- a form of lines: it says which lines are written for which item
-abbrev pub Form : Type 0 → Type 1
-Form Item = List ℕ → Item → Type 0
+abbrev pub ItemForm : Type 0 → Type 1
+ItemForm Item = List ℕ → Item → Type 0
 
 -- what was read is a value of which `Says` holds, or `None` where it holds of none
 abbrev pub IsReadAs : {Value : Type 0} → (Says : Value → Type 0) → (read : Option Value) → Type 0
@@ -50,37 +50,39 @@ abbrev pub is_kept : List ℕ → Bool
 is_kept line = not (is_skipped line)
 
 -- these lines have the forms of these items, one for one and in order
-abbrev pub AreItems : {Item : Type 0} → Form Item → List (List ℕ) → List Item → Type 0
-AreItems form lines items = AllZip form lines items
+abbrev pub AreLinesOf : {Item : Type 0} → ItemForm Item → List (List ℕ) → List Item → Type 0
+AreLinesOf form lines items = AllZip form lines items
 
 -- the lines of the text that aren't skipped have the forms of these items, one for one and in order
-abbrev pub IsText : {Item : Type 0} → Form Item → List ℕ → List Item → Type 0
-IsText form text items = AreItems form (filter is_kept (text_lines text)) items
+abbrev pub IsTextOf : {Item : Type 0} → ItemForm Item → List ℕ → List Item → Type 0
+IsTextOf form text items = AreLinesOf form (filter is_kept (text_lines text)) items
 
--- line number n, counted from 1, is the first that isn't skipped and has the form of no item
-pub record FirstFaulty {Item : Type 0} (form : Form Item) (text : List ℕ) (n : ℕ) : Type 0 where
-  pub front : List (List ℕ)
-  pub line : List ℕ
+-- the text has this line, which isn't skipped, after the lines `front`
+pub record HasKeptLine (text : List ℕ) (front : List (List ℕ)) (line : List ℕ) : Type 0 where
   pub rest : List (List ℕ)
   pub lines_are : text_lines text ≡ front ++ line ∷ rest
-  pub place : n ≡ length front + 1
   pub kept : is_kept line ≡ true
+
+-- line number n, counted from 1, is the first that isn't skipped and has the form of no item
+pub record FirstFaulty {Item : Type 0} (form : ItemForm Item) (text : List ℕ) (n : ℕ) : Type 0 where
+  pub front : List (List ℕ)
+  pub line : List ℕ
+  pub here : HasKeptLine text front line
+  pub place : n ≡ length front + 1
   pub no_item : (x : Item) → form line x → ⊥
   pub items : List Item
-  pub before : AreItems form (filter is_kept front) items
+  pub before : AreLinesOf form (filter is_kept front) items
 
 -- the text has a line that isn't skipped and has the form of an item, and no faulty line before it: a reader comes to such a
 -- line, and memory may be refused there
-pub record ReachesASoundLine {Item : Type 0} (form : Form Item) (text : List ℕ) : Type 0 where
+pub record ReachesASoundLine {Item : Type 0} (form : ItemForm Item) (text : List ℕ) : Type 0 where
   pub front : List (List ℕ)
   pub line : List ℕ
-  pub rest : List (List ℕ)
-  pub lines_are : text_lines text ≡ front ++ line ∷ rest
-  pub kept : is_kept line ≡ true
+  pub here : HasKeptLine text front line
   pub item : Item
   pub is_item : form line item
   pub items : List Item
-  pub before : AreItems form (filter is_kept front) items
+  pub before : AreLinesOf form (filter is_kept front) items
 
 -- why the reading of a text gave no items: the text is too long; or it isn't, and either line n is its first faulty one, of which
 -- `IsFirstFaulty` holds, or memory was refused at a sound line, and `ReachesASound` holds of the text
@@ -92,7 +94,7 @@ TextFaultBy IsFirstFaulty ReachesASound text _ = ⊥
 
 -- why the reading of a text gave no items: the text is too long; or it isn't, and either line n is its first faulty one, or memory was
 -- refused at a line that has the form of an item and follows no faulty one
-abbrev pub TextFault : {Item : Type 0} → Form Item → List ℕ → RunFault → Type 0
+abbrev pub TextFault : {Item : Type 0} → ItemForm Item → List ℕ → RunFault → Type 0
 TextFault form text fault = TextFaultBy (FirstFaulty form) (ReachesASoundLine form) text fault
 
 -- the reading of this text had this result, which is `InputTooLong` exactly if the text has more bytes than a text may have

@@ -34,6 +34,10 @@ IsPrintableByte b = (32 ≤ b) × (b ≤ 126)
 abbrev pub IsPrintable : List ℕ → Type 0
 IsPrintable text = All IsPrintableByte text
 
+-- each of these numbers is a byte, that is, below 256
+abbrev pub AreBytes : List ℕ → Type 0
+AreBytes bytes = All (λ b. b < 256) bytes
+
 -- bytes, each as it is or as \x and two digits
 abbrev pub escaped : List ℕ → List ℕ
 escaped bytes = flat_map escape bytes
@@ -47,9 +51,9 @@ abbrev pub log_line : ℕ → LogMark → List ℕ → List ℕ
 log_line utc mark bytes = log_text (stamp_text utc) mark bytes ++ codes "\n"
 
 -- a text is the log line of this moment, mark and bytes, without a line feed. The moment, in printable characters, is what is before the
--- text's first space, and the bytes are numbers below 256
+-- text's first space
 pub record IsLogLine (text moment : List ℕ) (mark : LogMark) (bytes : List ℕ) : Type 0 where
   pub is : text ≡ log_text moment mark bytes
   pub one_word : Lacks 32 moment
   pub is_printable : IsPrintable moment
-  pub are_bytes : All (λ b. b < 256) bytes
+  pub are_bytes : AreBytes bytes

@@ -1,5 +1,5 @@
 -- A stamp by the calendar and the hours of a day, this project's own in the words of ISO 8601.
-use Rattle.std.specs.Prelude.{◌≡◌, ℕ, ◌+◌, ◌*◌, ◌<◌, List, [], ◌∷◌, ◌++◌, codes}
+use Rattle.std.specs.Prelude.{◌≡◌, ℕ, ◌+◌, ◌*◌, ◌<◌, [], ◌∷◌, ◌++◌, codes}
 use Rattle.gc_texts.specs.Stamps.{next_day, date_of, two_digits, three_digits, date_text, clock_text, stamp_text}
 
 -- the milliseconds of these days, hours, minutes and seconds, and of `more` milliseconds, together

@@ -10,25 +10,20 @@ use Rattle.gc_catalogue.specs.declared.asked.Asked.{Asked}
 use Rattle.gc_catalogue.specs.declared.asked.Asked.TheVariants.{Table, Raw}
 use Rattle.gc_catalogue.specs.declared.call.Call.{Call}
 use Rattle.gc_catalogue.specs.declared.call.Call.TheVariants.{GetAngle, SimpleMea, QuickDist, MeasDistance}
+use Rattle.gc_values.specs.Decimals.{SpellsDecimal}
 use Rattle.gc_values.specs.Directions.{is_near, is_place, is_tolerance}
-use Rattle.gc_values.specs.Spelling.{Spells}
-use Rattle.gc_values.specs.declared.decimal.Decimal.{Decimal}
 use Rattle.gc_values.specs.declared.direction.Direction.{Direction}
 use Rattle.gc_texts.specs.Procedures.{IsTarget}
 use Rattle.gc_texts.specs.Words.{first_word, second_word, third_word, after_three_words}
 use Rattle.gc_texts.specs.declared.near.Near.{Near}
 
--- a text is a number as a parameter is written, with or without a point or an exponent, and rounded to 24 places it is this one
-abbrev pub IsDouble : List ℕ → Decimal → Type 0
-IsDouble text d = Spells text d.digits d.scale
-
 -- these four words are a target's number, the direction in which the target is, and how far from there each angle of a measurement may
 -- be. Angles are in radians: `hz` is from 0 to a turn, and `v` and `tolerance` are from 0 to half a turn
 pub record AreNearWords (target hz v tolerance : List ℕ) (near : Near) : Type 0 where
   pub target_is : IsTarget target near.target
-  pub hz_is : IsDouble hz near.place.hz
-  pub v_is : IsDouble v near.place.v
-  pub tolerance_is : IsDouble tolerance near.tolerance
+  pub hz_is : SpellsDecimal hz near.place.hz
+  pub v_is : SpellsDecimal v near.place.v
+  pub tolerance_is : SpellsDecimal tolerance near.tolerance
   pub place_is : is_place near.place ≡ true
   pub tolerance_in : is_tolerance near.tolerance ≡ true
 

@@ -21,5 +21,5 @@ name_among [] rpc = []
 name_among (call ∷ calls) rpc = if (call_fields call).number == rpc then call_name call else name_among calls rpc
 
 -- the name of the procedure with this number; empty where no procedure of the table has it
-abbrev pub name_of : ℕ → List ℕ
-name_of rpc = name_among each_procedure rpc
+abbrev pub name_in_table : ℕ → List ℕ
+name_in_table rpc = name_among each_procedure rpc

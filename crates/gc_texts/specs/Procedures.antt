@@ -28,7 +28,7 @@ HasBytes None = Unit {0}
 HasBytes (Some params) = 0 < length params
 
 -- the text is a procedure's number, and after it a space and parameters, or nothing; the number and the parameters make the call
-pub record IsProcedure (text : List ℕ) (call : Call) : Type 0 where
+pub record IsProcedureText (text : List ℕ) (call : Call) : Type 0 where
   pub rpc_text : List ℕ
   pub rpc : ℕ
   pub params : Option (List ℕ)

@@ -4,9 +4,8 @@ use Rattle.std.specs.List.{AllByRecursion, flat_map}
 use Rattle.gc_texts.specs.Again.{no_again}
 use Rattle.gc_texts.specs.Chained.{section_after, IsRetryAfter}
 use Rattle.gc_texts.specs.Laws.{IsOneChain}
-use Rattle.gc_texts.specs.Tasks.{IsTasks, opening, planned_of, placed}
+use Rattle.gc_texts.specs.Tasks.{TasksSeen, IsTasks, first_mode, planned_of, placed}
 use Rattle.gc_texts.specs.declared.again.Again.{Again}
-use Rattle.gc_texts.specs.declared.name.Name.{Name}
 use Rattle.gc_texts.specs.declared.near.Near.{Near}
 use Rattle.gc_texts.specs.declared.retry.Retry.{Retry}
 use Rattle.gc_texts.specs.declared.task_line.TaskLine.{TaskLine}
@@ -61,16 +60,15 @@ AreLaidOut (chain ∷ others) tasks =
 -- for it
 abbrev pub ChainsGoOutAgain : Type 0
 ChainsGoOutAgain =
-    (text : List ℕ) (deadline : ℕ) (chained : Bool) (setup : ℕ) (tasks : List Task) (names : List Name) (nears : List Near)
-    (is : IsTasks text deadline chained setup tasks names nears)
+    (text : List ℕ) (deadline : ℕ) (chained : Bool) (all : TasksSeen) (is : IsTasks text deadline chained all)
     → (chains : List Chain) × (front : List Task) × (cycle : List Task)
-    × (tasks ≡ front ++ cycle) × (setup ≡ length front) × AreLaidOut chains cycle
-    × (flat_map planned_in chains ≡ map (placed_planned nears) (planned_of (opening deadline chained) is.said))
+    × (all.tasks ≡ front ++ cycle) × (all.setup ≡ length front) × AreLaidOut chains cycle
+    × (flat_map planned_in chains ≡ map (placed_planned all.nears) (planned_of (first_mode deadline chained) is.said))
 
 -- a command of the cycle has the retry that the last line `retry` before it says; without such a line its chain isn't repeated
 abbrev pub RetriesHold : Type 0
 RetriesHold =
     (deadline : ℕ) (chained : Bool) (front later : List TaskLine) (command : Wish) (now : Bool) → section_after false front ≡ false
-    → (planned : Planned) × (others : List Planned) × (planned_of (opening deadline chained) (front ++ says.Command command now ∷ later)
-    ≡ planned_of (opening deadline chained) front ++ planned ∷ others)
+    → (planned : Planned) × (others : List Planned) × (planned_of (first_mode deadline chained) (front ++ says.Command command now ∷ later)
+    ≡ planned_of (first_mode deadline chained) front ++ planned ∷ others)
     × (planned.task.command ≡ command) × IsRetryAfter front planned.retry

@@ -29,9 +29,9 @@ abbrev pub AreReasons : List ℕ → List Reason → Type 0
 AreReasons text reasons = AreWords IsReason text reasons
 
 -- whether a line with `count` codes may have one more word: a code if these are fewer than 16, and an outcome always
-abbrev pub has_room : ℕ → Reason → Bool
-has_room count (Code code) = nat_lt count 16
-has_room count _ = true
+abbrev pub allows_word : ℕ → Reason → Bool
+allows_word count (Code code) = nat_lt count 16
+allows_word count _ = true
 
 -- how many codes a line has with one more word, if it had `count` before the word
 abbrev pub count_with : ℕ → Reason → ℕ

@@ -11,7 +11,7 @@ use Rattle.gc_catalogue.specs.declared.call.Call.TheVariants.{SetDate}
 use Rattle.gc_texts.specs.Again.{no_again}
 use Rattle.gc_texts.specs.Attempts.{laid_out}
 use Rattle.gc_texts.specs.Codes.{no_codes}
-use Rattle.gc_texts.specs.LineForms.{text_lines, is_kept, AreItems, TextFaultBy}
+use Rattle.gc_texts.specs.LineForms.{text_lines, is_kept, AreLinesOf, HasKeptLine, TextFaultBy}
 use Rattle.gc_texts.specs.Names.{is_named}
 use Rattle.gc_texts.specs.Nears.{has_near, near_of}
 use Rattle.gc_texts.specs.Retries.{no_retry}
@@ -32,8 +32,8 @@ use Rattle.gc_texts.specs.declared.wish.Wish.{Wish}
 
 -- the mode before any line: the caller's deadline and chaining, no group, no code that is accepted beside 0, and no retry; the commands
 -- after it are those of each cycle, and none came before it
-abbrev pub opening : (deadline : ℕ) (chained : Bool) → Mode
-opening deadline chained =
+abbrev pub first_mode : (deadline : ℕ) (chained : Bool) → Mode
+first_mode deadline chained =
     record {
       deadline = deadline;
       chained = chained;
@@ -59,8 +59,8 @@ continues_group None target = false
 
 -- whether a command for this target is chained: in the setup each command but the first is, and in the cycle a command is if the mode
 -- chains commands and the command continues the group
-abbrev pub is_chained : Mode → ℕ → Bool
-is_chained mode target = if mode.setup then nat_lt 0 mode.begun else mode.chained && continues_group mode.group target
+abbrev pub chained_at : Mode → ℕ → Bool
+chained_at mode target = if mode.setup then nat_lt 0 mode.begun else mode.chained && continues_group mode.group target
 
 -- the place of a command in its chain, from 0: a setup command follows all of the setup's commands before it, a chained command of the
 -- cycle follows the one before it, and any other is the first
@@ -78,7 +78,7 @@ mode_after_command mode target =
       group = Some target;
       begun = if mode.setup then mode.begun + 1 else mode.begun;
       place = if mode.setup then mode.place else mode.place + 1;
-      link = place_in_chain mode (is_chained mode target) + 1;
+      link = place_in_chain mode (chained_at mode target) + 1;
     }
 
 -- the mode after a line. After a command the group is of its target, and the command is counted. A line `deadline` sets the deadline, and
@@ -103,11 +103,11 @@ task_at mode command now =
     record {
       command = command;
       deadline = mode.deadline;
-      chained = is_chained mode command.target;
+      chained = chained_at mode command.target;
       near = None;
       accepted = mode.accepted;
       again = no_again;
-      turn = turn_at mode (is_chained mode command.target);
+      turn = turn_at mode (chained_at mode command.target);
       others = 0;
       now = now;
     }
@@ -175,12 +175,12 @@ pub record Grows (mode : Mode) (line : TaskLine) (old new : Given) : Type 0 wher
   pub nears_more : new.nears.items ≡ old.nears.items ++ near_at line
 
 -- a list has no room for one more item, unless it grows
-abbrev pub IsFull : {X Z : Type 0} → Vec X Z → Type 0
-IsFull items = vec_capacity items ≤ vec_len items
+abbrev pub IsAtCapacity : {X Z : Type 0} → Vec X Z → Type 0
+IsAtCapacity items = vec_capacity items ≤ vec_len items
 
 -- one of the four lists of what lines gave has no room for one more item, unless it grows
 abbrev pub HasFull : Given → Type 0
-HasFull given = (IsFull given.setup ⊎ IsFull given.cycle) ⊎ (IsFull given.names ⊎ IsFull given.nears)
+HasFull given = (IsAtCapacity given.setup ⊎ IsAtCapacity given.cycle) ⊎ (IsAtCapacity given.names ⊎ IsAtCapacity given.nears)
 
 -- a task with the place of its target: the first of `nears` that is of that target, and none where there is none
 abbrev pub placed : List Near → Task → Task
@@ -200,33 +200,37 @@ MayFollow names nears (line ∷ later) = (may_follow names nears line ≡ true) 
 
 -- a station's text may have these lines, and those that aren't skipped say this: each has its form, and may follow those before it
 pub record AreTaskLines (lines : List (List ℕ)) (said : List TaskLine) : Type 0 where
-  pub forms : AreItems IsTaskLine (filter is_kept lines) said
+  pub forms : AreLinesOf IsTaskLine (filter is_kept lines) said
   pub follow : MayFollow [] [] said
 
--- the text gives these tasks, names and places; the first `setup` tasks are the setup. Before any line the deadline is
--- `deadline`, and commands are chained where `chained` says so. A place holds for all tasks of its target, wherever its line
--- is
-pub record IsTasks (text : List ℕ) (deadline : ℕ) (chained : Bool) (setup : ℕ) (tasks : List Task) (names : List Name) (nears : List Near) : Type 0 where
+-- what a station's text gives: its tasks, of which the first `setup` are the setup, the names of targets, and where targets are
+pub record TasksSeen : Type 0 where
+  pub setup : ℕ
+  pub tasks : List Task
+  pub names : List Name
+  pub nears : List Near
+
+-- tasks of the code as `TasksSeen`: each of their lists by its items
+abbrev pub tasks_seen : Tasks → TasksSeen
+tasks_seen all = record { setup = all.setup; tasks = all.tasks.items; names = all.names.items; nears = all.nears.items }
+
+-- the text gives these tasks, names and places. Before any line the deadline is `deadline`, and commands are chained where
+-- `chained` says so. A place holds for all tasks of its target, wherever its line is
+pub record IsTasks (text : List ℕ) (deadline : ℕ) (chained : Bool) (all : TasksSeen) : Type 0 where
   pub said : List TaskLine
   pub lines : AreTaskLines (text_lines text) said
-  pub tasks_are : tasks ≡ map (placed nears) (tasks_of (opening deadline chained) said)
-  pub setup_is : setup ≡ length (setup_of (opening deadline chained) said)
-  pub names_are : names ≡ names_of said
-  pub nears_are : nears ≡ nears_of said
-
--- the text gives the tasks, the names and the places of `all`, and the first `all.setup` tasks are the setup (`IsTasks`)
-abbrev pub GivesTasks : (text : List ℕ) (deadline : ℕ) (chained : Bool) (all : Tasks) → Type 0
-GivesTasks text deadline chained all = IsTasks text deadline chained all.setup all.tasks.items all.names.items all.nears.items
+  pub tasks_are : all.tasks ≡ map (placed all.nears) (tasks_of (first_mode deadline chained) said)
+  pub setup_is : all.setup ≡ length (setup_of (first_mode deadline chained) said)
+  pub names_are : all.names ≡ names_of said
+  pub nears_are : all.nears ≡ nears_of said
 
 -- line number n, counted from 1, is the first faulty one: it isn't skipped, and it has no form, or has one and may not
 -- follow those before it
 pub record IsFirstFaultyTask (text : List ℕ) (n : ℕ) : Type 0 where
   pub front : List (List ℕ)
   pub line : List ℕ
-  pub rest : List (List ℕ)
-  pub lines_are : text_lines text ≡ front ++ line ∷ rest
+  pub here : HasKeptLine text front line
   pub place : n ≡ length front + 1
-  pub kept : is_kept line ≡ true
   pub before : List TaskLine
   pub lines : AreTaskLines front before
   pub faulty : (said : TaskLine) → IsTaskLine line said → may_follow (names_of before) (nears_of before) said ≡ false
@@ -236,9 +240,7 @@ pub record IsFirstFaultyTask (text : List ℕ) (n : ℕ) : Type 0 where
 pub record ReachesASoundTaskLine (text : List ℕ) : Type 0 where
   pub front : List (List ℕ)
   pub line : List ℕ
-  pub rest : List (List ℕ)
-  pub lines_are : text_lines text ≡ front ++ line ∷ rest
-  pub kept : is_kept line ≡ true
+  pub here : HasKeptLine text front line
   pub before : List TaskLine
   pub lines : AreTaskLines front before
   pub said : TaskLine

@@ -11,7 +11,7 @@ use Rattle.gc_values.specs.declared.fault.ValueFault.{ValueFault}
 use Rattle.gc_values.specs.declared.fault.ValueFault.TheVariants.{Count, TooMany}
 use Rattle.gc_texts.specs.Procedures.{IsNumber, IsRpc, IsTarget}
 use Rattle.gc_texts.specs.Cuts.{behind}
-use Rattle.gc_texts.specs.ProcedureNames.{name_of}
+use Rattle.gc_texts.specs.ProcedureNames.{name_in_table}
 use Rattle.gc_texts.specs.Words.{first_word, second_word, third_word, after_two_words, after_three_words}
 use Rattle.gc_texts.specs.declared.trouble.Trouble.{Trouble}
 use Rattle.gc_texts.specs.declared.trouble.Trouble.TheVariants as trouble
@@ -149,7 +149,7 @@ trouble_text trouble.Retry = codes "retry"
 trouble_text trouble.AtStart = codes "at start"
 trouble_text trouble.EachCycle = codes "each cycle"
 trouble_text trouble.Now = codes "5007 now"
-trouble_text (trouble.RawInTable rpc) = in_table_text rpc (name_of rpc)
+trouble_text (trouble.RawInTable rpc) = in_table_text rpc (name_in_table rpc)
 trouble_text trouble.RawParameters = codes "more than 16 parameters, a double quote without its end, or a carriage return"
 trouble_text trouble.RawTooLong = codes "the request has more than 512 bytes"
 trouble_text trouble.NoForm = codes "no form"

@@ -47,12 +47,10 @@ ReadsNoText old new fault = Gave old new (λ given. IsReadFault given fault)
 abbrev pub IsReadToEnd : (old new : Input) → Type 0
 IsReadToEnd old new = IsAtEnd new.remaining × (new.ended ≡ true) × (old.reads < new.reads)
 
--- a source gave a text within the limit, to its end, by one read or more, and has failed exactly if it had before
+-- a source gave a text within the limit, to its end (`IsReadToEnd`), and has failed exactly if it had before
 pub record WasRead (given : List ℕ) (old new : Input) : Type 0 where
   pub within : length given ≤ TEXT_LIMIT
-  pub whole : IsAtEnd new.remaining
-  pub ended : new.ended ≡ true
-  pub last : old.reads < new.reads
+  pub to_end : IsReadToEnd old new
   pub failed : new.failed ≡ old.failed
 
 -- a text wasn't read to its end, for the reason that this fault says: `IsReadFault` says how many bytes came, and `read_failed`

@@ -2,7 +2,7 @@
 -- doesn't have is empty, and so is what would follow it.
 use Rattle.std.specs.Prelude.{◌≡◌, ℕ, List, [], ◌∷◌, ◌++◌}
 use Rattle.gc_texts.specs.Cuts.{before, behind}
-use Rattle.gc_texts.specs.LineForms.{Form}
+use Rattle.gc_texts.specs.LineForms.{ItemForm}
 
 -- the first word of a line
 abbrev pub first_word : List ℕ → List ℕ
@@ -24,8 +24,16 @@ third_word line = before 32 (after_two_words line)
 abbrev pub after_three_words : List ℕ → List ℕ
 after_three_words line = behind 32 (after_two_words line)
 
+-- the fourth word of a line
+abbrev pub fourth_word : List ℕ → List ℕ
+fourth_word line = before 32 (after_three_words line)
+
+-- what follows the first four words of a line, without the space between
+abbrev pub after_four_words : List ℕ → List ℕ
+after_four_words line = behind 32 (after_three_words line)
+
 -- a text is the words of these items, one for each and at least one, with one space between two; `form` says which word is which item
-abbrev pub AreWords : {Item : Type 0} → Form Item → List ℕ → List Item → Type 0
+abbrev pub AreWords : {Item : Type 0} → ItemForm Item → List ℕ → List Item → Type 0
 AreWords form text [] = ⊥
 AreWords form text (item ∷ []) = form text item
 AreWords form text (item ∷ next ∷ others) =

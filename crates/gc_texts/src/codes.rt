@@ -6,13 +6,10 @@ ghost use Rattle.gc_texts.specs.LineForms.{IsReadAs};
 ghost use Rattle.gc_texts.specs.Codes.{IsCodeList, IsCode, lists_code, no_codes};
 
 use crate::cuts::cut_at;
-use crate::procedure::number_of;
+use crate::procedure::u16_of;
 
 /// The most return codes that a line of a station's text may list.
 pub const CODES_MAX: usize = 16;
-
-// The greatest return code of a reply.
-const CODE_MAX: u64 = 65535;
 
 /// At most 16 return codes, each from 1 to 65535, that a line of a station's text lists.
 #[derive(Clone, Copy)]
@@ -57,20 +54,20 @@ impl Codes {
 }
 
 // Reads a return code, from 1 to 65535. `None`: the word is no number, or the number lies outside.
-pub(crate) fn code_of(word: &[u8]) -> Option<u16>
+pub(crate) fn read_code(word: &[u8]) -> Option<u16>
     ensures { IsReadAs (IsCode word.now) result }
 {
-    let Some(code) = number_of(word, CODE_MAX) else {
+    let Some(code) = u16_of(word) else {
         return None
     };
     if code == 0 {
         return None;
     }
-    Some(code as u16)
+    Some(code)
 }
 
 /// Reads return codes with one space between two. `None`: a word is no return code, or there are more than 16.
-pub(crate) fn read_codes(text: &[u8]) -> Option<Codes>
+pub(crate) fn read_code_list(text: &[u8]) -> Option<Codes>
     ensures { IsReadAs (IsCodeList text.now) result }
 {
     let mut codes = Codes::none();
@@ -78,7 +75,7 @@ pub(crate) fn read_codes(text: &[u8]) -> Option<Codes>
     let mut left = Some(text);
     while let Some(text) = left {
         let (word, rest) = cut_at(b' ', text);
-        let Some(code) = code_of(word) else {
+        let Some(code) = read_code(word) else {
             return None
         };
         if count == CODES_MAX {

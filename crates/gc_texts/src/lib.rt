@@ -41,11 +41,10 @@ pub use log_line::{ESCAPED_ROOM, LogBytes, LogMark, append_escaped, escaped, wri
 pub use log_reading::{LogLine, read_log_line};
 pub use name::{Name, name_text};
 pub use near::{Expected, Near, is_elsewhere, read_double};
-pub use procedure::{TARGET_MAX, number_of, read_procedure, read_procedure_into, target_of};
+pub use procedure::{number_of, read_procedure, read_procedure_into, target_of, u16_of, u32_of};
 pub use quality::Quality;
 pub use settled::{append_settlements, write_settlements};
 pub use stamp::{STAMP_ROOM, Stamp, stamp_text};
-pub use task_line::DEADLINE_MAX;
 pub use tasks::{Task, Tasks, read_tasks};
 pub use text::{TEXT_LIMIT, limits_texts, read_text};
 pub use trouble::{Trouble, trouble_of};

@@ -2,7 +2,7 @@
 
 ghost use Rattle.std.specs.Prelude.{◌≡◌, ◌≤◌, length, IfOk, IfErr};
 ghost use Rattle.std.specs.Option.{option_copied};
-ghost use Rattle.gc_texts.specs.LineForms.{CutsLine, IsText, RefusesLong, TextFault, without_cr, line_at, is_skipped};
+ghost use Rattle.gc_texts.specs.LineForms.{CutsLine, IsTextOf, RefusesLong, TextFault, without_cr, line_at, is_skipped};
 ghost use Rattle.gc_texts.specs.declared.text.TheConstants.{TEXT_LIMIT};
 
 use crate::cuts::cut_at;
@@ -80,7 +80,7 @@ pub(crate) fn is_skipped(line: &[u8]) -> bool
 /// line, counted from 1, at the first line that has the form of no item; and with `Memory` if memory was refused at a line that has the
 /// form of an item.
 pub fn read_items<F: LineForm>(alloc: Global, text: &[u8]) -> Result<Vec<F::Item>, RunFault>
-    ensures found { IfOk result (λ items. IsText F.form text.now items.items) }
+    ensures found { IfOk result (λ items. IsTextOf F.form text.now items.items) }
     ensures too_long { RefusesLong text.now result }
     ensures fault { IfErr result (λ e. TextFault F.form text.now e) }
 {
@@ -106,7 +106,7 @@ fn room_for(count: usize, left: &[u8]) -> usize
 // Reads the lines of a text that isn't too long, and returns their items, in order. Fails with `Schedule` and `Memory`, as `read_items`.
 fn read_lines<F: LineForm>(alloc: Global, text: &[u8]) -> Result<Vec<F::Item>, RunFault>
     requires { length text.now ≤ TEXT_LIMIT }
-    ensures found { IfOk result (λ items. IsText F.form text.now items.items) }
+    ensures found { IfOk result (λ items. IsTextOf F.form text.now items.items) }
     ensures fault { IfErr result (λ e. TextFault F.form text.now e) }
 {
     let mut items = Vec::new(alloc);

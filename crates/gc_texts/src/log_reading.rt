@@ -1,9 +1,9 @@
 //! Reads the lines of a log. The mark and the bytes of a line are read in exactly the form that a log gives them. In place of the moment
 //! any word of printable ASCII is accepted.
 
-ghost use Rattle.std.specs.Prelude.{◌≡◌, ◌+◌, ◌<◌, ◌≤◌, ◌∷◌, ◌++◌, ℕ, ◌↔◌, List, length, All, MatchOption, IsTrue};
+ghost use Rattle.std.specs.Prelude.{◌≡◌, ◌+◌, ◌<◌, ◌≤◌, ◌∷◌, ◌++◌, ℕ, ◌↔◌, List, length, MatchOption, IsTrue};
 ghost use Rattle.gc_texts.specs.LineForms.{IsReadAs};
-ghost use Rattle.gc_texts.specs.Logs.{mark_text, hex_digit, escape, escaped, IsPrintable, IsLogLine};
+ghost use Rattle.gc_texts.specs.Logs.{AreBytes, mark_text, hex_digit, escape, escaped, IsPrintable, IsLogLine};
 ghost use Rattle.gc_texts.specs.declared.log_line.LogMark.{LogMark};
 
 use crate::cuts::cut_at;
@@ -41,7 +41,7 @@ pub fn read_log_line(line: &[u8]) -> Option<LogLine<'_>>
     let Some(mark) = read_mark(word) else {
         return None;
     };
-    let Some(bytes) = read_bytes(text) else {
+    let Some(bytes) = read_escaped(text) else {
         return None;
     };
     Some(LogLine {
@@ -73,15 +73,15 @@ fn read_mark(text: &[u8]) -> Option<LogMark>
 }
 
 // Reads at most 514 bytes, each as it is or as `\x` and two digits. `None`: the text has another form, or more bytes.
-fn read_bytes(text: &[u8]) -> Option<LogBytes>
+fn read_escaped(text: &[u8]) -> Option<LogBytes>
     ensures { MatchOption result
-        ((bytes : List ℕ) → length bytes ≤ 514 → All (λ b. b < 256) bytes → text.now ≡ escaped bytes → ⊥)
-        (λ bytes. (text.now ≡ escaped bytes.items) × All (λ b. b < 256) bytes.items) }
+        ((bytes : List ℕ) → length bytes ≤ 514 → AreBytes bytes → text.now ≡ escaped bytes → ⊥)
+        (λ bytes. (text.now ≡ escaped bytes.items) × AreBytes bytes.items) }
 {
     let mut bytes = LogBytes::new();
     let mut left = text;
     while !left.is_empty() {
-        let Some((b, more)) = read_byte(left) else {
+        let Some((b, more)) = read_escape(left) else {
             return None;
         };
         if bytes.is_full() {
@@ -95,7 +95,7 @@ fn read_bytes(text: &[u8]) -> Option<LogBytes>
 
 // Reads the byte that a text begins with, as it is or as `\x` and two digits, and returns it with what follows it. `None`:
 // the text begins with no byte in the form that a log gives it.
-fn read_byte(text: &[u8]) -> Option<(u8, &[u8])>
+fn read_escape(text: &[u8]) -> Option<(u8, &[u8])>
     ensures { MatchOption result
         ((b : ℕ) (more : List ℕ) → b < 256 → text.now ≡ escape b ++ more → ⊥)
         (λ r. text.now ≡ escape r.0 ++ r.1.now) }

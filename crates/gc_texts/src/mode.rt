@@ -5,7 +5,7 @@
 //! commands of the setup are one chain.
 
 ghost use Rattle.std.specs.Prelude.{◌≡◌};
-ghost use Rattle.gc_texts.specs.Tasks.{Counted, opening, mode_after, mode_after_command, continues_group, is_chained, place_in_chain, task_at};
+ghost use Rattle.gc_texts.specs.Tasks.{Counted, first_mode, mode_after, mode_after_command, continues_group, chained_at, place_in_chain, task_at};
 
 use crate::again::Again;
 use crate::codes::Codes;
@@ -40,7 +40,7 @@ pub(crate) struct Mode {
 
 // The mode before the first line of a text: the caller's deadline, and whether the caller has commands chained.
 pub(crate) fn first_mode(deadline: u64, chained: bool) -> Mode
-    ensures { result ≡ opening deadline chained }
+    ensures { result ≡ first_mode deadline chained }
 {
     Mode {
         deadline,
@@ -71,8 +71,8 @@ fn place_in_chain(mode: Mode, chained: bool) -> usize
 
 // Whether a command for this target is chained; `mode` is the mode before the command. In the setup each command but the first is; in the
 // cycle a command is if the mode chains commands and the command continues the group.
-fn is_chained(mode: Mode, target: u32) -> bool
-    ensures { result ≡ is_chained mode target }
+fn chained_at(mode: Mode, target: u32) -> bool
+    ensures { result ≡ chained_at mode target }
 {
     if mode.setup {
         mode.begun > 0
@@ -86,7 +86,7 @@ fn mode_after_command(mode: Mode, target: u32) -> Mode
     requires { Counted mode 4294967295 }
     ensures { result ≡ mode_after_command mode target }
 {
-    let link = place_in_chain(mode, is_chained(mode, target)) + 1;
+    let link = place_in_chain(mode, chained_at(mode, target)) + 1;
     if mode.setup {
         Mode {
             group: Some(target),
@@ -168,7 +168,7 @@ fn continues_group(group: Option<u32>, target: u32) -> bool
 pub(crate) fn task_at(mode: Mode, command: Wish, now: bool) -> Task
     ensures { result ≡ task_at mode command now }
 {
-    let chained = is_chained(mode, command.target);
+    let chained = chained_at(mode, command.target);
     Task {
         command,
         deadline: mode.deadline,

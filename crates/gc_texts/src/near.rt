@@ -2,7 +2,8 @@
 
 ghost use Rattle.std.specs.Prelude.{◌≡◌};
 ghost use Rattle.gc_texts.specs.LineForms.{IsReadAs};
-ghost use Rattle.gc_texts.specs.Nears.{IsDouble, AreNearWords, IsNearText, has_near, near_of, direction_of, call_gives_direction, asked_gives_direction, is_elsewhere};
+ghost use Rattle.gc_values.specs.Decimals.{SpellsDecimal};
+ghost use Rattle.gc_texts.specs.Nears.{AreNearWords, IsNearText, has_near, near_of, direction_of, call_gives_direction, asked_gives_direction, is_elsewhere};
 
 use crate::again::Again;
 use crate::codes::Codes;
@@ -40,7 +41,7 @@ pub struct Expected {
 /// Reads a number in the forms of `Decimal::read`, which rounds it to 24 places. `None`: the text has none of these forms, or the
 /// rounded number is more than 10^13 from zero.
 pub fn read_double(text: &[u8]) -> Option<Decimal>
-    ensures { IsReadAs (IsDouble text.now) result }
+    ensures { IsReadAs (SpellsDecimal text.now) result }
 {
     match Decimal::read(text) {
         Ok(d) => Some(d),
@@ -50,7 +51,7 @@ pub fn read_double(text: &[u8]) -> Option<Decimal>
 
 // Reads the words that say where a target is: its number, its horizontal and vertical angle, and the tolerance of both, in
 // radians. `None`: a word is no number, or a number lies outside its range.
-fn read_words(target: &[u8], hz: &[u8], v: &[u8], tolerance: &[u8]) -> Option<Near>
+fn read_near_words(target: &[u8], hz: &[u8], v: &[u8], tolerance: &[u8]) -> Option<Near>
     ensures { IsReadAs (AreNearWords target.now hz.now v.now tolerance.now) result }
 {
     let Some(target) = target_of(target) else {
@@ -84,7 +85,7 @@ pub(crate) fn read_near(text: &[u8]) -> Option<Near>
 {
     let angles = behind(b' ', text);
     let others = behind(b' ', angles);
-    read_words(
+    read_near_words(
         before(b' ', text),
         before(b' ', angles),
         before(b' ', others),

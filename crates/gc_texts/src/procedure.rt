@@ -2,7 +2,7 @@
 
 ghost use Rattle.std.specs.Prelude.{IsTrue, IsFalse};
 ghost use Rattle.gc_texts.specs.LineForms.{IsReadAs};
-ghost use Rattle.gc_texts.specs.Procedures.{IsNumber, IsProcedure, IsRpc, IsTarget};
+ghost use Rattle.gc_texts.specs.Procedures.{IsNumber, IsProcedureText, IsTarget};
 ghost use Rattle.gc_catalogue.specs.Calls.{IsCall};
 ghost use Rattle.gc_catalogue.specs.declared.call.Call.{Call};
 
@@ -10,12 +10,6 @@ use crate::cuts::cut_at;
 use gc_catalogue::{Call, decode_call_into};
 use gc_lines::Request;
 use gc_values::read_whole;
-
-/// The greatest number of a target.
-pub const TARGET_MAX: u64 = 4294967295;
-
-// The greatest number of a procedure.
-const RPC_MAX: u64 = 65535;
 
 /// The number that a text of digits writes, without a sign. `None`: the text is no such number, or the number is above `max`.
 pub fn number_of(digits: &[u8], max: u64) -> Option<u64>
@@ -27,31 +21,38 @@ pub fn number_of(digits: &[u8], max: u64) -> Option<u64>
     }
 }
 
-/// The target whose number a text of digits writes. `None`: the text is no number, or the number is above 4294967295.
-pub fn target_of(digits: &[u8]) -> Option<u32>
-    ensures { IsReadAs (IsTarget digits.now) result }
+/// As [`number_of`], of a number of 32 bits.
+pub fn u32_of(digits: &[u8], max: u32) -> Option<u32>
+    ensures { IsReadAs (λ n. IsNumber digits.now n max) result }
 {
-    match number_of(digits, TARGET_MAX) {
+    match number_of(digits, u64::from(max)) {
         Some(n) => Some(n as u32),
         None => None,
     }
 }
 
-/// The number of a procedure, in the table or not, that a text of digits writes. `None`: the text is no number, or the number is
-/// above 65535.
-pub(crate) fn rpc_of(digits: &[u8]) -> Option<u16>
-    ensures { IsReadAs (IsRpc digits.now) result }
+/// As [`number_of`], of any number of 16 bits: that of a procedure, in the table or not, or a return code. `None`: the text is no
+/// number, or the number is above 65535.
+pub fn u16_of(digits: &[u8]) -> Option<u16>
+    ensures { IsReadAs (λ n. IsNumber digits.now n 65535) result }
 {
-    match number_of(digits, RPC_MAX) {
+    match number_of(digits, u64::from(u16::MAX)) {
         Some(n) => Some(n as u16),
         None => None,
     }
 }
 
+/// The target whose number a text of digits writes. `None`: the text is no number, or the number is above 4294967295.
+pub fn target_of(digits: &[u8]) -> Option<u32>
+    ensures { IsReadAs (IsTarget digits.now) result }
+{
+    u32_of(digits, u32::MAX)
+}
+
 /// Reads the call of a procedure's number and its parameters: `RPC`, or `RPC PARAMS` with one byte of parameters at least.
 /// `None`: the text has no such form, no procedure has the number, or the parameters don't read as its own.
 pub fn read_procedure(text: &[u8]) -> Option<Call>
-    ensures { IsReadAs (IsProcedure text.now) result }
+    ensures { IsReadAs (IsProcedureText text.now) result }
 {
     let mut call = Call::NullProc;
     if read_procedure_into(text, &mut call) {
@@ -65,11 +66,11 @@ pub fn read_procedure(text: &[u8]) -> Option<Call>
 /// whether the text is a procedure's.
 #[inline(always)]
 pub fn read_procedure_into(text: &[u8], call: &mut Call) -> bool
-    ensures found { IsTrue result → IsProcedure text.now call.new }
-    ensures none { IsFalse result → (other : Call) → IsProcedure text.now other → ⊥ }
+    ensures found { IsTrue result → IsProcedureText text.now call.new }
+    ensures none { IsFalse result → (other : Call) → IsProcedureText text.now other → ⊥ }
 {
     let (digits, params) = cut_at(b' ', text);
-    let Some(rpc) = rpc_of(digits) else {
+    let Some(rpc) = u16_of(digits) else {
         return false
     };
     let Some(params) = params else {

@@ -2,10 +2,10 @@
 
 ghost use Rattle.std.specs.Prelude.{◌≡◌, ◌<◌, true};
 ghost use Rattle.gc_texts.specs.LineForms.{IsReadAs};
-ghost use Rattle.gc_texts.specs.Retries.{IsReason, NamesRule, IsRetryRule, again_with, count_with, has_room, no_retry};
+ghost use Rattle.gc_texts.specs.Retries.{IsReason, NamesRule, IsRetryRule, again_with, count_with, allows_word, no_retry};
 
 use crate::again::Again;
-use crate::codes::{CODES_MAX, code_of};
+use crate::codes::{CODES_MAX, read_code};
 use crate::cuts::{before, behind, cut_at, is_word};
 use crate::procedure::number_of;
 
@@ -63,15 +63,15 @@ fn reason_of(word: &[u8]) -> Option<Reason>
     if is_word(b"skipped", word) {
         return Some(Reason::Skipped);
     }
-    match code_of(word) {
+    match read_code(word) {
         Some(code) => Some(Reason::Code(code)),
         None => None,
     }
 }
 
 // Whether a line with `count` codes may have one more word: a code if these are fewer than 16, and an outcome always.
-fn has_room(count: usize, reason: Reason) -> bool
-    ensures { result ≡ has_room count reason }
+fn allows_word(count: usize, reason: Reason) -> bool
+    ensures { result ≡ allows_word count reason }
 {
     match reason {
         Reason::Code(_) => count < CODES_MAX,
@@ -92,7 +92,7 @@ fn count_with(count: usize, reason: Reason) -> usize
 
 // The rule `again`, which has `count` codes, with one more word.
 fn again_with(again: Again, count: usize, reason: Reason) -> Again
-    requires { has_room count reason ≡ true }
+    requires { allows_word count reason ≡ true }
     ensures { result ≡ again_with again count reason }
 {
     match reason {
@@ -136,7 +136,7 @@ fn read_again(text: &[u8]) -> Option<Again>
         let Some(reason) = reason_of(word) else {
             return None
         };
-        if !has_room(count, reason) {
+        if !allows_word(count, reason) {
             return None;
         }
         again = again_with(again, count, reason);
@@ -148,7 +148,7 @@ fn read_again(text: &[u8]) -> Option<Again>
 
 // Reads what follows `retry ` in a line, `N WORD WORD ..`: N is from 1 to 9, and there is at least one word, each a return code or an
 // outcome. `None`: the text has no such form, or more than 16 codes.
-pub(crate) fn read_rule(text: &[u8]) -> Option<Retry>
+pub(crate) fn read_retry_rule(text: &[u8]) -> Option<Retry>
     ensures { IsReadAs (IsRetryRule text.now) result }
 {
     let Some(times) = number_of(before(b' ', text), TIMES_MAX) else {

@@ -37,7 +37,7 @@ fn append_settlement(
 ) -> Result<(), AllocError>
     ensures { OnOk result (text.new.items ≡ text.old.items ++ settlement_line place (settlement_seen settlement.now)) }
 {
-    write_line(line, place, settlement);
+    settlement_line_into(line, place, settlement);
     text.extend_from_slice(line.as_slice())
 }
 
@@ -53,7 +53,7 @@ pub fn write_settlements<K: Sink>(
 {
     let mut line = ArrayVec::new();
     for (i, settlement) in settlements.iter().enumerate() {
-        write_line(&mut line, place + i, settlement);
+        settlement_line_into(&mut line, place + i, settlement);
         if let Err(_) = write_whole(sink, line.as_slice()) {
             return Err(RunFault::Output);
         }
@@ -65,7 +65,11 @@ pub fn write_settlements<K: Sink>(
 const LINE_ROOM: usize = 20 + 1 + 10 + 10 + 512 + 1;
 
 // Writes into `line` the line of this settlement, with this place as its number, and discards what `line` held before.
-fn write_line(line: &mut ArrayVec<u8, LINE_ROOM>, place: usize, settlement: &Settlement<Call>)
+fn settlement_line_into(
+    line: &mut ArrayVec<u8, LINE_ROOM>,
+    place: usize,
+    settlement: &Settlement<Call>,
+)
     ensures { line.new.items ≡ settlement_line place (settlement_seen settlement.now) }
 {
     let mut digits = Buffer::new();

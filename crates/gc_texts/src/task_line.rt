@@ -3,18 +3,18 @@
 ghost use Rattle.gc_texts.specs.LineForms.{IsReadAs};
 ghost use Rattle.gc_texts.specs.TaskLines.{IsDeadline, IsNameLine, IsNearLine, SetsAccepted, SetsRetry, SetsClock, IsTaskLine};
 
-use crate::codes::{Codes, read_codes};
+use crate::codes::{Codes, read_code_list};
 use crate::cuts::{after_word, before, behind, cut_at, is_word};
 use crate::name::{Name, is_name, named_target};
 use crate::near::{Near, read_near};
 use crate::procedure::{number_of, target_of};
-use crate::retry::{Retry, read_rule};
+use crate::retry::{Retry, read_retry_rule};
 use crate::stamp::FIRST_MOMENT;
 use crate::wish::{Wish, read_wish};
 use gc_catalogue::{Asked, Call};
 
-/// The greatest deadline of a line, in milliseconds: a day.
-pub const DEADLINE_MAX: u64 = 86400000;
+// The greatest deadline of a line, in milliseconds: a day.
+const DEADLINE_MAX: u64 = 86400000;
 
 // What a line of a station's text says.
 #[derive(Drop)]
@@ -95,12 +95,12 @@ fn read_accepting(line: &[u8]) -> Option<Codes>
         return Some(Codes::none());
     }
     match after_word(b"accept ", line) {
-        Some(rest) => read_codes(rest),
+        Some(rest) => read_code_list(rest),
         None => None,
     }
 }
 
-// Reads `retry N WORD WORD ..`, which says how often chains are repeated, and after what (`read_rule`); or `retry 0`, which says
+// Reads `retry N WORD WORD ..`, which says how often chains are repeated, and after what (`read_retry_rule`); or `retry 0`, which says
 // that they aren't repeated. `None`: the line has neither form, or more than 16 codes.
 fn read_retrying(line: &[u8]) -> Option<Retry>
     ensures { IsReadAs (SetsRetry line.now) result }
@@ -109,7 +109,7 @@ fn read_retrying(line: &[u8]) -> Option<Retry>
         return Some(Retry::none());
     }
     match after_word(b"retry ", line) {
-        Some(rest) => read_rule(rest),
+        Some(rest) => read_retry_rule(rest),
         None => None,
     }
 }

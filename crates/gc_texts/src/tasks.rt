@@ -6,7 +6,7 @@ ghost use Rattle.std.specs.List.{list_any};
 ghost use Rattle.gc_texts.specs.LineForms.{MemoryOnlyIf, NamesFaulty, RefusesLong};
 ghost use Rattle.gc_texts.specs.Names.{name_text};
 ghost use Rattle.gc_texts.specs.Nears.{asked_gives_direction};
-ghost use Rattle.gc_texts.specs.Tasks.{LinesGave, Grows, HasFull, call_at, placed, may_follow, GivesTasks, IsFirstFaultyTask, ReachesASoundTaskLine, TaskFault};
+ghost use Rattle.gc_texts.specs.Tasks.{LinesGave, Grows, HasFull, call_at, placed, may_follow, tasks_seen, IsTasks, IsFirstFaultyTask, ReachesASoundTaskLine, TaskFault};
 ghost use Rattle.gc_texts.specs.declared.mode.Mode.{Mode};
 ghost use Rattle.gc_texts.specs.declared.text.TheConstants.{TEXT_LIMIT};
 
@@ -201,7 +201,7 @@ pub fn read_tasks(
     deadline: u64,
     chained: bool,
 ) -> Result<Tasks, RunFault>
-    ensures found { IfOk result (λ all. GivesTasks text.now deadline chained all) }
+    ensures found { IfOk result (λ all. IsTasks text.now deadline chained (tasks_seen all)) }
     ensures too_long { RefusesLong text.now result }
     ensures faulty { NamesFaulty (IsFirstFaultyTask text.now) result }
     ensures memory { MemoryOnlyIf (ReachesASoundTaskLine text.now) result }
@@ -221,7 +221,7 @@ fn read_task_lines(
     chained: bool,
 ) -> Result<Tasks, RunFault>
     requires { length text.now ≤ TEXT_LIMIT }
-    ensures found { IfOk result (λ all. GivesTasks text.now deadline chained all) }
+    ensures found { IfOk result (λ all. IsTasks text.now deadline chained (tasks_seen all)) }
     ensures fault { IfErr result (λ e. TaskFault text.now e) }
 {
     let mut given = Given::new(alloc);

@@ -5,10 +5,10 @@ ghost use Rattle.std.specs.Io.KnownBytes.{Appends};
 ghost use Rattle.gc_texts.specs.Troubles.{parameters_trouble, raw_trouble, IsCallTrouble, IsRawTrouble, IsRawWordsTrouble, NoTarget, BeginsAsCommand, IsSettingTrouble, IsAskingTrouble, IsTrouble, in_table_text, trouble_text, trouble_line};
 ghost use Rattle.gc_texts.specs.Procedures.{IsTarget};
 ghost use Rattle.gc_texts.specs.Words.{second_word, third_word};
-ghost use Rattle.gc_texts.specs.ProcedureNames.{name_of};
+ghost use Rattle.gc_texts.specs.ProcedureNames.{name_in_table};
 
 use crate::cuts::{before, behind, is_word};
-use crate::procedure::{rpc_of, target_of};
+use crate::procedure::{target_of, u16_of};
 use gc_catalogue::{CallFault, RawFault, decode_call, parameter_count, procedure_name, raw_call};
 use gc_lines::Request;
 use gc_values::ValueFault;
@@ -82,7 +82,7 @@ impl Trouble {
             Trouble::AtStart => writeln!(messages, "at start"),
             Trouble::EachCycle => writeln!(messages, "each cycle"),
             Trouble::Now => writeln!(messages, "5007 now"),
-            Trouble::RawInTable(rpc) => tell_in_table(rpc, name_of(rpc), messages),
+            Trouble::RawInTable(rpc) => tell_in_table(rpc, name_in_table(rpc), messages),
             Trouble::RawParameters => {
                 writeln!(
                     messages,
@@ -103,8 +103,8 @@ fn tell_in_table<E: Write>(rpc: u16, name: &str, messages: &mut E) -> io::Result
 }
 
 // The name of the procedure of the table with this number; empty where there is none.
-fn name_of(rpc: u16) -> &'static str
-    ensures { result.now ≡ name_of rpc }
+fn name_in_table(rpc: u16) -> &'static str
+    ensures { result.now ≡ name_in_table rpc }
 {
     match procedure_name(rpc) {
         Some(name) => name,
@@ -164,7 +164,7 @@ fn raw_call_trouble(rpc: u16, params: &[u8]) -> Trouble
 fn raw_words_trouble(number: &[u8], params: &[u8]) -> Trouble
     ensures { IsRawWordsTrouble number.now params.now result }
 {
-    match rpc_of(number) {
+    match u16_of(number) {
         Some(rpc) => raw_call_trouble(rpc, params),
         None => Trouble::Number,
     }
@@ -191,7 +191,7 @@ fn asking_trouble(line: &[u8]) -> Trouble
     if is_word(b"raw", word) {
         return raw_words_trouble(before(b' ', words), behind(b' ', words));
     }
-    match rpc_of(word) {
+    match u16_of(word) {
         Some(rpc) => call_trouble(rpc, words),
         None => Trouble::Number,
     }

@@ -1,13 +1,13 @@
 //! Wishes: what a station is to ask of which target, and the lines that say it.
 
-ghost use Rattle.std.specs.Prelude.{◌≡◌, ℕ, MatchOption};
+ghost use Rattle.std.specs.Prelude.{◌≡◌, ℕ};
 ghost use Rattle.gc_catalogue.specs.declared.raw.RawCall.{RawCall};
 ghost use Rattle.gc_texts.specs.LineForms.{IsReadAs};
 ghost use Rattle.gc_texts.specs.Wishes.{IsRawWish, IsWish, wish_of};
 
 use crate::commands::{Command, read_command};
 use crate::cuts::{before, behind, is_word};
-use crate::procedure::{rpc_of, target_of};
+use crate::procedure::{target_of, u16_of};
 use gc_catalogue::{Asked, RawCall, raw_call};
 
 /// What a station is to ask of a target: a call of the table, or a procedure that isn't in the table.
@@ -35,7 +35,7 @@ impl Wish {
 // they are. `None`: the line has no such form, a number lies outside its range, or the request is refused (`raw_call`): its procedure
 // is in the table, for example.
 fn read_raw(line: &[u8]) -> Option<(u32, RawCall)>
-    ensures { MatchOption result ((target : ℕ) (raw : RawCall) → IsRawWish line.now target raw → ⊥) (λ r. IsRawWish line.now r.0 r.1) }
+    ensures { IsReadAs (λ (r : ℕ × RawCall). IsRawWish line.now r.0 r.1) result }
 {
     let rest = behind(b' ', line);
     if !is_word(b"raw", before(b' ', rest)) {
@@ -44,19 +44,14 @@ fn read_raw(line: &[u8]) -> Option<(u32, RawCall)>
     let words = behind(b' ', rest);
     let number = before(b' ', words);
     let params = behind(b' ', words);
+    // A space behind the number has parameters behind it.
     if params.is_empty() && number.len() < words.len() {
         return None;
     }
-    let Some(target) = target_of(before(b' ', line)) else {
-        return None
-    };
-    let Some(rpc) = rpc_of(number) else {
-        return None
-    };
-    match raw_call(rpc, params) {
-        Ok(raw) => Some((target, raw)),
-        Err(_) => None,
-    }
+    let target = target_of(before(b' ', line))?;
+    let rpc = u16_of(number)?;
+    let raw = raw_call(rpc, params).ok()?;
+    Some((target, raw))
 }
 
 // Reads a wish: a line that has the form of a command, or asks for a procedure that isn't in the table. `None`: it has neither form.

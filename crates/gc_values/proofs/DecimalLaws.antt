@@ -3,10 +3,9 @@
 use Rattle.std.proofs.Common.{◌≡◌, ◌↔◌, ◌==◌, ◌&&◌, IsTrue, true, ℕ, List, refl, sym, ap, ◌∙◌, subst}
 use Rattle.std.specs.Cmp.{first_so, second_so, signed_Decides, unsigned_Decides}
 use Rattle.std.specs.Ordering.{int_eq}
-use Rattle.gc_values.specs.Decimals.{fraction, decimal_eq}
+use Rattle.gc_values.specs.Decimals.{fraction, decimal_eq, SpellsDecimal, decimal_text}
 use Rattle.gc_values.specs.Fraction.{Fraction, IsRounded, SameValue}
-use Rattle.gc_values.specs.Spelling.{Spells, SpellsBeyond, SpellsNothing}
-use Rattle.gc_values.specs.Written.{written}
+use Rattle.gc_values.specs.Spelling.{SpellsBeyond, SpellsNothing}
 use Rattle.gc_values.specs.declared.decimal.Decimal.{Decimal}
 use Rattle.gc_values.proofs.DecimalLemmas.{same_decimal}
 use Rattle.gc_values.proofs.ReadLemmas.{in_range_only, spells_once}
@@ -14,19 +13,19 @@ use Rattle.gc_values.proofs.Rounded.{exact_rounds, rounds_to_one}
 use Rattle.gc_values.proofs.WrittenSpells.{written_spells}
 
 -- a decimal's written text spells the decimal
-pub written_spells_decimal : (d : Decimal) → Spells (written d.digits d.scale) d.digits d.scale
+pub written_spells_decimal : (d : Decimal) → SpellsDecimal (decimal_text d) d
 written_spells_decimal d = written_spells d.digits d.scale d.is_canonical d.has_few_places
 
 -- a text spells at most one decimal
-pub spells_unique : (text : List ℕ) (d e : Decimal) → Spells text d.digits d.scale → Spells text e.digits e.scale → d ≡ e
+pub spells_unique : (text : List ℕ) (d e : Decimal) → SpellsDecimal text d → SpellsDecimal text e → d ≡ e
 spells_unique text d e x y = let same = spells_once text d.digits d.scale e.digits e.scale x y in same_decimal d e same.0 same.1
 
 -- a text that spells a decimal doesn't spell a number out of range
-pub spelled_not_beyond : (text : List ℕ) (d : Decimal) → Spells text d.digits d.scale → SpellsBeyond text → ⊥
+pub spelled_not_beyond : (text : List ℕ) (d : Decimal) → SpellsDecimal text d → SpellsBeyond text → ⊥
 spelled_not_beyond text d x beyond = in_range_only text d.digits d.scale x d.is_in_range beyond
 
 -- no text both spells a decimal and is no number
-pub spelled_not_nothing : (text : List ℕ) (d : Decimal) → Spells text d.digits d.scale → SpellsNothing text → ⊥
+pub spelled_not_nothing : (text : List ℕ) (d : Decimal) → SpellsDecimal text d → SpellsNothing text → ⊥
 spelled_not_nothing text d x nothing = nothing x.0 x.1
 
 -- a text isn't both a number out of range and no number
@@ -34,9 +33,9 @@ pub beyond_has_form : (text : List ℕ) → SpellsBeyond text → SpellsNothing 
 beyond_has_form text beyond nothing = nothing beyond.2.0 beyond.2.1
 
 -- decimals with equal written texts are equal
-pub written_unique : (d e : Decimal) → written d.digits d.scale ≡ written e.digits e.scale → d ≡ e
+pub written_unique : (d e : Decimal) → decimal_text d ≡ decimal_text e → d ≡ e
 written_unique d e same =
-    spells_unique (written d.digits d.scale) d e (written_spells_decimal d) (subst (λ text. Spells text e.digits e.scale) (sym same) (written_spells_decimal e))
+    spells_unique (decimal_text d) d e (written_spells_decimal d) (subst (λ text. SpellsDecimal text e) (sym same) (written_spells_decimal e))
 
 -- a fraction rounds to at most one decimal
 pub rounding_unique : (q : Fraction) (p : ℕ) (d e : Decimal) → IsRounded q p d.digits d.scale → IsRounded q p e.digits e.scale → d ≡ e

@@ -5,23 +5,23 @@ use Rattle.gc_values.specs.Fraction.{IsCanonical, IsInRange}
 use Rattle.gc_values.specs.declared.decimal.Decimal.{Decimal}
 
 -- the decimal of digits and a scale, with the proofs of its facts
-abbrev decimal_of : (m : ℤ) (s : ℕ) → s ≤ 24 → IsInRange m s → IsCanonical m s → Decimal
-decimal_of m s p r c = record { digits = m; scale = s; has_few_places = p; is_in_range = r; is_canonical = c }
+abbrev decimal_with : (m : ℤ) (s : ℕ) → s ≤ 24 → IsInRange m s → IsCanonical m s → Decimal
+decimal_with m s p r c = record { digits = m; scale = s; has_few_places = p; is_in_range = r; is_canonical = c }
 
 -- decimals of the same digits and scale are equal whatever the proofs are
-same_proofs : (m : ℤ) (s : ℕ) (p p' : s ≤ 24) (r r' : IsInRange m s) (c c' : IsCanonical m s) → decimal_of m s p r c ≡ decimal_of m s p' r' c'
+same_proofs : (m : ℤ) (s : ℕ) (p p' : s ≤ 24) (r r' : IsInRange m s) (c c' : IsCanonical m s) → decimal_with m s p r c ≡ decimal_with m s p' r' c'
 same_proofs m s p p' r r' c c' =
     let one_few : IsProp (s ≤ 24) = hlevel props in
     let one_in_range : IsProp (IsInRange m s) = hlevel props in
     let one_canonical : IsProp (IsCanonical m s) = hlevel props in
-    ap (λ x. decimal_of m s x r c) (one_few p p') ∙ ap (λ x. decimal_of m s p' x c) (one_in_range r r') ∙ ap (decimal_of m s p' r') (one_canonical c c')
+    ap (λ x. decimal_with m s x r c) (one_few p p') ∙ ap (λ x. decimal_with m s p' x c) (one_in_range r r') ∙ ap (decimal_with m s p' r') (one_canonical c c')
 
 -- decimals of equal digits and scales are equal whatever the proofs are
 same_fields : (m : ℤ) (s : ℕ) (p : s ≤ 24) (r : IsInRange m s) (c : IsCanonical m s) (n : ℤ) (t : ℕ) → m ≡ n → s ≡ t
-    → (p' : t ≤ 24) (r' : IsInRange n t) (c' : IsCanonical n t) → decimal_of m s p r c ≡ decimal_of n t p' r' c'
+    → (p' : t ≤ 24) (r' : IsInRange n t) (c' : IsCanonical n t) → decimal_with m s p r c ≡ decimal_with n t p' r' c'
 same_fields m s p r c n t e f =
-    let P : ℤ → Type 0 = λ n. (p' : t ≤ 24) (r' : IsInRange n t) (c' : IsCanonical n t) → decimal_of m s p r c ≡ decimal_of n t p' r' c' in
-    let Q : ℕ → Type 0 = λ t. (p' : t ≤ 24) (r' : IsInRange m t) (c' : IsCanonical m t) → decimal_of m s p r c ≡ decimal_of m t p' r' c' in
+    let P : ℤ → Type 0 = λ n. (p' : t ≤ 24) (r' : IsInRange n t) (c' : IsCanonical n t) → decimal_with m s p r c ≡ decimal_with n t p' r' c' in
+    let Q : ℕ → Type 0 = λ t. (p' : t ≤ 24) (r' : IsInRange m t) (c' : IsCanonical m t) → decimal_with m s p r c ≡ decimal_with m t p' r' c' in
     subst P e (subst Q f (λ p' r' c'. same_proofs m s p p' r r' c c'))
 
 -- decimals of equal digits and scale are equal

@@ -3,6 +3,7 @@
 use Rattle.std.proofs.Common.{◌≡◌, ℕ, ◌+◌, ◌*◌, ◌^◌, ◌<◌, Bool, true, false, List, [], ◌∷◌, ◌++◌, length, ℤ, unsigned_abs, Option, Some, None, refl, sym, ap, ◌∙◌, subst, ◌⊎◌, inl, inr, arith}
 use Rattle.std.proofs.lemmas.Bool.{cases_lt, cases_eq}
 use Rattle.gc_values.specs.Cut.{StartsNoDigit, StartsNoSign, CutsSign, CutsFraction}
+use Rattle.gc_values.specs.Decimals.{SpellsDecimal}
 use Rattle.gc_values.specs.Digits.{number}
 use Rattle.gc_values.specs.Fraction.{signed}
 use Rattle.gc_values.specs.Nearest.{half_up}
@@ -140,7 +141,7 @@ rounded_of text n =
     (signed neg z.0, z.1, (value p, (p, n.1, n.2, refl), rounded_from neg a k 24 (half_up (a * 10 ^ 24) (10 ^ k)) z.0 z.1 near z.2))
 
 -- each text spells a decimal, or no number, or one out of range
-pub each_decimal : (text : List ℕ) → ((d : Decimal) × Spells text d.digits d.scale) ⊎ (SpellsNothing text ⊎ SpellsBeyond text)
+pub each_decimal : (text : List ℕ) → ((d : Decimal) × SpellsDecimal text d) ⊎ (SpellsNothing text ⊎ SpellsBeyond text)
 each_decimal text = elim (numeral_or_not text) [
   | inr none ↦ inr (inl (λ q named. none (named.0, named.1, named.2)))
   | inl n ↦

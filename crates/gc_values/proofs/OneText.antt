@@ -9,6 +9,7 @@ use Rattle.std.proofs.lemmas.List.{same_from_push}
 use Rattle.std.proofs.lemmas.Nat.{div-mul-add, mod-mul-add, same_from_place}
 use Rattle.std.specs.Int.Digits.{digits_of}
 use Rattle.std.proofs.lemmas.Int.Digits.{first_digits_of}
+use Rattle.gc_values.specs.Decimals.{SpellsDecimal, decimal_text}
 use Rattle.gc_values.specs.Digits.{IsDigit, AreDigits, number}
 use Rattle.gc_values.specs.Fraction.{signed, IsCanonical}
 use Rattle.gc_values.specs.Spelling.{Spells}
@@ -296,11 +297,11 @@ decimal_form (pos n) s canonical few = decimal_form_of false n s few canonical (
 decimal_form (negsuc n) s canonical few = decimal_form_of true (suc n) s few canonical (λ _. omega arith)
 
 -- a text is the written one of a decimal exactly where the text has a decimal's form and spells that decimal
-pub decimal_text_once : (d : Decimal) (text : List ℕ) → (text ≡ written d.digits d.scale) ↔ (HasDecimalForm text × Spells text d.digits d.scale)
+pub decimal_text_once : (d : Decimal) (text : List ℕ) → (text ≡ decimal_text d) ↔ (HasDecimalForm text × SpellsDecimal text d)
 decimal_text_once d text = (
   λ e. (
     subst HasDecimalForm (sym e) (decimal_form d.digits d.scale d.is_canonical d.has_few_places),
-    subst (λ t. Spells t d.digits d.scale) (sym e) (written_spells d.digits d.scale d.is_canonical d.has_few_places),
+    subst (λ t. SpellsDecimal t d) (sym e) (written_spells d.digits d.scale d.is_canonical d.has_few_places),
   ),
   λ h.
       let r = form_is_written text h.0 in

@@ -1,8 +1,8 @@
 -- What `Decimal::read` answers for a text, as `IsDecimalRead` has it.
 use Rattle.std.proofs.Common.{◌≡◌, ◌↔◌, inl, ℕ, ◌*◌, ◌^◌, ◌<◌, ◌≤◌, List, Result, Ok, Err, IfOk, IfErr, MatchResult, refl, ap}
-use Rattle.gc_values.specs.Decimals.{GivesSpelled}
+use Rattle.gc_values.specs.Decimals.{GivesSpelled, SpellsDecimal}
 use Rattle.gc_values.specs.Nearest.{MadeOf}
-use Rattle.gc_values.specs.Spelling.{Spells, SpellsBeyond, SpellsNothing}
+use Rattle.gc_values.specs.Spelling.{SpellsBeyond, SpellsNothing}
 use Rattle.gc_values.specs.ValueFault.{IsEither}
 use Rattle.gc_values.specs.declared.decimal.Decimal.{Decimal}
 use Rattle.gc_values.specs.declared.fault.ValueFault.{ValueFault}
@@ -14,7 +14,7 @@ use Rattle.gc_values.proofs.ReadLemmas.{ReadsUnits, reads_value, reads_beyond}
 -- the clauses of `Decimal::read` but `again`, which follows from `only`: r is the decimal that the text spells, or the fault of a
 -- text that spells none
 pub record IsDecimalRead (text : List ℕ) (r : Result Decimal ValueFault) : Type 0 where
-  pub value : IfOk r (λ d. Spells text d.digits d.scale)
+  pub value : IfOk r (λ d. SpellsDecimal text d)
   pub only : GivesSpelled text r
   pub range : (r ≡ Err Range) ↔ SpellsBeyond text
   pub spelling : (r ≡ Err Spelling) ↔ SpellsNothing text
@@ -29,7 +29,7 @@ range_is_other : (r : Result Decimal ValueFault) → r ≡ Err Range → r ≡ E
 range_is_other r h k = absurd (cc)
 
 -- a text that spells a decimal is read as that decimal (`IsDecimalRead`)
-pub reads_ok : (text : List ℕ) (d : Decimal) → Spells text d.digits d.scale → IsDecimalRead text (Ok d)
+pub reads_ok : (text : List ℕ) (d : Decimal) → SpellsDecimal text d → IsDecimalRead text (Ok d)
 reads_ok text d spelled = record {
   value = spelled;
   only = λ e other. ap Ok (spells_unique text d e spelled other);

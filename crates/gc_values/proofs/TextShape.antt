@@ -10,6 +10,7 @@ use Rattle.std.specs.Prelude.{slice_index}
 use Rattle.hex.specs.Hex.{lower_digits}
 use Rattle.gc_values.specs.Digits.{IsDigit, AreDigits}
 use Rattle.gc_values.specs.Item.{IsValue, text}
+use Rattle.gc_values.specs.Lists.{AreValues}
 use Rattle.gc_values.specs.Params.{quotes, IsParam, joined, IsParams}
 use Rattle.gc_values.specs.Text.{IsStringByte, AreStringBytes, quoted}
 use Rattle.gc_values.specs.Whole.{signed_text}
@@ -203,7 +204,7 @@ text_is_short (value.Bool true) h = lit≤ tt
 text_is_short (value.Text bytes) h = let few = h.few in omega (arith, few, length-append bytes (34 ∷ []))
 
 -- the texts of values in their kinds' ranges are parameters
-texts_are_params : (vs : List Value) → AllByRecursion IsValue vs → AllByRecursion IsParam (map text vs)
+texts_are_params : (vs : List Value) → AreValues vs → AllByRecursion IsParam (map text vs)
 texts_are_params [] h = tt
 texts_are_params (v ∷ vs) h = (text_is_param v h.0, texts_are_params vs h.1)
 
@@ -213,5 +214,5 @@ texts_are_some [] = tt
 texts_are_some (v ∷ vs) = (text_is_some v, texts_are_some vs)
 
 -- the texts of values in their kinds' ranges, joined by commas, split back into these texts
-pub joined_splits : (vs : List Value) → AllByRecursion IsValue vs → IsParams (joined (map text vs)) (map text vs)
+pub joined_splits : (vs : List Value) → AreValues vs → IsParams (joined (map text vs)) (map text vs)
 joined_splits vs h = joined_params (map text vs) (texts_are_params vs h) (texts_are_some vs)

@@ -18,9 +18,9 @@ abbrev pub IsFoundOrFirstFault : (found : Option ValueFault) (ks : List Kind) (i
 IsFoundOrFirstFault (Some kept) ks items e = e ≡ kept
 IsFoundOrFirstFault None ks items e = FirstFault ks items e
 
--- the fault of a list that was read up to `place`, if it is asked for items of these kinds from there on: that there are more or
--- fewer items than kinds; or else the first fault, which is that of an item before the place, where one had a fault (`fault`), or
--- is found in the items from there on (`IsFoundOrFirstFault`)
+-- the fault of a list whose items before `place` were read, `fault` being the first fault among them, if it is asked for items of
+-- these kinds from there on: `Count` where there are more or fewer items than kinds; else the first fault of all
+-- (`IsFoundOrFirstFault`)
 pub data IsFaultFrom (items : List (List ℕ)) (place : ℕ) (fault : Option ValueFault) (ks : List Kind) (e : ValueFault) : Type 0 where
   wrong_count : e ≡ Count → length ks + place ≢ length items → IsFaultFrom items place fault ks e
   first_fault : length ks + place ≡ length items → IsFoundOrFirstFault fault ks (drop place items) e → IsFaultFrom items place fault ks e

@@ -54,10 +54,18 @@ unfoldable pub is_within : (a b area : Decimal) → Bool
 is_within a b area =
     int_le (pos (distance a.digits a.scale b.digits b.scale * 10 ^ area.scale)) (area.digits *ℤ pos (10 ^ a.scale * 10 ^ b.scale))
 
+-- the text spells the decimal, as `Spells` has it
+abbrev pub SpellsDecimal : (text : List ℕ) → Decimal → Type 0
+SpellsDecimal text d = Spells text d.digits d.scale
+
+-- the one text that is written of a decimal
+abbrev pub decimal_text : Decimal → List ℕ
+decimal_text d = written d.digits d.scale
+
 -- where the text spells a decimal, the result is this decimal
 abbrev pub GivesSpelled : {E : Type 0} → (text : List ℕ) → Result Decimal E → Type 0
-GivesSpelled text result = (d : Decimal) → Spells text d.digits d.scale → result ≡ Ok d
+GivesSpelled text result = (d : Decimal) → SpellsDecimal text d → result ≡ Ok d
 
 -- where the text is the one that is written of a decimal, the result is this decimal
 abbrev pub GivesWritten : {E : Type 0} → (text : List ℕ) → Result Decimal E → Type 0
-GivesWritten text result = (d : Decimal) → text ≡ written d.digits d.scale → result ≡ Ok d
+GivesWritten text result = (d : Decimal) → text ≡ decimal_text d → result ≡ Ok d

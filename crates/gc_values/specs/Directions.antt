@@ -14,12 +14,12 @@ half_turn = pos 3141592653589793238462643
 abbrev pub turn : ℤ
 turn = pos 6283185307179586476925286
 
--- the vertical angle v in face I: as it comes where it is at most half a turn, and else, because the telescope is in face II, 2P
--- - v
+-- the vertical angle v in face I: v itself where it is at most half a turn; else the telescope is in face II, and the angle is
+-- 2P - v
 abbrev pub v_in_face_one : Direction → ℤ
 v_in_face_one d = if int_le (units d.v) half_turn then units d.v else turn -ℤ units d.v
 
--- the horizontal direction h in face I: as it comes where v is at most half a turn, and else h - P
+-- the horizontal direction h in face I: h itself where v is at most half a turn, and else h - P
 abbrev pub hz_in_face_one : Direction → ℤ
 hz_in_face_one d = if int_le (units d.v) half_turn then units d.hz else units d.hz -ℤ half_turn
 

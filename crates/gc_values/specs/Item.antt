@@ -3,11 +3,11 @@
 use Rattle.std.specs.Prelude.{ℕ, ◌<◌, List}
 use Rattle.gc_values.specs.Boolean.{NamesBoolean, boolean_text}
 use Rattle.gc_values.specs.Byte.{IsByte, IsNoByte, byte_text}
-use Rattle.gc_values.specs.Spelling.{Spells, SpellsBeyond, SpellsNothing}
+use Rattle.gc_values.specs.Decimals.{SpellsDecimal, decimal_text}
+use Rattle.gc_values.specs.Spelling.{SpellsBeyond, SpellsNothing}
 use Rattle.gc_values.specs.Text.{IsText, IsTextItem, IsNoString, IsLongString, quoted}
 use Rattle.gc_values.specs.ValueFault.{IsSpellingOrRange}
 use Rattle.gc_values.specs.Whole.{NamesWhole, NamesNoWhole, NamesWholeBeyond, FitsLong, FitsShort, signed_text}
-use Rattle.gc_values.specs.Written.{written}
 use Rattle.gc_values.specs.declared.fault.ValueFault.{ValueFault}
 use Rattle.gc_values.specs.declared.value.Kind.{Kind}
 use Rattle.gc_values.specs.declared.value.Kind.TheVariants as kind
@@ -34,7 +34,7 @@ IsValue (value.Text bytes) = IsText bytes
 
 -- the item is read as the value: it has the form of the value's kind, and writes this value
 abbrev pub IsItem : List ℕ → Value → Type 0
-IsItem item (value.Double d) = Spells item d.digits d.scale
+IsItem item (value.Double d) = SpellsDecimal item d
 IsItem item (value.Long z) = NamesWhole item z × FitsLong z
 IsItem item (value.Short z) = NamesWhole item z × FitsShort z
 IsItem item (value.Byte n) = IsByte item n
@@ -65,7 +65,7 @@ IsItemFault k item e = IsSpellingOrRange (HasNoForm k item) (IsBeyond k item) e
 
 -- the one text that is written of a value
 abbrev pub text : Value → List ℕ
-text (value.Double d) = written d.digits d.scale
+text (value.Double d) = decimal_text d
 text (value.Long z) = signed_text z
 text (value.Short z) = signed_text z
 text (value.Byte n) = byte_text n

@@ -57,9 +57,9 @@ joined [] = []
 joined (t ∷ ts) = t ++ flat_map (λ u. 44 ∷ u) ts
 
 -- how many bytes texts have together
-abbrev pub bytes_in : (texts : List (List ℕ)) → ℕ
-bytes_in [] = 0
-bytes_in (text ∷ texts) = length text + bytes_in texts
+abbrev pub total_length : (texts : List (List ℕ)) → ℕ
+total_length [] = 0
+total_length (text ∷ texts) = length text + total_length texts
 
 -- the bytes are the parameters joined by commas, with any spaces round each, and have a byte that is no space
 pub record AreJoined (bytes : List ℕ) (items : List (List ℕ)) : Type 0 where

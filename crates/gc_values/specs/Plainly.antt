@@ -2,10 +2,10 @@
 -- it.
 use Rattle.std.specs.Prelude.{◌≡◌, ◌+◌, ◌*◌, ◌^◌, ◌<◌, ◌≤◌, ℕ, Bool, true, List, [], ◌∷◌, ◌++◌, length, take, Option, Some, None, pos}
 use Rattle.std.specs.List.{AllByRecursion}
+use Rattle.gc_values.specs.Decimals.{SpellsDecimal}
 use Rattle.gc_values.specs.Digits.{AreDigits, number}
 use Rattle.gc_values.specs.Lists.{AreItems}
 use Rattle.gc_values.specs.Params.{IsParam, joined}
-use Rattle.gc_values.specs.Spelling.{Spells}
 use Rattle.gc_values.specs.Whole.{NamesWhole}
 use Rattle.gc_values.specs.declared.decimal.Decimal.{Decimal}
 use Rattle.gc_values.specs.declared.value.Value.{Value}
@@ -33,7 +33,7 @@ pub record CountsDigits (front : ℕ) (text : List ℕ) (most value count : ℕ)
 pub record CutsDecimal (text : List ℕ) (d : Decimal) (rest : Option (List ℕ)) : Type 0 where
   pub item : List ℕ
   pub cut : CutsPlain text item rest
-  pub spelled : Spells item d.digits d.scale
+  pub spelled : SpellsDecimal item d
 
 -- the text begins with an item that writes the whole number n, and the rest is what follows the item's comma, if there is one
 pub record CutsNumber (text : List ℕ) (n : ℕ) (rest : Option (List ℕ)) : Type 0 where

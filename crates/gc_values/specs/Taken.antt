@@ -1,10 +1,11 @@
 -- No part of a promise: what the quick reader of parameters, `Quick`, says of a call that takes the next one. `old` is the reader
 -- before the call and `new` the one after it.
-use Rattle.std.specs.Prelude.{◌≡◌, ℕ, List, true, Result, Ok}
+use Rattle.std.specs.Prelude.{◌≡◌, ℕ, List, true, pos, Result, Ok}
 use Rattle.std.specs.Option.{option_copied}
 use Rattle.gc_values.specs.Item.{IsItem}
 use Rattle.gc_values.specs.Lists.{ReadsOne}
 use Rattle.gc_values.specs.Plainly.{ReadsPlainly}
+use Rattle.gc_values.specs.Whole.{NamesWhole}
 use Rattle.gc_values.specs.declared.quick.Quick.{Quick}
 use Rattle.gc_values.specs.declared.value.Value.{Value}
 
@@ -19,6 +20,10 @@ TakesPlainly v old new = ReadsOne QuickReads old new v
 -- the quick reader took the item: each value that the item is read as was taken with it
 abbrev pub TakesItem : (item : List ℕ) → (old new : Quick) → Type 0
 TakesItem item old new = (v : Value) → IsItem item v → TakesPlainly v old new
+
+-- the quick reader took the whole number n: each value that every text of n is read as was taken with it
+abbrev pub TakesNumber : (n : ℕ) → (old new : Quick) → Type 0
+TakesNumber n old new = (v : Value) → ((item : List ℕ) → NamesWhole item (pos n) → IsItem item v) → TakesPlainly v old new
 
 -- where the quick reader is good in the end, the result is what was read, and the reader is as it was
 abbrev pub GivesRead : {T E : Type 0} → (read : Result T E) → (result : T) → (old new : Quick) → Type 0

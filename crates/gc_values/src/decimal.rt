@@ -3,18 +3,18 @@
 //! Both limits, and which way a tie is rounded, are this project's own. Nothing here is a floating point
 //! number, so that 1.99975 at three places is 2.0 for everybody.
 
-ghost use Rattle.std.specs.Prelude.{◌≡◌, ◌≢◌, ◌+◌, ◌*◌, ◌/◌, ◌%◌, ◌^◌, ◌<◌, ◌≤◌, ◌++◌, ◌↔◌, IsOk, IfOk, IfErr, MatchResult, IsTrue, ◌∷◌, [], length, if◌then◌else◌, ℕ, unsigned_abs};
+ghost use Rattle.std.specs.Prelude.{◌≡◌, ◌≢◌, ◌+◌, ◌*◌, ◌/◌, ◌%◌, ◌^◌, ◌<◌, ◌≤◌, ◌↔◌, IsOk, IfOk, IfErr, MatchResult, IsTrue, ◌∷◌, [], length, if◌then◌else◌, ℕ, unsigned_abs};
 ghost use Rattle.std.proofs.Common.{rules};
 ghost use Rattle.std.specs.Cmp.Rules.{comparing};
 ghost use Rattle.std.specs.Ordering.{as_partial_cmp};
 ghost use Rattle.gc_values.specs.Fraction.{signed, SameValue, IsCanonical, IsInRange};
 ghost use Rattle.gc_values.specs.Nearest.{MadeOf, RoundsHalfUp};
-ghost use Rattle.gc_values.specs.Spelling.{Spells, SpellsBeyond, SpellsNothing};
+ghost use Rattle.gc_values.specs.Spelling.{SpellsBeyond, SpellsNothing};
 ghost use Rattle.gc_values.specs.ValueFault.{IsEither};
-ghost use Rattle.gc_values.specs.Written.{written, behind_text};
+ghost use Rattle.gc_values.specs.Written.{behind_text};
 ghost use Rattle.gc_values.specs.Zeros.{WithoutZeros};
-ghost use Rattle.arrayvec.specs.ArrayVec.{array_vec_len};
 
+use crate::appending::push_decimal;
 use crate::cutting::cut_numeral;
 use crate::fault::ValueFault;
 use crate::limits::{BOUND, PLACES};
@@ -119,22 +119,10 @@ fn with_sign(negative: bool, magnitude: u128) -> i128
     if negative { -digits } else { digits }
 }
 
-/// Appends a decimal's one written form, as [`Decimal::write`] returns it, which has at most 40 bytes.
-pub fn push_decimal<const N: usize>(out: &mut ArrayVec<u8, N>, d: &Decimal)
-    requires room { array_vec_len out.old + 40 ≤ N }
-    ensures items { out.new.items ≡ out.old.items ++ written d.now.digits d.now.scale }
-    ensures len { array_vec_len out.new ≤ array_vec_len out.old + 40 }
-{
-    let mut tail = Tail::new();
-    d.put(&mut tail);
-    // The caller has shown that there is room, so this never fails.
-    let _ = out.try_extend_from_slice(tail.as_bytes());
-}
-
 impl Decimal {
     ghost use Rattle.gc_values.specs.declared.decimal.Decimal.{Decimal};
-    ghost use Rattle.gc_values.specs.Fraction.{is_decimal, IsRounded, IsWithin, units_of};
-    ghost use Rattle.gc_values.specs.Decimals.{GivesSpelled, GivesWritten, decimal, fraction, is_within, rounded, zero};
+    ghost use Rattle.gc_values.specs.Fraction.{is_decimal, IsRounded, IsWithin};
+    ghost use Rattle.gc_values.specs.Decimals.{GivesSpelled, GivesWritten, SpellsDecimal, decimal, decimal_text, fraction, is_within, rounded, units, zero};
     ghost use Rattle.gc_values.specs.Written.{minus_text};
 
     /// The decimal 0.0.
@@ -203,7 +191,7 @@ impl Decimal {
     /// with an optional sign and one to three digits. Any other text is refused as `Spelling`, and a rounded value that is more
     /// than 10^13 from zero as `Range`.
     pub fn read(text: &[u8]) -> Result<Decimal, ValueFault>
-        ensures value { IfOk result (λ d. Spells text.now d.digits d.scale) }
+        ensures value { IfOk result (λ d. SpellsDecimal text.now d) }
         ensures only { GivesSpelled text.now result }
         ensures again { GivesWritten text.now result }
         ensures range { (result ≡ Err ValueFault.Range) ↔ SpellsBeyond text.now }
@@ -236,8 +224,8 @@ impl Decimal {
     /// The one written form: a minus where the value is below zero, at least one digit on each side of the
     /// point, no other zero that isn't needed, and no exponent. Zero is `0.0`.
     pub fn write(&self) -> ArrayVec<u8, 40>
-        ensures text { result.items ≡ written self.now.digits self.now.scale }
-        ensures reads_back { Spells result.items self.now.digits self.now.scale }
+        ensures text { result.items ≡ decimal_text self.now }
+        ensures reads_back { SpellsDecimal result.items self.now }
     {
         let mut out = ArrayVec::new();
         push_decimal(&mut out, self);
@@ -245,9 +233,9 @@ impl Decimal {
     }
 
     /// Writes the written form into an empty `tail`.
-    fn put(&self, tail: &mut Tail)
+    pub(crate) fn put(&self, tail: &mut Tail)
         requires { tail.old ≡ [] }
-        ensures { tail.new ≡ written self.now.digits self.now.scale }
+        ensures { tail.new ≡ decimal_text self.now }
     {
         let (negative, magnitude) = self.parts();
         let whole = put_places(tail, magnitude, self.scale());
@@ -270,7 +258,7 @@ impl Decimal {
 
     /// The value in units of 10^-24, the last place that a decimal may have: a whole number.
     pub fn units(&self) -> i128
-        ensures value { result ≡ units_of self.now.digits self.now.scale }
+        ensures value { result ≡ units self.now }
         ensures bound { unsigned_abs result ≤ 10 ^ 37 }
     {
         let (negative, magnitude) = self.parts();
@@ -304,9 +292,9 @@ impl Decimal {
 /// The written form.
 impl fmt::Display for Decimal {
     ghost use Rattle.std.specs.Prelude.{Some};
-    ghost use Rattle.gc_values.specs.Written.{written};
+    ghost use Rattle.gc_values.specs.Decimals.{decimal_text};
 
-    ghost output = { λ d. Some (written d.digits d.scale) };
+    ghost output = { λ d. Some (decimal_text d) };
 
     fn fmt<W: fmt::Write>(&self, f: &mut fmt::Formatter<W>) -> fmt::Result {
         let text = self.write();

@@ -3,12 +3,11 @@
 
 ghost use Rattle.std.specs.Prelude.{◌≡◌, ◌↔◌, IsTrue, ◌≤◌, ℕ, List};
 ghost use Rattle.std.specs.Ordering.{MatchOrdering};
-ghost use Rattle.gc_values.specs.Decimals.{fraction, rounded, decimal_eq, decimal_cmp, is_within};
+ghost use Rattle.gc_values.specs.Decimals.{SpellsDecimal, decimal_text, fraction, rounded, decimal_eq, decimal_cmp, is_within};
 ghost use Rattle.gc_values.specs.Directions.{NearIsWithinTheTolerance};
 ghost use Rattle.gc_values.specs.NearExamples.{NearByExample};
 ghost use Rattle.gc_values.specs.Fraction.{Fraction, SameValue, IsRounded, IsBelow, IsWithin};
-ghost use Rattle.gc_values.specs.Spelling.{Names, Spells, SpellsBeyond, SpellsNothing};
-ghost use Rattle.gc_values.specs.Written.{written};
+ghost use Rattle.gc_values.specs.Spelling.{Names, SpellsBeyond, SpellsNothing};
 ghost use Rattle.gc_values.specs.WrittenForm.{HasDecimalForm};
 ghost use Rattle.gc_values.specs.declared.decimal.Decimal.{Decimal};
 
@@ -19,16 +18,13 @@ pub fn text_names_one_fraction()
 
 /// A text spells one decimal at most.
 pub fn text_spells_one_decimal()
-    ensures { (text : List ℕ) (d e : Decimal) → Spells text d.digits d.scale
-        → Spells text e.digits e.scale → d ≡ e }
+    ensures { (text : List ℕ) (d e : Decimal) → SpellsDecimal text d → SpellsDecimal text e → d ≡ e }
 {}
 
 /// A text that spells a decimal has no fault.
 pub fn spelled_text_has_no_fault()
-    ensures range { (text : List ℕ) (d : Decimal) → Spells text d.digits d.scale
-        → SpellsBeyond text → ⊥ }
-    ensures spelling { (text : List ℕ) (d : Decimal) → Spells text d.digits d.scale
-        → SpellsNothing text → ⊥ }
+    ensures range { (text : List ℕ) (d : Decimal) → SpellsDecimal text d → SpellsBeyond text → ⊥ }
+    ensures spelling { (text : List ℕ) (d : Decimal) → SpellsDecimal text d → SpellsNothing text → ⊥ }
 {}
 
 /// A text has one fault at most.
@@ -38,21 +34,19 @@ pub fn text_has_one_fault()
 
 /// A decimal's written text spells it.
 pub fn written_text_spells()
-    ensures { (d : Decimal) → Spells (written d.digits d.scale) d.digits d.scale }
+    ensures { (d : Decimal) → SpellsDecimal (decimal_text d) d }
 {}
 
 /// A decimal's written text is the one text that spells it and has the form: an optional minus and no plus, a
 /// digit on each side of the point, at most 24 places, no other zero at either end, no minus on zero, and no
 /// exponent.
 pub fn one_text_has_the_form()
-    ensures { (d : Decimal) (text : List ℕ) → (text ≡ written d.digits d.scale)
-        ↔ (HasDecimalForm text × Spells text d.digits d.scale) }
+    ensures { (d : Decimal) (text : List ℕ) → (text ≡ decimal_text d) ↔ (HasDecimalForm text × SpellsDecimal text d) }
 {}
 
 /// Two decimals are equal exactly if their written texts are.
 pub fn equal_texts_are_equal_decimals()
-    ensures { (d e : Decimal)
-        → (written d.digits d.scale ≡ written e.digits e.scale) ↔ (d ≡ e) }
+    ensures { (d e : Decimal) → (decimal_text d ≡ decimal_text e) ↔ (d ≡ e) }
 {}
 
 /// Two decimals are equal exactly if their values are.

@@ -1,7 +1,7 @@
 //! Why a value is refused, and the number that each refusal has.
 
 ghost use Rattle.std.specs.Prelude.{◌≡◌};
-ghost use Rattle.gc_values.specs.ValueFault.{fault_number};
+ghost use Rattle.gc_values.specs.ValueFault.{value_fault_number};
 
 use std::error::Error;
 use std::fmt;
@@ -27,7 +27,7 @@ pub enum ValueFault {
 impl ValueFault {
     /// The fault's number, from 11 to 15.
     pub fn number(self) -> u8
-        ensures { result ≡ fault_number self }
+        ensures { result ≡ value_fault_number self }
     {
         match self {
             ValueFault::Spelling => 11,
@@ -42,9 +42,9 @@ impl ValueFault {
 /// Why the value or the list is refused, in words.
 impl fmt::Display for ValueFault {
     ghost use Rattle.std.specs.Prelude.{Some};
-    ghost use Rattle.gc_values.specs.ValueFault.{fault_text};
+    ghost use Rattle.gc_values.specs.ValueFault.{value_fault_text};
 
-    ghost output = { λ e. Some (fault_text e) };
+    ghost output = { λ e. Some (value_fault_text e) };
 
     fn fmt<W: fmt::Write>(&self, f: &mut fmt::Formatter<W>) -> fmt::Result {
         match self {

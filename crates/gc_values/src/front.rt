@@ -11,8 +11,8 @@ use crate::limits::DIGITS_IN_64_BITS;
 /// Any number with this many digits before the point is in a decimal's range.
 const WHOLE_DIGITS: usize = 13;
 
-/// Reads the digits at the front of `text`, at most `most` of them, which follow digits that write `front`. It returns the number
-/// that all of these digits write, `front * 10^count` plus that of those in `text`, and `count`, how many are in `text`.
+/// Reads on in a number whose digits so far write `front`: takes the digits at the front of `text`, at most `most` of them. It returns
+/// the number that the digits so far and these write together, and how many digits it took.
 #[inline]
 fn front_digits(front: u64, text: &[u8], most: usize) -> (u64, usize)
     requires { (front + 1) * 10 ^ most ≤ 10 ^ 18 }

@@ -2,9 +2,8 @@
 //! function that does nothing.
 
 ghost use Rattle.std.specs.Prelude.{◌≡◌, ◌≢◌, ◌↔◌, ◌<◌, ◌≤◌, ℕ, ℤ, List, All, length, map};
-ghost use Rattle.std.specs.List.{AllByRecursion};
 ghost use Rattle.gc_values.specs.Item.{kind_of, IsItem, IsItemFault, IsValue, text};
-ghost use Rattle.gc_values.specs.Lists.{IsListReadOrFaulty};
+ghost use Rattle.gc_values.specs.Lists.{AreValues, IsListReadOrFaulty};
 ghost use Rattle.gc_values.specs.Params.{IsParams, joined};
 ghost use Rattle.gc_values.specs.Whole.{NamesWhole, signed_text};
 ghost use Rattle.gc_values.specs.WrittenForm.{HasWholeForm};
@@ -50,8 +49,7 @@ pub fn one_list()
 
 /// The written texts of values in their kinds' ranges, joined by commas, split back into these texts.
 pub fn joined_splits()
-    ensures { (vs : List Value) → AllByRecursion IsValue vs
-        → IsParams (joined (map text vs)) (map text vs) }
+    ensures { (vs : List Value) → AreValues vs → IsParams (joined (map text vs)) (map text vs) }
 {}
 
 /// The written text of a value in its kind's range has no CR and no LF.

@@ -23,9 +23,9 @@ mod units;
 mod value;
 mod whole;
 
-pub use appending::push_rounded;
+pub use appending::{push_decimal, push_rounded};
 pub use byte::{push_byte, read_byte, write_byte};
-pub use decimal::{Decimal, push_decimal};
+pub use decimal::Decimal;
 pub use direction::{Direction, is_tolerance};
 pub use fault::ValueFault;
 pub use filling::filled_up;

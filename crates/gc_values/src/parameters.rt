@@ -92,17 +92,16 @@ impl<'a> Listed<'a> {
         ensures reads { OnOk result (⟦<Listed<'a> as Parameters>⟧.reads self.now []) }
         ensures fails { IfErr result (λ e. ⟦<Listed<'a> as Parameters>⟧.fails self.now [] e) }
     {
-        match &self.items {
-            Err(fault) => Err(*fault),
-            Ok(items) => {
-                if items.len() != self.place {
-                    return Err(ValueFault::Count);
-                }
-                match self.fault {
-                    Some(fault) => Err(fault),
-                    None => Ok(()),
-                }
-            }
+        let items = match &self.items {
+            Ok(items) => items,
+            Err(fault) => return Err(*fault),
+        };
+        if items.len() != self.place {
+            return Err(ValueFault::Count);
+        }
+        match self.fault {
+            Some(fault) => Err(fault),
+            None => Ok(()),
         }
     }
 

@@ -2,13 +2,11 @@
 //! no byte below `-` but single quotes: no spaces, no double quotes, no plus. Anything else is left to `Listed`. A list is called good
 //! while each parameter that was asked for was there in the common spelling, and was read.
 
-ghost use Rattle.std.specs.Prelude.{◌≡◌, ◌∷◌, [], ℕ, pos, List, IfSome, IfNone, IsTrue, false, true};
+ghost use Rattle.std.specs.Prelude.{◌≡◌, ◌∷◌, [], List, IfSome, IfNone, IsTrue, false, true};
 ghost use Rattle.std.specs.Option.{option_copied};
-ghost use Rattle.gc_values.specs.Item.{IsItem};
 ghost use Rattle.gc_values.specs.Lists.{AreParams};
 ghost use Rattle.gc_values.specs.Plainly.{CutsPlain};
-ghost use Rattle.gc_values.specs.Taken.{GivesRead, QuickReads, TakesItem, TakesPlainly};
-ghost use Rattle.gc_values.specs.Whole.{NamesWhole};
+ghost use Rattle.gc_values.specs.Taken.{GivesRead, QuickReads, TakesItem, TakesNumber, TakesPlainly};
 ghost use Rattle.gc_values.specs.declared.value.Value.{Value};
 
 use crate::byte::read_byte;
@@ -96,8 +94,7 @@ impl<'a> Quick<'a> {
     // end of the list was reached; then nothing was taken.
     #[inline]
     fn number(&mut self) -> Option<u64>
-        ensures reads { IfSome result (λ n. (v : Value) → ((item : List ℕ) → NamesWhole item (pos n) → IsItem item v)
-            → TakesPlainly v self.old self.new) }
+        ensures reads { IfSome result (λ n. TakesNumber n self.old self.new) }
         ensures none { IfNone result (self.new ≡ self.old) }
     {
         let text = self.rest?;

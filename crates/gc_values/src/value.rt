@@ -4,8 +4,9 @@
 
 ghost use Rattle.std.specs.Prelude.{◌≡◌, IfOk, IfErr};
 
+use crate::appending::push_decimal;
 use crate::byte::{push_byte, read_byte};
-use crate::decimal::{Decimal, push_decimal};
+use crate::decimal::Decimal;
 use crate::fault::ValueFault;
 use crate::text::{Text, push_text, read_text};
 use crate::whole::{push_bool, push_long, push_short, read_bool, read_long, read_short};
@@ -53,8 +54,7 @@ impl Default for Value {
 
 impl Value {
     ghost use Rattle.gc_values.specs.declared.value.Value.{Value};
-    ghost use Rattle.gc_values.specs.Decimals.{GivesSpelled};
-    ghost use Rattle.gc_values.specs.Spelling.{Spells};
+    ghost use Rattle.gc_values.specs.Decimals.{GivesSpelled, SpellsDecimal};
     ghost use Rattle.gc_values.specs.Item.{kind_of, IsItem, IsItemFault, IsValue, text};
 
     /// The value's kind.
@@ -73,7 +73,7 @@ impl Value {
 
     /// As [`Decimal::read`], but one clause says which fault comes, in the words of the table of kinds (`IsItemFault`).
     fn read_double(item: &[u8]) -> Result<Decimal, ValueFault>
-        ensures value { IfOk result (λ d. Spells item.now d.digits d.scale) }
+        ensures value { IfOk result (λ d. SpellsDecimal item.now d) }
         ensures only { GivesSpelled item.now result }
         ensures fault { IfErr result (λ e. IsItemFault Kind.Double item.now e) }
     {

@@ -4,6 +4,7 @@ use crate::arguments::{Argument, FLAG, PLACE, Takes, command_of};
 use crate::help::STATION;
 use crate::layout::Layout;
 use crate::settings::Settings;
+use crate::shared::{COLUMNS, CSV, DEADLINE, JSON, QUIET, RETRIES, STALE, UNCHAINED, WIDTH};
 use crate::site::LOG_BYTES;
 use clap::{ArgMatches, Command};
 use gc_rows::Form;
@@ -13,24 +14,10 @@ use std::alloc::{AllocError, Global};
 const SECOND: u64 = 1_000;
 
 // The arguments of `station`: the place, and then the options.
-pub(crate) const STATION_ARGUMENTS: &[Argument<'static>] = &[
+const ARGUMENTS: &[Argument<'static>] = &[
     PLACE,
-    Argument {
-        name: "width",
-        takes: Takes::Signed(1, 7),
-        value_name: &["W"],
-        default: &["1"],
-        help: "Lets W requests be in flight, not counting those that timed out, 1 to 7; more than 1 only for plain readings",
-        ..FLAG
-    },
-    Argument {
-        name: "deadline",
-        takes: Takes::Unsigned(1, 86_400_000),
-        value_name: &["MS"],
-        default: &["10000"],
-        help: "Times a request out MS milliseconds after it was sent, 1 to 86400000, until a line `deadline MS` says otherwise",
-        ..FLAG
-    },
+    WIDTH,
+    DEADLINE,
     Argument {
         name: "every",
         takes: Takes::Unsigned(0, 86_400),
@@ -47,30 +34,9 @@ pub(crate) const STATION_ARGUMENTS: &[Argument<'static>] = &[
         help: "Runs N cycles; 0: without end",
         ..FLAG
     },
-    Argument {
-        name: "quiet",
-        takes: Takes::Unsigned(1, 86_400_000),
-        value_name: &["MS"],
-        default: &["2000"],
-        help: "Pauses MS milliseconds before it reconnects, and sends on the new connection once nothing came for as long, 1 to 86400000",
-        ..FLAG
-    },
-    Argument {
-        name: "retries",
-        takes: Takes::Signed(0, 4_294_967_295),
-        value_name: &["N"],
-        default: &["10"],
-        help: "Reconnects at most N times in a row; 0: without end",
-        ..FLAG
-    },
-    Argument {
-        name: "stale",
-        takes: Takes::Unsigned(0, 31_536_000),
-        value_name: &["SECONDS"],
-        default: &["0"],
-        help: "Ends the run once no answer with quality `ok` or `warning` came for SECONDS, 1 to 31536000 and not below --every; 0: never",
-        ..FLAG
-    },
+    QUIET,
+    RETRIES,
+    STALE,
     Argument {
         name: "until",
         takes: Takes::Text,
@@ -78,27 +44,10 @@ pub(crate) const STATION_ARGUMENTS: &[Argument<'static>] = &[
         help: "Ends the run with status 0 once this file exists: between two chains, after what was sent is settled; looks at least each second",
         ..FLAG
     },
-    Argument {
-        name: "csv",
-        help: "Writes comma-separated values, with a header",
-        ..FLAG
-    },
-    Argument {
-        name: "columns",
-        help: "Writes comma-separated values, with a further column for each quantity",
-        ..FLAG
-    },
-    Argument {
-        name: "json",
-        excludes: &["csv", "columns"],
-        help: "Writes each record as a JSON object on a line of its own",
-        ..FLAG
-    },
-    Argument {
-        name: "unchained",
-        help: "Sends each command by itself, until a line `chained` says otherwise",
-        ..FLAG
-    },
+    CSV,
+    COLUMNS,
+    JSON,
+    UNCHAINED,
     Argument {
         name: "silent",
         help: "Reports nothing on standard error while it measures",
@@ -139,7 +88,7 @@ pub fn station_command<'a>(alloc: Global, name: &'a str) -> Result<Command<'a>, 
         name,
         "Measures: sends the commands of standard input to an instrument, cycle after cycle, with deadlines",
         STATION,
-        STATION_ARGUMENTS,
+        ARGUMENTS,
     )
 }
 

@@ -7,6 +7,7 @@ pub mod help;
 mod layout;
 mod rehearsal;
 mod settings;
+mod shared;
 mod site;
 mod version;
 

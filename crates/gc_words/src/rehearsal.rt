@@ -1,18 +1,19 @@
-//! A rehearsal: what the words of `rehearse` say. Its options of a station are rows of `station`, but for `every` and `cycles`, which have
-//! other bounds and defaults.
+//! A rehearsal: what the words of `rehearse` say. Its options of a station are those of `station` (`shared.rt`), but for
+//! `every` and `cycles`, which have other bounds and defaults.
 
 use crate::arguments::{Argument, FLAG, SCENE, Takes, command_of};
-use crate::choice::{STATION_ARGUMENTS, station_of};
+use crate::choice::station_of;
 use crate::help::REHEARSAL;
 use crate::settings::Settings;
+use crate::shared::{COLUMNS, CSV, DEADLINE, JSON, QUIET, RETRIES, STALE, UNCHAINED, WIDTH};
 use clap::{ArgMatches, Command};
 use std::alloc::{AllocError, Global};
 
 /// A day, in milliseconds: a night begins so long after the one before.
 pub const DAY: u64 = 86_400_000;
 
-// The options of `rehearse` that aren't rows of `station`.
-const OWN: &[Argument<'static>] = &[
+// The arguments of `rehearse`: its own, and then those that it shares with `station`.
+const ARGUMENTS: &[Argument<'static>] = &[
     Argument {
         name: "nights",
         takes: Takes::Unsigned(1, 36_525),
@@ -53,87 +54,61 @@ const OWN: &[Argument<'static>] = &[
         help: "Decides what happens to lines, and when a run is killed; the same seed and texts give the same output",
         ..FLAG
     },
-];
-
-// The names of the options of `station` whose rows are those of `rehearse`, too.
-const SHARED: &[&str] = &[
-    "width",
-    "deadline",
-    "quiet",
-    "retries",
-    "stale",
-    "csv",
-    "columns",
-    "json",
-    "unchained",
+    WIDTH,
+    DEADLINE,
+    QUIET,
+    RETRIES,
+    STALE,
+    CSV,
+    COLUMNS,
+    JSON,
+    UNCHAINED,
 ];
 
 /// The subcommand `rehearse` for clap, with this name: its help and its arguments. `Err`: memory ran out.
 pub fn rehearse_command<'a>(alloc: Global, name: &'a str) -> Result<Command<'a>, AllocError> {
-    let table = table_of(alloc)?;
     command_of(
         alloc,
         name,
         "Rehearses: runs the station of standard input over a bad line to a simulated instrument, in simulated time",
         REHEARSAL,
-        table.as_slice(),
+        ARGUMENTS,
     )
 }
 
-// The arguments of `rehearse`: its own, and then those of `station` that it shares. `Err`: memory ran out.
-fn table_of(alloc: Global) -> Result<Vec<Argument<'static>>, AllocError> {
-    let mut table = Vec::new(alloc);
-    for row in OWN {
-        table.push(*row)?;
-    }
-    for row in STATION_ARGUMENTS {
-        if is_shared(row.name) {
-            table.push(*row)?;
-        }
-    }
-    Ok(table)
-}
-
-// Whether the row of `station` with this name is one of `rehearse`, too.
-fn is_shared(name: &str) -> bool {
-    SHARED.contains(&name)
-}
-
-/// What is to be rehearsed: the paths of the files of the scene and of the line, where they are named, how many nights, with which seed,
-/// and the settings of the station.
+/// What is to be rehearsed: the paths of the files of the scene and of the line, where they are named, how many nights, how many cycles
+/// each has, with which seed, and the settings of the station.
 #[derive(Clone, Copy)]
 pub struct Rehearsal<'a> {
     pub scene: Option<&'a str>,
     pub line: Option<&'a str>,
     pub nights: u64,
+    pub cycles: u64,
     pub seed: u64,
     pub station: Settings,
 }
 
-impl<'a> Rehearsal<'a> {
-    /// How many cycles a night has: as many as the words ask for. If they ask for 0, it has a day divided by `every`, rounded
-    /// down, or none if `every` is 0.
-    pub fn cycles(&self) -> u64 {
-        let choice = self.station.choice;
-        // `station_of` gives the greatest `u64` for 0, which asks for a day's cycles.
-        if choice.cycles != u64::MAX {
-            return choice.cycles;
-        }
-        // clap refuses 0 seconds for `--every`, though no clause of clap's says so.
-        if choice.every == 0 {
-            return 0;
-        }
-        DAY / choice.every
-    }
-}
-
 /// What the words of `rehearse` say. `None`, as of `station_of`: a number is missing, or doesn't fit its type.
 pub fn rehearsal_of<'a>(words: &ArgMatches<'a>) -> Option<Rehearsal<'a>> {
+    let station = station_of(words)?;
     Some(Rehearsal {
         scene: words.get_str("scene"),
         line: words.get_str("line"),
         nights: words.get_one::<u64>("nights")?,
+        cycles: cycles_of(words.get_one::<u64>("cycles")?, station.choice.every),
         seed: words.get_one::<u64>("seed")?,
-        station: station_of(words)?,
+        station,
     })
+}
+
+// How many cycles a night has: the chosen number, or, for 0, as many as are due in a day.
+fn cycles_of(chosen: u64, every: u64) -> u64 {
+    if chosen > 0 {
+        return chosen;
+    }
+    // clap refuses 0 seconds for `--every`, though no clause of clap's says so.
+    if every == 0 {
+        return 0;
+    }
+    DAY / every
 }

@@ -9,7 +9,7 @@ use Rattle.std.proofs.lemmas.List.{drop-drop, drop-map, replicate-append-replica
 use Rattle.gc_lines.specs.Lines.{with_end}
 use Rattle.gc_world.specs.declared.direction.Direction.{Direction}
 use Rattle.gc_world.specs.Directions.{deliver, bytes, texts, lines, gone, with_front_gone, after_cut}
-use Rattle.gc_world.specs.Streams.{Streams, Cut, one_more, cut, flows}
+use Rattle.gc_world.specs.Streams.{Streams, Cut, one_line_more, cut, flows}
 use Rattle.gc_world.specs.World.{Ends, Rule, World, idle, happens, run}
 use Rattle.gc_world.proofs.Directions.{gone_reached, reaches_again, passing, bytes_pass, one_less, idle_leaves}
 use Rattle.gc_world.proofs.Flow.{run_append}
@@ -24,7 +24,7 @@ with_no_more_lines : (c : Cut) → with_more_lines 0 c ≡ c
 with_no_more_lines c = let e : 0 + c.lines ≡ c.lines = omega arith in ap (λ k. record { lines = k; gone = c.gone }) e
 
 -- a cut with k more lines in front, and then one more, is the cut with k + 1 more
-with_one_more_line : (k : ℕ) (c : Cut) → one_more (with_more_lines k c) ≡ with_more_lines (suc k) c
+with_one_more_line : (k : ℕ) (c : Cut) → one_line_more (with_more_lines k c) ≡ with_more_lines (suc k) c
 with_one_more_line k c = let e : suc (k + c.lines) ≡ suc k + c.lines = omega arith in ap (λ n. record { lines = n; gone = c.gone }) e
 
 -- the cut c of these lines, continued by n further bytes
@@ -37,13 +37,13 @@ cut_add [] m n = sym (with_no_more_lines (record { lines = 0; gone = 0 }))
 cut_add (line ∷ lines) m n = by_size (ltb m (length line)) refl (cut_add lines (m - length line) n)
   where
     by_size : (b : Bool) → ltb m (length line) ≡ b → cut lines (m - length line + n) ≡ continued_by lines n (cut lines (m - length line))
-        → cut (line ∷ lines) (m + n) ≡ continued_by (line ∷ lines) n (cond {A = Cut} b (record { lines = 0; gone = m }) (one_more (cut lines (m - length line))))
+        → cut (line ∷ lines) (m + n) ≡ continued_by (line ∷ lines) n (cond {A = Cut} b (record { lines = 0; gone = m }) (one_line_more (cut lines (m - length line))))
     by_size true e more = sym (with_no_more_lines (cut (line ∷ lines) (m + n)))
     by_size false e more =
         let le : length line ≤ m = ltb-false m (length line) e in
         let rest : m + n - length line ≡ m - length line + n = omega (arith, le) in
         let c = cut lines (m - length line) in
-        cut_long line lines (m + n) (omega (arith, le)) ∙ ap (λ k. one_more (cut lines k)) rest ∙ ap one_more more
+        cut_long line lines (m + n) (omega (arith, le)) ∙ ap (λ k. one_line_more (cut lines k)) rest ∙ ap one_line_more more
         ∙ with_one_more_line c.lines (cut (drop c.lines lines) (c.gone + n))
 
 -- where n bytes complete all of the lines, the cut at n bytes says that nothing of a next line has gone
@@ -52,8 +52,8 @@ cut_all [] n e = refl
 cut_all (line ∷ lines) n e = by_size (ltb n (length line)) (cut_all lines (n - length line)) e
   where
     by_size : (b : Bool) → (drop (cut lines (n - length line)).lines lines ≡ [] → (cut lines (n - length line)).gone ≡ 0)
-        → drop (cond {A = Cut} b (record { lines = 0; gone = n }) (one_more (cut lines (n - length line)))).lines (line ∷ lines) ≡ []
-        → (cond {A = Cut} b (record { lines = 0; gone = n }) (one_more (cut lines (n - length line)))).gone ≡ 0
+        → drop (cond {A = Cut} b (record { lines = 0; gone = n }) (one_line_more (cut lines (n - length line)))).lines (line ∷ lines) ≡ []
+        → (cond {A = Cut} b (record { lines = 0; gone = n }) (one_line_more (cut lines (n - length line)))).gone ≡ 0
     by_size true rest e = cc
     by_size false rest e = rest e
 

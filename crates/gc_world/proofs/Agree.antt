@@ -6,7 +6,7 @@ use mathlib.Core.Path.{ap₂}
 use Rattle.std.proofs.lemmas.List.{drop-drop, drop-append-le, length_push, drop_all}
 use Rattle.std.proofs.lemmas.Bool.{ltb-true, ltb-false, lt-ltb, le-ltb}
 use Rattle.gc_client.specs.declared.pending.Pending.{Pending}
-use Rattle.gc_client.specs.Rule.{Settled, ById, pending_of, expired, lost, settle, place, id_send, id_settled, hears}
+use Rattle.gc_client.specs.Rule.{Settled, ById, pending_of, expired, lost, settle, place, send_unless_full, settles_at, hears}
 use Rattle.gc_client.specs.Rule.{Sending}
 use Rattle.gc_world.specs.World as calls
 use Rattle.gc_world.specs.World.{call_line}
@@ -47,7 +47,7 @@ waiting_count a b h = ap length h.window ∙ length-drop b.count b.requests
 -- counts are in order: no more were sent at its last start than are settled, and no more are settled than were sent
 same_send : {Q : Type 0} (a : ById Q) (b : ByNumber Q) (target : ℕ) (call : Q) (deadline : ℕ) (full : Bool) → b.since ≤ b.count
     → b.count ≤ length b.requests → AreAlike a b
-    → SameSend (id_send a target call deadline full) (number_send b target call deadline full)
+    → SameSend (send_unless_full a target call deadline full) (number_send b target call deadline full)
 same_send {Q} a b target call deadline true h1 h2 h = tt
 same_send {Q} a b target call deadline false h1 h2 h =
     let p : Pending Q = pending_of target call deadline in
@@ -85,7 +85,7 @@ module _ {Q State : Type 0} (width : ℕ) (narrow : width ≤ 7) (ends : Ends Q 
       ap (λ v. place v (length a.waiting) ((x.number - b.since) % 8)) h.next ∙ ap (λ v. place ((length b.requests - b.since) % 8) v ((x.number - b.since) % 8)) n
       ∙ place_before b.since b.count (length b.requests) x.number coming.recent (omega arith) h2 (omega arith) in
       let far : ltb (place a.next (length a.waiting) ((x.number - b.since) % 8)) (length a.waiting) ≡ false = le-ltb _ _ (omega (arith, k, n, h3, h2)) in
-      subst (λ v. SameSettled (id_settled a x.line (place a.next (length a.waiting) ((x.number - b.since) % 8)) v) (number_reply b x true)) (sym far)
+      subst (λ v. SameSettled (settles_at a x.line (place a.next (length a.waiting) ((x.number - b.since) % 8)) v) (number_reply b x true)) (sym far)
       (record { settlements = refl; client = h })
   same_reply a b x false t h1 h2 h3 h4 coming h =
       let ge : b.count ≤ x.number = ltb-false _ _ t in
@@ -95,8 +95,8 @@ module _ {Q State : Type 0} (width : ℕ) (narrow : width ≤ 7) (ends : Ends Q 
       ap (λ v. place v (length a.waiting) ((x.number - b.since) % 8)) h.next ∙ ap (λ v. place ((length b.requests - b.since) % 8) v ((x.number - b.since) % 8)) n
       ∙ place_within b.since b.count (length b.requests) x.number h1 ge lt (omega arith) in
       let near : ltb (x.number - b.count) (length a.waiting) ≡ true = lt-ltb _ _ (omega (arith, n, ge, lt)) in
-      subst (λ v. SameSettled (id_settled a x.line v (ltb v (length a.waiting))) (number_reply b x false)) (sym k)
-      (subst (λ v. SameSettled (id_settled a x.line (x.number - b.count) v) (number_reply b x false)) (sym near)
+      subst (λ v. SameSettled (settles_at a x.line v (ltb v (length a.waiting))) (number_reply b x false)) (sym k)
+      (subst (λ v. SameSettled (settles_at a x.line (x.number - b.count) v) (number_reply b x false)) (sym near)
       (record {
         settlements = ap (λ ps. settle (x.number - b.count) x.line ps) h.window;
         client = record {
@@ -175,7 +175,7 @@ module _ {Q State : Type 0} (width : ℕ) (narrow : width ≤ 7) (ends : Ends Q 
       → Agree (happens written ends (by_ids width ends) a e) (happens written ends (by_numbers width) b e)
   agrees written a b (Send target call deadline) s h =
       same_requested written a b target call _ _
-      (subst (λ n. SameSend (id_send a.client target call deadline (eqb n width))
+      (subst (λ n. SameSend (send_unless_full a.client target call deadline (eqb n width))
       (number_send b.client target call deadline (eqb (length b.client.requests - b.client.count) width))) (sym (waiting_count a.client b.client h.client))
       (same_send a.client b.client target call deadline (eqb (length b.client.requests - b.client.count) width) s.begun s.within h.client)) h
   agrees written a b Up_deliver s h = agree_wire (λ w. up_delivered ends w w.up) a b h

@@ -5,7 +5,6 @@ use Rattle.std.specs.Prelude.{replicate}
 use Rattle.std.proofs.lemmas.List.{length-drop, length-map, length_push}
 use Rattle.gc_lines.specs.Lines.{with_end}
 use Rattle.gc_catalogue.specs.declared.call.Call.{Call}
-use Rattle.gc_catalogue.specs.Texts.{request_line}
 use Rattle.gc_client.specs.Rule.{Sending, Settlement}
 use Rattle.gc_instrument.specs.Replying.{Handed}
 use Rattle.gc_world.specs.declared.direction.Direction.{Direction}
@@ -13,8 +12,8 @@ use Rattle.gc_world.specs.declared.direction.Direction.TheVariants.{Up, Down}
 use Rattle.gc_world.specs.declared.event.Event.{Event}
 use Rattle.gc_world.specs.declared.event.Event.TheVariants as event
 use Rattle.gc_world.specs.Directions.{deliver, texts}
-use Rattle.gc_world.specs.Streams.{Streams, Cut, one_more, cut, at_line, passed, up_texts, down_texts, up_lines, down_lines, flows, flow}
-use Rattle.gc_world.specs.World.{Request, Sent, Numbered, Ends, Rule, Step, Send, Up_deliver, Up_lose, Up_repeat, Down_deliver, Down_lose, Down_repeat, Expire, Restart_client, Restart_instrument, Nothing, Wire, World, without, doubled, idle, replied, up_delivered, with_up, with_down, started, instrument_restarted, requested, down_delivered, client_restarted, happens, run}
+use Rattle.gc_world.specs.Streams.{Streams, Cut, one_line_more, cut, at_line, passed, up_texts, down_texts, up_lines, down_lines, flows, flow}
+use Rattle.gc_world.specs.World.{Request, Sent, Numbered, Ends, Rule, Step, Send, Up_deliver, Up_lose, Up_repeat, Down_deliver, Down_lose, Down_repeat, Expire, Restart_client, Restart_instrument, Nothing, Wire, World, bytes_of, call_line, without, doubled, idle, replied, up_delivered, with_up, with_down, started, instrument_restarted, requested, down_delivered, client_restarted, happens, run}
 use Rattle.gc_world.proofs.Directions.{one_less}
 
 -- none of these lists and counts is above n; a request that is in flight counts as an execution and as a reply
@@ -43,7 +42,8 @@ cut_few : (lines : List (List ℕ)) (n : ℕ) → (cut lines n).lines ≤ length
 cut_few [] n = omega arith
 cut_few (line ∷ lines) n = by_size (ltb n (length line)) (cut_few lines (n - length line))
   where
-    by_size : (b : Bool) → (cut lines (n - length line)).lines ≤ length lines → (cond {A = Cut} b (record { lines = 0; gone = n }) (one_more (cut lines (n - length line)))).lines ≤ suc (length lines)
+    by_size : (b : Bool) → (cut lines (n - length line)).lines ≤ length lines
+        → (cond {A = Cut} b (record { lines = 0; gone = n }) (one_line_more (cut lines (n - length line)))).lines ≤ suc (length lines)
     by_size true few = omega arith
     by_size false few = omega (arith, few)
 
@@ -83,7 +83,7 @@ module _ {Client State : Type 0} (ends : Ends State) (rule : Rule Client) (n : �
   sends : (w : World Client State) (target : ℕ) (call : Call) (o : Option (Sending Client)) → IsWithin n w.wire → IsWithin (n + 1) (requested w target call o).wire
   sends w target call None h = counted_within w.wire (w.wire.refused + 1) w.wire.idle (omega arith) (omega arith) h
   sends w target call (Some x) h =
-      let d : Sent = record { target = target; call = call; line = request_line (Some x.id) call } in
+      let d : Sent = record { target = target; call = call; line = call_line x.id call } in
       let up = length_push w.wire.up (record { number = length w.wire.sent; line = record { id = x.id; call = call } }) in
       record {
         sent = omega (arith, h.sent, length_push w.wire.sent d);
@@ -191,7 +191,7 @@ module _ {Client State : Type 0} (ends : Ends State) (rule : Rule Client) (n : �
   one_step w Nothing h = idles w.wire h
 
   -- a delivery of a request that is in flight doesn't raise the bound
-  up_once : (w : Wire State) (q : List (Numbered Request)) → w.up ≡ q → 0 < length (map (λ x. request_line (Some x.line.id) x.line.call) q)
+  up_once : (w : Wire State) (q : List (Numbered Request)) → w.up ≡ q → 0 < length (map (λ x. bytes_of x.line) q)
       → IsWithin n w → IsWithin n (up_delivered ends w q)
   up_once w [] e some h = absurd (omega (arith, some))
   up_once w (x ∷ rest) e some h = answers w x rest (ends.handed w.state x.line.id x.line.call) e h

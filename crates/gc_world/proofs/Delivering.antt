@@ -10,7 +10,7 @@ use Rattle.gc_world.specs.declared.event.Event.{Event}
 use Rattle.gc_world.specs.declared.event.Event.TheVariants.{DownDeliver, DownBytes}
 use Rattle.gc_world.specs.Directions.{after_cut}
 use Rattle.gc_world.specs.FirstReply.{IsDelivery}
-use Rattle.gc_world.specs.Streams.{Streams, Cut, one_more, cut, down_texts, down_lines, remaining, flows}
+use Rattle.gc_world.specs.Streams.{Streams, Cut, one_line_more, cut, down_texts, down_lines, remaining, flows}
 use Rattle.gc_world.specs.World.{Ends, Rule}
 use Rattle.gc_world.proofs.Directions.{passing}
 use Rattle.gc_world.proofs.Handed.{cut_long, in_front}
@@ -20,7 +20,7 @@ use Rattle.gc_world.proofs.Pieces.{end_length}
 cut_zero : (texts : List (List ℕ)) → cut (map with_end texts) 0 ≡ record { lines = 0; gone = 0 }
 cut_zero [] = refl
 cut_zero (text ∷ texts) =
-    ap (λ b. cond {A = Cut} b (record { lines = 0; gone = 0 }) (one_more (cut (map with_end texts) (0 - length (with_end text)))))
+    ap (λ b. cond {A = Cut} b (record { lines = 0; gone = 0 }) (one_line_more (cut (map with_end texts) (0 - length (with_end text)))))
     (lt-ltb 0 (length (with_end text)) (omega (arith, end_length text)))
 
 module _ (ends : Ends State) (rule : Rule (ById Call)) (v : Streams (ById Call) State) where
@@ -33,7 +33,7 @@ module _ (ends : Ends State) (rule : Rule (ById Call)) (v : Streams (ById Call) 
       let size : length (with_end f.0) - g ≡ n + 1 = sym (ap (λ q. remaining g (map with_end q)) f.2) ∙ e in
       let none : g + suc n - length (with_end f.0) ≡ 0 = omega (arith, size) in
       let one : cut (map with_end (f.0 ∷ f.1)) (g + suc n) ≡ record { lines = 1; gone = 0 } =
-      cut_long (with_end f.0) (map with_end f.1) (g + suc n) (omega (arith, size)) ∙ ap (λ k. one_more (cut (map with_end f.1) k)) none ∙ ap one_more (cut_zero f.1) in
+      cut_long (with_end f.0) (map with_end f.1) (g + suc n) (omega (arith, size)) ∙ ap (λ k. one_line_more (cut (map with_end f.1) k)) none ∙ ap one_line_more (cut_zero f.1) in
       ap (λ q. passing ends rule Down v (map with_end q) (n + 1)) f.2 ∙ ap (passing ends rule Down v (map with_end (f.0 ∷ f.1))) next ∙ ap (after_cut ends rule Down v) one
 
   -- where `IsDelivery` holds of an event, so that it hands over the last byte of the reply in front, if there is one, and no byte

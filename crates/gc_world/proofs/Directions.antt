@@ -1,13 +1,12 @@
 -- What holds in either direction of the line. The two directions are distinguished here, so that other files state each
 -- lemma once for both.
-use Rattle.std.proofs.Common.{◌≡◌, ◌⊎◌, ℕ, zero, suc, ◌<◌, List, [], ◌∷◌, length, map, drop, Some, inl, inr, refl, ap, arith}
-use Rattle.gc_catalogue.specs.Texts.{request_line}
+use Rattle.std.proofs.Common.{◌≡◌, ◌⊎◌, ℕ, zero, suc, ◌<◌, List, [], ◌∷◌, length, map, drop, inl, inr, refl, ap, arith}
 use Rattle.gc_world.specs.declared.direction.Direction.{Direction}
 use Rattle.gc_world.specs.declared.direction.Direction.TheVariants.{Up, Down}
 use Rattle.gc_world.specs.Directions.{deliver, delivery, bytes, texts, lines, gone, with_front_gone}
 use Rattle.gc_world.specs.Sides.{IsPart}
 use Rattle.gc_world.specs.Streams.{Streams, passed, left_gone, remaining, flows}
-use Rattle.gc_world.specs.World.{Request, Numbered, Ends, Rule, Wire, World, idle, up_delivered, on_wire, down_delivered, happens, run}
+use Rattle.gc_world.specs.World.{Request, Numbered, Ends, Rule, Wire, World, bytes_of, idle, up_delivered, on_wire, down_delivered, happens, run}
 
 module _ {Client State : Type 0} where
   -- What has gone.
@@ -61,8 +60,8 @@ module _ {Client State : Type 0} where
 
     -- delivering a request takes the front line out of those in flight upward, if there is one
     up_less : (w : Wire State) (q : List (Numbered Request)) → w.up ≡ q
-        → map (λ x. request_line (Some x.line.id) x.line.call) (up_delivered ends w q).up ≡ drop 1 (map (λ x. request_line (Some x.line.id) x.line.call) q)
-    up_less w [] e = ap (map (λ x. request_line (Some x.line.id) x.line.call)) e
+        → map (λ x. bytes_of x.line) (up_delivered ends w q).up ≡ drop 1 (map (λ x. bytes_of x.line) q)
+    up_less w [] e = ap (map (λ x. bytes_of x.line)) e
     up_less w (x ∷ rest) e = refl
 
     -- delivering a reply takes the front line out of those in flight downward, if there is one
@@ -77,7 +76,7 @@ module _ {Client State : Type 0} where
     one_less Down w = down_less w w.wire.down refl
 
     -- delivering a request that is in flight is no idle event
-    up_counts : (w : Wire State) (q : List (Numbered Request)) → 0 < length (map (λ x. request_line (Some x.line.id) x.line.call) q)
+    up_counts : (w : Wire State) (q : List (Numbered Request)) → 0 < length (map (λ x. bytes_of x.line) q)
         → (up_delivered ends w q).idle ≡ w.idle
     up_counts w [] some = absurd (omega (arith, some))
     up_counts w (x ∷ rest) some = refl

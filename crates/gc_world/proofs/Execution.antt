@@ -8,8 +8,8 @@ use Rattle.gc_client.specs.Rule.{Settlement}
 use Rattle.gc_world.specs.World.{Sent, Numbered, Ends, Wire}
 use Rattle.gc_world.specs.Worlds
 use Rattle.gc_world.specs.Exchange.{IsExchange}
-use Rattle.gc_world.specs.Faithful.{has_number, begun}
-use Rattle.gc_world.specs.Record.{Increasing, IsOneForOne, IsReplyTo, IsBooked, IsExecutedIn, IsExecuted, IsReplyAt, IsExecution}
+use Rattle.gc_world.specs.Faithful.{has_number, restarted_if}
+use Rattle.gc_world.specs.Record.{Increasing, IsOneForOne, IsReplyTo, IsBooked, IsExecutedIn, handed_in, IsExecuted, IsReplyAt, IsExecution}
 use Rattle.gc_world.proofs.Booked.{Has, has_at, AllMade, answer_made}
 use Rattle.gc_world.proofs.Replay.{Executes, Replays}
 use Rattle.std.proofs.lemmas.Option.{same_Some, none-some, slice_get_within}
@@ -25,7 +25,7 @@ module _ {State : Type 0} (ends : Ends State) where
       → Replays ends sent starts j s ns ms t → ℕ → State
   before_in sent starts j s [] [] t h k = s
   before_in sent starts j s (n ∷ ns) (m ∷ ms) t h zero = s
-  before_in sent starts j s (n ∷ ns) (m ∷ ms) t h (suc k) = before_in sent starts (j + 1) (begun ends.restarted (has_number (j + 1) starts) h.0) ns ms t h.2 k
+  before_in sent starts j s (n ∷ ns) (m ∷ ms) t h (suc k) = before_in sent starts (j + 1) (restarted_if ends.restarted (has_number (j + 1) starts) h.0) ns ms t h.2 k
   before_in sent starts j s [] (m ∷ ms) t h k = absurd h
   before_in sent starts j s (n ∷ ns) [] t h k = absurd h
 
@@ -43,7 +43,7 @@ module _ {State : Type 0} (ends : Ends State) where
       (h : Replays ends sent starts j s ns ms t) → t ≡ before_in sent starts j s ns ms t h (length ns)
   unfolding before_in
   before_last sent starts j s [] [] t h = sym h
-  before_last sent starts j s (n ∷ ns) (m ∷ ms) t h = before_last sent starts (j + 1) (begun ends.restarted (has_number (j + 1) starts) h.0) ns ms t h.2
+  before_last sent starts j s (n ∷ ns) (m ∷ ms) t h = before_last sent starts (j + 1) (restarted_if ends.restarted (has_number (j + 1) starts) h.0) ns ms t h.2
   before_last sent starts j s [] (m ∷ ms) t h = absurd h
   before_last sent starts j s (n ∷ ns) [] t h = absurd h
 
@@ -59,8 +59,8 @@ module _ {State : Type 0} (ends : Ends State) where
   -- `starts` has the number i, and `entry` is its reply
   record IsIthExecution (sent : List Sent) (starts : List ℕ) (i : ℕ) (state next : State) (entry : Option (Numbered (List ℕ))) (n : ℕ) : Type 0 where
     is_executed : IsExecutedIn ends sent n state
-    made : entry ≡ Some (record { number = n; line = (ends.handed state is_executed.id is_executed.request.call).reply })
-    next_is : next ≡ begun ends.restarted (has_number i starts) (ends.handed state is_executed.id is_executed.request.call).state
+    made : entry ≡ Some (record { number = n; line = (handed_in ends is_executed).reply })
+    next_is : next ≡ restarted_if ends.restarted (has_number i starts) (handed_in ends is_executed).state
 
   -- execution k of a replay is that of request n, the number at place k of ns, and its reply is at place k of ms. It leads from
   -- `before_in` at place k to `before_in` at place k + 1, as `IsIthExecution` has it, and is the (j + k + 1)-th execution
@@ -83,17 +83,17 @@ module _ {State : Type 0} (ends : Ends State) where
           line = d.line;
           executed = d.executed;
         };
-        made = ap Some (entry_is m n r.number same (ends.handed s d.id d.request.call).reply r.line);
+        made = ap Some (entry_is m n r.number same (handed_in ends d).reply r.line);
         next_is =
-            before_first sent starts (j + 1) (begun ends.restarted (has_number (j + 1) starts) h.0) ns ms t h.2
-            ∙ ap (λ (x : State). begun ends.restarted (has_number (j + 1) starts) x) (sym r.leads)
-            ∙ ap (λ x. begun ends.restarted (has_number x starts) (ends.handed s d.id d.request.call).state) i;
+            before_first sent starts (j + 1) (restarted_if ends.restarted (has_number (j + 1) starts) h.0) ns ms t h.2
+            ∙ ap (λ (x : State). restarted_if ends.restarted (has_number (j + 1) starts) x) (sym r.leads)
+            ∙ ap (λ x. restarted_if ends.restarted (has_number x starts) (handed_in ends d).state) i;
       }
     where
       entry_is : (x : Numbered (List ℕ)) (n : ℕ) → x.number ≡ n' → n' ≡ n → (line : List ℕ) → x.line ≡ line → x ≡ record { number = n; line = line }
       entry_is x n e1 e2 line e3 = ap (λ (i : ℕ). record x { number = i }) (e1 ∙ e2) ∙ ap (λ (l : List ℕ). record { number = n; line = l }) e3
   ith_execution sent starts j s (n' ∷ ns) (m ∷ ms) t h (suc k) n e =
-      let v = begun ends.restarted (has_number (j + 1) starts) h.0 in
+      let v = restarted_if ends.restarted (has_number (j + 1) starts) h.0 in
       let i : j + 1 + k + 1 ≡ j + suc k + 1 = omega arith in
       subst (λ x. IsIthExecution sent starts x (before_in sent starts (j + 1) v ns ms t h.2 k) (before_in sent starts (j + 1) v ns ms t h.2 (suc k)) (slice_get ms k) n) i
       (ith_execution sent starts (j + 1) v ns ms t h.2 k n e)
@@ -117,13 +117,13 @@ module _ {State : Type 0} (ends : Ends State) where
         let i : j + 1 ≡ suc j = omega arith in
         let i' : 0 + j + 1 ≡ j + 1 = omega arith in
         let d = s.is_executed in
-        let m : Numbered (List ℕ) = record { number = n; line = (ends.handed (state_before j) d.id d.request.call).reply } in
+        let m : Numbered (List ℕ) = record { number = n; line = (handed_in ends d).reply } in
         let at = has_at m w.made (all_at (λ x. Has x w.made) replies j m each s.made) in
         record {
           is_executed = d;
           next =
               ap state_before i ∙ s.next_is
-              ∙ ap (λ x. begun ends.restarted (has_number x w.starts) (ends.handed (state_before j) d.id d.request.call).state) i';
+              ∙ ap (λ x. restarted_if ends.restarted (has_number x w.starts) (handed_in ends d).state) i';
           place = at.0;
           made = at.1;
         }
@@ -137,7 +137,7 @@ module _ {State : Type 0} (ends : Ends State) where
         let n = element_at w.executed at.0 (omega (arith, size, slice_get_within replies at.0 entry at.1)) in
         let s = ith_execution w.sent w.starts 0 (ends.restarted opening) w.executed replies w.state h at.0 n.0 n.1 in
         let d = s.is_executed in
-        let entry_is : entry ≡ record { number = n.0; line = (ends.handed (state_before at.0) d.id d.request.call).reply } = same_Some _ _ (sym at.1 ∙ s.made) in
+        let entry_is : entry ≡ record { number = n.0; line = (handed_in ends d).reply } = same_Some _ _ (sym at.1 ∙ s.made) in
         let number : n.0 ≡ entry.number = sym (ap (λ (m : Numbered (List ℕ)). m.number) entry_is) in
         let found : slice_get w.executed at.0 ≡ Some entry.number = n.1 ∙ ap Some number in
         subst (λ (m : Numbered (List ℕ)). IsReplyAt ends w state_before m) (sym entry_is) (record { j = at.0; executed = n.1; execution = executed_at at.0 n.0 n.1; line = refl })
@@ -186,7 +186,7 @@ module _ {State : Type 0} (ends : Ends State) (Good : State → Type 0) (ex : Is
 
   -- an execution in a good state, with a restart after it (b true) or without, leads to a good state
   good_next : (sent : List Sent) (s : State) (n : ℕ) (m : Numbered (List ℕ)) (t : State) (b : Bool) → Good s → Executes ends sent s n m t
-      → Good (begun ends.restarted b t)
+      → Good (restarted_if ends.restarted b t)
   good_next sent s n m t false good h = subst Good h.leads (ex.stays_good s h.is_executed.id h.is_executed.request.call good h.is_executed.small)
   good_next sent s n m t true good h =
       ex.restart_good t (subst Good h.leads (ex.stays_good s h.is_executed.id h.is_executed.request.call good h.is_executed.small))
@@ -197,7 +197,7 @@ module _ {State : Type 0} (ends : Ends State) (Good : State → Type 0) (ex : Is
   answers_at sent starts j s [] [] t good h = tt
   answers_at sent starts j s (n ∷ ns) (m ∷ ms) t good h = (
     answer_at sent s n m h.0 good h.1,
-    answers_at sent starts (j + 1) (begun ends.restarted (has_number (j + 1) starts) h.0) ns ms t
+    answers_at sent starts (j + 1) (restarted_if ends.restarted (has_number (j + 1) starts) h.0) ns ms t
         (good_next sent s n m h.0 (has_number (j + 1) starts) good h.1) h.2,
   )
   answers_at sent starts j s [] (m ∷ ms) t good h = absurd h

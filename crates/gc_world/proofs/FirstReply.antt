@@ -18,7 +18,7 @@ use Rattle.gc_world.specs.declared.event.Event.{Event}
 use Rattle.gc_world.specs.declared.event.Event.TheVariants.{DownDeliver}
 use Rattle.gc_world.specs.declared.event.Event.TheVariants as event
 use Rattle.gc_world.specs.Clients.{ByNumber, number_send, number_reply, by_ids, by_numbers, ids_open, numbers_open, run_by_ids, streams_by_ids, streams_by_numbers}
-use Rattle.gc_world.specs.FirstReply.{IsDelivery, HasSend, IsInTime, IsTooLate, IsSettledAs, ended, between, DeliverySettles}
+use Rattle.gc_world.specs.FirstReply.{IsDelivery, HasSend, IsInTime, IsTooLate, IsSettledAs, settled_as, between, DeliverySettles}
 use Rattle.gc_world.specs.Streams.{Streams, untouched, flows}
 use Rattle.gc_world.specs.Laws.{left_by_ids}
 use Rattle.gc_world.specs.Clients.{ends}
@@ -43,18 +43,18 @@ partner_at : {A B C : Type 0} (f : A → C) (g : B → C) (xs : List A) (ys : Li
 partner_at f g xs ys n x e h = get_seen g ys n (f x) (ap (λ l. slice_get l n) (sym e) ∙ get_map f xs n x h)
 
 -- the settlement, with this outcome, of a request with this target and this call
-abbrev ended_as : Outcome → Wanted Call → Settlement Call
-ended_as outcome a = record { target = a.target; call = a.call; outcome = outcome }
+abbrev settled_wanted : Outcome → Wanted Call → Settlement Call
+settled_wanted outcome a = record { target = a.target; call = a.call; outcome = outcome }
 
 -- where requests that wait and requests that were sent have the same targets and calls, their settlements as lost are the same
-lost_alike : (ps : List (Pending Call)) (rs : List Sent) → map of_pending ps ≡ map of_sent rs → map lost ps ≡ map (ended Lost) rs
+lost_alike : (ps : List (Pending Call)) (rs : List Sent) → map of_pending ps ≡ map of_sent rs → map lost ps ≡ map (settled_as Lost) rs
 lost_alike [] [] e = refl
 lost_alike [] (r ∷ rs) e = cc
 lost_alike (p ∷ ps) [] e = cc
 lost_alike (p ∷ ps) (r ∷ rs) e =
     let front : of_pending p ≡ of_sent r = cc in
     let tail : map of_pending ps ≡ map of_sent rs = cc in
-    ap₂ (λ (a : Wanted Call) (l : List (Settlement Call)). ended_as Lost a ∷ l) front (lost_alike ps rs tail)
+    ap₂ (λ (a : Wanted Call) (l : List (Settlement Call)). settled_wanted Lost a ∷ l) front (lost_alike ps rs tail)
 
 -- where the settled requests, followed by those that wait, are the requests that were sent, those that wait are the ones sent
 -- after the settled ones
@@ -74,7 +74,7 @@ outcome_of p line = cond p.given_up Late (Answered line)
 pub record SettlesThrough (settled : List (Settlement Call)) (waiting : List (Pending Call)) (sent : List Sent) (n : ℕ) (line : List ℕ) (p : Pending Call) : Type 0 where
   pub request : Sent
   pub found : slice_get sent n ≡ Some request
-  pub settlements : settle (n - length settled) line waiting ≡ map (ended Lost) (between (length settled) n sent) ++ ended (outcome_of p line) request ∷ []
+  pub settlements : settle (n - length settled) line waiting ≡ map (settled_as Lost) (between (length settled) n sent) ++ settled_as (outcome_of p line) request ∷ []
 
 -- `SettlesThrough` holds where the settlements, and after them those that wait, are the requests that were sent, n isn't below
 -- the count of settlements, and p waits as request n
@@ -92,7 +92,7 @@ settles_through settled waiting sent n line p whole le h =
       found = sym (slice_drop m sent n le) ∙ some.1;
       settlements =
           settle_is k line waiting p (drop (suc k) waiting) (drop_turn waiting k p h)
-          ∙ ap₂ (λ (l : List (Settlement Call)) (a : Wanted Call). l ++ ended_as (outcome_of p line) a ∷ []) (lost_alike (take k waiting) (take k (drop m sent)) first) (sym some.2);
+          ∙ ap₂ (λ (l : List (Settlement Call)) (a : Wanted Call). l ++ settled_wanted (outcome_of p line) a ∷ []) (lost_alike (take k waiting) (take k (drop m sent)) first) (sym some.2);
     }
 
 -- The run by numbers.
@@ -226,7 +226,7 @@ module _ (width : ℕ) (narrow : width ≤ WINDOW) (opening : State) where
         settled =
             after ∙ ap₂ (λ (u : Wire State) (ps : List (Pending Call)). u.settled ++ settle (n - b.client.count) line ps) (sym agree.wire) (sym window)
             ∙ ap (λ m. a.wire.settled ++ settle (n - m) line a.client.waiting) count ∙ ap (λ l. a.wire.settled ++ l) does.settlements
-            ∙ sym (append_assoc a.wire.settled (map (ended Lost) (between (length a.wire.settled) n a.wire.sent)) (ended (outcome_of p line) does.request ∷ []));
+            ∙ sym (append_assoc a.wire.settled (map (settled_as Lost) (between (length a.wire.settled) n a.wire.sent)) (settled_as (outcome_of p line) does.request ∷ []));
       })
 
   -- where request n is in time after these events, the delivery of a first reply to it settles it as answered with the reply's

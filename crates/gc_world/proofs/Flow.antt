@@ -7,7 +7,7 @@ use Rattle.gc_client.specs.Rule.{ById}
 use Rattle.gc_world.specs.declared.event.Event.{Event}
 use Rattle.gc_world.specs.Clients.{ByNumber, by_ids, by_numbers, ids_open, numbers_open, run_by_ids, run_by_numbers, streams_by_ids, streams_by_numbers}
 use Rattle.gc_world.specs.Exchange.{IsExchange}
-use Rattle.gc_world.specs.Streams.{Streams, Course, untouched, up_lines, down_lines, course, course_on, flows, flow}
+use Rattle.gc_world.specs.Streams.{Streams, Effect, untouched, up_lines, down_lines, effect, effect_on, flows, flow}
 use Rattle.gc_world.specs.World.{Ends, Rule, Step, Wire, World, happens, run}
 use Rattle.gc_world.proofs.Agree.{same_wire}
 
@@ -20,12 +20,12 @@ module _ {Client State : Type 0} (ends : Ends State) (rule : Rule Client) where
   -- the steps that these events make on these streams
   abbrev pub taken : List Event → Streams Client State → List Step
   taken [] v = []
-  taken (e ∷ es) v = (course_on v e).steps ++ taken es (flows ends rule v e)
+  taken (e ∷ es) v = (effect_on v e).steps ++ taken es (flows ends rule v e)
 
   -- the world after events is that after their steps
   pub flow_run : (es : List Event) (v : Streams Client State) → (flow ends rule es v).world ≡ run ends rule (taken es v) v.world
   flow_run [] v = refl
-  flow_run (e ∷ es) v = flow_run es (flows ends rule v e) ∙ sym (run_append (course_on v e).steps (taken es (flows ends rule v e)) v.world)
+  flow_run (e ∷ es) v = flow_run es (flows ends rule v e) ∙ sym (run_append (effect_on v e).steps (taken es (flows ends rule v e)) v.world)
 
   -- running events, and then others, is running all of them
   pub flow_append : (xs ys : List Event) (v : Streams Client State) → flow ends rule (xs ++ ys) v ≡ flow ends rule ys (flow ends rule xs v)
@@ -56,20 +56,20 @@ module _ {State : Type 0} (width : ℕ) (narrow : width ≤ 7) (ends : Ends Stat
       ap (λ (w : World (ById Call) State). w.wire) h.ids ∙ same_wire width narrow ends Good ex h.steps state good
       ∙ sym (ap (λ (w : World (ByNumber Call) State). w.wire) h.numbers)
 
-  -- on level streams an event has the same course: it makes the same steps on both, and leaves as many bytes of each front line
+  -- on level streams an event has the same effect: it makes the same steps on both, and leaves as many bytes of each front line
   -- gone in one as in the other
-  same_course : (a : Streams (ById Call) State) (b : Streams (ByNumber Call) State) (e : Event) → AreLevel a b → course_on a e ≡ course_on b e
-  same_course a b e h =
-      ap (λ (w : Wire State). course (up_lines w) (down_lines w) a.up_gone a.down_gone e) (level_wire a b h)
-      ∙ ap₂ (λ n m. course (up_lines b.world.wire) (down_lines b.world.wire) n m e) h.up_gone h.down_gone
+  same_effect : (a : Streams (ById Call) State) (b : Streams (ByNumber Call) State) (e : Event) → AreLevel a b → effect_on a e ≡ effect_on b e
+  same_effect a b e h =
+      ap (λ (w : Wire State). effect (up_lines w) (down_lines w) a.up_gone a.down_gone e) (level_wire a b h)
+      ∙ ap₂ (λ n m. effect (up_lines b.world.wire) (down_lines b.world.wire) n m e) h.up_gone h.down_gone
 
   -- each event keeps streams level
   level : (a : Streams (ById Call) State) (b : Streams (ByNumber Call) State) (e : Event) → AreLevel a b
       → AreLevel (flows ends (by_ids width ends) a e) (flows ends (by_numbers width) b e)
   level a b e h =
-      let c = course_on b e in
-      subst (λ (d : Course). AreLevel (record { world = run ends (by_ids width ends) d.steps a.world; up_gone = d.up_gone; down_gone = d.down_gone })
-      (flows ends (by_numbers width) b e)) (sym (same_course a b e h))
+      let c = effect_on b e in
+      subst (λ (d : Effect). AreLevel (record { world = run ends (by_ids width ends) d.steps a.world; up_gone = d.up_gone; down_gone = d.down_gone })
+      (flows ends (by_numbers width) b e)) (sym (same_effect a b e h))
       (record {
         steps = h.steps ++ c.steps;
         ids = ap (run ends (by_ids width ends) c.steps) h.ids ∙ sym (run_append ends (by_ids width ends) h.steps c.steps (ids_open state));

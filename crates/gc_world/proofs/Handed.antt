@@ -7,25 +7,25 @@ use Rattle.std.specs.Prelude.{replicate, IsTrue, ◌↔◌}
 use Rattle.std.proofs.lemmas.Bool.{both_ways, le-ltb}
 use Rattle.gc_lines.specs.Lines.{with_end}
 use Rattle.gc_catalogue.specs.declared.call.Call.{Call}
-use Rattle.gc_client.specs.Rule.{ById, fits, heard, hears, place_in, id_settled}
+use Rattle.gc_client.specs.Rule.{ById, fits, heard, hears, place_in, settles_at}
 use Rattle.gc_instrument.specs.State.{State}
 use Rattle.gc_world.specs.declared.direction.Direction.{Direction}
 use Rattle.gc_world.specs.declared.direction.Direction.TheVariants.{Up, Down}
 use Rattle.gc_world.specs.Clients.{by_ids, ends}
 use Rattle.gc_world.specs.Directions.{deliver, delivery, bytes, texts, lines, gone, with_front_gone, after_cut, handed_over}
-use Rattle.gc_world.specs.Memory.{IsStray, AreStrays, TakesNoMemory}
+use Rattle.gc_world.specs.Memory.{FrontIsStray, AreStrays, TakesNoMemory}
 use Rattle.gc_world.specs.Sides.{IsPart}
-use Rattle.gc_world.specs.Stages.{Seen, after_step, AreStreamsOf}
+use Rattle.gc_world.specs.Stages.{StageParts, after_step, AreStreamsOf}
 use Rattle.gc_world.specs.Staging.{after_event, after_bytes}
-use Rattle.gc_world.specs.Streams.{Streams, Cut, one_more, cut, down_lines, remaining, flows}
+use Rattle.gc_world.specs.Streams.{Streams, Cut, one_line_more, cut, down_lines, remaining, flows}
 use Rattle.gc_world.specs.World.{Numbered, Ends, Rule, Down_deliver, down_delivered, happens, run}
 use Rattle.gc_world.proofs.Directions.{gone_reached, reaches_again, unmoved, delivered, passing, bytes_pass, one_less, not_idle}
 use Rattle.gc_world.proofs.Shown.{part}
 
 -- where n bytes complete the front line, the cut at n bytes is the cut of the lines after that line at the bytes that are
 -- left, with one more completed line
-pub cut_long : (line : List ℕ) (lines : List (List ℕ)) (n : ℕ) → length line ≤ n → cut (line ∷ lines) n ≡ one_more (cut lines (n - length line))
-cut_long line lines n le = ap (λ b. cond {A = Cut} b (record { lines = 0; gone = n }) (one_more (cut lines (n - length line)))) (le-ltb n (length line) le)
+pub cut_long : (line : List ℕ) (lines : List (List ℕ)) (n : ℕ) → length line ≤ n → cut (line ∷ lines) n ≡ one_line_more (cut lines (n - length line))
+cut_long line lines n le = ap (λ b. cond {A = Cut} b (record { lines = 0; gone = n }) (one_line_more (cut lines (n - length line)))) (le-ltb n (length line) le)
 
 -- where bytes of the front line are still to go, a line is in flight
 pub in_front : (gone : ℕ) (texts : List (List ℕ)) → 0 < remaining gone (map with_end texts) → (t : List ℕ) × (ts : List (List ℕ)) × (texts ≡ t ∷ ts)
@@ -41,7 +41,7 @@ none_in_flight gone (line ∷ lines) part e = absurd (omega (arith, part, e))
 -- a line that no request waits for leaves the client as it is
 stray_same : (c : ById Call) (line : List ℕ) (o : Option ℕ) → fits c o ≡ false → (hears c line o).client ≡ c
 stray_same c line None e = refl
-stray_same c line (Some id) e = ap (λ b. (id_settled c line (place_in c id) b).client) e
+stray_same c line (Some id) e = ap (λ b. (settles_at c line (place_in c id) b).client) e
 
 -- One turn of that loop: n bytes of the direction d are to go over on the streams v, and `used` of them complete the front line.
 module _ {Client State : Type 0} (ends : Ends State) (rule : Rule Client) (d : Direction) (v : Streams Client State) where
@@ -51,7 +51,7 @@ module _ {Client State : Type 0} (ends : Ends State) (rule : Rule Client) (d : D
     pub text : List ℕ
     pub behind : List (List ℕ)
     pub front : texts d v.world.wire ≡ text ∷ behind
-    pub cut_is : cut (lines d v.world.wire) (gone d v + n) ≡ one_more (cut (map with_end behind) (n - used))
+    pub cut_is : cut (lines d v.world.wire) (gone d v + n) ≡ one_line_more (cut (map with_end behind) (n - used))
     pub tail : behind ≡ texts d (happens ends rule v.world (deliver d)).wire
 
   -- `IsNext` holds where the front line takes what remains of it, which is some bytes and no more than n
@@ -65,7 +65,7 @@ module _ {Client State : Type 0} (ends : Ends State) (rule : Rule Client) (d : D
         behind = f.1;
         front = f.2;
         cut_is = ap (λ q. cut (map with_end q) (gone d v + n)) f.2 ∙ cut_long (with_end f.0) (map with_end f.1) (gone d v + n) (omega (arith, size, some, le))
-            ∙ ap (λ k. one_more (cut (map with_end f.1) k)) left;
+            ∙ ap (λ k. one_line_more (cut (map with_end f.1) k)) left;
         tail = sym (one_less ends rule d v.world ∙ ap (drop 1) f.2);
       }
 
@@ -128,7 +128,7 @@ module _ (width : ℕ) (v : Streams (ById Call) State) where
       let tail : xs ≡ w.wire.down = sym (ap (λ q. (down_delivered (by_ids width ends) v.world q).wire.down) e) in
       let zero_more : n - used ≡ 0 + (n - used) = omega arith in
       let count : (cut (map with_end h.behind) (n - used)).lines ≡ (cut (down_lines w.wire) (0 + (n - used))).lines = ap₂ (λ q j. (cut (map with_end q) j).lines) h.tail zero_more in (
-        subst (λ l. IsStray v.world.client l) (sym e) (all.0, tt),
+        subst (λ l. FrontIsStray v.world.client l) (sym e) (all.0, tt),
         subst (λ c. AreStrays c (cut (down_lines w.wire) (0 + (n - used))).lines w.wire.down) (sym same)
             (subst (λ j. AreStrays v.world.client j w.wire.down) count (subst (λ q. AreStrays v.world.client k q) tail all.1)),
       )
@@ -143,7 +143,7 @@ spared width Down v n used h t = next_strays width v n used h v.world.wire.down 
 -- n bytes are to be handed over on the streams v, and `left` of them are left: the stage shows streams `now` from which handing
 -- over those left leads where all n lead from v. Since v no event was counted as not possible; and those left take no memory if
 -- all n take none (`spare`)
-pub record IsReached (width : ℕ) (d : Direction) (s : Seen) (v : Streams (ById Call) State) (n left : ℕ) : Type 0 where
+pub record IsReached (width : ℕ) (d : Direction) (s : StageParts) (v : Streams (ById Call) State) (n left : ℕ) : Type 0 where
   pub now : Streams (ById Call) State
   pub shows : AreStreamsOf width s now
   pub same : after_bytes ends width d now left ≡ after_bytes ends width d v n
@@ -151,13 +151,13 @@ pub record IsReached (width : ℕ) (d : Direction) (s : Seen) (v : Streams (ById
   pub idle : now.world.wire.idle ≡ v.world.wire.idle
 
 -- where a stage shows the streams v, `IsReached` holds before any byte was handed over, with all n bytes left
-pub reached : (width : ℕ) (d : Direction) (s : Seen) (v : Streams (ById Call) State) (n : ℕ) → AreStreamsOf width s v → IsReached width d s v n n
+pub reached : (width : ℕ) (d : Direction) (s : StageParts) (v : Streams (ById Call) State) (n : ℕ) → AreStreamsOf width s v → IsReached width d s v n n
 reached width d s v n h = record { now = v; shows = h; same = refl; spare = λ t. t; idle = refl }
 
-module _ (width : ℕ) (d : Direction) (s : Seen) (v : Streams (ById Call) State) (n left : ℕ) (h : IsReached width d s v n left) where
+module _ (width : ℕ) (d : Direction) (s : StageParts) (v : Streams (ById Call) State) (n left : ℕ) (h : IsReached width d s v n left) where
   -- `IsReached` holds also once one more line was delivered, which took `used` of the bytes that were left: `left - used` are
   -- left then
-  pub reaches_next : (t : Seen) (used : ℕ) → used ≡ remaining (gone d h.now) (lines d h.now.world.wire) → 0 < used → used ≤ left
+  pub reaches_next : (t : StageParts) (used : ℕ) → used ≡ remaining (gone d h.now) (lines d h.now.world.wire) → 0 < used → used ≤ left
       → AreStreamsOf width t (after_event ends width h.now (delivery d)) → IsReached width d t v n (left - used)
   reaches_next t used e some le shows =
       let one = next ends (by_ids width ends) d h.now left used e some le in
@@ -176,7 +176,7 @@ module _ (width : ℕ) (d : Direction) (s : Seen) (v : Streams (ById Call) State
   next_spares used e some le t = (spared width d h.now left used (next ends (by_ids width ends) d h.now left used e some le) (h.spare t)).0
 
   -- where a stage shows the streams that handing over the bytes that are left leads to, it shows those that all n bytes lead to
-  pub reaches_end : (t : Seen) → AreStreamsOf width t (after_bytes ends width d h.now left) → AreStreamsOf width t (after_bytes ends width d v n)
+  pub reaches_end : (t : StageParts) → AreStreamsOf width t (after_bytes ends width d h.now left) → AreStreamsOf width t (after_bytes ends width d v n)
   reaches_end t shows = subst (λ x. AreStreamsOf width t x) h.same shows
 
   -- where no byte is in flight any more, the stage shows the streams that all n bytes lead to

@@ -6,7 +6,6 @@ use Rattle.gc_lines.specs.Readers.{reply_at}
 use Rattle.gc_lines.specs.Replies.{IsReply, reply_text}
 use Rattle.gc_lines.proofs.Replies.{one_reply, reply_again, reply_found}
 use Rattle.gc_lines.proofs.Written.{reply_back}
-use Rattle.gc_catalogue.specs.declared.answer.Reading.{Reading}
 use Rattle.gc_catalogue.specs.declared.answer.Reading.TheVariants.{Value, Refused}
 use Rattle.gc_catalogue.specs.declared.call.Call.{Call}
 use Rattle.gc_catalogue.specs.Answers.{rounded_answer}
@@ -22,7 +21,7 @@ use Rattle.gc_instrument.proofs.Answering.{handed_answered, handed_again, handed
 use Rattle.gc_instrument.proofs.Keeping.{executes_apart, fits_kept}
 use Rattle.gc_instrument.proofs.Executions.{exec_outcome, restarted_fits}
 use Rattle.gc_world.specs.Exchange.{IsExchange, IsKeeper, ReadsWithItsId}
-use Rattle.gc_world.specs.Faithful.{IsValueOrRefusal, begun}
+use Rattle.gc_world.specs.Faithful.{IsValueOrRefusal, restarted_if}
 use Rattle.gc_world.specs.Laws.{RepliesAreFine}
 use Rattle.gc_world.specs.Clients.{ends}
 use Rattle.std.proofs.lemmas.Option.{cond_some, none-some, same_Some}
@@ -116,9 +115,9 @@ bare_line s id call e =
     ∙ sym (ap (λ (x : Executed). executed_line id x) (executes_apart s None call))
 
 -- where the state s, without its kept reply, is t, it still is once both were restarted (b true), and also if neither was
-pub bare_begun : (b : Bool) (s t : State) → without_kept s ≡ t → without_kept (begun restarted b s) ≡ begun restarted b t
-bare_begun false s t e = e
-bare_begun true s t e = ap restarted e
+pub bare_restarted : (b : Bool) (s t : State) → without_kept s ≡ t → without_kept (restarted_if restarted b s) ≡ restarted_if restarted b t
+bare_restarted false s t e = e
+bare_restarted true s t e = ap restarted e
 
 -- the id with which a reply is kept, if one is kept
 abbrev pub kept_id : Option KeptReply → Option ℕ

@@ -7,7 +7,7 @@ use Rattle.gc_catalogue.specs.declared.call.Call.{Call}
 use Rattle.gc_client.specs.declared.pending.Pending.{Pending}
 use Rattle.gc_world.specs.declared.event.Event.{Event}
 use Rattle.gc_world.specs.declared.event.Event.TheVariants.{Send, UpDeliver, UpBytes, UpLose, UpRepeat, DownDeliver, DownBytes, DownLose, DownRepeat, Expire, RestartClient, RestartInstrument}
-use Rattle.gc_world.specs.Streams.{Streams, passed, cut, is_begun, course_on, flows}
+use Rattle.gc_world.specs.Streams.{Streams, passed, cut, is_begun, effect_on, flows}
 use Rattle.gc_world.specs.World
 use Rattle.gc_world.specs.World.{Ends, Rule, Step, Up_deliver, Up_lose, Up_repeat, Down_deliver, Down_lose, Down_repeat}
 use Rattle.gc_world.proofs.Flow.{taken}
@@ -69,7 +69,7 @@ equal_touched e p q is h = subst (λ x. IsTouched e p x) (sym is) h
 module _ {Client State : Type 0} (ends : Ends State) (rule : Rule Client) where
   -- what an event on these streams leaves of a request that waits
   abbrev pub marked : Streams Client State → Event → Pending Call → Pending Call
-  marked v e p = touched_all (course_on v e).steps p
+  marked v e p = touched_all (effect_on v e).steps p
 
   -- each event touches a request as `IsTouched` says
   touch : (v : Streams Client State) (e : Event) (p : Pending Call) → IsTouched e p (marked v e p)
@@ -118,7 +118,7 @@ module _ {Client State : Type 0} (ends : Ends State) (rule : Rule Client) where
   -- what one event and then others leave of a request is what the others leave of what the first one left
   marked_more : (e : Event) (es : List Event) (v : Streams Client State) (p : Pending Call)
       → marked_all (e ∷ es) v p ≡ marked_all es (flows ends rule v e) (marked ends rule v e p)
-  marked_more e es v p = touched_append (course_on v e).steps (taken ends rule es (flows ends rule v e)) p
+  marked_more e es v p = touched_append (effect_on v e).steps (taken ends rule es (flows ends rule v e)) p
 
   -- a request that had timed out before some events has timed out after them, too
   stays_marked : (es : List Event) (v : Streams Client State) (p : Pending Call) → p.given_up ≡ true → (marked_all es v p).given_up ≡ true

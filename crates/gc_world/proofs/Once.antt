@@ -20,7 +20,7 @@ use Rattle.gc_world.specs.World.{Request, Sent, Numbered, Ends, Step, World, Wir
 use Rattle.gc_world.proofs.Booked.{Has, has_more, has_push}
 use Rattle.std.proofs.lemmas.Option.{cond_some, same_Some}
 use Rattle.gc_world.proofs.Places.{get_push}
-use Rattle.gc_world.proofs.Replay.{IsOf, of_more, Replays, replays_more, replays_push, replays_started, no_number}
+use Rattle.gc_world.proofs.Replay.{IsAsSent, of_more, Replays, replays_more, replays_push, replays_started, no_number}
 use Rattle.gc_world.proofs.Rows.{each_number, each_without, each_doubled, rising_each, rising_tail}
 use Rattle.gc_world.proofs.Sound.{IsGoing, Sound, keeps, sound_open, length_expired}
 use Rattle.gc_world.proofs.Stable.{IsStable, stable_all}
@@ -137,7 +137,7 @@ module _ {State : Type 0} (width : ℕ) (narrow : width ≤ 7) (ends : Ends Stat
     pub each : AllByRecursion (λ m. Has m w.made) replies
     pub begins : AllByRecursion (λ x. x < length w.executed + 1) w.starts
     pub held : IsKeptAmong (kept w.state) top replies
-    pub lines : AllByRecursion (IsOf call_line w.sent) w.up
+    pub lines : AllByRecursion (IsAsSent call_line w.sent) w.up
 
   -- each request was executed at most once: the executed numbers increase, they and those of the replies in flight are below
   -- `top`, which is at most the count of requests, and `IsAboveExecuted`, `IsLast` and `IsReplayed` hold of the wire with it
@@ -161,7 +161,7 @@ module _ {State : Type 0} (width : ℕ) (narrow : width ≤ 7) (ends : Ends Stat
       (handed_is : ends.handed w.state x.line.id x.line.call ≡ hd) (none : kept_line (kept w.state) (Some x.line.id) ≡ None) (replayed : IsReplayed w top)
       (executed_is : hd.executed ≡ true) → IsReplayed (replied w x.number rest (record hd { executed = true })) (x.number + 1)
   replayed_new w x rest top q hd is none h exe =
-      let of = subst (λ l. AllByRecursion (IsOf call_line w.sent) l) q h.lines in
+      let of = subst (λ l. AllByRecursion (IsAsSent call_line w.sent) l) q h.lines in
       let y : Numbered (List ℕ) = record { number = x.number; line = hd.reply } in
       let same_call = of.0.call in
       let m : x.number ≡ x.number + 1 - 1 = omega arith in
@@ -245,7 +245,7 @@ module _ {State : Type 0} (width : ℕ) (narrow : width ≤ 7) (ends : Ends Stat
           each = all_on (λ m. Has m w.wire.made) (λ m. Has m (w.wire.made ++ y ∷ [])) r.replies (λ m p. has_more m w.wire.made _ p) r.each;
           begins = r.begins;
           held = r.held;
-          lines = (subst (λ l. AllByRecursion (IsOf call_line w.wire.sent) l) q r.lines).1;
+          lines = (subst (λ l. AllByRecursion (IsAsSent call_line w.wire.sent) l) q r.lines).1;
         };
       }
 
@@ -306,13 +306,13 @@ module _ {State : Type 0} (width : ℕ) (narrow : width ≤ 7) (ends : Ends Stat
       (once_sent w target call y (omega arith) (length_push c.requests (pending_of target call deadline)) refl refl s h)
 
   -- `IsReplayed` holds also with other queues, where each upward request is the one that was sent with its number
-  replayed_up : (w : Wire State) (top : ℕ) (up : List (Numbered Request)) (down : List (Numbered (List ℕ))) → AllByRecursion (IsOf call_line w.sent) up → IsReplayed w top
+  replayed_up : (w : Wire State) (top : ℕ) (up : List (Numbered Request)) (down : List (Numbered (List ℕ))) → AllByRecursion (IsAsSent call_line w.sent) up → IsReplayed w top
       → IsReplayed (record w { up = up; down = down }) top
   replayed_up w top up down u t = record { replies = t.replies; replays = t.replays; among = t.among; each = t.each; begins = t.begins; held = t.held; lines = u }
 
   -- `IsOnce` holds also with other queues, of which its clauses hold
   once_queues : (c : ByNumber Call) (w : Wire State) (up : List (Numbered Request)) (down : List (Numbered (List ℕ))) (h : IsOnce c w)
-      → AllByRecursion (λ x. x.number < h.top) down → IsAboveExecuted (kept w.state) c.since c.count h.top up → AllByRecursion (IsOf call_line w.sent) up
+      → AllByRecursion (λ x. x.number < h.top) down → IsAboveExecuted (kept w.state) c.since c.count h.top up → AllByRecursion (IsAsSent call_line w.sent) up
       → IsOnce c (record w { up = up; down = down })
   once_queues c w up down h d u l = record { top = h.top; last = h.last; climbs = h.climbs; below = h.below; sent = h.sent; made = d; above = u; replayed = replayed_up w h.top up down l h.replayed }
 

@@ -9,7 +9,7 @@ use Rattle.gc_lines.specs.declared.frame.Frame.{Frame}
 use Rattle.gc_lines.specs.declared.frame.Frame.TheVariants.{Line}
 use Rattle.gc_lines.specs.declared.frame.Lent.{Lent}
 use Rattle.gc_lines.specs.declared.frame.Lent.TheVariants as lent
-use Rattle.gc_lines.specs.Lent.{lent_seen}
+use Rattle.gc_lines.specs.Lent.{lent_seen, IsLentLine}
 use Rattle.gc_lines.specs.Assembler.{Kept, StandsFor}
 use Rattle.gc_lines.specs.Frames.{is_line_feed, frame_of}
 use Rattle.gc_lines.specs.Lines.{IsPlainByte, IsPlain, with_end}
@@ -79,12 +79,12 @@ fed_feed line g e fits = ap frame_of (append-nil (take g (with_end line)) ∙ wi
 line_items : (xs ys : List ℕ) → ◌≡◌ {A = Frame} (Line (record { items = xs })) (Line (record { items = ys })) → xs ≡ ys
 line_items xs ys e = let same : ◌≡◌ {A = ArrayVec ℕ} (record { items = xs }) (record { items = ys }) = cc in ap (λ (v : ArrayVec ℕ). v.items) same
 
--- where a lent frame is the line l, and is seen as the line of these bytes, l has these bytes
-pub came_out : (f : Lent) (l : _) (items : List ℕ) → f ≡ lent.Line l → lent_seen f ≡ Line (record { items = items }) → l.now ≡ items
+-- where a lent frame is the line l, and a line of these bytes (`IsLentLine`), l has these bytes
+pub came_out : (f : Lent) (l : _) (items : List ℕ) → f ≡ lent.Line l → IsLentLine f items → l.now ≡ items
 came_out f l items is seen = let e : Line (record { items = l.now }) ≡ Line (record { items = items }) = ap lent_seen (sym is) ∙ seen in line_items l.now items e
 
--- a lent frame that is seen as a line can't be anything but `Line`
-pub none_else : (f : Lent) (items : List ℕ) → lent_seen f ≡ Line (record { items = items }) → ((l : _) → f ≡ lent.Line l → ⊥) → ⊥
+-- where `IsLentLine` holds of a lent frame, it can't be anything but `Line`
+pub none_else : (f : Lent) (items : List ℕ) → IsLentLine f items → ((l : _) → f ≡ lent.Line l → ⊥) → ⊥
 none_else (lent.Line l) items seen not = not l refl
 none_else lent.Cleared items seen not = cc
 none_else lent.Overlong items seen not = cc

@@ -5,8 +5,8 @@ use Rattle.std.specs.Prelude.{slice_get}
 use Rattle.std.proofs.lemmas.Bool.{ne_eqb, eq-eqb, or_right}
 use Rattle.gc_world.specs.World.{Sent, Numbered, Ends}
 use Rattle.gc_world.specs.Worlds
-use Rattle.gc_world.specs.Faithful.{has_number, begun}
-use Rattle.gc_world.specs.Record.{IsExecutedIn}
+use Rattle.gc_world.specs.Faithful.{has_number, restarted_if}
+use Rattle.gc_world.specs.Record.{IsExecutedIn, handed_in}
 use Rattle.gc_world.proofs.Places.{get_more}
 
 -- a number above all of these isn't among them
@@ -29,14 +29,14 @@ module _ {State : Type 0} (ends : Ends State) where
   pub record Executes (sent : List Sent) (state : State) (n : ℕ) (entry : Numbered (List ℕ)) (after : State) : Type 0 where
     pub is_executed : IsExecutedIn ends sent n state
     pub number : entry.number ≡ n
-    pub line : entry.line ≡ (ends.handed state is_executed.id is_executed.request.call).reply
-    pub leads : (ends.handed state is_executed.id is_executed.request.call).state ≡ after
+    pub line : entry.line ≡ (handed_in ends is_executed).reply
+    pub leads : (handed_in ends is_executed).state ≡ after
 
   -- a replay: requests ns are executed one after the other, from state s to state t, with replies ms. j executions came before;
   -- and after each execution the instrument is restarted where `starts` has the count of executions until then
   abbrev pub Replays : (sent : List Sent) (starts : List ℕ) (j : ℕ) (s : State) (ns : List ℕ) (ms : List (Numbered (List ℕ))) (t : State) → Type 0
   Replays sent starts j s [] [] t = s ≡ t
-  Replays sent starts j s (n ∷ ns) (m ∷ ms) t = (mid : _) × Executes sent s n m mid × Replays sent starts (j + 1) (begun ends.restarted (has_number (j + 1) starts) mid) ns ms t
+  Replays sent starts j s (n ∷ ns) (m ∷ ms) t = (mid : _) × Executes sent s n m mid × Replays sent starts (j + 1) (restarted_if ends.restarted (has_number (j + 1) starts) mid) ns ms t
   Replays sent starts j s [] (m ∷ ms) t = ⊥
   Replays sent starts j s (n ∷ ns) [] t = ⊥
 
@@ -73,17 +73,17 @@ module _ {State : Type 0} (ends : Ends State) where
       → Replays sent starts j s (ns ++ n ∷ []) (ms ++ m ∷ []) u
   replays_push sent starts j l s [] [] t n m u e none r h =
       let e1 : l ≡ j + 1 = omega (arith, e) in
-      (u, subst (λ x. Executes sent x n m u) (sym h) r, ap (λ b. begun ends.restarted b u) (subst (λ k. has_number k starts ≡ false) e1 none))
+      (u, subst (λ x. Executes sent x n m u) (sym h) r, ap (λ b. restarted_if ends.restarted b u) (subst (λ k. has_number k starts ≡ false) e1 none))
   replays_push sent starts j l s (k ∷ ns) (x ∷ ms) t n m u e none r h = (h.0, h.1, replays_push sent starts (j + 1) l _ ns ms t n m u (omega (arith, e)) none r h.2)
   replays_push sent starts j l s [] (x ∷ ms) t n m u e none r h = absurd h
   replays_push sent starts j l s (k ∷ ns) [] t n m u e none r h = absurd h
 
   -- if restarting twice is restarting once, a restart leads to the same state, whether there was another one directly before it
   -- (b) or not
-  begun_twice : ((s : State) → ends.restarted (ends.restarted s) ≡ ends.restarted s) → (b : Bool) (s : State)
-      → ends.restarted s ≡ ends.restarted (begun ends.restarted b s)
-  begun_twice twice false s = refl
-  begun_twice twice true s = sym (twice s)
+  restarted_twice : ((s : State) → ends.restarted (ends.restarted s) ≡ ends.restarted s) → (b : Bool) (s : State)
+      → ends.restarted s ≡ ends.restarted (restarted_if ends.restarted b s)
+  restarted_twice twice false s = refl
+  restarted_twice twice true s = sym (twice s)
 
   -- if restarting twice is restarting once, a replay of at least one execution, with one more start after the last, is a replay
   -- that ends in the restarted state
@@ -94,14 +94,14 @@ module _ {State : Type 0} (ends : Ends State) where
       let e1 : j + 1 ≡ l = omega (arith, e) in (
         h.0,
         h.1,
-        ap (λ b. begun ends.restarted b h.0) (ap (λ k. has_number k (starts ++ l ∷ [])) e1 ∙ has_number_pushed l starts)
-            ∙ begun_twice twice (has_number (j + 1) starts) h.0 ∙ ap ends.restarted h.2,
+        ap (λ b. restarted_if ends.restarted b h.0) (ap (λ k. has_number k (starts ++ l ∷ [])) e1 ∙ has_number_pushed l starts)
+            ∙ restarted_twice twice (has_number (j + 1) starts) h.0 ∙ ap ends.restarted h.2,
       )
   replays_start twice sent starts j l s n (k ∷ ns) (m ∷ ms) t e h =
       let b = has_number_push (j + 1) l starts (λ same. omega (arith, e, same)) in (
         h.0,
         h.1,
-        subst (λ v. Replays sent (starts ++ l ∷ []) (j + 1) (begun ends.restarted v h.0) (k ∷ ns) ms (ends.restarted t)) (sym b)
+        subst (λ v. Replays sent (starts ++ l ∷ []) (j + 1) (restarted_if ends.restarted v h.0) (k ∷ ns) ms (ends.restarted t)) (sym b)
             (replays_start twice sent starts (j + 1) l _ k ns ms t (omega (arith, e)) h.2),
       )
   replays_start twice sent starts j l s n [] [] t e h = absurd h
@@ -119,7 +119,7 @@ module _ {State : Type 0} (ends : Ends State) where
 
 -- a request in flight is the one that was sent with its number: it has that one's call, and an id below 8 with which that one's
 -- line was written
-pub record IsOf {Q : Type 0} (written : ℕ → Q → List ℕ) (sent : List (Worlds.Sent Q)) (x : Numbered (Worlds.Request Q)) : Type 0 where
+pub record IsAsSent {Q : Type 0} (written : ℕ → Q → List ℕ) (sent : List (Worlds.Sent Q)) (x : Numbered (Worlds.Request Q)) : Type 0 where
   pub request : Worlds.Sent Q
   pub found : slice_get sent x.number ≡ Some request
   pub small : x.line.id < 8
@@ -127,6 +127,6 @@ pub record IsOf {Q : Type 0} (written : ℕ → Q → List ℕ) (sent : List (Wo
   pub text : request.line ≡ written x.line.id x.line.call
 
 -- a request in flight stays the one that was sent with its number when more are sent
-pub of_more : {Q : Type 0} (written : ℕ → Q → List ℕ) (sent more : List (Worlds.Sent Q)) (x : Numbered (Worlds.Request Q)) → IsOf written sent x
-    → IsOf written (sent ++ more) x
+pub of_more : {Q : Type 0} (written : ℕ → Q → List ℕ) (sent more : List (Worlds.Sent Q)) (x : Numbered (Worlds.Request Q)) → IsAsSent written sent x
+    → IsAsSent written (sent ++ more) x
 of_more written sent more x h = record { request = h.request; found = get_more sent more x.number h.request h.found; small = h.small; call = h.call; text = h.text }

@@ -18,7 +18,7 @@ use Rattle.gc_instrument.specs.State.{State, IsFittingState, restarted}
 use Rattle.gc_world.specs.declared.report.Made.{Made}
 use Rattle.gc_world.specs.declared.report.Report.{Report}
 use Rattle.gc_world.specs.declared.report.Sent.{Sent}
-use Rattle.gc_world.specs.Faithful.{OneForOne, IsBookedAnswer, BooksAnswers, has_number, begun, AreBefore, IsReplyOf, RecordsExecution, ActsOnce, sent_seen, AgreesWith}
+use Rattle.gc_world.specs.Faithful.{OneForOne, IsBookedAnswer, BooksAnswers, has_number, restarted_if, AreBefore, IsReplyOf, RecordsExecution, ActsOnce, sent_seen, AgreesWith}
 use Rattle.gc_world.specs.Record.{Increasing, IsOneForOne, IsBooked, IsExecutedIn, IsExecution}
 use Rattle.gc_world.specs.Reports.{made_seen, IsReport, IsNoLongerThan}
 use Rattle.gc_world.specs.Clients.{ends}
@@ -27,7 +27,7 @@ use Rattle.gc_instrument.specs.Replying.{executed_line, without_kept}
 use Rattle.gc_world.specs.World
 use Rattle.gc_world.specs.World.{Numbered, Wire}
 use Rattle.gc_world.proofs.Counts.{IsWithin}
-use Rattle.gc_world.proofs.Handing.{bare_after, bare_line, bare_begun, fine}
+use Rattle.gc_world.proofs.Handing.{bare_after, bare_line, bare_restarted, fine}
 use Rattle.std.proofs.lemmas.Option.{same_Some, none-some, slice_get_within}
 use Rattle.gc_world.proofs.Places.{get_map, get_seen, element_at, all_at}
 
@@ -126,9 +126,9 @@ module _ (r : Report) (w : Wire State) (h : IsReport r w) where
               let q = request_of j n d in
               let call : d.request.call ≡ request.call = sym (ap (λ (p : World.Sent). p.call) q.2) ∙ ap (λ (p : Sent). p.call) (same_Some q.0 request (sym q.1 ∙ sent)) in
               ap without_kept one.next
-              ∙ bare_begun (has_number (j + 1) w.starts) _ _ (bare_after (x.before j) d.id d.request.call d.executed)
-              ∙ ap (λ starts. begun restarted (has_number (j + 1) starts) (exec (before j) d.request.call).state) (sym h.starts)
-              ∙ ap (λ c. begun restarted (has_number (j + 1) r.starts) (exec (before j) c).state) call;
+              ∙ bare_restarted (has_number (j + 1) w.starts) _ _ (bare_after (x.before j) d.id d.request.call d.executed)
+              ∙ ap (λ starts. restarted_if restarted (has_number (j + 1) starts) (exec (before j) d.request.call).state) (sym h.starts)
+              ∙ ap (λ c. restarted_if restarted (has_number (j + 1) r.starts) (exec (before j) c).state) call;
         }
 
     -- the report's executed numbers strictly increase

@@ -3,7 +3,7 @@ use Rattle.std.proofs.Common.{◌≡◌, ℕ, zero, suc, ◌+◌, Bool, true, fa
 use Rattle.std.specs.Prelude.{slice_get}
 use Rattle.std.proofs.lemmas.List.{map-append, append-nil, length-map}
 use Rattle.gc_client.specs.declared.pending.Pending.{Pending}
-use Rattle.gc_client.specs.Rule.{Settlement, Settled, ById, pending_of, id_send}
+use Rattle.gc_client.specs.Rule.{Settlement, Settled, ById, pending_of, send_unless_full}
 use Rattle.gc_client.specs.Rule.{Sending}
 use Rattle.gc_client.specs.OneForOne.{Wanted, of_settled, of_pending}
 use Rattle.gc_client.proofs.OneForOne.{lost_parts, expired_parts, heard_parts}
@@ -20,7 +20,7 @@ module _ {Q State : Type 0} (width : ℕ) (ends : Ends Q State) where
 
   -- a send that isn't refused keeps a world whole
   whole_sent : (written : ℕ → Q → List ℕ) (w : World Q (ById Q) State) (target : ℕ) (call : Q) (deadline : ℕ) (full : Bool) (x : Sending (ById Q))
-      → id_send w.client target call deadline full ≡ Some x → Whole w → Whole (requested written w target call (Some x))
+      → send_unless_full w.client target call deadline full ≡ Some x → Whole w → Whole (requested written w target call (Some x))
   whole_sent written w target call deadline true x e h = absurd (none-some x e)
   whole_sent written w target call deadline false x e h =
       let y : Sending (ById Q) = record { id = w.client.next; client = record { next = (w.client.next + 1) % 8; waiting = w.client.waiting ++ pending_of target call deadline ∷ [] } } in

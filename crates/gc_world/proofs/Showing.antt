@@ -16,7 +16,7 @@ use Rattle.gc_client.specs.declared.heard.Hearing.{Hearing}
 use Rattle.gc_client.specs.declared.heard.Hearing.TheVariants.{Settled, Stray, Unread}
 use Rattle.gc_client.specs.declared.settlement.Settlement.{Settlement}
 use Rattle.gc_client.specs.Hearing.{HearsInto}
-use Rattle.gc_client.specs.Rule.{ById, Windowed, Sending, heard, hears, place_in, id_settled, id_send, sends, restarts}
+use Rattle.gc_client.specs.Rule.{ById, Windowed, Sending, heard, hears, place_in, settles_at, send_unless_full, sends, restarts}
 use Rattle.gc_client.specs.Rule
 use Rattle.gc_client.specs.Settlements.{AreSettlements}
 use Rattle.gc_client.proofs.Settling.{settled_append}
@@ -33,7 +33,7 @@ use Rattle.gc_world.specs.Faithful.{sent_seen}
 use Rattle.gc_world.specs.Memory.{IsBusy}
 use Rattle.gc_world.specs.Order.{numbers}
 use Rattle.gc_world.specs.Reports.{made_seen, IsReport}
-use Rattle.gc_world.specs.Stages.{after_step, IsSentIn, named, AreOfWorld}
+use Rattle.gc_world.specs.Stages.{after_step, IsSentIn, replies_at, AreOfWorld}
 use Rattle.gc_world.proofs.Contracts.{ExchangesAny, Notes, Sends, HandsToInstrument, HandsToClient, RestartsBoth}
 use Rattle.gc_world.proofs.Handing.{kept_id, other_id}
 use Rattle.gc_world.proofs.Queues.{without_map, doubled_map, without_past, doubled_past}
@@ -83,7 +83,7 @@ reports_queues r w up down h =
     record { sent = h.sent; executed = h.executed; made = h.made; settled = h.settled; starts = h.starts; instrument = h.instrument; refused = h.refused; idle = h.idle }
 
 -- settling doesn't change the next id
-settled_next : (c : ById Call) (line : List ℕ) (k : ℕ) (b : Bool) → (id_settled c line k b).client.next ≡ c.next
+settled_next : (c : ById Call) (line : List ℕ) (k : ℕ) (b : Bool) → (settles_at c line k b).client.next ≡ c.next
 settled_next c line k false = refl
 settled_next c line k true = refl
 
@@ -97,7 +97,7 @@ pub sends_next : (width : ℕ) (c : ById Call) (target : ℕ) (call : Call) (dea
     → sends width c target call deadline ≡ Some x → x.client.next < IDS
 sends_next width c target call deadline x e = by_room (eqb (length c.waiting) width) e
   where
-    by_room : (full : Bool) → id_send c target call deadline full ≡ Some x → x.client.next < IDS
+    by_room : (full : Bool) → send_unless_full c target call deadline full ≡ Some x → x.client.next < IDS
     by_room true e = absurd (none-some x e)
     by_room false e = subst (λ (y : Sending (ById Call)). y.client.next < IDS) (same_Some _ x e) (omega arith)
 
@@ -112,24 +112,24 @@ made_last made entry =
     ap (λ l. slice_get l (length made)) (map-append made_seen made (entry ∷ []))
     ∙ subst (λ n. slice_get (map made_seen made ++ made_seen entry ∷ []) n ≡ Some (made_seen entry)) (length-map made made_seen) (get_push (map made_seen made) (made_seen entry))
 
--- places that name the replies xs among those made (`named`) still name xs once one more reply was made
-named_more : (made : List Made) (entry : Made) (places : List ℕ) (xs : List (Numbered (List ℕ))) → named made places ≡ map Some xs
-    → named (made ++ entry ∷ []) places ≡ map Some xs
-named_more made entry [] [] h = refl
-named_more made entry [] (x ∷ xs) h = cc
-named_more made entry (p ∷ ps) [] h = cc
-named_more made entry (p ∷ ps) (x ∷ xs) h =
+-- places that name the replies xs among those made (`replies_at`) still name xs once one more reply was made
+replies_more : (made : List Made) (entry : Made) (places : List ℕ) (xs : List (Numbered (List ℕ))) → replies_at made places ≡ map Some xs
+    → replies_at (made ++ entry ∷ []) places ≡ map Some xs
+replies_more made entry [] [] h = refl
+replies_more made entry [] (x ∷ xs) h = cc
+replies_more made entry (p ∷ ps) [] h = cc
+replies_more made entry (p ∷ ps) (x ∷ xs) h =
     let one : slice_get (map made_seen made) p ≡ Some x = cc in
-    let others : named made ps ≡ map Some xs = cc in
-    ap₂ (λ (a : Option (Numbered (List ℕ))) b. a ∷ b) (made_more made entry p x one) (named_more made entry ps xs others)
+    let others : replies_at made ps ≡ map Some xs = cc in
+    ap₂ (λ (a : Option (Numbered (List ℕ))) b. a ∷ b) (made_more made entry p x one) (replies_more made entry ps xs others)
 
--- where places name the replies xs among those made (`named`), these places, and after them that of one more reply
+-- where places name the replies xs among those made (`replies_at`), these places, and after them that of one more reply
 -- made, name xs and then that reply
-named_push : (made : List Made) (entry : Made) (places : List ℕ) (xs : List (Numbered (List ℕ))) → named made places ≡ map Some xs
-    → named (made ++ entry ∷ []) (places ++ length made ∷ []) ≡ map Some (xs ++ made_seen entry ∷ [])
-named_push made entry places xs h =
+replies_push : (made : List Made) (entry : Made) (places : List ℕ) (xs : List (Numbered (List ℕ))) → replies_at made places ≡ map Some xs
+    → replies_at (made ++ entry ∷ []) (places ++ length made ∷ []) ≡ map Some (xs ++ made_seen entry ∷ [])
+replies_push made entry places xs h =
     map-append (slice_get (map made_seen (made ++ entry ∷ []))) places (length made ∷ [])
-    ∙ ap₂ (λ (a : List (Option (Numbered (List ℕ)))) b. a ++ b ∷ []) (named_more made entry places xs h) (made_last made entry)
+    ∙ ap₂ (λ (a : List (Option (Numbered (List ℕ)))) b. a ++ b ∷ []) (replies_more made entry places xs h) (made_last made entry)
     ∙ sym (map-append Some xs (made_seen entry ∷ []))
 
 -- where a line settles nothing (o isn't `Settled`), appending its settlements `more` leaves the settlements as they are
@@ -164,7 +164,7 @@ module _ (width : ℕ) (r : Report) (up down : List ℕ) (c : Windowed Call) (w 
 
   -- where the downward queue is empty, the world's is
   pub no_down : down ≡ [] → w.wire.down ≡ []
-  no_down e = map_none Some w.wire.down (sym h.down_is ∙ ap (named r.made) e)
+  no_down e = map_none Some w.wire.down (sym h.down_is ∙ ap (replies_at r.made) e)
 
   -- once the upward queue was replaced by `places`, the numbers of the sent requests `us`, if there is a line k (b true), or else
   -- stayed, and the event was counted as idle, report and queues show the world in which the same was done with `us`
@@ -196,7 +196,7 @@ module _ (width : ℕ) (r : Report) (up down : List ℕ) (c : Windowed Call) (w 
   -- once the downward queue was replaced by `places`, which name the replies `ds`, if there is a line k (b true), or else stayed,
   -- and the event was counted as idle, report and queues show the world in which the same was done with `ds`
   down_changed : (k : ℕ) (b : Bool) (places : List ℕ) (ds : List (Numbered (List ℕ))) → b ≡ ltb k (length down) → (length down ≤ k → places ≡ down)
-      → named r.made places ≡ map Some ds → AreOfWorld width (counted b r) up places c (on_wire w (with_down w.wire ds (ltb k (length w.wire.down))))
+      → replies_at r.made places ≡ map Some ds → AreOfWorld width (counted b r) up places c (on_wire w (with_down w.wire ds (ltb k (length w.wire.down))))
   down_changed k true places ds e past is =
       let e1 : ltb k (length w.wire.down) ≡ true = ap (λ n. ltb k n) (sym same_down) ∙ sym e in
       subst (λ v. AreOfWorld width r up places c (on_wire w (with_down w.wire ds v))) (sym e1)
@@ -233,14 +233,14 @@ module _ (width : ℕ) (r : Report) (up down : List ℕ) (c : Windowed Call) (w 
   -- where the place p is at the front of the downward queue, the world has a front reply, and it is the one that the report has
   -- at p; the places behind p name the replies behind it
   pub down_front : (p : ℕ) (rest : List ℕ) → down ≡ p ∷ rest → (x : Numbered (List ℕ)) × (xs : List (Numbered (List ℕ))) × (w.wire.down ≡ x ∷ xs)
-      × (slice_get (map made_seen r.made) p ≡ Some x) × (named r.made rest ≡ map Some xs)
-  down_front p rest e = front w.wire.down (ap (named r.made) (sym e) ∙ h.down_is)
+      × (slice_get (map made_seen r.made) p ≡ Some x) × (replies_at r.made rest ≡ map Some xs)
+  down_front p rest e = front w.wire.down (ap (replies_at r.made) (sym e) ∙ h.down_is)
     where
-      front : (ds : List (Numbered (List ℕ))) → named r.made (p ∷ rest) ≡ map Some ds
+      front : (ds : List (Numbered (List ℕ))) → replies_at r.made (p ∷ rest) ≡ map Some ds
           → (x : Numbered (List ℕ)) × (xs : List (Numbered (List ℕ))) × (ds ≡ x ∷ xs) × (slice_get (map made_seen r.made) p ≡ Some x)
-          × (named r.made rest ≡ map Some xs)
+          × (replies_at r.made rest ≡ map Some xs)
       front [] g = cc
-      front (x ∷ xs) g = let one : slice_get (map made_seen r.made) p ≡ Some x = cc in let others : named r.made rest ≡ map Some xs = cc in (x, xs, refl, one, others)
+      front (x ∷ xs) g = let one : slice_get (map made_seen r.made) p ≡ Some x = cc in let others : replies_at r.made rest ≡ map Some xs = cc in (x, xs, refl, one, others)
 
   -- the reply that the report has at the place at the front of the downward queue is the world's front reply
   pub down_line : (p : ℕ) (rest : List ℕ) (m : Made) (e : down ≡ p ∷ rest) → slice_get r.made p ≡ Some m → made_seen m ≡ (down_front p rest e).0
@@ -315,7 +315,7 @@ module _ (width : ℕ) (r : Report) (up down : List ℕ) (c : Windowed Call) (w 
         };
         up_is = f.4;
         down_is =
-            ap₂ named left.made_is left.queue_is ∙ named_push r.made left.entry down w.wire.down h.down_is
+            ap₂ replies_at left.made_is left.queue_is ∙ replies_push r.made left.entry down w.wire.down h.down_is
             ∙ ap (λ m. map Some (w.wire.down ++ m ∷ [])) entry_is;
         client_is = h.client_is;
         next = h.next;

@@ -24,8 +24,8 @@ use Rattle.gc_world.specs.Directions.{pick, bytes, texts, lines, gone, with_fron
 use Rattle.gc_world.specs.Memory.{IsBusy}
 use Rattle.gc_world.specs.Order.{numbers}
 use Rattle.gc_world.specs.Reports.{made_seen}
-use Rattle.gc_world.specs.Sides.{written, IsPart, IsFlow, Carries, Changes}
-use Rattle.gc_world.specs.Stages.{Seen, after_step, IsSentIn, named, AreOfWorld, AreStreamsOf}
+use Rattle.gc_world.specs.Sides.{text_at, IsPart, IsFlow, Carries, Changes}
+use Rattle.gc_world.specs.Stages.{StageParts, after_step, IsSentIn, replies_at, AreOfWorld, AreStreamsOf}
 use Rattle.gc_world.specs.Staging.{after_event, after_bytes}
 use Rattle.gc_world.specs.Streams.{Streams, up_texts, down_texts, is_begun, remaining}
 use Rattle.gc_world.specs.World.{Request, Numbered, Wire, World, bytes_of, Step, Send, Up_deliver, Up_lose, Up_repeat, Down_deliver, Down_lose, Down_repeat, Restart_client, Restart_instrument, Nothing, without, doubled, idle, up_delivered, with_up, with_down, on_wire, requested, down_delivered, client_restarted, instrument_restarted}
@@ -79,20 +79,20 @@ of_start w (u ∷ us) ds = (refl, refl)
 
 -- where each request of the upward queue q is the one that was sent with its number (`IsSentIn`), the numbers of q name the
 -- requests' texts in the report
-names_up : (r : Report) (q : List (Numbered Request)) → AllByRecursion (IsSentIn r.sent) q → map (written Up r) (numbers q) ≡ map Some (map (λ x. bytes_of x.line) q)
+names_up : (r : Report) (q : List (Numbered Request)) → AllByRecursion (IsSentIn r.sent) q → map (text_at Up r) (numbers q) ≡ map Some (map (λ x. bytes_of x.line) q)
 names_up r [] h = refl
 names_up r (x ∷ xs) h =
     ap₂ (λ (o : Option (List ℕ)) l. o ∷ l) (ap (option_map (λ (q : Sent). q.line.items)) h.0.found ∙ ap Some h.0.line) (names_up r xs h.1)
 
--- where places name the replies of the downward queue q (`named`), they name the texts of these replies in the report
-names_down : (r : Report) (places : List ℕ) (q : List (Numbered (List ℕ))) → named r.made places ≡ map Some q
-    → map (written Down r) places ≡ map Some (map (λ x. x.line) q)
+-- where places name the replies of the downward queue q (`replies_at`), they name the texts of these replies in the report
+names_down : (r : Report) (places : List ℕ) (q : List (Numbered (List ℕ))) → replies_at r.made places ≡ map Some q
+    → map (text_at Down r) places ≡ map Some (map (λ x. x.line) q)
 names_down r [] [] h = refl
 names_down r [] (x ∷ xs) h = cc
 names_down r (p ∷ ps) [] h = cc
 names_down r (p ∷ ps) (x ∷ xs) h =
     let one : slice_get (map made_seen r.made) p ≡ Some x = cc in
-    let others : named r.made ps ≡ map Some xs = cc in
+    let others : replies_at r.made ps ≡ map Some xs = cc in
     let m = get_seen made_seen r.made p x one in
     ap₂ (λ (o : Option (List ℕ)) l. o ∷ l) (ap (option_map (λ (e : Made). e.line.items)) m.1 ∙ ap (λ (y : Numbered (List ℕ)). Some y.line) m.2) (names_down r ps xs others)
 
@@ -105,17 +105,17 @@ counted_is : (b : Bool) (r : Report) → counted b r ≡ record r { idle_events 
 counted_is true r = refl
 counted_is false r = refl
 
-module _ (width : ℕ) (s : Seen) (v : Streams (ById Call) State) (h : AreStreamsOf width s v) where
+module _ (width : ℕ) (s : StageParts) (v : Streams (ById Call) State) (h : AreStreamsOf width s v) where
   -- the streams with this world, of whose front lines as much has gone as before
   abbrev with_world : World (ById Call) State → Streams (ById Call) State
   with_world w = record { world = w; up_gone = v.up_gone; down_gone = v.down_gone }
 
   -- the stage with this upward side, and n idle events
-  abbrev with_up_side : Side → (n : ℕ) → Seen
+  abbrev with_up_side : Side → (n : ℕ) → StageParts
   with_up_side x n = record s { report = record s.report { idle_events = n }; up = x }
 
   -- the stage with this downward side, and n idle events
-  abbrev with_down_side : Side → (n : ℕ) → Seen
+  abbrev with_down_side : Side → (n : ℕ) → StageParts
   with_down_side x n = record s { report = record s.report { idle_events = n }; down = x }
 
   -- the count of idle events after an event: as it was if the event was possible (`possible`), else one more
@@ -129,7 +129,7 @@ module _ (width : ℕ) (s : Seen) (v : Streams (ById Call) State) (h : AreStream
 
   -- each side carries the texts of its direction
   pub carries : (d : Direction) → Carries d s.report (pick d s.up s.down) (texts d v.world.wire)
-  carries Up = record { names = ap (map (written Up s.report)) h.lines.up_is ∙ names_up s.report v.world.wire.up h.lines.requests; flow = h.up_flow }
+  carries Up = record { names = ap (map (text_at Up s.report)) h.lines.up_is ∙ names_up s.report v.world.wire.up h.lines.requests; flow = h.up_flow }
   carries Down = record { names = names_down s.report s.down.queue v.world.wire.down h.lines.down_is; flow = h.down_flow }
 
   -- not all bytes of the front line of a direction have gone; and where no line is in flight, none has
@@ -225,7 +225,7 @@ module _ (width : ℕ) (s : Seen) (v : Streams (ById Call) State) (h : AreStream
   -- a loss or a repeat of line k, possible only before its first byte has gone, shows the streams after that step. `old` is
   -- the side before it and `side` after it, `g` is how many bytes of its front line have gone, and `put` sets a side and a
   -- count of idle events in the stage. The last premise is the case in which line k hasn't begun to go
-  changes : (old : Side) (g : ℕ) (put : Side → ℕ → Seen) (k : ℕ) (queue : List ℕ) (step : Step) (side : Side) (count : ℕ) → old.gone ≡ g
+  changes : (old : Side) (g : ℕ) (put : Side → ℕ → StageParts) (k : ℕ) (queue : List ℕ) (step : Step) (side : Side) (count : ℕ) → old.gone ≡ g
       → put old (idle_after false) ≡ record s { report = counted false s.report } → Changes k queue old side s.report.idle_events count
       → (is_begun k old.gone ≡ false → (b : Bool) → b ≡ ltb k (length old.queue) → AreStreamsOf width (put (record old { queue = queue }) (idle_after b)) (stepped step))
       → AreStreamsOf width (put side count) (stepped (cond (is_begun k g) Nothing step))

@@ -8,7 +8,7 @@ use Rattle.gc_client.specs.Rule.{ById, Windowed, fits, heard}
 use Rattle.gc_instrument.specs.State.{State}
 use Rattle.gc_world.specs.declared.report.Made.{Made}
 use Rattle.gc_world.specs.declared.report.Report.{Report}
-use Rattle.gc_world.specs.Memory.{IsBusy, IsStray, IsNoRepeat}
+use Rattle.gc_world.specs.Memory.{IsBusy, FrontIsStray, IsNoRepeat}
 use Rattle.gc_world.specs.Order.{numbers}
 use Rattle.gc_world.specs.Stages.{AreOfWorld}
 use Rattle.gc_world.specs.Streams.{is_begun}
@@ -45,11 +45,11 @@ module _ (width : ℕ) (r : Report) (up down : List ℕ) (c : Windowed Call) (w 
   pub busy : IsBusy w.wire.up w.wire.down → IsBusy up down
   busy b = λ quiet. b (no_up width r up down c w h quiet.0, no_down width r up down c w h quiet.1)
 
-  -- where the world's front reply is a stray (`IsStray`), no request of the stage's client waits for a reply with these bytes:
+  -- where the world's front reply is a stray (`FrontIsStray`), no request of the stage's client waits for a reply with these bytes:
   -- those of reply m, which the report has at place p, the front of the stage's downward queue
   pub stray : (p : ℕ) (rest : List ℕ) (m : Made) (bytes : List ℕ) → down ≡ p ∷ rest → slice_get r.made p ≡ Some m → bytes ≡ m.line.items
-      → IsStray w.client w.wire.down → fits c.ids (heard bytes) ≡ false
+      → FrontIsStray w.client w.wire.down → fits c.ids (heard bytes) ≡ false
   stray p rest m bytes e found same t =
       let f = down_front width r up down c w h p rest e in
       ap₂ (λ (k : Windowed Call) (l : List ℕ). fits k.ids (heard l)) h.client_is
-      (same ∙ ap (λ (x : Numbered (List ℕ)). x.line) (down_line width r up down c w h p rest m e found)) ∙ (subst (λ q. IsStray w.client q) f.2 t).0
+      (same ∙ ap (λ (x : Numbered (List ℕ)). x.line) (down_line width r up down c w h p rest m e found)) ∙ (subst (λ q. FrontIsStray w.client q) f.2 t).0

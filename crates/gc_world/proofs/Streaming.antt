@@ -7,7 +7,7 @@ use Rattle.gc_lines.proofs.Lists.{all_append}
 use Rattle.gc_lines.specs.Assembler.{Kept, StandsFor}
 use Rattle.gc_lines.specs.Lines.{IsPlain, with_end}
 use Rattle.gc_world.specs.Sides.{IsFlow, StandsForPart}
-use Rattle.gc_world.specs.Streams.{Cut, one_more, cut, gone_of, is_begun, remaining}
+use Rattle.gc_world.specs.Streams.{Cut, one_line_more, cut, gone_of, is_begun, remaining}
 use Rattle.gc_world.specs.World.{without, doubled}
 use Rattle.gc_world.proofs.Pieces.{end_length}
 use Rattle.gc_world.proofs.Rows.{each_without, each_doubled}
@@ -80,4 +80,4 @@ flow_more kept after gone n line (t ∷ ts) front lt s h =
 pub cut_short : (lines : List (List ℕ)) (gone n : ℕ) → n < remaining gone lines → cut lines (gone + n) ≡ record { lines = 0; gone = gone + n }
 cut_short [] gone n lt = absurd (omega (arith, lt))
 cut_short (line ∷ lines) gone n lt =
-    ap (λ b. cond {A = Cut} b (record { lines = 0; gone = gone + n }) (one_more (cut lines (gone + n - length line)))) (lt-ltb (gone + n) (length line) (omega (arith, lt)))
+    ap (λ b. cond {A = Cut} b (record { lines = 0; gone = gone + n }) (one_line_more (cut lines (gone + n - length line)))) (lt-ltb (gone + n) (length line) (omega (arith, lt)))

@@ -10,7 +10,7 @@ use Rattle.gc_world.specs.declared.event.Event.{Event}
 use Rattle.gc_world.specs.declared.report.Report.{Report}
 use Rattle.gc_world.specs.Reports.{IsReport, StandsForGone}
 use Rattle.gc_world.specs.Clients.{by_ids, ids_open, streams_by_ids, ends, streamed, played}
-use Rattle.gc_world.specs.Stages.{Seen, AreOfWorld, AreStreamsOf}
+use Rattle.gc_world.specs.Stages.{StageParts, AreOfWorld, AreStreamsOf}
 use Rattle.gc_world.specs.Streams.{untouched, gone_of, up_lines, down_lines}
 use Rattle.gc_world.specs.World.{World, Ends}
 use Rattle.gc_world.proofs.Counts.{IsWithin, within_all}
@@ -46,7 +46,7 @@ with_assemblers width r up down c w a b h =
 -- at the end of the loop, where i is at least the count of the events: if s shows the streams after the first i of them, and r is
 -- the report of s with the assemblers of its two sides, then r with the queues and the client of s is that of the whole run
 -- (`AreOfWorld`)
-pub at_end : (width : ℕ) (opening : State) (events : List Event) (s : Seen) (i : ℕ) (r : Report) → length events ≤ i
+pub at_end : (width : ℕ) (opening : State) (events : List Event) (s : StageParts) (i : ℕ) (r : Report) → length events ≤ i
     → AreStreamsOf width s (streamed width opening (take i events)) → r ≡ record s.report { up = s.up.assembler; down = s.down.assembler }
     → AreOfWorld width r s.up.queue s.down.queue s.client (played width opening events)
 at_end width opening events s i r all h is =
@@ -55,7 +55,7 @@ at_end width opening events s i r all h is =
     (with_assemblers width s.report s.up.queue s.down.queue s.client (played width opening events) s.up.assembler s.down.assembler shows.lines)
 
 -- the same of the two assemblers in r: they stand for the bytes of the front lines that have gone over
-pub stand_at_end : (width : ℕ) (opening : State) (events : List Event) (s : Seen) (i : ℕ) (r : Report) → length events ≤ i
+pub stand_at_end : (width : ℕ) (opening : State) (events : List Event) (s : StageParts) (i : ℕ) (r : Report) → length events ≤ i
     → AreStreamsOf width s (streamed width opening (take i events)) → r ≡ record s.report { up = s.up.assembler; down = s.down.assembler }
     → StandsForGone Up width opening events r.up × StandsForGone Down width opening events r.down
 stand_at_end width opening events s i r all h is =

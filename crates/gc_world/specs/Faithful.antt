@@ -65,9 +65,9 @@ has_number n [] = false
 has_number n (x ∷ xs) = nat_eq x n || has_number n xs
 
 -- the state in which the instrument goes on: restarted if there was a restart (`starts`), else unchanged
-abbrev pub begun : {State : Type 0} → (State → State) → (starts : Bool) → State → State
-begun restarted false state = state
-begun restarted true state = restarted state
+abbrev pub restarted_if : {State : Type 0} → (State → State) → (starts : Bool) → State → State
+restarted_if restarted false state = state
+restarted_if restarted true state = restarted state
 
 -- `before j` is the state before execution j: at first the restarted opening state, then the one that execution j - 1 leaves,
 -- restarted where `starts` has the number j
@@ -75,7 +75,7 @@ pub record AreBefore (opening : State) (r : Report) (before : ℕ → State) : T
   pub first : before 0 ≡ restarted opening
   pub next :
       (j n : ℕ) (request : Sent) → slice_get r.executed j ≡ Some n → slice_get r.sent n ≡ Some request →
-      before (j + 1) ≡ begun restarted (has_number (j + 1) r.starts) (exec (before j) request.call).state
+      before (j + 1) ≡ restarted_if restarted (has_number (j + 1) r.starts) (exec (before j) request.call).state
 
 -- an entry of `made` for request n is the reply of execution j, the one execution of request n. The request's line is that of
 -- its call with some id from 0 to 7. The entry's line is the reply line, with that id, of what the call gives when it is

@@ -51,8 +51,8 @@ pub record IsNextFor (w : Wire State) (n : ℕ) (line : List ℕ) : Type 0 where
   pub unsettled : length w.settled ≤ n
 
 -- the settlement with this outcome of a request that was sent
-abbrev pub ended : Outcome → Sent → Settlement Call
-ended outcome r = record { target = r.target; call = r.call; outcome = outcome }
+abbrev pub settled_as : Outcome → Sent → Settlement Call
+settled_as outcome r = record { target = r.target; call = r.call; outcome = outcome }
 
 -- the requests from number m through number n - 1
 abbrev pub between : (m n : ℕ) → List Sent → List Sent
@@ -63,7 +63,7 @@ between m n sent = take (n - m) (drop m sent)
 pub record IsSettledAs (before after : Wire State) (n : ℕ) (outcome : Outcome) : Type 0 where
   pub request : Sent
   pub found : slice_get before.sent n ≡ Some request
-  pub settled : after.settled ≡ before.settled ++ map (ended Lost) (between (length before.settled) n before.sent) ++ ended outcome request ∷ []
+  pub settled : after.settled ≡ before.settled ++ map (settled_as Lost) (between (length before.settled) n before.sent) ++ settled_as outcome request ∷ []
 
 -- the event is `DownDeliver`, or hands over as many bytes downward as are still to go of the front reply, at least one
 abbrev pub IsDelivery : Streams (ById Call) State → Event → Type 0

@@ -70,6 +70,6 @@ RepliesAreFine =
 -- with a window of at most seven, the executions that a list of events leads to are as `IsExecution` has them: each reply that
 -- was made is that of an execution, in the state before that execution, each execution's reply was made, and requests are
 -- executed in order, none twice
-abbrev pub RecordsExecutions : Type 0
-RecordsExecutions =
+abbrev pub ExecutionsAreRecorded : Type 0
+ExecutionsAreRecorded =
     (width : ℕ) → width ≤ WINDOW → (opening : State) (events : List Event) → IsExecution ends opening (left_by_ids width opening events)

@@ -20,8 +20,8 @@ AreStrays client (suc k) [] = ⊤
 AreStrays client (suc k) (x ∷ rest) = (fits client (heard x.line) ≡ false) × AreStrays client k rest
 
 -- no reply is in the downward queue, or the one in front is a stray
-abbrev pub IsStray : ById Call → List (Numbered (List ℕ)) → Type 0
-IsStray client down = AreStrays client (suc zero) down
+abbrev pub FrontIsStray : ById Call → List (Numbered (List ℕ)) → Type 0
+FrontIsStray client down = AreStrays client (suc zero) down
 
 -- a repeat of line k of a queue isn't possible, where `gone` bytes of the front line have gone: there is no line k, or its first byte
 -- has gone
@@ -36,7 +36,7 @@ TakesNoMemory width v UpDeliver = v.world.wire.up ≡ []
 TakesNoMemory width v (UpBytes n) = (cut (up_lines v.world.wire) (v.up_gone + n)).lines ≡ 0
 TakesNoMemory width v (UpLose k) = ⊤
 TakesNoMemory width v (UpRepeat k) = IsNoRepeat k v.up_gone v.world.wire.up
-TakesNoMemory width v DownDeliver = IsStray v.world.client v.world.wire.down
+TakesNoMemory width v DownDeliver = FrontIsStray v.world.client v.world.wire.down
 TakesNoMemory width v (DownBytes n) = AreStrays v.world.client (cut (down_lines v.world.wire) (v.down_gone + n)).lines v.world.wire.down
 TakesNoMemory width v (DownLose k) = ⊤
 TakesNoMemory width v (DownRepeat k) = IsNoRepeat k v.down_gone v.world.wire.down
@@ -45,6 +45,6 @@ TakesNoMemory width v RestartClient = IsBusy v.world.wire.up v.world.wire.down
 TakesNoMemory width v RestartInstrument = IsBusy v.world.wire.up v.world.wire.down
 
 -- none of these events takes memory, on the streams that those before it leave
-abbrev pub TakeNoMemory : ℕ → State → List Event → Type 0
-TakeNoMemory width opening events =
+abbrev pub NoneTakesMemory : ℕ → State → List Event → Type 0
+NoneTakesMemory width opening events =
     (i : ℕ) (event : Event) → slice_get events i ≡ Some event → TakesNoMemory width (streamed width opening (take i events)) event

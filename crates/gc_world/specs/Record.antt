@@ -4,7 +4,8 @@ use Rattle.std.specs.Prelude.{◌≡◌, ℕ, ◌+◌, ◌<◌, ◌≤◌, List,
 use Rattle.gc_catalogue.specs.Texts.{request_line}
 use Rattle.gc_client.specs.declared.window.TheConstants.{IDS}
 use Rattle.gc_client.specs.Rule.{Settlement, Answered}
-use Rattle.gc_world.specs.Faithful.{has_number, begun}
+use Rattle.gc_instrument.specs.Replying.{Handed}
+use Rattle.gc_world.specs.Faithful.{has_number, restarted_if}
 use Rattle.gc_world.specs.World.{Sent, Numbered, Ends, Wire}
 use Rattle.gc_world.specs.Worlds
 
@@ -47,23 +48,25 @@ module _ {State : Type 0} (ends : Ends State) where
     pub line : request.line ≡ request_line (Some id) request.call
     pub executed : (ends.handed state id request.call).executed ≡ true
 
+  -- what the instrument did with a request that is executed
+  abbrev pub handed_in : {sent : List Sent} {n : ℕ} {state : State} → IsExecutedIn sent n state → Handed State
+  handed_in {sent} {n} {state} d = ends.handed state d.id d.request.call
+
   -- execution j is that of request n, in the state `before j`; and `before (j + 1)` is the state that comes of it, restarted where
   -- `starts` has the number j + 1
   pub record IsExecuted (w : Wire State) (before : ℕ → State) (j n : ℕ) : Type 0 where
     pub is_executed : IsExecutedIn w.sent n (before j)
-    pub next : before (j + 1)
-        ≡ begun ends.restarted (has_number (j + 1) w.starts) (ends.handed (before j) is_executed.id is_executed.request.call).state
+    pub next : before (j + 1) ≡ restarted_if ends.restarted (has_number (j + 1) w.starts) (handed_in is_executed).state
     -- its reply is among those that were made
     pub place : ℕ
-    pub made : slice_get w.made place
-        ≡ Some (record { number = n; line = (ends.handed (before j) is_executed.id is_executed.request.call).reply })
+    pub made : slice_get w.made place ≡ Some (record { number = n; line = (handed_in is_executed).reply })
 
   -- this entry, a reply that was made, is the reply of execution j, which is that of the entry's request
   pub record IsReplyAt (w : Wire State) (before : ℕ → State) (entry : Numbered (List ℕ)) : Type 0 where
     pub j : ℕ
     pub executed : slice_get w.executed j ≡ Some entry.number
     pub execution : IsExecuted w before j entry.number
-    pub line : entry.line ≡ (ends.handed (before j) execution.is_executed.id execution.is_executed.request.call).reply
+    pub line : entry.line ≡ (handed_in execution.is_executed).reply
 
   -- the executions of a run: `before j` is the state before execution j, at first the restarted opening state, and the wire's
   -- state is the one before the execution that would come next; each reply that was made is that of an execution

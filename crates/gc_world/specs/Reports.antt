@@ -41,14 +41,6 @@ pub record IsNoLongerThan (n : ℕ) (r : Report) : Type 0 where
 
 -- What a run of these events leaves, from the restarted opening state on, with a window of this width.
 
--- the report is that of the run by ids
-abbrev pub IsReportOf : (width : ℕ) → (opening : State) → List Event → Report → Type 0
-IsReportOf width opening events r = IsReport r (played width opening events).wire
-
--- the client is that of the run by ids
-abbrev pub IsClientOf : (width : ℕ) → (opening : State) → List Event → Windowed Call → Type 0
-IsClientOf width opening events c = c ≡ record { width = width; ids = (played width opening events).client }
-
 -- the assembler stands for the bytes of the front line of this direction that have gone over
 abbrev pub StandsForGone : Direction → (width : ℕ) → (opening : State) → List Event → Kept → Type 0
 StandsForGone d width opening events kept = let v = streamed width opening events in StandsFor kept (gone_of (gone d v) (lines d v.world.wire))
@@ -56,9 +48,9 @@ StandsForGone d width opening events kept = let v = streamed width opening event
 -- the report and the client are what playing these events gives. Both are those of the run by ids, and each of the two assemblers
 -- in the report stands for what has gone over of the front line of its direction. The report is faithful, by it each request acts
 -- at most once, and none of its lists is longer than the list of events
-pub record IsPlayed (width : ℕ) (opening : State) (events : List Event) (r : Report) (c : Windowed Call) : Type 0 where
-  pub report : IsReportOf width opening events r
-  pub client : IsClientOf width opening events c
+pub record IsPlayOf (width : ℕ) (opening : State) (events : List Event) (r : Report) (c : Windowed Call) : Type 0 where
+  pub report : IsReport r (played width opening events).wire
+  pub client : c ≡ record { width = width; ids = (played width opening events).client }
   pub up : StandsForGone Up width opening events r.up
   pub down : StandsForGone Down width opening events r.down
   pub faithful : Faithful width opening events r

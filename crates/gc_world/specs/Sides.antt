@@ -4,10 +4,7 @@ use Rattle.std.specs.Prelude.{◌≡◌, ℕ, ◌+◌, ◌<◌, true, false, Lis
 use Rattle.std.specs.List.{AllByRecursion}
 use Rattle.std.specs.Option.{option_map}
 use Rattle.gc_lines.specs.Assembler.{Kept, StandsFor}
-use Rattle.gc_lines.specs.Lent.{lent_seen}
 use Rattle.gc_lines.specs.Lines.{IsPlain, with_end}
-use Rattle.gc_lines.specs.declared.frame.Frame.{Frame}
-use Rattle.gc_lines.specs.declared.frame.Lent.{Lent}
 use Rattle.gc_world.specs.declared.direction.Direction.{Direction}
 use Rattle.gc_world.specs.declared.direction.Direction.TheVariants.{Up, Down}
 use Rattle.gc_world.specs.declared.report.Made.{Made}
@@ -18,9 +15,9 @@ use Rattle.gc_world.specs.Streams.{gone_of, is_begun, remaining}
 
 -- the text of the line at this place of a direction's list in the report, if the list is so long: `sent` upward, and `made`
 -- downward
-abbrev pub written : Direction → Report → ℕ → Option (List ℕ)
-written Up r place = option_map (λ (q : Sent). q.line.items) (slice_get r.sent place)
-written Down r place = option_map (λ (m : Made). m.line.items) (slice_get r.made place)
+abbrev pub text_at : Direction → Report → ℕ → Option (List ℕ)
+text_at Up r place = option_map (λ (q : Sent). q.line.items) (slice_get r.sent place)
+text_at Down r place = option_map (λ (m : Made). m.line.items) (slice_get r.made place)
 
 -- `gone` counts bytes of the front line, never all of them, and is 0 where no line is in flight
 abbrev pub IsPart : ℕ → List (List ℕ) → Type 0
@@ -36,7 +33,7 @@ pub record IsFlow (kept : Kept) (gone : ℕ) (texts : List (List ℕ)) : Type 0 
 
 -- the queue of a side names these texts in the report, in order, and the side's assembler stands for what has gone of the first
 pub record Carries (d : Direction) (r : Report) (s : Side) (texts : List (List ℕ)) : Type 0 where
-  pub names : map (written d r) s.queue ≡ map Some texts
+  pub names : map (text_at d r) s.queue ≡ map Some texts
   pub flow : IsFlow s.assembler s.gone texts
 
 -- the side carries some texts in this direction, and more than n bytes of their front line are still to go
@@ -50,10 +47,6 @@ KeepsFlow d r old new = (texts : List (List ℕ)) → Carries d r old texts → 
 -- the assembler stands for the first `gone` bytes of this line with its CR LF
 abbrev pub StandsForPart : Kept → (gone : ℕ) → (line : List ℕ) → Type 0
 StandsForPart kept gone line = StandsFor kept (take gone (with_end line))
-
--- the lent frame is a line with these bytes
-abbrev pub IsLine : Lent → List ℕ → Type 0
-IsLine lent line = lent_seen lent ≡ Frame.Line (record { items = line })
 
 -- what a loss or a repeat of line k does to a side, and to the count of idle events, which changes from `before` to `after`. If
 -- a byte of line k has gone, the side is as it was, and the count grows by one. Else this queue takes the place of the old one,

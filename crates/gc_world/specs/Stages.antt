@@ -36,8 +36,8 @@ pub record IsSentIn (sent : List Sent) (x : Numbered Request) : Type 0 where
   pub fits : IsFitting x.line.call
 
 -- the replies of the report at these places, in order; none at a place past the end
-abbrev pub named : List Made → List ℕ → List (Option (Numbered (List ℕ)))
-named made places = map (slice_get (map made_seen made)) places
+abbrev pub replies_at : List Made → List ℕ → List (Option (Numbered (List ℕ)))
+replies_at made places = map (slice_get (map made_seen made)) places
 
 -- the report, the queues and the client are those of this world, for a client with a window of this width: the queue upward
 -- has the numbers of the requests in flight, and the queue downward names the replies. Each request in flight is the one that was
@@ -46,25 +46,25 @@ named made places = map (slice_get (map made_seen made)) places
 pub record AreOfWorld (width : ℕ) (report : Report) (up down : List ℕ) (client : Windowed Call) (w : World (ById Call) State) : Type 0 where
   pub reports : IsReport report w.wire
   pub up_is : up ≡ numbers w.wire.up
-  pub down_is : named report.made down ≡ map Some w.wire.down
+  pub down_is : replies_at report.made down ≡ map Some w.wire.down
   pub client_is : client ≡ record { width = width; ids = w.client }
   pub next : w.client.next < IDS
   pub requests : AllByRecursion (IsSentIn report.sent) w.wire.up
   pub calls : AllByRecursion (λ (q : Sent). IsFitting q.call) report.sent
 
 -- the parts of a stage that show the streams
-pub record Seen : Type 0 where
+pub record StageParts : Type 0 where
   pub report : Report
   pub up : Side
   pub down : Side
   pub client : Windowed Call
 
 -- the report, the two sides and the client of a stage
-abbrev pub seen : {W : Type 0} → Stage W → Seen
-seen s = record { report = s.report; up = s.up; down = s.down; client = s.client }
+abbrev pub stage_parts : {W : Type 0} → Stage W → StageParts
+stage_parts s = record { report = s.report; up = s.up; down = s.down; client = s.client }
 
 -- the report, the two sides and the client are those of these streams
-pub record AreStreamsOf (width : ℕ) (s : Seen) (v : Streams (ById Call) State) : Type 0 where
+pub record AreStreamsOf (width : ℕ) (s : StageParts) (v : Streams (ById Call) State) : Type 0 where
   pub lines : AreOfWorld width s.report s.up.queue s.down.queue s.client v.world
   pub up_is : s.up.gone ≡ v.up_gone
   pub down_is : s.down.gone ≡ v.down_gone
@@ -73,7 +73,7 @@ pub record AreStreamsOf (width : ℕ) (s : Seen) (v : Streams (ById Call) State)
 
 -- a stage whose client's window is this wide shows these streams
 abbrev pub Shows : {W : Type 0} → ℕ → Stage W → Streams (ById Call) State → Type 0
-Shows width s v = AreStreamsOf width (seen s) v
+Shows width s v = AreStreamsOf width (stage_parts s) v
 
 -- the kind of this crate's stages: their runs are on the simulated instrument
 abbrev pub staging : {W : Type 0} → Staging (Stage W) State

@@ -36,8 +36,8 @@ pub record Staging (Stage State : Type 0) : Type 1 where
 
 module _ {Stage State : Type 0} (staging : Staging Stage State) where
   -- the stage shows some streams
-  abbrev pub IsShown : Stage → Type 0
-  IsShown s = (width : ℕ) × (v : Streams (ById Call) State) × staging.shows width s v
+  abbrev pub ShowsSome : Stage → Type 0
+  ShowsSome s = (width : ℕ) × (v : Streams (ById Call) State) × staging.shows width s v
 
   -- whatever streams the stage s shows, the stage t, whose client's window is as wide, shows the streams after this event
   abbrev pub Follows : Stage → Event → Stage → Type 0

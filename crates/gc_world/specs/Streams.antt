@@ -54,22 +54,22 @@ pub record Cut : Type 0 where
   pub gone : ℕ
 
 -- a cut with one more completed line in front
-abbrev pub one_more : Cut → Cut
-one_more c = record { lines = suc c.lines; gone = c.gone }
+abbrev pub one_line_more : Cut → Cut
+one_line_more c = record { lines = suc c.lines; gone = c.gone }
 
 -- how many of these lines their first n bytes complete, and how many bytes of the next one those reach: 0 if there is no next one
 abbrev pub cut : List (List ℕ) → ℕ → Cut
 cut [] n = record { lines = 0; gone = 0 }
-cut (line ∷ lines) n = if nat_lt n (length line) then record { lines = 0; gone = n } else one_more (cut lines (n - length line))
+cut (line ∷ lines) n = if nat_lt n (length line) then record { lines = 0; gone = n } else one_line_more (cut lines (n - length line))
 
 -- the steps of the world that an event makes, and how many bytes of each front line have gone then
-pub record Course : Type 0 where
+pub record Effect : Type 0 where
   pub steps : List Step
   pub up_gone : ℕ
   pub down_gone : ℕ
 
--- the course of an event that is this one step, after which `up` and `down` bytes of the two front lines have gone
-abbrev pub of_one_step : Step → (up down : ℕ) → Course
+-- the effect of an event that is this one step, after which `up` and `down` bytes of the two front lines have gone
+abbrev pub of_one_step : Step → (up down : ℕ) → Effect
 of_one_step step up down = record { steps = step ∷ []; up_gone = up; down_gone = down }
 
 -- whether the first byte of line k has gone, where `gone` bytes of the front line have gone: k is 0, and `gone` isn't
@@ -96,32 +96,32 @@ left_gone [] gone n = gone
 left_gone (line ∷ lines) gone zero = gone
 left_gone (line ∷ lines) gone (suc n) = (cut (line ∷ lines) (gone + suc n)).gone
 
--- the course of an event, with the lines `ups` in flight upward, `up` bytes of whose front line have gone, and the lines `downs`
+-- the effect of an event, with the lines `ups` in flight upward, `up` bytes of whose front line have gone, and the lines `downs`
 -- downward, `down` bytes of whose front line have gone
-abbrev pub course : (ups downs : List (List ℕ)) (up down : ℕ) → Event → Course
-course ups downs up down (event.Send target call deadline) = of_one_step (Send target call deadline) up down
-course ups downs up down event.UpDeliver = of_one_step Up_deliver 0 down
-course ups downs up down (event.UpBytes n) = record { steps = passed Up_deliver ups up n; up_gone = left_gone ups up n; down_gone = down }
-course ups downs up down (event.UpLose k) = of_one_step (at_line k up (Up_lose k)) up down
-course ups downs up down (event.UpRepeat k) = of_one_step (at_line k up (Up_repeat k)) up down
-course ups downs up down event.DownDeliver = of_one_step Down_deliver up 0
-course ups downs up down (event.DownBytes n) = record { steps = passed Down_deliver downs down n; up_gone = up; down_gone = left_gone downs down n }
-course ups downs up down (event.DownLose k) = of_one_step (at_line k down (Down_lose k)) up down
-course ups downs up down (event.DownRepeat k) = of_one_step (at_line k down (Down_repeat k)) up down
-course ups downs up down (event.Expire now) = of_one_step (Expire now) up down
-course ups downs up down event.RestartClient = of_one_step Restart_client up down
-course ups downs up down event.RestartInstrument = of_one_step Restart_instrument up down
+abbrev pub effect : (ups downs : List (List ℕ)) (up down : ℕ) → Event → Effect
+effect ups downs up down (event.Send target call deadline) = of_one_step (Send target call deadline) up down
+effect ups downs up down event.UpDeliver = of_one_step Up_deliver 0 down
+effect ups downs up down (event.UpBytes n) = record { steps = passed Up_deliver ups up n; up_gone = left_gone ups up n; down_gone = down }
+effect ups downs up down (event.UpLose k) = of_one_step (at_line k up (Up_lose k)) up down
+effect ups downs up down (event.UpRepeat k) = of_one_step (at_line k up (Up_repeat k)) up down
+effect ups downs up down event.DownDeliver = of_one_step Down_deliver up 0
+effect ups downs up down (event.DownBytes n) = record { steps = passed Down_deliver downs down n; up_gone = up; down_gone = left_gone downs down n }
+effect ups downs up down (event.DownLose k) = of_one_step (at_line k down (Down_lose k)) up down
+effect ups downs up down (event.DownRepeat k) = of_one_step (at_line k down (Down_repeat k)) up down
+effect ups downs up down (event.Expire now) = of_one_step (Expire now) up down
+effect ups downs up down event.RestartClient = of_one_step Restart_client up down
+effect ups downs up down event.RestartInstrument = of_one_step Restart_instrument up down
 
 -- Runs.
 
 module _ {Client State : Type 0} where
-  -- the course of an event on these streams
-  abbrev pub course_on : Streams Client State → Event → Course
-  course_on v e = course (up_lines v.world.wire) (down_lines v.world.wire) v.up_gone v.down_gone e
+  -- the effect of an event on these streams
+  abbrev pub effect_on : Streams Client State → Event → Effect
+  effect_on v e = effect (up_lines v.world.wire) (down_lines v.world.wire) v.up_gone v.down_gone e
 
   -- the streams after an event
   abbrev pub flows : Ends State → Rule Client → Streams Client State → Event → Streams Client State
-  flows ends rule v e = let c = course_on v e in record { world = run ends rule c.steps v.world; up_gone = c.up_gone; down_gone = c.down_gone }
+  flows ends rule v e = let c = effect_on v e in record { world = run ends rule c.steps v.world; up_gone = c.up_gone; down_gone = c.down_gone }
 
   -- the streams after all events of a list, in order
   abbrev pub flow : Ends State → Rule Client → List Event → Streams Client State → Streams Client State

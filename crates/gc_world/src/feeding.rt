@@ -3,8 +3,9 @@
 
 ghost use Rattle.std.specs.Prelude.{◌≡◌, ◌+◌, ◌<◌, ◌≤◌, [], length};
 ghost use Rattle.gc_lines.specs.Assembler.{StandsFor};
+ghost use Rattle.gc_lines.specs.Lent.{IsLentLine};
 ghost use Rattle.gc_lines.specs.Lines.{IsPlain};
-ghost use Rattle.gc_world.specs.Sides.{IsLine, StandsForPart};
+ghost use Rattle.gc_world.specs.Sides.{StandsForPart};
 
 use gc_lines::{Assembler, Lent, Line};
 
@@ -42,7 +43,7 @@ pub fn feed_rest<'a>(
     requires within { length line.now ≤ 512 }
     requires some { gone < length line.now + 2 }
     requires stands { StandsForPart assembler.old gone line.now }
-    ensures line { IsLine result line.now }
+    ensures line { IsLentLine result line.now }
     ensures start { StandsFor assembler.new [] }
 {
     // No byte of the line has gone, so the line is lent as it is.

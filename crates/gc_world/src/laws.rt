@@ -7,7 +7,7 @@
 
 ghost use Rattle.gc_world.specs.Clients.{ends};
 ghost use Rattle.gc_world.specs.FirstReply.{BooksFirstReply, FirstReplyIsLate, IsNeverInTimeAndTooLate, IsInTimeOrTooLate, NoSecondReply};
-ghost use Rattle.gc_world.specs.Laws.{KeepsOrder, KeepsRecent, RunsAgree, SettlesInOrder, BooksItsOwn, RepliesAreFine, RecordsExecutions};
+ghost use Rattle.gc_world.specs.Laws.{KeepsOrder, KeepsRecent, RunsAgree, SettlesInOrder, BooksItsOwn, RepliesAreFine, ExecutionsAreRecorded};
 ghost use Rattle.gc_world.specs.declared.direction.Direction.{Direction};
 ghost use Rattle.gc_world.specs.Pieces.{BytesAdd, BytesEnd};
 ghost use Rattle.gc_world.specs.Width.{EightDiffers, EightSettlesNine, NumbersSettleOne};
@@ -45,7 +45,7 @@ pub fn answers_are_booked()
 /// Each reply that the instrument made answers a request that it executed, each request that it executed has its reply among
 /// those made, and it executes each request at most once, in order.
 pub fn executions_are_recorded()
-    ensures { RecordsExecutions }
+    ensures { ExecutionsAreRecorded }
 {}
 
 /// When the last byte of a reply to an unsettled request is delivered, the unsettled requests before that request are settled as

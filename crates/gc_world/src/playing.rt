@@ -1,8 +1,8 @@
 //! Playing a list of events on a real client and a real instrument.
 
 ghost use Rattle.std.specs.Prelude.{◌≤◌, IfOk, IsOk};
-ghost use Rattle.gc_world.specs.Memory.{TakeNoMemory};
-ghost use Rattle.gc_world.specs.Reports.{IsPlayed};
+ghost use Rattle.gc_world.specs.Memory.{NoneTakesMemory};
+ghost use Rattle.gc_world.specs.Reports.{IsPlayOf};
 
 use crate::event::Event;
 use crate::report::Report;
@@ -46,8 +46,8 @@ pub fn play_width<W: Window<Asked = Call>>(
 ) -> Result<(Report, Client<W>), AllocError>
     requires least { 1 ≤ width }
     requires most { width ≤ WINDOW }
-    ensures played { IfOk result (λ done. IsPlayed width instrument events.now done.0 done.1) }
-    ensures spare { TakeNoMemory width instrument events.now → IsOk result }
+    ensures played { IfOk result (λ done. IsPlayOf width instrument events.now done.0 done.1) }
+    ensures spare { NoneTakesMemory width instrument events.now → IsOk result }
 {
     let mut stage = Stage::new(alloc, instrument, window, width, count_sends(events));
     for event in events {
@@ -71,8 +71,8 @@ pub fn play<W: Window<Asked = Call>>(
     window: W,
     events: &[Event],
 ) -> Result<(Report, Client<W>), AllocError>
-    ensures played { IfOk result (λ done. IsPlayed WINDOW instrument events.now done.0 done.1) }
-    ensures spare { TakeNoMemory WINDOW instrument events.now → IsOk result }
+    ensures played { IfOk result (λ done. IsPlayOf WINDOW instrument events.now done.0 done.1) }
+    ensures spare { NoneTakesMemory WINDOW instrument events.now → IsOk result }
 {
     play_width(alloc, instrument, window, WINDOW as u8, events)
 }

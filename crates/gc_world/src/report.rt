@@ -1,7 +1,7 @@
 //! The report of a list of events: what was sent, executed, made and settled.
 
 ghost use Rattle.std.specs.Prelude.{◌≡◌, ℕ, List, Some};
-ghost use Rattle.gc_world.specs.Sides.{written};
+ghost use Rattle.gc_world.specs.Sides.{text_at};
 
 use crate::direction::Direction;
 use crate::entries::Entries;
@@ -59,8 +59,8 @@ impl Report {
     /// The line at this place of a direction's list, which is `sent` upward and `made` downward.
     #[inline(always)]
     pub(crate) fn line(&self, direction: Direction, place: usize) -> &Line
-        requires { (text : List ℕ) × (written direction self.now place ≡ Some text) }
-        ensures { written direction self.now place ≡ Some result.now.items }
+        requires { (text : List ℕ) × (text_at direction self.now place ≡ Some text) }
+        ensures { text_at direction self.now place ≡ Some result.now.items }
     {
         match direction {
             Direction::Up => &self.sent.at(place).line,

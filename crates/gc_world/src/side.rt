@@ -2,9 +2,10 @@
 
 ghost use Rattle.std.specs.Prelude.{◌≡◌, ◌+◌, ◌<◌, ◌≤◌, ◌^◌, ◌∷◌, ℕ, List, [], Some, OnOk, IsOk, length, map};
 ghost use Rattle.gc_lines.specs.Assembler.{StandsFor};
+ghost use Rattle.gc_lines.specs.Lent.{IsLentLine};
 ghost use Rattle.gc_lines.specs.Lines.{with_end};
 ghost use Rattle.gc_world.specs.Memory.{IsNoRepeat};
-ghost use Rattle.gc_world.specs.Sides.{Carries, CarriesMoreThan, Changes, IsFlow, IsLine, KeepsFlow, written};
+ghost use Rattle.gc_world.specs.Sides.{Carries, CarriesMoreThan, Changes, IsFlow, KeepsFlow, text_at};
 ghost use Rattle.gc_world.specs.Streams.{remaining};
 ghost use Rattle.gc_world.specs.Worlds.{without, doubled};
 
@@ -76,7 +77,7 @@ impl Side {
     pub fn finish<'a>(&mut self, line: &'a [u8], cut: &'a mut Line) -> Lent<'a>
         requires flow { (texts : List (List ℕ)) × IsFlow self.old.assembler self.old.gone (line.now ∷ texts) }
         requires within { length line.now ≤ 512 }
-        ensures line { IsLine result line.now }
+        ensures line { IsLentLine result line.now }
         ensures start { StandsFor self.new.assembler [] }
         ensures gone { self.new.gone ≡ 0 }
         ensures queue { self.new.queue ≡ self.old.queue }

@@ -7,7 +7,7 @@ ghost use Rattle.gc_world.specs.Clients.{ends};
 ghost use Rattle.gc_world.specs.Directions.{bytes, delivery};
 ghost use Rattle.gc_world.specs.Memory.{IsBusy};
 ghost use Rattle.gc_world.specs.Stages.{Shows, staging, IsOkWithoutMemory};
-ghost use Rattle.gc_world.specs.Staging.{streams_at_start, IsShown, Follows, FollowsBytes, HasLeft, HasMoreThan};
+ghost use Rattle.gc_world.specs.Staging.{streams_at_start, ShowsSome, Follows, FollowsBytes, HasLeft, HasMoreThan};
 
 use crate::direction::Direction;
 use crate::entries::Entries;
@@ -83,7 +83,7 @@ impl<W: Window<Asked = Call>> Stage<W> {
     pub fn happen(&mut self, event: &Event) -> Result<(), AllocError>
         requires refused { self.old.report.refused_sends + 1 < 2 ^ 64 }
         requires idle { self.old.report.idle_events + 1 < 2 ^ 64 }
-        requires shown { IsShown staging self.old }
+        requires shown { ShowsSome staging self.old }
         ensures follows { OnOk result (Follows staging self.old event.now self.new) }
         ensures spare { IsOkWithoutMemory self.old event.now result }
     {
@@ -143,7 +143,7 @@ impl<W: Window<Asked = Call>> Stage<W> {
     #[inline(always)]
     fn up_deliver(&mut self) -> Result<(), AllocError>
         requires idle { self.old.report.idle_events + 1 < 2 ^ 64 }
-        requires shown { IsShown staging self.old }
+        requires shown { ShowsSome staging self.old }
         ensures follows { OnOk result (Follows staging self.old Event.UpDeliver self.new) }
         ensures spare { self.old.up.queue ≡ [] → IsOk result }
     {
@@ -173,7 +173,7 @@ impl<W: Window<Asked = Call>> Stage<W> {
     #[inline(always)]
     fn down_deliver(&mut self) -> Result<(), AllocError>
         requires idle { self.old.report.idle_events + 1 < 2 ^ 64 }
-        requires shown { IsShown staging self.old }
+        requires shown { ShowsSome staging self.old }
         ensures follows { OnOk result (Follows staging self.old Event.DownDeliver self.new) }
         ensures spare { IsOkWithoutMemory self.old Event.DownDeliver result }
     {
@@ -198,7 +198,7 @@ impl<W: Window<Asked = Call>> Stage<W> {
     #[inline(never)]
     fn deliver_bytes(&mut self, direction: Direction, n: usize) -> Result<(), AllocError>
         requires idle { self.old.report.idle_events + 1 < 2 ^ 64 }
-        requires shown { IsShown staging self.old }
+        requires shown { ShowsSome staging self.old }
         ensures follows { OnOk result (Follows staging self.old (bytes direction n) self.new) }
         ensures spare { IsOkWithoutMemory self.old (bytes direction n) result }
     {
@@ -224,7 +224,7 @@ impl<W: Window<Asked = Call>> Stage<W> {
     #[inline(always)]
     fn deliver(&mut self, direction: Direction) -> Result<(), AllocError>
         requires idle { self.old.report.idle_events + 1 < 2 ^ 64 }
-        requires shown { IsShown staging self.old }
+        requires shown { ShowsSome staging self.old }
         ensures follows { OnOk result (Follows staging self.old (delivery direction) self.new) }
         ensures spare { IsOkWithoutMemory self.old (delivery direction) result }
     {
@@ -236,7 +236,7 @@ impl<W: Window<Asked = Call>> Stage<W> {
 
     // How many bytes of the front line of a direction are still to go, CR LF included: 0 where no line is in flight.
     fn remaining(&self, direction: Direction) -> usize
-        requires { IsShown staging self.now }
+        requires { ShowsSome staging self.now }
         ensures { HasLeft staging self.now direction result }
     {
         match direction {
@@ -248,7 +248,7 @@ impl<W: Window<Asked = Call>> Stage<W> {
     // Hands over the next `n` bytes of the front line of a direction, after those that have gone already. They don't
     // complete the line.
     fn go_on(&mut self, direction: Direction, n: usize)
-        requires shown { IsShown staging self.old }
+        requires shown { ShowsSome staging self.old }
         requires some { HasMoreThan staging self.old direction n }
         ensures { FollowsBytes staging self.old direction n self.new }
     {

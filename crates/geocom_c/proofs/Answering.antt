@@ -30,14 +30,14 @@ HasLeft rest left ids now = IsRest rest now × (left ≡ ids)
 -- Of how many null procedures are answered.
 
 -- after eight answers or more no id of the synchronization is left
-pub is_begun : (a : ℕ) → 8 ≤ a → drop a the_word ≡ []
-is_begun a le = drop_all a the_word le
+pub none_left_at_eight : (a : ℕ) → 8 ≤ a → drop a the_word ≡ []
+none_left_at_eight a le = drop_all a the_word le
 
 -- after fewer than eight answers some id is left
-pub not_begun : (a : ℕ) → a < 8 → drop a the_word ≡ [] → ⊥
-not_begun a lt e = let n = length-drop a the_word in let none : length (drop a the_word) ≡ 0 = ap length e in absurd (omega (arith, lt, n, none))
+pub some_left_below_eight : (a : ℕ) → a < 8 → drop a the_word ≡ [] → ⊥
+some_left_below_eight a lt e = let n = length-drop a the_word in let none : length (drop a the_word) ≡ 0 = ap length e in absurd (omega (arith, lt, n, none))
 
 -- a client that hasn't synchronized goes on after a restart with the ids that aren't answered
-pub goes_on : (left : List ℕ) → (left ≡ [] → ⊥) → left ≡ left_by_restart left
-goes_on [] some = absurd (some refl)
-goes_on (asked ∷ later) some = refl
+pub left_stays : (left : List ℕ) → (left ≡ [] → ⊥) → left ≡ left_by_restart left
+left_stays [] some = absurd (some refl)
+left_stays (asked ∷ later) some = refl

@@ -1,6 +1,6 @@
 -- Clients: their widths, and the lines and lists that their calls write.
-use Rattle.std.proofs.Common.{◌≡◌, ℕ, List, ◌+◌, ◌++◌, Some, Ok, Err, length, take, drop, ◌∙◌, sym, ap, subst, arith}
-use Rattle.std.proofs.lemmas.List.{take_all, take-append-le, drop-drop}
+use Rattle.std.proofs.Common.{◌≡◌, ℕ, List, ◌+◌, ◌++◌, Some, Ok, Err, length, take, ◌∙◌, sym, ap, subst, arith}
+use Rattle.std.proofs.lemmas.List.{take_all, take-append-le}
 use Rattle.gc_lines.specs.Lines.{with_end}
 use Rattle.gc_lines.specs.Requests.{request_text}
 use Rattle.gc_catalogue.specs.Asked.{asked_line, raw_params, IsAsked}
@@ -11,6 +11,7 @@ use Rattle.gc_catalogue.specs.declared.asked.Asked.TheVariants.{Raw}
 use Rattle.gc_catalogue.specs.declared.raw.RawCall.{RawCall}
 use Rattle.gc_catalogue.specs.declared.raw.RawFault.{RawFault}
 use Rattle.gc_client.specs.Rule.{Windowed}
+use Rattle.geocom_c.specs.Beginning.{IsGiven}
 
 -- where client d has the width of client c, d is c with the ids of d
 pub same_width : (c d : Windowed Asked) → d.width ≡ c.width → d ≡ record c { ids = d.ids }
@@ -34,13 +35,11 @@ as_given raw procedure params id text is e =
 pub never_ok : {A E : Type 0} (e : E) (x : A) → Err e ≡ Ok x → ⊥
 never_ok e x f = cc
 
--- two writes turn `old` into `between`, and that into `new`: if the first leaves all after the first n bytes, and the second
--- all after the first n + k, both leave all after the first n + k
-pub twice_untouched : (old between new : List ℕ) (n k count : ℕ) → count ≡ n + k → drop n between ≡ drop n old
-    → drop (n + k) new ≡ drop (n + k) between → drop count new ≡ drop count old
-twice_untouched old between new n k count e f g =
-    ap (λ m. drop m new) e ∙ g ∙ sym (drop-drop k n between) ∙ ap (drop k) f ∙ drop-drop k n old ∙ ap (λ m. drop m old) (sym e)
+-- where n bytes of a room are the text with its CR LF, `count` bytes are the line with its CR LF, if the line is the text, and
+-- `count` is n
+pub given_as : (text line : List ℕ) (n count : ℕ) (room : List ℕ) → text ≡ line → count ≡ n → IsGiven (Some text) n room → IsGiven (Some line) count room
+given_as text line n count room e f is = subst (λ (k : ℕ). IsGiven (Some line) k room) (sym f) (subst (λ (l : List ℕ). IsGiven (Some l) n room) e is)
 
 -- where t is a line, and u is t with `more` after it, u begins with that line
-pub front_of : (line t u more : List ℕ) → t ≡ line → u ≡ t ++ more → take (length line) u ≡ line
-front_of line t u more e f = ap (take (length line)) (f ∙ ap (λ x. x ++ more) e) ∙ take-append-le (length line) line more (omega arith) ∙ take_all (length line) line (omega arith)
+pub begins_with_line : (line t u more : List ℕ) → t ≡ line → u ≡ t ++ more → take (length line) u ≡ line
+begins_with_line line t u more e f = ap (take (length line)) (f ∙ ap (λ x. x ++ more) e) ∙ take-append-le (length line) line more (omega arith) ∙ take_all (length line) line (omega arith)

@@ -11,26 +11,26 @@ use Rattle.gc_catalogue.proofs.CallLaws.{one_call}
 use Rattle.gc_catalogue.specs.declared.asked.Asked.{Asked}
 use Rattle.gc_catalogue.specs.declared.asked.Asked.TheVariants.{Table, Raw}
 use Rattle.gc_client.specs.Beginning.{the_word, left_by}
-use Rattle.gc_client.specs.OneForOne.{Course, course_after, course, settled_on, IsOneForOne}
+use Rattle.gc_client.specs.OneForOne.{Course, course_after, course, settled_on, AccountsForSends}
 use Rattle.gc_client.specs.OneForOne as one
-use Rattle.gc_client.specs.Rule.{ById, Settled, expires, fresh, heard, hears, id_settled, place_in, restarts}
-use Rattle.gc_client.proofs.OneForOne.{one_for_one}
+use Rattle.gc_client.specs.Rule.{ById, Settled, expires, fresh, heard, hears, settles_at, place_in, restarts}
+use Rattle.gc_client.proofs.OneForOne.{accounts_for_sends}
 use Rattle.gc_station.proofs.Words.{left_none}
 use Rattle.gc_field.proofs.BeginWords.{cons_not_nil}
 use Rattle.geocom_c.specs.Beginning.{left_by_restart, given, left_by_bytes, unanswered_after}
-use Rattle.geocom_c.specs.Following.{CallsReach, Stage, hearing, opened}
+use Rattle.geocom_c.specs.Following.{CallsReach, CallStage, hearing, first_stage}
 use Rattle.geocom_c.specs.Laws.{CallsAreEvents}
 use Rattle.geocom_c.specs.Rest.{lines_completed}
-use Rattle.geocom_c.specs.Steps.{Event, Came, Stepped, AreEvents, AreInTurn, ask_events, begin_events, step_events, left_among, steps_among}
-use Rattle.geocom_c.specs.declared.following.Step.{Step}
-use Rattle.geocom_c.specs.declared.following.Step.TheVariants.{Send, SendRaw, Begin, Feed, Expire, Restart}
+use Rattle.geocom_c.specs.Steps.{ClientEvent, Came, Stepped, AreEvents, AreInTurn, ask_events, begin_events, step_events, left_among, steps_among}
+use Rattle.geocom_c.specs.declared.following.StateCall.{StateCall}
+use Rattle.geocom_c.specs.declared.following.StateCall.TheVariants.{Send, SendRaw, Begin, Feed, Expire, Restart}
 
 -- the events `front` lead from course x to course y, and from the ids `left` of the word that aren't answered to the ids
 -- `after`; `es` stands for any events after these
-record Leads (width : ℕ) (x y : Course Asked) (left after : List ℕ) (front : List Event) : Type 0 where
-  turns : (es : List Event) → AreInTurn after es → AreInTurn left (front ++ es)
-  reached : (es : List Event) → course width x (steps_among (front ++ es)) ≡ course width y (steps_among es)
-  behind : (es : List Event) → left_among left (front ++ es) ≡ left_among after es
+record Leads (width : ℕ) (x y : Course Asked) (left after : List ℕ) (front : List ClientEvent) : Type 0 where
+  turns : (es : List ClientEvent) → AreInTurn after es → AreInTurn left (front ++ es)
+  reached : (es : List ClientEvent) → course width x (steps_among (front ++ es)) ≡ course width y (steps_among es)
+  behind : (es : List ClientEvent) → left_among left (front ++ es) ≡ left_among after es
 
 -- the empty list of events leaves all as it was
 leads_none : (width : ℕ) (x : Course Asked) (left : List ℕ) → Leads width x x left left []
@@ -49,7 +49,7 @@ leads_asked width x left None = leads_none width x left
 leads_asked width x left (Some line) = record { turns = λ es h. h; reached = λ es. refl; behind = λ es. refl }
 
 -- where events lead from one course to another, and others from there to a third, all of them lead from the first to the third
-leads_both : (width : ℕ) (x y z : Course Asked) (left between after : List ℕ) (front later : List Event) → Leads width x y left between front
+leads_both : (width : ℕ) (x y z : Course Asked) (left between after : List ℕ) (front later : List ClientEvent) → Leads width x y left between front
     → Leads width y z between after later → Leads width x z left after (front ++ later)
 leads_both width x y z left between after front later f g =
     record {
@@ -74,9 +74,9 @@ abbrev new : ById Asked
 new = fresh
 
 -- a line, whether an id is heard in it or none, settles nothing of a new client, which stays new
-none_settled : (line : List ℕ) (o : Option ℕ) → hears new line o ≡ record { settlements = []; client = new }
-none_settled line None = refl
-none_settled line (Some id) = ap (id_settled new line (place_in new id)) (le-ltb (place_in new id) 0 (omega arith))
+new_settles_none : (line : List ℕ) (o : Option ℕ) → hears new line o ≡ record { settlements = []; client = new }
+new_settles_none line None = refl
+new_settles_none line (Some id) = ap (settles_at new line (place_in new id)) (le-ltb (place_in new id) 0 (omega arith))
 
 -- what settles nothing of a new client leaves its course as it was
 stays_idle : (x : Course Asked) (s : Settled Asked (ById Asked)) → x.client ≡ fresh → s ≡ record { settlements = []; client = fresh } → settled_on x s ≡ x
@@ -87,7 +87,7 @@ stays_idle x s idle e =
 
 -- a line changes nothing in the course of a new client
 idle_line : (width : ℕ) (x : Course Asked) (line : List ℕ) → x.client ≡ fresh → course_after width x (one.Hear line) ≡ x
-idle_line width x line idle = stays_idle x (hears x.client line (heard line)) idle (ap (λ c. hears c line (heard line)) idle ∙ none_settled line (heard line))
+idle_line width x line idle = stays_idle x (hears x.client line (heard line)) idle (ap (λ c. hears c line (heard line)) idle ∙ new_settles_none line (heard line))
 
 -- a restart changes nothing in the course of a new client
 idle_restart : (width : ℕ) (x : Course Asked) → x.client ≡ fresh → course_after width x one.Restart ≡ x
@@ -103,12 +103,12 @@ idle_lines width x [] idle = refl
 idle_lines width x (line ∷ lines) idle = ap (λ y. course width y (map one.Hear lines)) (idle_line width x line idle) ∙ idle_lines width x lines idle
 
 -- the empty list of events leads from a course to an equal one
-leads_idle : (width : ℕ) (x y : Course Asked) (left : List ℕ) → y ≡ x → Leads width x y left left []
-leads_idle width x y left same = subst (λ (z : Course Asked). Leads width x z left left []) (sym same) (leads_none width x left)
+leads_unchanged : (width : ℕ) (x y : Course Asked) (left : List ℕ) → y ≡ x → Leads width x y left left []
+leads_unchanged width x y left same = subst (λ (z : Course Asked). Leads width x z left left []) (sym same) (leads_none width x left)
 
 -- as long as some id is left, so that the client hasn't synchronized, it is a new one
-abbrev IsIdle : Course Asked → List ℕ → Type 0
-IsIdle x left = (left ≡ [] → ⊥) → x.client ≡ fresh
+abbrev IsNewUnlessBegun : Course Asked → List ℕ → Type 0
+IsNewUnlessBegun x left = (left ≡ [] → ⊥) → x.client ≡ fresh
 
 -- lines that are heard once no id is left are steps, and lead to the course that has heard them
 leads_heard : (width : ℕ) (x : Course Asked) (lines : List (List ℕ)) → Leads width x (course width x (map one.Hear lines)) [] [] (map Stepped (map one.Hear lines))
@@ -118,29 +118,29 @@ leads_heard width x (line ∷ lines) =
     record { turns = λ es h. (refl, more.turns es h); reached = more.reached; behind = more.behind }
 
 -- the events of lines that are fed lead to the course that has heard these lines, if the client is new unless it has synchronized
-leads_feed : (width : ℕ) (x : Course Asked) (left : List ℕ) (lines : List (List ℕ)) → IsIdle x left
+leads_feed : (width : ℕ) (x : Course Asked) (left : List ℕ) (lines : List (List ℕ)) → IsNewUnlessBegun x left
     → Leads width x (course width x (map one.Hear lines)) left left (step_events left (map one.Hear lines))
 leads_feed width x [] lines idle = leads_heard width x lines
-leads_feed width x (asked ∷ later) lines idle = leads_idle width x _ (asked ∷ later) (idle_lines width x lines (idle (cons_not_nil asked later)))
+leads_feed width x (asked ∷ later) lines idle = leads_unchanged width x _ (asked ∷ later) (idle_lines width x lines (idle (cons_not_nil asked later)))
 
 -- the events of a moment lead to the course after it, if the client is new unless it has synchronized
-leads_expire : (width : ℕ) (x : Course Asked) (left : List ℕ) (now : ℕ) → IsIdle x left
+leads_expire : (width : ℕ) (x : Course Asked) (left : List ℕ) (now : ℕ) → IsNewUnlessBegun x left
     → Leads width x (course_after width x (one.Expire now)) left left (step_events left (one.Expire now ∷ []))
 leads_expire width x [] now idle = record { turns = λ es h. (refl, h); reached = λ es. refl; behind = λ es. refl }
-leads_expire width x (asked ∷ later) now idle = leads_idle width x _ (asked ∷ later) (idle_moment width x now (idle (cons_not_nil asked later)))
+leads_expire width x (asked ∷ later) now idle = leads_unchanged width x _ (asked ∷ later) (idle_moment width x now (idle (cons_not_nil asked later)))
 
 -- the events of a restart lead to the course after it, and to the ids that are to be answered then, if the client is new unless
 -- it has synchronized
-leads_restart : (width : ℕ) (x : Course Asked) (left : List ℕ) → IsIdle x left
+leads_restart : (width : ℕ) (x : Course Asked) (left : List ℕ) → IsNewUnlessBegun x left
     → Leads width x (course_after width x one.Restart) left (left_by_restart left) (step_events left (one.Restart ∷ []))
 leads_restart width x [] idle = record { turns = λ es h. (refl, h); reached = λ es. refl; behind = λ es. refl }
-leads_restart width x (asked ∷ later) idle = leads_idle width x _ (asked ∷ later) (idle_restart width x (idle (cons_not_nil asked later)))
+leads_restart width x (asked ∷ later) idle = leads_unchanged width x _ (asked ∷ later) (idle_restart width x (idle (cons_not_nil asked later)))
 
 -- The events that calls are.
 
 -- these calls lead from stage s to stage t by some events, each in its turn
-record Over (width : ℕ) (s : Stage) (calls : List Step) (t : Stage) : Type 0 where
-  events : List Event
+record Over (width : ℕ) (s : CallStage) (calls : List StateCall) (t : CallStage) : Type 0 where
+  events : List ClientEvent
   are : AreEvents s.left s.rest calls events
   turns : AreInTurn s.left events
   reached : t.reached ≡ course width s.reached (steps_among events)
@@ -148,8 +148,8 @@ record Over (width : ℕ) (s : Stage) (calls : List Step) (t : Stage) : Type 0 w
 
 -- calls that lead from stage s to stage t are events that lead from s to t (`Over`), if the client at s is a new one unless it
 -- has synchronized
-as_events : (width : ℕ) (s : Stage) (calls : List Step) (t : Stage) → IsIdle s.reached s.left → CallsReach width s calls t → Over width s calls t
-as_events width s [] t idle f = record { events = []; are = refl; turns = tt; reached = ap (λ (x : Stage). x.reached) f; left = ap (λ (x : Stage). x.left) f }
+as_events : (width : ℕ) (s : CallStage) (calls : List StateCall) (t : CallStage) → IsNewUnlessBegun s.reached s.left → CallsReach width s calls t → Over width s calls t
+as_events width s [] t idle f = record { events = []; are = refl; turns = tt; reached = ap (λ (x : CallStage). x.reached) f; left = ap (λ (x : CallStage). x.left) f }
 as_events width s (Send target deadline procedure params ∷ calls) t idle (inl f) =
     let more = as_events width (record s { reached = course_after width s.reached (one.Send target (Table f.0) deadline) }) calls t (λ no. absurd (no f.1)) f.3 in
     record {
@@ -221,7 +221,7 @@ as_events width s (Restart ∷ calls) t idle f =
     }
 
 -- if the same calls are two lists of events, these lists are equal
-only_events : (left rest : List ℕ) (calls : List Step) (es fs : List Event) → AreEvents left rest calls es → AreEvents left rest calls fs → es ≡ fs
+only_events : (left rest : List ℕ) (calls : List StateCall) (es fs : List ClientEvent) → AreEvents left rest calls es → AreEvents left rest calls fs → es ≡ fs
 only_events left rest [] es fs f g = f ∙ sym g
 only_events left rest (Send target deadline procedure params ∷ calls) es fs (inl f) (inl g) =
     f.4
@@ -249,11 +249,11 @@ only_events left rest (Restart ∷ calls) es fs f g = f.1 ∙ ap (λ later. step
 -- the law: any calls on a state are one list of events, and bring the client to where its rule brings it over these
 pub over_events : CallsAreEvents
 over_events width calls t f =
-    let it = as_events width opened calls t (λ no. refl) f in
+    let it = as_events width first_stage calls t (λ no. refl) f in
     record { events = it.events; are = it.are; only = λ others are. only_events the_word [] calls others it.events are it.are; turns = it.turns; reached = it.reached; left = it.left }
 
--- after any calls, what was settled and what is outstanding are, one for one and in order, the sends that weren't refused
-pub follows_one_for_one : (width : ℕ) (steps : List Step) (t : Stage) → CallsReach width opened steps t → IsOneForOne t.reached
-follows_one_for_one width steps t f =
-    let it = over_events width steps t f in
-    subst (λ (c : Course Asked). IsOneForOne c) (sym it.reached) (one_for_one width (steps_among it.events))
+-- the course after any calls accounts for its sends
+pub follow_accounts : (width : ℕ) (calls : List StateCall) (t : CallStage) → CallsReach width first_stage calls t → AccountsForSends t.reached
+follow_accounts width calls t f =
+    let it = over_events width calls t f in
+    subst (λ (c : Course Asked). AccountsForSends c) (sym it.reached) (accounts_for_sends width (steps_among it.events))

@@ -10,7 +10,7 @@ use Rattle.gc_catalogue.specs.declared.call.Call.TheVariants.{InstrumentNo}
 use Rattle.gc_instrument.specs.Execution.{exec}
 use Rattle.gc_instrument.specs.Replying.{handed}
 use Rattle.gc_instrument.specs.State.{IsFittingState, simulator_opening}
-use Rattle.gc_field.specs.Simulator.{ends}
+use Rattle.gc_field.specs.Simulator.{simulator_ends}
 use Rattle.gc_field.specs.CountingChain.{counting, kept_by}
 use Rattle.gc_field.specs.Instrument.{AnyState, TreatsRawsAlike}
 use Rattle.gc_field.specs.Laws.{kept_of}
@@ -113,7 +113,7 @@ over_counting raw =
     }
 
 -- the calls over the simulator meet every premise of `EachAnswerIsOwn` (`AreInField`)
-over_simulator : AreInField ends IsFittingState kept_of simulator_opening simulator_exchange
+over_simulator : AreInField simulator_ends IsFittingState kept_of simulator_opening simulator_exchange
 unfolding header_at reply_at handed exec digits
 over_simulator =
     record {

@@ -7,7 +7,7 @@ use Rattle.gc_lines.specs.Frames.{frame_of, ends_in_return}
 use Rattle.gc_catalogue.specs.declared.asked.Asked.{Asked}
 use Rattle.gc_client.specs.Rule.{Windowed}
 use Rattle.geocom_c.specs.Rest.{IsRest}
-use Rattle.geocom_c.specs.State.{StandsFor}
+use Rattle.geocom_c.specs.State.{StandsForClient}
 use Rattle.geocom_c.specs.Feeding.{IsFed, IsInFront, unended}
 use Rattle.geocom_c.specs.declared.answers.GeocomHeard.{GeocomHeard}
 use Rattle.geocom_c.specs.declared.header.TheConstants.{MORE}
@@ -26,8 +26,8 @@ pub never_more : (bs : List ℕ) → frame_of bs ≡ More → ⊥
 never_more bs e = chosen_not_more (ends_in_return bs) (nat_lt 512 (length bs - 1)) (Line (record { items = take (length bs - 1) bs })) (λ same. cc) e
 
 -- if a state stands for a client, then with another rest (`IsRest`) it stands for the same client with the bytes of that rest
-pub with_rest : (s : GeocomClient) (r : GeocomRest) (c : Windowed Asked) (old new : List ℕ) → StandsFor s c old → IsRest r new → StandsFor (record s { rest = r }) c new
-with_rest s r c old new is rest =
+pub stands_with_rest : (s : GeocomClient) (r : GeocomRest) (c : Windowed Asked) (old new : List ℕ) → StandsForClient s c old → IsRest r new → StandsForClient (record s { rest = r }) c new
+stands_with_rest s r c old new is rest =
     record {
       width = is.width;
       next = is.next;

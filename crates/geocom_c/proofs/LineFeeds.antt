@@ -7,26 +7,26 @@ use Rattle.gc_lines.specs.Frames.{is_line_feed}
 use Rattle.gc_lines.proofs.Cutting.{goes_on}
 
 -- a byte at which the search stops is a line feed
-is_feed : (b : ℕ) → goes_on b ≡ false → b ≡ 10
-is_feed b e = eqb-true b 10 (not-false (is_line_feed b) e)
+is_the_line_feed : (b : ℕ) → goes_on b ≡ false → b ≡ 10
+is_the_line_feed b e = eqb-true b 10 (not-false (is_line_feed b) e)
 
 -- a byte at which the search goes on is no line feed
-no_feed : (b : ℕ) → goes_on b ≡ true → b ≢ 10
-no_feed b e = eqb-false b 10 (not-true (is_line_feed b) e)
+is_no_line_feed : (b : ℕ) → goes_on b ≡ true → b ≢ 10
+is_no_line_feed b e = eqb-false b 10 (not-true (is_line_feed b) e)
 
 -- in bytes without a line feed none is found
-pub clean_none : (xs : List ℕ) → All (λ b. b ≢ 10) xs → position is_line_feed xs ≡ None
-clean_none xs clean = elim (ltb (prefix_len goes_on xs) (length xs)) as (λ v. ltb (prefix_len goes_on xs) (length xs) ≡ v → cond v (Some (prefix_len goes_on xs)) None ≡ None) [
-  | true ↦ λ t. let within = ltb-true _ _ t in absurd (clean (prefix_len goes_on xs) 0 within (is_feed _ (prefix_len_stops goes_on xs 0 within)))
+pub none_found : (xs : List ℕ) → All (λ b. b ≢ 10) xs → position is_line_feed xs ≡ None
+none_found xs clean = elim (ltb (prefix_len goes_on xs) (length xs)) as (λ v. ltb (prefix_len goes_on xs) (length xs) ≡ v → cond v (Some (prefix_len goes_on xs)) None ≡ None) [
+  | true ↦ λ t. let within = ltb-true _ _ t in absurd (clean (prefix_len goes_on xs) 0 within (is_the_line_feed _ (prefix_len_stops goes_on xs 0 within)))
   | false ↦ λ _. refl
 ] refl
 
 -- bytes in which no line feed is found have none
-pub none_clean : (xs : List ℕ) → position is_line_feed xs ≡ None → All (λ b. b ≢ 10) xs
-none_clean xs e k d lt =
+pub clean_if_none_found : (xs : List ℕ) → position is_line_feed xs ≡ None → All (λ b. b ≢ 10) xs
+clean_if_none_found xs e k d lt =
     let past : length xs ≤ prefix_len goes_on xs = elim (ltb (prefix_len goes_on xs) (length xs)) as
     (λ v. ltb (prefix_len goes_on xs) (length xs) ≡ v → cond v (Some (prefix_len goes_on xs)) None ≡ None → length xs ≤ prefix_len goes_on xs) [
       | true ↦ λ _ f. (cc)
       | false ↦ λ f _. ltb-false _ _ f
     ] refl e in
-    no_feed (get_or xs k d) (prefix_len_passes goes_on xs k d (omega (arith, past, lt)))
+    is_no_line_feed (get_or xs k d) (prefix_len_passes goes_on xs k d (omega (arith, past, lt)))

@@ -1,5 +1,5 @@
 -- Calls whose events are those of runs, one after the other: what they settle, and which request each answer is to. A run is the
--- turns of a synchronization and then the moves of the field, and a part is a run with what was in flight when it began. The word
+-- turns of a synchronization and then the moves of the field, and a placed run is a run with what was in flight when it began. The word
 -- is the ids of a synchronization's eight null procedures, and `left` those of them that aren't answered. `ends` is the
 -- instrument, `Good` the states that it may be in, and `kept` the reply that it retains. `Turned` says which events a
 -- synchronization's turns are, `Begins` and `Passes` that a run has synchronized cleanly, and `Holds` what the law promises of
@@ -16,7 +16,7 @@ use Rattle.gc_world.specs.Clients.{by_ids}
 use Rattle.gc_station.proofs.Behind.{course_append}
 use Rattle.gc_station.proofs.Lists.{all_append, all_on}
 use Rattle.gc_field.specs.World.{Ends}
-use Rattle.gc_field.specs.Begin.{InFlight, IsWellFormed, LacksTheWord, AreTurns, Asks, Comes, Foreign, Reaches, Up_lose, Up_repeat, Down_lose, Down_repeat, Anew, Changes, Model, Turn, UnderWay, asks, begins, comes, leaves, turned, turns}
+use Rattle.gc_field.specs.Begin.{InFlight, IsWellFormed, LacksTheWord, AreTurns, Asks, Comes, Foreign, Reaches, Up_lose, Up_repeat, Down_lose, Down_repeat, Anew, Changes, SyncModel, SyncTurn, UnderWay, asks, begins, comes, leaves, turned, turns}
 use Rattle.gc_field.specs.Beginnings.{IsOwnIf, Run, left_by_run, left_if, on_line, after_turns}
 use Rattle.gc_field.specs.Begun.{behind, ids_begun}
 use Rattle.gc_field.specs.Field.{Move, Sends, Tells, OnLine, Joins, ArePossible, seen}
@@ -27,32 +27,32 @@ use Rattle.gc_field.proofs.BeginWords.{cons_not_nil}
 use Rattle.gc_field.proofs.BegunFaithful.{faithful, prefixed_all}
 use Rattle.gc_field.proofs.Shown.{left_reaches}
 use Rattle.gc_field.proofs.BegunRising.{rising_lack_the_word, runs_leave_rising_ids, runs_leave_good}
-use Rattle.geocom_c.specs.Laws.{EachAnswerIsOwn, IsOwnAnswer, IsOwnPart, IsSafeRun}
-use Rattle.geocom_c.specs.Runs.{Part, ArePossibleRuns, begun_at, client_if, client_over, event_of, events_of, events_over, came_of, left_over, lost_if, parts, settled_if, settled_over, world}
-use Rattle.geocom_c.specs.Steps.{Event, Stepped, AreInTurn, ask_events, left_among, steps_among}
+use Rattle.geocom_c.specs.Laws.{EachAnswerIsOwn, IsOwnAnswer, IsOwnRun, IsSafeRun}
+use Rattle.geocom_c.specs.Runs.{PlacedRun, ArePossibleRuns, begun_at, client_if, client_over, event_of, events_of, events_over, came_of, left_over, lost_if, placed_runs, settled_if, settled_over, world}
+use Rattle.geocom_c.specs.Steps.{ClientEvent, Stepped, AreInTurn, ask_events, left_among, steps_among}
 use Rattle.geocom_c.proofs.Courses.{over_events}
 use Rattle.geocom_c.proofs.Owning.{later_own, none_answered, own_here}
 
 -- Steps among events.
 
 -- the steps among events that begin with `steps` are these, and then those among the other events
-steps_in_front : (steps : List (Step Asked)) (es : List Event) → steps_among (map Stepped steps ++ es) ≡ steps ++ steps_among es
+steps_in_front : (steps : List (Step Asked)) (es : List ClientEvent) → steps_among (map Stepped steps ++ es) ≡ steps ++ steps_among es
 steps_in_front [] es = refl
 steps_in_front (step ∷ steps) es = ap (λ l. step ∷ l) (steps_in_front steps es)
 
 -- where an id isn't answered yet, and events in their turn begin with `steps`, `steps` is empty
-no_step : (asked : ℕ) (later : List ℕ) (steps : List (Step Asked)) (es : List Event) → AreInTurn (asked ∷ later) (map Stepped steps ++ es) → steps ≡ []
+no_step : (asked : ℕ) (later : List ℕ) (steps : List (Step Asked)) (es : List ClientEvent) → AreInTurn (asked ∷ later) (map Stepped steps ++ es) → steps ≡ []
 no_step asked later [] es h = refl
 no_step asked later (step ∷ steps) es h = absurd (cons_not_nil asked later h.0)
 
 -- where an id isn't answered yet, no events in their turn begin with `steps` and then a restart
-no_restart : (asked : ℕ) (later : List ℕ) (steps : List (Step Asked)) (es : List Event) → AreInTurn (asked ∷ later) (map Stepped steps ++ Stepped Restart ∷ es) → ⊥
+no_restart : (asked : ℕ) (later : List ℕ) (steps : List (Step Asked)) (es : List ClientEvent) → AreInTurn (asked ∷ later) (map Stepped steps ++ Stepped Restart ∷ es) → ⊥
 no_restart asked later [] es h = cons_not_nil asked later h.0
 no_restart asked later (step ∷ steps) es h = cons_not_nil asked later h.0
 
 -- events that come in their turn after moves of the field, of a client that has synchronized, come in their turn without these
 -- moves, too
-turns_after_moves : {State : Type 0} (ms : List (Move State)) (es : List Event) → AreInTurn [] (map Stepped (seen ms) ++ es) → AreInTurn [] es
+turns_after_moves : {State : Type 0} (ms : List (Move State)) (es : List ClientEvent) → AreInTurn [] (map Stepped (seen ms) ++ es) → AreInTurn [] es
 turns_after_moves [] es h = h
 turns_after_moves (Sends target call deadline ∷ ms) es h = turns_after_moves ms es h.1
 turns_after_moves (Tells now ∷ ms) es h = turns_after_moves ms es h.1
@@ -64,7 +64,7 @@ turns_after_moves (field.Changes state ∷ ms) es h = turns_after_moves ms es h
 turns_after_moves (Joins line ∷ ms) es h = turns_after_moves ms es h
 
 -- moves of the field, of a client that has synchronized, change nothing in which ids aren't answered after further events
-left_after_moves : {State : Type 0} (ms : List (Move State)) (es : List Event) → left_among [] (map Stepped (seen ms) ++ es) ≡ left_among [] es
+left_after_moves : {State : Type 0} (ms : List (Move State)) (es : List ClientEvent) → left_among [] (map Stepped (seen ms) ++ es) ≡ left_among [] es
 left_after_moves [] es = refl
 left_after_moves (Sends target call deadline ∷ ms) es = left_after_moves ms es
 left_after_moves (Tells now ∷ ms) es = left_after_moves ms es
@@ -78,13 +78,13 @@ left_after_moves (Joins line ∷ ms) es = left_after_moves ms es
 module _ {State : Type 0} (width : ℕ) (ends : Ends State) where
   -- the events `front` go with turns of a synchronization that lead from s to `after`: they have no step of the client, and
   -- leave of the word what the turns leave
-  record Turned (s after : Model State) (front : List Event) : Type 0 where
-    turns : (es : List Event) → AreInTurn s.left (front ++ es) → AreInTurn after.left es
-    left : (es : List Event) → left_among s.left (front ++ es) ≡ left_among after.left es
-    steps : (es : List Event) → steps_among (front ++ es) ≡ steps_among es
+  record Turned (s after : SyncModel State) (front : List ClientEvent) : Type 0 where
+    turns : (es : List ClientEvent) → AreInTurn s.left (front ++ es) → AreInTurn after.left es
+    left : (es : List ClientEvent) → left_among s.left (front ++ es) ≡ left_among after.left es
+    steps : (es : List ClientEvent) → steps_among (front ++ es) ≡ steps_among es
 
   -- the empty list of events goes with turns that leave the ids as they were
-  turned_same : (s after : Model State) → after.left ≡ s.left → Turned s after []
+  turned_same : (s after : SyncModel State) → after.left ≡ s.left → Turned s after []
   turned_same s after e =
       record {
         turns = λ es h. subst (λ l. AreInTurn l es) (sym e) h;
@@ -94,17 +94,17 @@ module _ {State : Type 0} (width : ℕ) (ends : Ends State) where
 
   -- the event of a null procedure that is sent, while the ids `left` aren't answered, goes with the turn that sends it; where
   -- `left` is empty, none is sent, and there is no event
-  turned_asked : (s : Model State) (left : List ℕ) → Turned s (asks s left) (ask_events (line_asked left))
+  turned_asked : (s : SyncModel State) (left : List ℕ) → Turned s (asks s left) (ask_events (line_asked left))
   turned_asked s [] = turned_same s s refl
   turned_asked s (asked ∷ later) = record { turns = λ es h. h; left = λ es. refl; steps = λ es. refl }
 
   -- the event that the front reply of `down` comes goes with the turn in which it comes; where `down` is empty, there is no event
-  turned_front : (s : Model State) (down : List (InFlight (List ℕ))) → Turned s (comes s down) (came_of down)
+  turned_front : (s : SyncModel State) (down : List (InFlight (List ℕ))) → Turned s (comes s down) (came_of down)
   turned_front s [] = turned_same s s refl
   turned_front s (x ∷ rest) = record { turns = λ es h. h; left = λ es. refl; steps = λ es. refl }
 
   -- the events of one turn of a synchronization go with that turn (`Turned`)
-  turned_one : (s : Model State) (t : Turn State) → Turned s (turns ends s t) (event_of s t)
+  turned_one : (s : SyncModel State) (t : SyncTurn State) → Turned s (turns ends s t) (event_of s t)
   turned_one s Asks = turned_asked s s.left
   turned_one s Comes = turned_front s s.down
   turned_one s (Foreign line) = record { turns = λ es h. h; left = λ es. refl; steps = λ es. refl }
@@ -117,7 +117,7 @@ module _ {State : Type 0} (width : ℕ) (ends : Ends State) where
   turned_one s (Changes state) = turned_same s _ refl
 
   -- the events of turns of a synchronization go with these turns (`Turned`)
-  turned_all : (ts : List (Turn State)) (s : Model State) → Turned s (turned ends ts s) (events_of ends s ts)
+  turned_all : (ts : List (SyncTurn State)) (s : SyncModel State) → Turned s (turned ends ts s) (events_of ends s ts)
   turned_all [] s = turned_same s s refl
   turned_all (t ∷ ts) s =
       let one = turned_one s t in
@@ -138,14 +138,14 @@ module _ {State : Type 0} (width : ℕ) (ends : Ends State) where
       may : LacksTheWord (left_if width ends [] (after_turns ends u r) r.moves)
 
     -- the run may begin among what was in flight before it, and its turns and moves are possible
-    record MayRun (p : Part State) : Type 0 where
+    record MayRun (p : PlacedRun State) : Type 0 where
       lines : IsWellFormed Good p.before
       may : LacksTheWord p.before
       turns : AreTurns ends Good kept p.run.turns (begins p.before)
       moves : ArePossible ends Good kept (by_ids width ends) p.run.moves (ids_begun (leaves (begun_at ends p)))
 
     -- a run that may begin and is possible (`MayRun`), and whose null procedures are all answered, is as `Begins` says
-    begins_own : (p : Part State) → MayRun p → (begun_at ends p).left ≡ [] → Begins p.before p.run
+    begins_own : (p : PlacedRun State) → MayRun p → (begun_at ends p).left ≡ [] → Begins p.before p.run
     begins_own p run e =
         let s = begun_at ends p in
         let ended = begins_cleanly ends Good kept is p.before p.run.turns run.lines run.turns run.may e in
@@ -157,21 +157,21 @@ module _ {State : Type 0} (width : ℕ) (ends : Ends State) where
         }
 
     -- each of these answers is its own request's
-    abbrev OwnAll : List (Part State) → List (Settlement Asked) → Type 0
+    abbrev OwnAll : List (PlacedRun State) → List (Settlement Asked) → Type 0
     OwnAll ps ss = AllByRecursion (IsOwnAnswer width ends Good kept ps) ss
 
     -- what holds of runs (`ps`) and their events: the library settles and leaves what the runs do, each of its answers is its
     -- own request's, and each run that has synchronized is faithful
-    record Holds (ps : List (Part State)) (events : List Event) : Type 0 where
+    record Holds (ps : List (PlacedRun State)) (events : List ClientEvent) : Type 0 where
       settled : (course width begun (steps_among events)).settlements ≡ settled_over width ends ps
       client : (course width begun (steps_among events)).client ≡ client_over width ends ps
       left : left_among the_word events ≡ left_over width ends ps
       own : OwnAll ps (settled_over width ends ps)
-      each : AllByRecursion (IsOwnPart width ends Good kept) ps
+      each : AllByRecursion (IsOwnRun width ends Good kept) ps
 
     -- `Holds` is true of the last run alone, synchronized or not (`left` is the ids that it left unanswered), if it may begin and
     -- is possible (`MayRun`), is safe, and its events come in their turn
-    last_holds : (p : Part State) (left : List ℕ) → (begun_at ends p).left ≡ left → MayRun p → IsSafeRun width ends Good kept p
+    last_holds : (p : PlacedRun State) (left : List ℕ) → (begun_at ends p).left ≡ left → MayRun p → IsSafeRun width ends Good kept p
         → AreInTurn the_word (events_of ends (begins p.before) p.run.turns ++ map Stepped (seen p.run.moves))
         → Holds (p ∷ []) (events_of ends (begins p.before) p.run.turns ++ map Stepped (seen p.run.moves))
     last_holds p [] e run safe h =
@@ -211,13 +211,13 @@ module _ {State : Type 0} (width : ℕ) (ends : Ends State) where
 
     -- a run after which the client restarts has synchronized (`Begins`), and the events after that restart, `rest`, come in their
     -- turn
-    record Passes (p : Part State) (rest : List Event) : Type 0 where
+    record Passes (p : PlacedRun State) (rest : List ClientEvent) : Type 0 where
       begins : Begins p.before p.run
       done : (begun_at ends p).left ≡ []
       turns : AreInTurn the_word rest
 
     -- if a restart comes in its turn after a run that may begin and is possible (`MayRun`), the run has synchronized (`Passes`)
-    passes : (p : Part State) (left : List ℕ) (rest : List Event) → (begun_at ends p).left ≡ left → MayRun p
+    passes : (p : PlacedRun State) (left : List ℕ) (rest : List ClientEvent) → (begun_at ends p).left ≡ left → MayRun p
         → AreInTurn the_word (events_of ends (begins p.before) p.run.turns ++ (map Stepped (seen p.run.moves) ++ Stepped Restart ∷ rest)) → Passes p rest
     passes p [] rest e run h =
         let turn = (turned_all p.run.turns (begins p.before)).turns (map Stepped (seen p.run.moves) ++ Stepped Restart ∷ rest) h in
@@ -232,7 +232,7 @@ module _ {State : Type 0} (width : ℕ) (ends : Ends State) where
 
     -- if a safe run has synchronized and a restart follows (`Passes`), and `Holds` is true of the later runs, it is true of all
     -- of them
-    passed_holds : (p next : Part State) (others : List (Part State)) (rest : List Event) → IsSafeRun width ends Good kept p → Passes p rest → Holds (next ∷ others) rest
+    passed_holds : (p next : PlacedRun State) (others : List (PlacedRun State)) (rest : List ClientEvent) → IsSafeRun width ends Good kept p → Passes p rest → Holds (next ∷ others) rest
         → Holds (p ∷ next ∷ others) (events_of ends (begins p.before) p.run.turns ++ (map Stepped (seen p.run.moves) ++ Stepped Restart ∷ rest))
     passed_holds p next others rest safe pass more =
         let s = begun_at ends p in
@@ -279,27 +279,27 @@ module _ {State : Type 0} (width : ℕ) (ends : Ends State) where
     -- `Holds` is true of all runs, one after the other, if what is in flight at first is well-formed and hasn't the word in it,
     -- the runs are possible and safe, and their events come in their turn
     all_hold : (rs : List (Run State)) (u : UnderWay State) (lines : IsWellFormed Good u) (may : LacksTheWord u) (possible : ArePossibleRuns width ends Good kept u rs)
-        (safe : AllByRecursion (IsSafeRun width ends Good kept) (parts width ends u rs))
-        → AreInTurn the_word (events_over width ends u rs) → Holds (parts width ends u rs) (events_over width ends u rs)
+        (safe : AllByRecursion (IsSafeRun width ends Good kept) (placed_runs width ends u rs))
+        → AreInTurn the_word (events_over width ends u rs) → Holds (placed_runs width ends u rs) (events_over width ends u rs)
     all_hold [] u lines may possible safe h = record { settled = refl; client = refl; left = refl; own = tt; each = tt }
     all_hold (r ∷ []) u lines may possible safe h =
         last_holds (record { before = u; run = r }) _ refl (record { lines = lines; may = may; turns = possible.0.0; moves = possible.0.1 }) safe.0 h
     all_hold (r ∷ next ∷ others) u lines may possible safe h =
-        let p : Part State = record { before = u; run = r } in
+        let p : PlacedRun State = record { before = u; run = r } in
         let after = left_by_run width ends u r in
         let run : MayRun p = record { lines = lines; may = may; turns = possible.0.0; moves = possible.0.1 } in
         let pass = passes p _ (events_over width ends after (next ∷ others)) refl run h in
         let s = after_turns ends u r in
         let now = subst (λ l. IsWellFormed Good (left_if width ends l s r.moves)) (sym pass.done) pass.begins.lines in
         let again = subst (λ l. LacksTheWord (left_if width ends l s r.moves)) (sym pass.done) pass.begins.may in
-        passed_holds p (record { before = after; run = next }) (parts width ends (left_by_run width ends after next) others) (events_over width ends after (next ∷ others)) safe.0 pass
+        passed_holds p (record { before = after; run = next }) (placed_runs width ends (left_by_run width ends after next) others) (events_over width ends after (next ∷ others)) safe.0 pass
         (all_hold (next ∷ others) after now again possible.1 safe.1 pass.turns)
 
 -- the law: each answer is its own request's, over every instrument
 pub owned : {State : Type 0} (ends : Ends State) (Good : State → Type 0) (kept : State → Option KeptReply) → IsAnInstrument ends Good kept
     → EachAnswerIsOwn ends Good kept
 owned ends Good kept is width wide calls t follows u lines may rs are possible safe =
-    let ps = parts width ends u rs in
+    let ps = placed_runs width ends u rs in
     let over = over_events width calls t follows in
     let events = events_over width ends u rs in
     let same = over.only events are in

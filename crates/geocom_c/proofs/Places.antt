@@ -13,12 +13,12 @@ module _ {A B : Type 0} (Is : A → B → Type 0) where
   first_more (a ∷ xs) (b ∷ ys) x y are e is = (are.0, first_more xs ys x y are.1 e is)
 
   -- the items at one place go together
-  pub first_at : (xs : List A) (ys : List B) (k : ℕ) (x : A) (y : B) → FirstAre Is xs ys → slice_get xs k ≡ Some x → slice_get ys k ≡ Some y → Is x y
-  first_at xs [] zero x y are e f = cc
-  first_at xs [] (suc k) x y are e f = cc
-  first_at [] (b ∷ ys) k x y are e f = absurd are
-  first_at (a ∷ xs) (b ∷ ys) zero x y are e f = let s : a ≡ x = cc in let t : b ≡ y = cc in subst (λ z. Is z y) s (subst (λ z. Is a z) t are.0)
-  first_at (a ∷ xs) (b ∷ ys) (suc k) x y are e f = first_at xs ys k x y are.1 e f
+  pub placed_together : (xs : List A) (ys : List B) (k : ℕ) (x : A) (y : B) → FirstAre Is xs ys → slice_get xs k ≡ Some x → slice_get ys k ≡ Some y → Is x y
+  placed_together xs [] zero x y are e f = cc
+  placed_together xs [] (suc k) x y are e f = cc
+  placed_together [] (b ∷ ys) k x y are e f = absurd are
+  placed_together (a ∷ xs) (b ∷ ys) zero x y are e f = let s : a ≡ x = cc in let t : b ≡ y = cc in subst (λ z. Is z y) s (subst (λ z. Is a z) t are.0)
+  placed_together (a ∷ xs) (b ∷ ys) (suc k) x y are e f = placed_together xs ys k x y are.1 e f
 
   -- if the first items of `xs` go with the first k of `ys`, and an item that goes with item k of `ys` is written to place k of
   -- `xs`, the first items of `xs` go with the first k + 1 of `ys`

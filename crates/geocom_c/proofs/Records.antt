@@ -7,15 +7,15 @@ use Rattle.gc_values.proofs.ListLaws.{same_count}
 use Rattle.gc_lines.specs.declared.fault.LineFault.{LineFault}
 use Rattle.gc_lines.specs.Replies.{ReplyFields}
 use Rattle.gc_catalogue.specs.declared.answer.Answer.{Answer}
-use Rattle.gc_catalogue.specs.declared.answer.Answer.TheVariants as answer
 use Rattle.gc_catalogue.specs.declared.answer.Reading.{Reading}
 use Rattle.gc_catalogue.specs.declared.answer.Reading.TheVariants.{Value, Refused, ComFault, Unreadable}
 use Rattle.gc_catalogue.specs.declared.asked.Asked.{Asked}
 use Rattle.gc_catalogue.specs.declared.asked.Asked.TheVariants.{Table, Raw}
 use Rattle.gc_catalogue.specs.Answers.{answer_fields}
 use Rattle.gc_catalogue.specs.Asked.{IsAskedReading}
+use Rattle.gc_catalogue.proofs.Table.{few_answer_values}
 use Rattle.gc_client.specs.declared.pending.Pending.{Pending}
-use Rattle.gc_client.specs.Rule.{ById, Settlement, settle, place_in, id_settled, hears, id_in, fits}
+use Rattle.gc_client.specs.Rule.{ById, Settlement, settle, place_in, settles_at, hears, id_in, fits}
 use Rattle.gc_client.specs.Rule
 use Rattle.geocom_c.specs.Feeding.{line_kind, fault_number_in}
 use Rattle.geocom_c.specs.Settled.{StandsAt, AreListed, AreReadAs, IsKind, HasReading, ListsItems, HasOutcome, IsRecord, AnswerHasLine, AnswersHaveLine}
@@ -24,21 +24,6 @@ use Rattle.geocom_c.specs.declared.settled.GeocomSettlement.{GeocomSettlement}
 use Rattle.geocom_c.proofs.Places.{first_map}
 use Rattle.geocom_c.proofs.Items.{stands_more}
 use Rattle.std.proofs.lemmas.Bool.{false≢true}
-
--- an answer has at most 16 values
-few_values : (a : Answer) → length (answer_fields a).values ≤ 16
-few_values answer.Nothing = omega arith
-few_values (answer.Short n) = omega arith
-few_values (answer.Version a b c) = omega arith
-few_values (answer.Long n) = omega arith
-few_values (answer.Name n) = omega arith
-few_values (answer.Date d) = omega arith
-few_values (answer.Temperature t) = omega arith
-few_values (answer.Place s) = omega arith
-few_values (answer.Height h) = omega arith
-few_values (answer.Angles hz v) = omega arith
-few_values (answer.Measured hz v d) = omega arith
-few_values (answer.MeasuredMode hz v d m) = omega arith
 
 -- where a text lists the items of a reply's parameters if they are at most 16 (`ListsItems`), and the reply reads as an answer to
 -- what was asked, the text lists the items of this answer (`AreListed`)
@@ -54,7 +39,7 @@ value_listed asked answer text count places reply lists reads = of_asked asked r
   of_asked (Table call) says =
       let params = says.2.values in
       let values = (answer_fields answer).values in
-      let few : length params.items ≤ 16 = omega (arith, same_count values params.items params.read, length-map values kind_of, few_values answer) in
+      let few : length params.items ≤ 16 = omega (arith, same_count values params.items params.read, length-map values kind_of, few_answer_values answer) in
       listed (Table call) params.items params.split few params.read
   of_asked (Raw raw) says = listed (Raw raw) says.2.0.0 says.2.0.1 says.2.0.2 tt
 
@@ -124,7 +109,7 @@ settled_have_line (suc k) line (p ∷ ps) = (tt, settled_have_line k line ps)
 
 -- if a line has the id of place k, each request that the client settles by it as answered has this line, whether a request is
 -- outstanding at that place (b) or not
-chosen_have_line : (c : ById Asked) (line : List ℕ) (k : ℕ) (b : Bool) → AnswersHaveLine line (id_settled c line k b).settlements
+chosen_have_line : (c : ById Asked) (line : List ℕ) (k : ℕ) (b : Bool) → AnswersHaveLine line (settles_at c line k b).settlements
 chosen_have_line c line k true = settled_have_line k line c.waiting
 chosen_have_line c line k false = tt
 
@@ -134,6 +119,6 @@ heard_have_line c line None = tt
 heard_have_line c line (Some id) = chosen_have_line c line (place_in c id) _
 
 -- a reply whose id is that of an outstanding request has the kind 1, of a line that settled, and the fault number 0
-pub settling : (c : ById Asked) (r : Result ReplyFields LineFault) → fits c (id_in r) ≡ true → (1 ≡ line_kind r (fits c (id_in r))) × (0 ≡ fault_number_in r)
-settling c (Ok reply) e = (rw e refl, refl)
-settling c (Err f) e = absurd (false≢true e)
+pub settles_kind : (c : ById Asked) (r : Result ReplyFields LineFault) → fits c (id_in r) ≡ true → (1 ≡ line_kind r (fits c (id_in r))) × (0 ≡ fault_number_in r)
+settles_kind c (Ok reply) e = (rw e refl, refl)
+settles_kind c (Err f) e = absurd (false≢true e)

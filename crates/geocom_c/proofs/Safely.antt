@@ -1,6 +1,6 @@
 -- When what calls on a state send is safe: either if a request that is no call of the table is to the instrument as all others,
 -- or if no call sends a raw request. An event is a null procedure that is sent, a line that comes, or a step of a client; a run
--- is the turns of a synchronization and then the moves of the field, and a part is a run with what was in flight when it began.
+-- is the turns of a synchronization and then the moves of the field, and a placed run is a run with what was in flight when it began.
 use Rattle.std.proofs.Common.{◌≡◌, ℕ, true, List, [], ◌∷◌, ◌++◌, map, Option, Some, None, refl, sym, subst, inl, inr}
 use Rattle.std.specs.List.{AllByRecursion}
 use Rattle.gc_catalogue.specs.Asked.{is_of_table}
@@ -20,13 +20,13 @@ use Rattle.gc_field.specs.World.{Ends}
 use Rattle.geocom_c.specs.Beginning.{left_by_restart, given, left_by_bytes}
 use Rattle.geocom_c.specs.Laws.{AreOfTheTable, IsSafeRun, TableCallsAreSafe}
 use Rattle.geocom_c.specs.Rest.{lines_completed}
-use Rattle.geocom_c.specs.Runs.{Part, events_of, events_over, parts}
-use Rattle.geocom_c.specs.Steps.{Event, Null, Came, Stepped, AreEvents, ask_events, begin_events, step_events}
-use Rattle.geocom_c.specs.declared.following.Step.{Step}
-use Rattle.geocom_c.specs.declared.following.Step.TheVariants.{Send, SendRaw, Begin, Feed, Expire, Restart}
+use Rattle.geocom_c.specs.Runs.{PlacedRun, events_of, events_over, placed_runs}
+use Rattle.geocom_c.specs.Steps.{ClientEvent, Null, Came, Stepped, AreEvents, ask_events, begin_events, step_events}
+use Rattle.geocom_c.specs.declared.following.StateCall.{StateCall}
+use Rattle.geocom_c.specs.declared.following.StateCall.TheVariants.{Send, SendRaw, Begin, Feed, Expire, Restart}
 
 -- the event asks for nothing but a call of the table
-abbrev IsInTable : Event → Type 0
+abbrev IsInTable : ClientEvent → Type 0
 IsInTable Null = Unit {0}
 IsInTable (Came line) = Unit {0}
 IsInTable (Stepped (one.Send target asked deadline)) = is_of_table asked ≡ true
@@ -35,7 +35,7 @@ IsInTable (Stepped (one.Expire now)) = Unit {0}
 IsInTable (Stepped one.Restart) = Unit {0}
 
 -- each of these events asks for nothing but a call of the table
-abbrev AreInTable : List Event → Type 0
+abbrev AreInTable : List ClientEvent → Type 0
 AreInTable events = AllByRecursion IsInTable events
 
 -- lines that come ask for nothing
@@ -71,25 +71,25 @@ step_in_table [] step is = (is, tt)
 step_in_table (asked ∷ later) step is = tt
 
 -- calls on a state of which none sends a raw request are events that ask for calls of the table alone
-calls_in_table : (left rest : List ℕ) (calls : List Step) (events : List Event) → AreOfTheTable calls → AreEvents left rest calls events → AreInTable events
-calls_in_table left rest [] events t e = subst (λ (es : List Event). AreInTable es) (sym e) tt
+calls_in_table : (left rest : List ℕ) (calls : List StateCall) (events : List ClientEvent) → AreOfTheTable calls → AreEvents left rest calls events → AreInTable events
+calls_in_table left rest [] events t e = subst (λ (es : List ClientEvent). AreInTable es) (sym e) tt
 calls_in_table left rest (Send target deadline procedure params ∷ calls) events t (inl f) =
-    subst (λ (es : List Event). AreInTable es) (sym f.4) (refl, calls_in_table left rest calls f.1 t.1 f.5)
+    subst (λ (es : List ClientEvent). AreInTable es) (sym f.4) (refl, calls_in_table left rest calls f.1 t.1 f.5)
 calls_in_table left rest (Send target deadline procedure params ∷ calls) events t (inr f) = calls_in_table left rest calls events t.1 f.1
 calls_in_table left rest (SendRaw target deadline procedure params ∷ calls) events t f = absurd t.0
 calls_in_table left rest (Begin bytes ∷ calls) events t f =
-    subst (λ (es : List Event). AreInTable es) (sym f.1)
+    subst (λ (es : List ClientEvent). AreInTable es) (sym f.1)
     (all_append IsInTable (begin_events left rest bytes.now) f.0 (begin_in_table left rest bytes.now)
     (calls_in_table (left_by_bytes left rest bytes.now) (rest_behind rest bytes.now) calls f.0 t.1 f.2))
 calls_in_table left rest (Feed bytes ∷ calls) events t f =
-    subst (λ (es : List Event). AreInTable es) (sym f.1)
+    subst (λ (es : List ClientEvent). AreInTable es) (sym f.1)
     (all_append IsInTable (step_events left (map one.Hear (lines_completed rest bytes.now))) f.0 (fed_in_table left (lines_completed rest bytes.now))
     (calls_in_table left (rest_behind rest bytes.now) calls f.0 t.1 f.2))
 calls_in_table left rest (Expire now ∷ calls) events t f =
-    subst (λ (es : List Event). AreInTable es) (sym f.1)
+    subst (λ (es : List ClientEvent). AreInTable es) (sym f.1)
     (all_append IsInTable (step_events left (one.Expire now ∷ [])) f.0 (step_in_table left (one.Expire now) tt) (calls_in_table left rest calls f.0 t.1 f.2))
 calls_in_table left rest (Restart ∷ calls) events t f =
-    subst (λ (es : List Event). AreInTable es) (sym f.1)
+    subst (λ (es : List ClientEvent). AreInTable es) (sym f.1)
     (all_append IsInTable (step_events left (one.Restart ∷ [])) f.0 (step_in_table left one.Restart tt) (calls_in_table (left_by_restart left) [] calls f.0 t.1 f.2))
 
 -- moves of the field whose events ask for calls of the table send nothing else
@@ -106,13 +106,13 @@ table_moves (Joins line ∷ ms) h = table_moves ms h
 
 module _ {State : Type 0} (width : ℕ) (ends : Ends State) (Good : State → Type 0) (kept : State → Option KeptReply) where
   -- if a request that is no call of the table is to the instrument as all others, each run is safe
-  pub alike_safe : TreatsRawsAlike ends Good kept → (ps : List (Part State)) → AllByRecursion (IsSafeRun width ends Good kept) ps
+  pub alike_safe : TreatsRawsAlike ends Good kept → (ps : List (PlacedRun State)) → AllByRecursion (IsSafeRun width ends Good kept) ps
   alike_safe alike [] = tt
   alike_safe alike (p ∷ ps) = ((λ m command went. inr (inl alike)), alike_safe alike ps)
 
   -- runs whose events ask for nothing but calls of the table are safe
   table_safe : (rs : List (Run State)) (u : UnderWay State) → AreInTable (events_over width ends u rs)
-      → AllByRecursion (IsSafeRun width ends Good kept) (parts width ends u rs)
+      → AllByRecursion (IsSafeRun width ends Good kept) (placed_runs width ends u rs)
   table_safe [] u h = tt
   table_safe (r ∷ []) u h =
       let own = all_behind IsInTable (events_of ends (begins u) r.turns) (map Stepped (seen r.moves)) h in

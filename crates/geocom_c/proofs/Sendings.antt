@@ -8,7 +8,7 @@ use Rattle.gc_catalogue.specs.declared.fault.CallFault.TheVariants.{Unknown, Par
 use Rattle.gc_catalogue.specs.declared.asked.Asked.{Asked}
 use Rattle.gc_catalogue.specs.declared.raw.RawFault.{RawFault}
 use Rattle.gc_catalogue.specs.declared.raw.RawFault.TheVariants as raw
-use Rattle.geocom_c.specs.Sending.{IsOfRequest, IsReadAs, IsSend, SendEffect, SendsRead, WasAsked, raw_number}
+use Rattle.geocom_c.specs.Sending.{IsOfRequest, AsksOrRefuses, IsSend, SendEffect, SendsRead, WasAsked, raw_number}
 use Rattle.geocom_c.specs.declared.header.TheConstants.{WINDOW_FULL}
 use Rattle.geocom_c.specs.declared.state.GeocomClient.{GeocomClient}
 use Rattle.geocom_c.proofs.Clients.{never_ok}
@@ -16,12 +16,12 @@ use Rattle.geocom_c.proofs.Clients.{never_ok}
 -- Results.
 
 -- a result has one value
-pub same_value : {A E : Type 0} (r : Result A E) (x y : A) → r ≡ Ok x → r ≡ Ok y → x ≡ y
-same_value r x y e f = cc
+pub one_value_of : {A E : Type 0} (r : Result A E) (x y : A) → r ≡ Ok x → r ≡ Ok y → x ≡ y
+one_value_of r x y e f = cc
 
 -- a result has one error
-pub same_error : {A E : Type 0} (r : Result A E) (x y : E) → r ≡ Err x → r ≡ Err y → x ≡ y
-same_error r x y e f = cc
+pub one_error_of : {A E : Type 0} (r : Result A E) (x y : E) → r ≡ Err x → r ≡ Err y → x ≡ y
+one_error_of r x y e f = cc
 
 -- a result isn't a value and an error
 pub never_both : {A E : Type 0} (r : Result A E) (x : A) (y : E) → r ≡ Ok x → r ≡ Err y → ⊥
@@ -72,27 +72,27 @@ module _ {X E : Type 0} (to : X → Asked) (Is : X → Type 0) (IsNot : E → Ty
   -- Here `found` has the x of which `Is` holds, or the e of which `IsNot` does, if there is one.
   module _ (found : Result X E) (only : (x : X) → Is x → found ≡ Ok x) (exactly : (e : E) → IsNot e → found ≡ Err e) where
     -- what was found (x) is what is asked for
-    pub reads_found : (x : X) → found ≡ Ok x → Is x → IsReadAs to Is IsNot number (Ok (to x))
+    pub reads_found : (x : X) → found ≡ Ok x → Is x → AsksOrRefuses to Is IsNot number (Ok (to x))
     reads_found x is holds = record {
-      asks = λ asked same. (x, holds, same_value _ asked (to x) same refl);
-      only = λ y it. ap (λ (z : X). let r : Result Asked ℕ = Ok (to z) in r) (same_value found x y is (only y it));
+      asks = λ asked same. (x, holds, one_value_of _ asked (to x) same refl);
+      only = λ y it. ap (λ (z : X). let r : Result Asked ℕ = Ok (to z) in r) (one_value_of found x y is (only y it));
       refuses = λ fault same. absurd (never_both _ (to x) fault refl same);
       refused = λ e not. absurd (never_both found x e is (exactly e not));
       number_of_request = λ fault same. absurd (never_both _ (to x) fault refl same);
     }
 
     -- the fault that was found (e) is why it is refused, with its number n
-    pub reads_fault : (e : E) (n : ℕ) → found ≡ Err e → IsNot e → n ≡ number e → IsOfRequest (number e) → IsReadAs to Is IsNot number (Err n)
+    pub reads_fault : (e : E) (n : ℕ) → found ≡ Err e → IsNot e → n ≡ number e → IsOfRequest (number e) → AsksOrRefuses to Is IsNot number (Err n)
     reads_fault e n is holds named of_request = record {
       asks = λ asked same. absurd (never_both _ asked n same refl);
       only = λ y it. absurd (never_both found y e (only y it) is);
-      refuses = λ fault same. (e, holds, same_error _ fault n same refl ∙ named);
-      refused = λ f not. ap (λ (k : ℕ). let r : Result Asked ℕ = Err k in r) (named ∙ ap number (same_error found e f is (exactly f not)));
-      number_of_request = λ fault same. subst (λ (k : ℕ). IsOfRequest k) (sym (same_error _ fault n same refl ∙ named)) of_request;
+      refuses = λ fault same. (e, holds, one_error_of _ fault n same refl ∙ named);
+      refused = λ f not. ap (λ (k : ℕ). let r : Result Asked ℕ = Err k in r) (named ∙ ap number (one_error_of found e f is (exactly f not)));
+      number_of_request = λ fault same. subst (λ (k : ℕ). IsOfRequest k) (sym (one_error_of _ fault n same refl ∙ named)) of_request;
     }
 
   -- Here `read` is what was read.
-  module _ (read : Result Asked ℕ) (r : IsReadAs to Is IsNot number read) where
+  module _ (read : Result Asked ℕ) (r : AsksOrRefuses to Is IsNot number read) where
     -- a client that was asked for what was read was asked for an x of which `Is` holds
     asked_as : (Fills : (count width : ℕ) → Type 0) (state : GeocomClient) → WasAsked (λ (asked : Asked). read ≡ Ok asked) Fills state → WasAsked Is Fills state
     asked_as Fills state was =

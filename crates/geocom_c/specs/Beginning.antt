@@ -10,7 +10,7 @@ pub use Rattle.gc_client.specs.Beginning.{unanswered_after}
 use Rattle.gc_catalogue.specs.declared.asked.Asked.{Asked}
 use Rattle.gc_client.specs.Rule.{Windowed, heard}
 use Rattle.geocom_c.specs.Rest.{lines_completed}
-use Rattle.geocom_c.specs.State.{StandsFor, left_of}
+use Rattle.geocom_c.specs.State.{StandsForClient, left_of}
 use Rattle.geocom_c.specs.declared.answers.GeocomBeginning.{GeocomBeginning}
 use Rattle.geocom_c.specs.declared.state.GeocomClient.{GeocomClient}
 
@@ -32,12 +32,16 @@ abbrev pub given_unless : (is_waiting : Bool) → (after : List ℕ) → Option 
 given_unless true after = None
 given_unless false after = asks after
 
+-- whether there are bytes, and they answer nothing: as many ids aren't answered after them as before
+abbrev pub came_in_vain : (bytes before after : List ℕ) → Bool
+came_in_vain [] before after = false
+came_in_vain (byte ∷ bytes) before after = nat_eq (length before) (length after)
+
 -- the line that is sent after these bytes, by the ids that aren't answered before and after them. Without bytes it is the null
 -- procedure that is asked for, the first time or again; if the bytes answer any, it is the next one; otherwise, and once the
 -- client has synchronized, none is sent
 abbrev pub given : (bytes before after : List ℕ) → Option (List ℕ)
-given [] before after = asks after
-given (byte ∷ bytes) before after = given_unless (nat_eq (length before) (length after)) after
+given bytes before after = given_unless (came_in_vain bytes before after) after
 
 -- the line is, with its CR LF, at the front of `room`, and these are `count` bytes; if there is none the count is 0
 abbrev pub IsGiven : Option (List ℕ) → (count : ℕ) → (room : List ℕ) → Type 0
@@ -54,8 +58,8 @@ left_by_restart (asked ∷ later) = asked ∷ later
 -- client is the same, each line that the bytes end is heard, and the bytes since the last line feed are kept
 abbrev pub HearsBytes : (bytes : List ℕ) → (old new : GeocomClient) → (fault : ℕ) → Type 0
 HearsBytes bytes old new fault =
-    (c : Windowed Asked) (rest : List ℕ) → StandsFor old c rest
-    → (fault ≡ 0) × StandsFor new c (rest_behind rest bytes) × (left_of new ≡ left_by_bytes (left_of old) rest bytes)
+    (c : Windowed Asked) (rest : List ℕ) → StandsForClient old c rest
+    → (fault ≡ 0) × StandsForClient new c (rest_behind rest bytes) × (left_of new ≡ left_by_bytes (left_of old) rest bytes)
 
 -- if the call that returned `told` had no fault, `room` has the line that is sent after these bytes, where `old` and `new` are
 -- the states before and after the call

@@ -2,7 +2,7 @@
 use Rattle.std.specs.Prelude.{◌≡◌, ◌≢◌, ◌<◌, ◌≤◌, ◌+◌, ◌++◌, ℕ, Bool, true, false, List, [], length, take, Result, Ok, Err, Some, None}
 use Rattle.std.specs.List.{position}
 use Rattle.gc_lines.specs.declared.fault.LineFault.{LineFault}
-use Rattle.gc_lines.specs.Faults.{fault_number}
+use Rattle.gc_lines.specs.Faults.{line_fault_number}
 use Rattle.gc_lines.specs.Frames.{is_line_feed, frame_of}
 use Rattle.gc_lines.specs.declared.frame.Frame.{Frame}
 use Rattle.gc_lines.specs.declared.frame.Frame.TheVariants.{Line, Cleared, Overlong, More}
@@ -14,7 +14,7 @@ use Rattle.gc_client.specs.declared.window.TheConstants.{WINDOW}
 use Rattle.geocom_c.specs.FirstAre.{FirstAre}
 use Rattle.geocom_c.specs.Rooms.{KeepsLength, WritesFirst}
 use Rattle.geocom_c.specs.Settled.{IsRecord}
-use Rattle.geocom_c.specs.State.{StandsFor}
+use Rattle.geocom_c.specs.State.{StandsForClient}
 use Rattle.geocom_c.specs.declared.answers.GeocomCount.{GeocomCount}
 use Rattle.geocom_c.specs.declared.answers.GeocomHeard.{GeocomHeard}
 use Rattle.geocom_c.specs.declared.header.TheConstants.{TEXT_ROOM, MORE, SETTLED, STRAY, UNREAD, CLEARED, OVERLONG}
@@ -22,7 +22,7 @@ use Rattle.geocom_c.specs.declared.settled.GeocomSettlement.{GeocomSettlement}
 use Rattle.geocom_c.specs.declared.state.GeocomClient.{GeocomClient}
 
 -- there is room for what a line can settle
-pub record HasRoom (settlements : List GeocomSettlement) (text : List ℕ) : Type 0 where
+pub record HasRoomToSettle (settlements : List GeocomSettlement) (text : List ℕ) : Type 0 where
   pub for_records : WINDOW ≤ length settlements
   pub for_text : TEXT_ROOM ≤ length text
 
@@ -42,7 +42,7 @@ frame_kind c More = MORE
 -- the number of a line's fault if it is no reply, else 0
 abbrev pub fault_number_in : Result ReplyFields LineFault → ℕ
 fault_number_in (Ok reply) = 0
-fault_number_in (Err fault) = fault_number fault
+fault_number_in (Err fault) = line_fault_number fault
 
 -- the number of a frame's line fault; 0 for a frame without one
 abbrev pub frame_fault : Frame → ℕ
@@ -92,14 +92,14 @@ pub record FeedsFrame (c : Windowed Asked) (frame : Frame) (used : ℕ) (state :
     (text : List ℕ) : Type 0 where
   pub used_is : r.used ≡ used
   pub fed : IsFed c frame r records text
-  pub stands : StandsFor state (client_past c frame) []
+  pub stands : StandsForClient state (client_past c frame) []
 
 -- the client `c` was restarted: the fault is 0, the state is the rule's, with no byte of a line, each request that was
 -- outstanding has a record, and the count is that of these requests
 pub record HasRestarted (c : Windowed Asked) (state : GeocomClient) (told : GeocomCount) (records : List GeocomSettlement)
     : Type 0 where
   pub fault : told.fault ≡ 0
-  pub stands : StandsFor state (record c { ids = (restarts c.ids).client }) []
+  pub stands : StandsForClient state (record c { ids = (restarts c.ids).client }) []
   pub count : told.count ≡ length (restarts c.ids).settlements
   pub recorded : FirstAre (IsRecord []) records (restarts c.ids).settlements
 
@@ -107,14 +107,14 @@ pub record HasRestarted (c : Windowed Asked) (state : GeocomClient) (told : Geoc
 -- `new`, which keeps them
 abbrev pub FeedsUnended : Windowed Asked → (bytes : List ℕ) → (old new : GeocomClient) → (told : GeocomHeard) → Type 0
 FeedsUnended c bytes old new told =
-    (rest : List ℕ) → StandsFor old c rest → position is_line_feed bytes ≡ None → (told ≡ unended (length bytes)) × StandsFor new c (rest ++ bytes)
+    (rest : List ℕ) → StandsForClient old c rest → position is_line_feed bytes ≡ None → (told ≡ unended (length bytes)) × StandsForClient new c (rest ++ bytes)
 
 -- if these bytes have a line feed, feeding them to the client `c` in the state `old` feeds the frame that the first one ends, as
 -- `FeedsFrame` says of the state `new`, of what was returned and of the records and the text
 abbrev pub FeedsFirst : Windowed Asked → (bytes : List ℕ) → (old new : GeocomClient) → (told : GeocomHeard)
     → (records : List GeocomSettlement) → (text : List ℕ) → Type 0
 FeedsFirst c bytes old new told records text =
-    (rest : List ℕ) (at : ℕ) → StandsFor old c rest → position is_line_feed bytes ≡ Some at
+    (rest : List ℕ) (at : ℕ) → StandsForClient old c rest → position is_line_feed bytes ≡ Some at
     → FeedsFrame c (frame_of (rest ++ take at bytes)) (at + 1) new told records text
 
 -- what is returned with this fault if a feed used nothing
@@ -134,5 +134,5 @@ pub record WritesSettled (count : ℕ) (before after : List GeocomSettlement) (t
   pub silent : count ≡ 0 → (after ≡ before) × (text_after ≡ text_before)
 
 -- a client in the state `old` was restarted: what was returned, the state `new` and the records are as `HasRestarted` says
-abbrev pub Restarts : (old new : GeocomClient) → (told : GeocomCount) → (records : List GeocomSettlement) → Type 0
-Restarts old new told records = (c : Windowed Asked) (rest : List ℕ) → StandsFor old c rest → HasRestarted c new told records
+abbrev pub RestartsClient : (old new : GeocomClient) → (told : GeocomCount) → (records : List GeocomSettlement) → Type 0
+RestartsClient old new told records = (c : Windowed Asked) (rest : List ℕ) → StandsForClient old c rest → HasRestarted c new told records

@@ -3,6 +3,7 @@
 -- both are answered. Over the instrument that counts the second command is for a procedure that isn't in the table, whichever
 -- it is. Then the client restarts, and resynchronizes.
 use Rattle.std.specs.Prelude.{◌≡◌, ℕ, List, [], ◌∷◌, ◌++◌, codes, drop, Option, None}
+use Rattle.std.specs.Borrow.{Bor}
 use Rattle.std.specs.List.{AllByRecursion}
 use Rattle.gc_lines.specs.Lines.{with_end}
 use Rattle.gc_catalogue.specs.Asked.{raw_params}
@@ -15,9 +16,9 @@ use Rattle.gc_client.specs.declared.window.TheConstants.{WINDOW}
 use Rattle.gc_client.specs.OneForOne.{begun, course}
 use Rattle.gc_client.specs.Rule.{IsWidth, Answered}
 use Rattle.gc_instrument.specs.State.{KeptReply, IsFittingState, simulator_opening}
-use Rattle.gc_field.specs.Simulator.{ends}
+use Rattle.gc_field.specs.Simulator.{simulator_ends}
 use Rattle.gc_field.specs.World.{Ends, Up_deliver}
-use Rattle.gc_field.specs.Begin.{IsWellFormed, LacksTheWord, Turn, Asks, Comes, UnderWay, begins, leaves, turned}
+use Rattle.gc_field.specs.Begin.{IsWellFormed, LacksTheWord, SyncTurn, Asks, Comes, UnderWay, begins, leaves, turned}
 use Rattle.gc_field.specs.Beginnings.{Run}
 use Rattle.gc_field.specs.Begun.{WasMadeOn}
 use Rattle.gc_field.specs.CountingChain as chain
@@ -27,12 +28,12 @@ use Rattle.gc_field.specs.Field as field
 use Rattle.gc_field.specs.Instrument.{IsAnInstrument, AnyState}
 use Rattle.gc_field.specs.Laws.{kept_of}
 use Rattle.gc_field.specs.Witness.{eight_answered, replies}
-use Rattle.geocom_c.specs.Following.{CallsReach, Stage, opened}
+use Rattle.geocom_c.specs.Following.{CallsReach, CallStage, first_stage}
 use Rattle.geocom_c.specs.Laws.{IsSafeRun}
-use Rattle.geocom_c.specs.Runs.{ArePossibleRuns, events_over, parts}
+use Rattle.geocom_c.specs.Runs.{ArePossibleRuns, events_over, placed_runs}
 use Rattle.geocom_c.specs.Steps.{AreEvents, steps_among}
-use Rattle.geocom_c.specs.declared.following.Step.{Step}
-use Rattle.geocom_c.specs.declared.following.Step.TheVariants.{Send, SendRaw, Begin, Feed, Expire, Restart}
+use Rattle.geocom_c.specs.declared.following.StateCall.{StateCall}
+use Rattle.geocom_c.specs.declared.following.StateCall.TheVariants.{Send, SendRaw, Begin, Feed, Expire, Restart}
 
 -- an old reply, from before the client synchronizes, with the id that the first command has
 abbrev pub old_reply : List ℕ
@@ -42,46 +43,50 @@ old_reply = codes "%R1P,0,0:0,654321"
 abbrev pub old_reply_alone : {State : Type 0} → State → UnderWay State
 old_reply_alone state = record { up = []; down = old_reply ∷ []; state = state }
 
+-- bytes as they are passed to a call; their address is (0, 0), as it doesn't matter
+abbrev pub passed_bytes : List ℕ → Bor (List ℕ)
+passed_bytes bytes = record { ref_ptr = (0, 0); now = bytes }
+
 -- the calls by which each of these lines is handed to the synchronization, as a reply to a null procedure; and then the calls
--- `later`. An address is (0, 0) here, as it doesn't matter
-abbrev pub begin_calls : List (List ℕ) → List Step → List Step
+-- `later`
+abbrev pub begin_calls : List (List ℕ) → List StateCall → List StateCall
 begin_calls [] later = later
-begin_calls (reply ∷ replies) later = Begin (record { ref_ptr = (0, 0); now = with_end reply }) ∷ begin_calls replies later
+begin_calls (reply ∷ replies) later = Begin (passed_bytes (with_end reply)) ∷ begin_calls replies later
 
 -- what the calls have of each instrument: the replies to the null procedures; the call that sends the second command, and what
 -- that asks for; and the replies to the first command and to the other
 pub record Exchange : Type 0 where
   pub nulls : List (List ℕ)
-  pub second : Step
+  pub second : StateCall
   pub asked : Asked
   pub one : List ℕ
   pub other : List ℕ
 
 -- the calls: a first one of the synchronization without bytes, then one with the old reply and one with each reply to a null
 -- procedure; the two commands; a moment; the replies to both; a restart; and a resynchronization
-abbrev pub calls : Exchange → List Step
+abbrev pub calls : Exchange → List StateCall
 calls x =
-    Begin (record { ref_ptr = (0, 0); now = [] })
+    Begin (passed_bytes [])
     ∷ begin_calls (old_reply ∷ x.nulls)
-    (Send 7 9 5003 (record { ref_ptr = (0, 0); now = [] })
+    (Send 7 9 5003 (passed_bytes [])
     ∷ x.second
     ∷ Expire 5
-    ∷ Feed (record { ref_ptr = (0, 0); now = with_end x.one ++ with_end x.other })
+    ∷ Feed (passed_bytes (with_end x.one ++ with_end x.other))
     ∷ Restart
-    ∷ Begin (record { ref_ptr = (0, 0); now = [] })
+    ∷ Begin (passed_bytes [])
     ∷ [])
 
 -- the first null procedure is asked for, and the old reply comes; each null procedure reaches the instrument, and its reply comes
-abbrev pub beginning : {State : Type 0} → List (Turn State)
+abbrev pub beginning : {State : Type 0} → List (SyncTurn State)
 beginning = Asks ∷ Comes ∷ drop 1 eight_answered
 
 -- the second command if it is one of the table
-abbrev pub table_second : Step
-table_second = Send 8 9 5003 (record { ref_ptr = (0, 0); now = [] })
+abbrev pub table_second : StateCall
+table_second = Send 8 9 5003 (passed_bytes [])
 
 -- the second command if it is for a procedure that isn't in the table
-abbrev pub raw_second : RawCall → Step
-raw_second raw = SendRaw 8 9 raw.rpc (record { ref_ptr = (0, 0); now = raw_params raw })
+abbrev pub raw_second : RawCall → StateCall
+raw_second raw = SendRaw 8 9 raw.rpc (passed_bytes (raw_params raw))
 
 -- the moves of the field for these calls: each command reaches the instrument, and its reply comes
 abbrev pub moves : {State : Type 0} → Exchange → List (Move State)
@@ -92,7 +97,7 @@ abbrev pub runs : {State : Type 0} → Exchange → List (Run State)
 runs x = record { turns = beginning; moves = moves x } ∷ record { turns = Asks ∷ []; moves = [] } ∷ []
 
 -- the stage that the calls come to
-abbrev pub end_stage : {State : Type 0} → Ends State → State → Exchange → Stage
+abbrev pub end_stage : {State : Type 0} → Ends State → State → Exchange → CallStage
 end_stage ends state x = record { reached = course WINDOW begun (steps_among (events_over WINDOW ends (old_reply_alone state) (runs x))); rest = []; left = the_word }
 
 module _ {State : Type 0} (ends : Ends State) (Good : State → Type 0) (kept : State → Option KeptReply) where
@@ -102,12 +107,12 @@ module _ {State : Type 0} (ends : Ends State) (Good : State → Type 0) (kept : 
   pub record AreInField (state : State) (x : Exchange) : Type 0 where
     pub instrument : IsAnInstrument ends Good kept
     pub width : IsWidth WINDOW
-    pub follows : CallsReach WINDOW opened (calls x) (end_stage ends state x)
+    pub follows : CallsReach WINDOW first_stage (calls x) (end_stage ends state x)
     pub lines : IsWellFormed Good (old_reply_alone state)
     pub may : LacksTheWord (old_reply_alone state)
     pub are : AreEvents the_word [] (calls x) (events_over WINDOW ends (old_reply_alone state) (runs x))
     pub possible : ArePossibleRuns WINDOW ends Good kept (old_reply_alone state) (runs x)
-    pub safe : AllByRecursion (IsSafeRun WINDOW ends Good kept) (parts WINDOW ends (old_reply_alone state) (runs x))
+    pub safe : AllByRecursion (IsSafeRun WINDOW ends Good kept) (placed_runs WINDOW ends (old_reply_alone state) (runs x))
     pub settlements :
         (end_stage ends state x).reached.settlements
         ≡ record { target = 7; call = Table InstrumentNo; outcome = Answered x.one } ∷ record { target = 8; call = x.asked; outcome = Answered x.other } ∷ []
@@ -126,4 +131,4 @@ simulator_exchange =
 -- is at the start
 pub record SomeCallsAreInField : Type 0 where
   pub any : (raw : RawCall) → AreInField counting AnyState kept_by (record { count = 27; keeps = None }) (counting_exchange raw)
-  pub simulator : AreInField ends IsFittingState kept_of simulator_opening simulator_exchange
+  pub simulator : AreInField simulator_ends IsFittingState kept_of simulator_opening simulator_exchange

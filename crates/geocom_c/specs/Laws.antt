@@ -10,7 +10,7 @@ use Rattle.gc_client.specs.Beginning.{the_word}
 use Rattle.gc_client.specs.OneForOne.{of_settled}
 use Rattle.gc_client.specs.Rule.{IsWidth, Settlement, Answered}
 use Rattle.gc_instrument.specs.State.{KeptReply, IsFittingState}
-use Rattle.gc_field.specs.Simulator.{ends}
+use Rattle.gc_field.specs.Simulator.{simulator_ends}
 use Rattle.gc_world.specs.Record.{IsReplyTo}
 use Rattle.gc_field.specs.World.{Ends, Sent}
 use Rattle.gc_field.specs.Begin.{IsWellFormed, LacksTheWord, UnderWay, leaves}
@@ -18,54 +18,54 @@ use Rattle.gc_field.specs.Beginnings.{AreFewKilled, AreRuns, IsOwnIf, HasRisingI
 use Rattle.gc_field.specs.Begun.{IsSafe, WasMadeOn}
 use Rattle.gc_field.specs.Instrument.{AnyState, OfAnyInstrument, TreatsRawsAlike}
 use Rattle.gc_field.specs.Laws.{WasExecuted, asked, kept_of}
-use Rattle.geocom_c.specs.Following.{CallsReach, Stage, opened}
-use Rattle.geocom_c.specs.Runs.{Part, ArePossibleRuns, begun_at, client_over, events_over, left_over, parts, settled_over, world}
+use Rattle.geocom_c.specs.Following.{CallsReach, CallStage, first_stage}
+use Rattle.geocom_c.specs.Runs.{PlacedRun, ArePossibleRuns, begun_at, client_over, events_over, left_over, placed_runs, settled_over, world}
 use Rattle.geocom_c.specs.Steps.{AreEvents, IsOverEvents}
-use Rattle.geocom_c.specs.declared.following.Step.{Step}
-use Rattle.geocom_c.specs.declared.following.Step.TheVariants.{SendRaw}
+use Rattle.geocom_c.specs.declared.following.StateCall.{StateCall}
+use Rattle.geocom_c.specs.declared.following.StateCall.TheVariants.{SendRaw}
 
 -- for every width: any calls on a state are one list of events, and bring the client to where its rule brings it over these
 -- events
 abbrev pub CallsAreEvents : Type 0
-CallsAreEvents = (width : ℕ) (calls : List Step) (t : Stage) → CallsReach width opened calls t → IsOverEvents width calls t
+CallsAreEvents = (width : ℕ) (calls : List StateCall) (t : CallStage) → CallsReach width first_stage calls t → IsOverEvents width calls t
 
 module _ {State : Type 0} (width : ℕ) (ends : Ends State) (Good : State → Type 0) (kept : State → Option KeptReply) where
   -- where the answer `line` of settlement `s` comes from, over the runs `ps`: it settled request m of run k, which was sent with
   -- the settlement's target and call, and is none of the eight null procedures; that request was executed, and on executing it
   -- the instrument made this line, which is a reply to its call
-  pub record IsItsOwn (ps : List (Part State)) (s : Settlement Asked) (line : List ℕ) : Type 0 where
+  pub record IsItsOwn (ps : List (PlacedRun State)) (s : Settlement Asked) (line : List ℕ) : Type 0 where
     pub k : ℕ
-    pub part : Part State
-    pub of_parts : slice_get ps k ≡ Some part
+    pub placed : PlacedRun State
+    pub of_runs : slice_get ps k ≡ Some placed
     pub m : ℕ
     pub commands : 8 ≤ m
-    pub settled : slice_get (world width ends part).wire.settled m ≡ Some s
+    pub settled : slice_get (world width ends placed).wire.settled m ≡ Some s
     pub request : Sent
-    pub sent : slice_get (world width ends part).wire.sent m ≡ Some request
+    pub sent : slice_get (world width ends placed).wire.sent m ≡ Some request
     pub asks : asked request ≡ of_settled s
-    pub made : (j : ℕ) × (slice_get (world width ends part).wire.made j ≡ Some (record { number = m; line = line }))
+    pub made : (j : ℕ) × (slice_get (world width ends placed).wire.made j ≡ Some (record { number = m; line = line }))
     pub reply : IsReplyTo ends Good s.call line
-    pub executed : WasExecuted (world width ends part).wire.executed m
+    pub executed : WasExecuted (world width ends placed).wire.executed m
     -- the line was made on executing this very request, also by the moves of the run (`WasMadeOn`)
-    pub made_on : WasMadeOn width ends (leaves (begun_at ends part)) part.run.moves m s.call line
+    pub made_on : WasMadeOn width ends (leaves (begun_at ends placed)) placed.run.moves m s.call line
 
   -- each command that was sent in a run is safe (`IsSafe`): each request of the run is a call of the table; or the instrument
   -- retains its own reply, or none, after every request; or one of the seven requests before the command is a call of the table
   -- that a reply ended, or the eighth null procedure
-  abbrev pub IsSafeRun : Part State → Type 0
+  abbrev pub IsSafeRun : PlacedRun State → Type 0
   IsSafeRun p =
       (m : ℕ) → 8 ≤ m → m < length (world width ends p).wire.sent → IsSafe width ends (leaves (begun_at ends p)) Good kept p.run.moves m
 
   -- if a settlement is an answer, its line was made for that very request (`IsItsOwn`)
-  abbrev pub IsOwnAnswer : List (Part State) → Settlement Asked → Type 0
+  abbrev pub IsOwnAnswer : List (PlacedRun State) → Settlement Asked → Type 0
   IsOwnAnswer ps s = (line : List ℕ) → s.outcome ≡ Answered line → IsItsOwn ps s line
 
   -- if this run has synchronized, it has done so cleanly, and its moves are faithful (`IsOwnIf`)
-  abbrev pub IsOwnPart : Part State → Type 0
-  IsOwnPart p = IsOwnIf width ends Good kept (begun_at ends p).left (begun_at ends p) p.run.moves
+  abbrev pub IsOwnRun : PlacedRun State → Type 0
+  IsOwnRun p = IsOwnIf width ends Good kept (begun_at ends p).left (begun_at ends p) p.run.moves
 
   -- what holds of calls that are the events of these runs, and that bring the client to the stage t
-  pub record AreOwn (ps : List (Part State)) (t : Stage) : Type 0 where
+  pub record AreOwn (ps : List (PlacedRun State)) (t : CallStage) : Type 0 where
     -- the library settles what the world's client settles, and its client ends in the same state; so the lines that it writes
     -- have the same ids
     pub settled : t.reached.settlements ≡ settled_over width ends ps
@@ -76,7 +76,7 @@ module _ {State : Type 0} (width : ℕ) (ends : Ends State) (Good : State → Ty
     -- each answer is its own request's
     pub own : AllByRecursion (IsOwnAnswer ps) t.reached.settlements
     -- and each run that has synchronized has done so cleanly, and is faithful
-    pub each : AllByRecursion IsOwnPart ps
+    pub each : AllByRecursion IsOwnRun ps
 
 -- each answer is its own request's (`AreOwn`), over the ends `ends` with states of which `Good` holds, which retain the reply
 -- `kept`: for every width, all calls on a state that are safe (`IsSafeRun`), whatever is in flight and well formed
@@ -84,11 +84,11 @@ module _ {State : Type 0} (width : ℕ) (ends : Ends State) (Good : State → Ty
 -- meanwhile
 abbrev pub EachAnswerIsOwn : {State : Type 0} → (ends : Ends State) → (Good : State → Type 0) → (kept : State → Option KeptReply) → Type 0
 EachAnswerIsOwn {State = State} ends Good kept =
-    (width : ℕ) → IsWidth width → (calls : List Step) (t : Stage) → CallsReach width opened calls t →
+    (width : ℕ) → IsWidth width → (calls : List StateCall) (t : CallStage) → CallsReach width first_stage calls t →
     (u : UnderWay State) → IsWellFormed Good u → LacksTheWord u →
     (rs : List (Run State)) → AreEvents the_word [] calls (events_over width ends u rs) → ArePossibleRuns width ends Good kept u rs →
-    AllByRecursion (IsSafeRun width ends Good kept) (parts width ends u rs) →
-    AreOwn width ends Good kept (parts width ends u rs) t
+    AllByRecursion (IsSafeRun width ends Good kept) (placed_runs width ends u rs) →
+    AreOwn width ends Good kept (placed_runs width ends u rs) t
 
 -- `EachAnswerIsOwn`, for any instrument, in any state
 abbrev pub AnswersAreTheirOwn : Type 0 → Type 0
@@ -96,7 +96,7 @@ AnswersAreTheirOwn State = OfAnyInstrument {State = State} (λ ends Good kept. E
 
 -- `EachAnswerIsOwn`, for the simulated instrument, in any state that fits
 abbrev pub SimulatorsAnswersAreTheirOwn : Type 0
-SimulatorsAnswersAreTheirOwn = EachAnswerIsOwn ends IsFittingState kept_of
+SimulatorsAnswersAreTheirOwn = EachAnswerIsOwn simulator_ends IsFittingState kept_of
 
 -- for every width (`IsWidth`): after any possible runs (`AreRuns`) of which fewer than six in a row ended while they synchronized,
 -- the next one may begin. What is in flight before the first is as a run that had synchronized leaves it, or nothing
@@ -112,21 +112,21 @@ abbrev pub FewKilledMayBegin : Type 0 → Type 0
 FewKilledMayBegin State = OfAnyInstrument {State = State} (λ ends Good kept. NextMayBegin ends Good kept)
 
 -- the call on a state sends no raw request
-abbrev pub IsOfTheTable : Step → Type 0
+abbrev pub IsOfTheTable : StateCall → Type 0
 IsOfTheTable (SendRaw target deadline procedure params) = ⊥
 IsOfTheTable call = Unit {0}
 
 -- no call on a state asks for a procedure that isn't in the table
-abbrev pub AreOfTheTable : List Step → Type 0
+abbrev pub AreOfTheTable : List StateCall → Type 0
 AreOfTheTable calls = AllByRecursion IsOfTheTable calls
 
 -- over the ends `ends` with states of which `Good` holds, which retain the reply `kept`: each run is safe (`IsSafeRun`) if no
 -- call on the state sends a raw request
 abbrev pub TableCallsAreSafe : {State : Type 0} → (ends : Ends State) → (Good : State → Type 0) → (kept : State → Option KeptReply) → Type 0
 TableCallsAreSafe {State = State} ends Good kept =
-    (width : ℕ) (calls : List Step) → AreOfTheTable calls →
+    (width : ℕ) (calls : List StateCall) → AreOfTheTable calls →
     (u : UnderWay State) (rs : List (Run State)) → AreEvents the_word [] calls (events_over width ends u rs) →
-    AllByRecursion (IsSafeRun width ends Good kept) (parts width ends u rs)
+    AllByRecursion (IsSafeRun width ends Good kept) (placed_runs width ends u rs)
 
 -- each run is safe (`IsSafeRun`) over an instrument that retains its own reply, or none, after every request, as one does that
 -- knows the procedures that are asked for (`alike`); and over any instrument if no call on the state sends a raw request
@@ -134,10 +134,10 @@ TableCallsAreSafe {State = State} ends Good kept =
 pub record CallsAreSafe (State : Type 0) : Type 0 where
   pub alike :
       (ends : Ends State) (kept : State → Option KeptReply) → TreatsRawsAlike ends AnyState kept →
-      (width : ℕ) (u : UnderWay State) (rs : List (Run State)) → AllByRecursion (IsSafeRun width ends AnyState kept) (parts width ends u rs)
+      (width : ℕ) (u : UnderWay State) (rs : List (Run State)) → AllByRecursion (IsSafeRun width ends AnyState kept) (placed_runs width ends u rs)
   pub table : (ends : Ends State) (kept : State → Option KeptReply) → TableCallsAreSafe ends AnyState kept
 
 -- over the simulator, in any state that fits, each run is safe (`IsSafeRun`) if no call on the state sends a raw request. The
 -- simulator doesn't treat raw requests as others: it refuses them, and retains what it retained before
 abbrev pub SimulatorsCallsAreSafe : Type 0
-SimulatorsCallsAreSafe = TableCallsAreSafe ends IsFittingState kept_of
+SimulatorsCallsAreSafe = TableCallsAreSafe simulator_ends IsFittingState kept_of

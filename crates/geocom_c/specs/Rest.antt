@@ -6,19 +6,19 @@ pub use Rattle.gc_lines.specs.Passing.{lines_completed}
 use Rattle.geocom_c.specs.declared.rest.GeocomRest.{GeocomRest}
 
 -- the bytes that are kept
-abbrev pub kept : GeocomRest → List ℕ
-kept r = take r.length r.bytes
+abbrev pub kept_bytes : GeocomRest → List ℕ
+kept_bytes r = take r.length r.bytes
 
 -- at most 514 bytes are kept, and no line feed among them
 pub record IsValid (r : GeocomRest) : Type 0 where
   pub short : r.length ≤ 514
-  pub unended : All (λ b. b ≢ 10) (kept r)
+  pub unended : All (λ b. b ≢ 10) (kept_bytes r)
 
 -- the bytes `rest` came since the last line feed: whatever follows, the next line feed makes the same frame of the kept bytes
 -- as of `rest`
 pub record IsRest (r : GeocomRest) (rest : List ℕ) : Type 0 where
   pub valid : IsValid r
-  pub same : (more : List ℕ) → frame_of (kept r ++ more) ≡ frame_of (rest ++ more)
+  pub same : (more : List ℕ) → frame_of (kept_bytes r ++ more) ≡ frame_of (rest ++ more)
 
 -- no part of a promise: if `piece`, which comes after the bytes that `r` keeps, has no line feed, all of it is used, and `Then`
 -- holds of all bytes since the last line feed, `piece` included

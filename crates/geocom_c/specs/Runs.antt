@@ -9,21 +9,21 @@ use Rattle.gc_client.specs.Rule.{ById, Settlement, fresh, lost}
 use Rattle.gc_instrument.specs.State.{KeptReply}
 use Rattle.gc_world.specs.Clients.{by_ids}
 use Rattle.gc_field.specs.World.{Ends, World}
-use Rattle.gc_field.specs.Begin.{InFlight, AreTurns, Asks, Comes, Foreign, Reaches, Up_lose, Up_repeat, Down_lose, Down_repeat, Anew, Changes, Model, Turn, UnderWay, begins, leaves, turns}
+use Rattle.gc_field.specs.Begin.{InFlight, AreTurns, Asks, Comes, Foreign, Reaches, Up_lose, Up_repeat, Down_lose, Down_repeat, Anew, Changes, SyncModel, SyncTurn, UnderWay, begins, leaves, turns}
 use Rattle.gc_field.specs.Beginnings.{Run, left_by_run, after_turns}
 use Rattle.gc_field.specs.Begun.{behind, ids_begun}
 use Rattle.gc_field.specs.Field.{ArePossible, seen}
-use Rattle.geocom_c.specs.Steps.{Event, Came, Stepped, ask_events}
+use Rattle.geocom_c.specs.Steps.{ClientEvent, Came, Stepped, ask_events}
 
 -- What a run is to the library.
 
 -- the event that the front one of these replies comes; none if there is no reply
-abbrev pub came_of : List (InFlight (List ℕ)) → List Event
+abbrev pub came_of : List (InFlight (List ℕ)) → List ClientEvent
 came_of [] = []
 came_of (x ∷ rest) = Came x.line ∷ []
 
 -- the event that a turn of a synchronization is to the library: a turn of the line or of the instrument is none
-abbrev pub event_of : {State : Type 0} → Model State → Turn State → List Event
+abbrev pub event_of : {State : Type 0} → SyncModel State → SyncTurn State → List ClientEvent
 event_of s Asks = ask_events (asks s.left)
 event_of s Comes = came_of s.down
 event_of s (Foreign line) = Came line ∷ []
@@ -35,24 +35,24 @@ event_of s (Down_repeat k) = []
 event_of s Anew = []
 event_of s (Changes state) = []
 
--- a run, and what was in flight when it began
-pub record Part (State : Type 0) : Type 0 where
+-- a run in its place: the run, and what was in flight when it began
+pub record PlacedRun (State : Type 0) : Type 0 where
   pub before : UnderWay State
   pub run : Run State
 
 module _ {State : Type 0} (ends : Ends State) where
   -- the events that the turns of a synchronization are to the library
-  abbrev pub events_of : Model State → List (Turn State) → List Event
+  abbrev pub events_of : SyncModel State → List (SyncTurn State) → List ClientEvent
   events_of s [] = []
   events_of s (t ∷ ts) = event_of s t ++ events_of (turns ends s t) ts
 
   -- the state of a run's synchronization, once that is over or the run was ended while it synchronized
-  abbrev pub begun_at : Part State → Model State
+  abbrev pub begun_at : PlacedRun State → SyncModel State
   begun_at p = after_turns ends p.before p.run
 
 module _ {State : Type 0} (width : ℕ) (ends : Ends State) where
   -- the events that runs are to the library: the client restarts between them
-  abbrev pub events_over : UnderWay State → List (Run State) → List Event
+  abbrev pub events_over : UnderWay State → List (Run State) → List ClientEvent
   events_over u [] = []
   events_over u (r ∷ []) = events_of ends (begins u) r.turns ++ map Stepped (seen r.moves)
   events_over u (r ∷ next ∷ others) =
@@ -61,13 +61,13 @@ module _ {State : Type 0} (width : ℕ) (ends : Ends State) where
   -- Runs, one after the other.
 
   -- the world after a run
-  abbrev pub world : Part State → World (ById Asked) State
+  abbrev pub world : PlacedRun State → World (ById Asked) State
   world p = behind width ends (leaves (begun_at ends p)) p.run.moves
 
   -- the runs, each with what was in flight when it began: `u` for the first, and for each other what the run before it left
-  abbrev pub parts : UnderWay State → List (Run State) → List (Part State)
-  parts u [] = []
-  parts u (r ∷ rs) = record { before = u; run = r } ∷ parts (left_by_run width ends u r) rs
+  abbrev pub placed_runs : UnderWay State → List (Run State) → List (PlacedRun State)
+  placed_runs u [] = []
+  placed_runs u (r ∷ rs) = record { before = u; run = r } ∷ placed_runs (left_by_run width ends u r) rs
 
   -- what happens is possible, in the synchronization of each run and after it, over an instrument with states of which `Good`
   -- holds, which retain the reply `kept`. That the run has synchronized before its moves is no premise
@@ -92,7 +92,7 @@ module _ {State : Type 0} (width : ℕ) (ends : Ends State) where
   lost_if (asked ∷ later) w = []
 
   -- what the library settles over runs with restarts between them
-  abbrev pub settled_over : List (Part State) → List (Settlement Asked)
+  abbrev pub settled_over : List (PlacedRun State) → List (Settlement Asked)
   settled_over [] = []
   settled_over (p ∷ []) = settled_if (begun_at ends p).left (world p)
   settled_over (p ∷ next ∷ others) =
@@ -104,13 +104,13 @@ module _ {State : Type 0} (width : ℕ) (ends : Ends State) where
   client_if (asked ∷ later) w = fresh
 
   -- the client after runs: that after the last one; a new one if there is no run
-  abbrev pub client_over : List (Part State) → ById Asked
+  abbrev pub client_over : List (PlacedRun State) → ById Asked
   client_over [] = fresh
   client_over (p ∷ []) = client_if (begun_at ends p).left (world p)
   client_over (p ∷ next ∷ others) = client_over (next ∷ others)
 
   -- the ids of a synchronization that aren't answered after runs: those of the last one; all ids of the word if there is no run
-  abbrev pub left_over : List (Part State) → List ℕ
+  abbrev pub left_over : List (PlacedRun State) → List ℕ
   left_over [] = the_word
   left_over (p ∷ []) = (begun_at ends p).left
   left_over (p ∷ next ∷ others) = left_over (next ∷ others)

@@ -1,8 +1,8 @@
 -- What a send writes and returns, this project's own.
 use Rattle.std.specs.Prelude.{◌≡◌, ◌≢◌, ◌<◌, ◌≤◌, ℕ, List, [], length, Option, Some, None, Result, Ok, Err}
-use Rattle.gc_values.specs.ValueFault as of_value
+use Rattle.gc_values.specs.ValueFault.{value_fault_number}
 use Rattle.gc_values.specs.declared.fault.ValueFault.TheVariants as value
-use Rattle.gc_lines.specs.Faults as of_line
+use Rattle.gc_lines.specs.Faults.{line_fault_number}
 use Rattle.gc_lines.specs.declared.fault.LineFault.TheVariants as line
 use Rattle.gc_catalogue.specs.declared.asked.Asked.{Asked}
 use Rattle.gc_catalogue.specs.declared.asked.Asked.TheVariants.{Raw}
@@ -14,7 +14,7 @@ use Rattle.gc_client.specs.Rule.{ById, Windowed, Sending, sends}
 use Rattle.geocom_c.specs.Beginning.{IsGiven}
 use Rattle.geocom_c.specs.Rest.{IsRest}
 use Rattle.geocom_c.specs.Rooms.{FaultLeavesAll, KeepsAfter, KeepsLength, ReportsNoClient, ReportsNoRoom}
-use Rattle.geocom_c.specs.State.{KeepsAnswered, StandsFor, left_of}
+use Rattle.geocom_c.specs.State.{KeepsAnswered, StandsForClient, left_of}
 use Rattle.geocom_c.specs.declared.answers.GeocomCount.{GeocomCount}
 use Rattle.geocom_c.specs.declared.header.TheConstants.{LINE_ROOM, WINDOW_FULL, NO_ROOM, NO_CLIENT, NOT_BEGUN, IN_TABLE}
 use Rattle.geocom_c.specs.declared.state.GeocomClient.{GeocomClient}
@@ -33,19 +33,19 @@ pub record SendEffect : Type 0 where
 abbrev pub SendMeets : (c : Windowed Asked) (rest : List ℕ) (asked : Asked) → Option (Sending (ById Asked)) → SendEffect → Type 0
 SendMeets c rest asked None sent = (sent.told.fault ≡ WINDOW_FULL) × (sent.new ≡ sent.old) × (sent.after ≡ sent.before)
 SendMeets c rest asked (Some s) sent =
-    (sent.told.fault ≡ 0) × StandsFor sent.new (record c { ids = s.client }) rest
+    (sent.told.fault ≡ 0) × StandsForClient sent.new (record c { ids = s.client }) rest
     × IsGiven (Some (asked_line (Some s.id) asked)) sent.told.count sent.after
 
 -- a client that has synchronized sends `to x`, for each x of which `Is` holds, to this target and with this deadline, or refuses
 -- it where the window is full (`SendMeets`)
 abbrev pub SendsEach : {X : Type 0} → (to : X → Asked) → (Is : X → Type 0) → (target deadline : ℕ) → SendEffect → Type 0
 SendsEach {X = X} to Is target deadline sent =
-    (c : Windowed Asked) (rest : List ℕ) (x : X) → StandsFor sent.old c rest → left_of sent.old ≡ [] → Is x
+    (c : Windowed Asked) (rest : List ℕ) (x : X) → StandsForClient sent.old c rest → left_of sent.old ≡ [] → Is x
     → SendMeets c rest (to x) (sends c.width c.ids target (to x) deadline) sent
 
 -- a client that has synchronized refuses with the number of e, for each e of which `Is` holds
 abbrev pub RefusesEach : {E : Type 0} → (Is : E → Type 0) → (number : E → ℕ) → GeocomClient → (fault : ℕ) → Type 0
-RefusesEach {E = E} Is number state fault = (c : Windowed Asked) (rest : List ℕ) (e : E) → StandsFor state c rest → left_of state ≡ [] → Is e → fault ≡ number e
+RefusesEach {E = E} Is number state fault = (c : Windowed Asked) (rest : List ℕ) (e : E) → StandsForClient state c rest → left_of state ≡ [] → Is e → fault ≡ number e
 
 -- the fault is none of a send's own: not 0, nor that of a full window, of too little room, of a state that is no client's or of a
 -- client that hasn't synchronized
@@ -58,7 +58,7 @@ IsRefusalNumber {E = E} Is number fault = IsOfRequest fault → (e : E) × Is e 
 
 -- a client that hasn't synchronized refuses to send
 abbrev pub RefusesUnbegun : GeocomClient → (fault : ℕ) → Type 0
-RefusesUnbegun state fault = (c : Windowed Asked) (rest : List ℕ) → StandsFor state c rest → left_of state ≢ [] → fault ≡ NOT_BEGUN
+RefusesUnbegun state fault = (c : Windowed Asked) (rest : List ℕ) → StandsForClient state c rest → left_of state ≢ [] → fault ≡ NOT_BEGUN
 
 -- the state is that of a client that has synchronized, it was asked for an x of which `Is` holds, and the number of its
 -- outstanding requests and its width meet `Fills`
@@ -66,7 +66,7 @@ pub record WasAsked {X : Type 0} (Is : X → Type 0) (Fills : (count width : ℕ
   pub client : Windowed Asked
   pub rest : List ℕ
   pub asked : X
-  pub stands : StandsFor state client rest
+  pub stands : StandsForClient state client rest
   pub begun : left_of state ≡ []
   pub is : Is asked
   pub fills : Fills (length client.ids.waiting) client.width
@@ -75,10 +75,10 @@ pub record WasAsked {X : Type 0} (Is : X → Type 0) (Fills : (count width : ℕ
 -- doesn't read (`Spelling`); for a request whose line would be too long, it is the number of a line that is too long (`TooLong`)
 abbrev pub raw_number : RawFault → ℕ
 raw_number InTable = IN_TABLE
-raw_number NotPlain = of_value.fault_number value.Spelling
-raw_number TooLong = of_line.fault_number line.TooLong
-raw_number OpenQuote = of_value.fault_number value.OpenQuote
-raw_number TooMany = of_value.fault_number value.TooMany
+raw_number NotPlain = value_fault_number value.Spelling
+raw_number TooLong = line_fault_number line.TooLong
+raw_number OpenQuote = value_fault_number value.OpenQuote
+raw_number TooMany = value_fault_number value.TooMany
 
 -- the send that found the state `old` and the room `before`, left `new` and `after`, and returned `told`
 abbrev pub send_effect : (old new : GeocomClient) → (before after : List ℕ) → (told : GeocomCount) → SendEffect
@@ -130,7 +130,7 @@ pub record IsSend {X E : Type 0} (to : X → Asked) (Is : X → Type 0) (IsNot :
 
 -- no part of a promise: a number and parameters were read. They ask for `to x` exactly if `Is x`, and are refused with the number
 -- of e exactly if `IsNot e`, which is none of a send's own faults
-pub record IsReadAs {X E : Type 0} (to : X → Asked) (Is : X → Type 0) (IsNot : E → Type 0) (number : E → ℕ) (read : Result Asked ℕ) : Type 0 where
+pub record AsksOrRefuses {X E : Type 0} (to : X → Asked) (Is : X → Type 0) (IsNot : E → Type 0) (number : E → ℕ) (read : Result Asked ℕ) : Type 0 where
   pub asks : (asked : Asked) → read ≡ Ok asked → (x : X) × Is x × (asked ≡ to x)
   pub only : (x : X) → Is x → read ≡ Ok (to x)
   pub refuses : (fault : ℕ) → read ≡ Err fault → (e : E) × IsNot e × (fault ≡ number e)

@@ -1,7 +1,7 @@
 -- The records of settlements, this project's own: what a record says of a settlement.
-use Rattle.std.specs.Prelude.{◌≡◌, ◌≤◌, ◌+◌, ℕ, List, length, take, drop, map, None}
+use Rattle.std.specs.Prelude.{◌≡◌, ◌≤◌, ◌+◌, ℕ, List, length, take, drop, map}
 use Rattle.std.specs.List.{AllByRecursion}
-use Rattle.gc_values.specs.ValueFault.{fault_number}
+use Rattle.gc_values.specs.ValueFault.{value_fault_number}
 use Rattle.gc_values.specs.Params.{IsParams}
 use Rattle.gc_values.specs.Lists.{AreItems}
 use Rattle.gc_lines.specs.Replies.{ReplyFields, IsReply}
@@ -11,7 +11,7 @@ use Rattle.gc_catalogue.specs.declared.answer.Reading.TheVariants.{Value, Refuse
 use Rattle.gc_catalogue.specs.declared.asked.Asked.{Asked}
 use Rattle.gc_catalogue.specs.declared.asked.Asked.TheVariants.{Table, Raw}
 use Rattle.gc_catalogue.specs.Answers.{answer_fields}
-use Rattle.gc_catalogue.specs.Asked.{asked_request, IsAskedReading}
+use Rattle.gc_catalogue.specs.Asked.{procedure_of, IsAskedReading}
 use Rattle.gc_client.specs.Rule
 use Rattle.gc_client.specs.declared.pending.Pending.{Pending}
 use Rattle.gc_client.specs.Settlements.{ReadsBy, settlement_seen}
@@ -55,7 +55,7 @@ abbrev pub IsKind : Reading → (kind code : ℕ) → Type 0
 IsKind (Value answer) kind code = (kind ≡ VALUE) × (code ≡ 0)
 IsKind (Refused rc) kind code = (kind ≡ REFUSED) × (code ≡ rc)
 IsKind (ComFault rc_com) kind code = (kind ≡ COM_FAULT) × (code ≡ rc_com)
-IsKind (Unreadable fault) kind code = (kind ≡ UNREADABLE) × (code ≡ fault_number fault)
+IsKind (Unreadable fault) kind code = (kind ≡ UNREADABLE) × (code ≡ value_fault_number fault)
 
 -- the items of the record, if it has this reading of what was asked: for a value they are those of the parameters, else there are
 -- none
@@ -71,7 +71,7 @@ HasReading asked r text params reading = IsKind reading r.reading r.code × HasI
 
 -- a record of an answer: its line is at the front of the text, and the record has what the line says as a reply to what was
 -- asked
-pub record IsAnswered (r : GeocomSettlement) (text : List ℕ) (asked : Asked) (line : List ℕ) : Type 0 where
+pub record RecordsAnswer (r : GeocomSettlement) (text : List ℕ) (asked : Asked) (line : List ℕ) : Type 0 where
   pub answered : r.outcome ≡ ANSWERED
   pub length : r.line_length ≡ length line
   pub front : take r.line_length text ≡ line
@@ -82,7 +82,7 @@ pub record IsAnswered (r : GeocomSettlement) (text : List ℕ) (asked : Asked) (
   pub has_reading : HasReading asked r text reply.params reading
 
 -- a record without an answer, of a request with this outcome
-pub record IsUnanswered (r : GeocomSettlement) (outcome : ℕ) : Type 0 where
+pub record RecordsNoAnswer (r : GeocomSettlement) (outcome : ℕ) : Type 0 where
   pub unanswered : r.outcome ≡ outcome
   pub length : r.line_length ≡ 0
   pub reading : r.reading ≡ NONE
@@ -91,19 +91,15 @@ pub record IsUnanswered (r : GeocomSettlement) (outcome : ℕ) : Type 0 where
 
 -- a record says that its request had this outcome
 abbrev pub HasOutcome : GeocomSettlement → (text : List ℕ) → Asked → Rule.Outcome → Type 0
-HasOutcome r text asked (Rule.Answered line) = IsAnswered r text asked line
-HasOutcome r text asked Rule.Late = IsUnanswered r LATE
-HasOutcome r text asked Rule.Lost = IsUnanswered r LOST
-
--- the number is that of the procedure that is asked for
-abbrev pub IsProcedureOf : (number : ℕ) → Asked → Type 0
-IsProcedureOf number asked = number ≡ (asked_request None asked).rpc
+HasOutcome r text asked (Rule.Answered line) = RecordsAnswer r text asked line
+HasOutcome r text asked Rule.Late = RecordsNoAnswer r LATE
+HasOutcome r text asked Rule.Lost = RecordsNoAnswer r LOST
 
 -- a record says whom a request was for, its procedure, and how it ended; of an answer's line and its items, it says where they
 -- are in the text
 pub record IsRecord (text : List ℕ) (r : GeocomSettlement) (s : Rule.Settlement Asked) : Type 0 where
   pub target : r.target ≡ s.target
-  pub procedure : IsProcedureOf r.procedure s.call
+  pub procedure : r.procedure ≡ procedure_of s.call
   pub outcome : HasOutcome r text s.call s.outcome
 
 -- no part of a promise: the items of these parameters, if they are at most 16 items, are in the text, as many as `count` says,
@@ -143,6 +139,6 @@ AreLost settled = (ps : List (Pending Asked)) × (map settlement_seen settled �
 abbrev pub AreRecords : (text : List ℕ) → (records : List GeocomSettlement) → List (Settlement Asked) → Type 0
 AreRecords text records settled = FirstAre (IsRecord text) records (map settlement_seen settled)
 
--- no part of a promise: the record is that of an answer (`IsAnswered`) if the line has this reading as a reply to what was asked
+-- no part of a promise: the record is that of an answer (`RecordsAnswer`) if the line has this reading as a reply to what was asked
 abbrev pub RecordsReading : GeocomSettlement → (text : List ℕ) → Asked → (line : List ℕ) → Reading → Type 0
-RecordsReading r text asked line reading = ReadsBy IsAskedReading asked line reading → IsAnswered r text asked line
+RecordsReading r text asked line reading = ReadsBy IsAskedReading asked line reading → RecordsAnswer r text asked line

@@ -22,7 +22,7 @@ pub record IsLineOf (line : List ℕ) (asked : Asked) : Type 0 where
   pub is_asked : IsAsked fields.rpc fields.params asked
 
 -- the bytes of a place are those of this request
-pub record IsPlace (w : GeocomWaiting) (p : Pending Asked) : Type 0 where
+pub record HoldsRequest (w : GeocomWaiting) (p : Pending Asked) : Type 0 where
   pub target : w.target ≡ p.target
   pub deadline : w.deadline ≡ p.deadline
   pub given_up : w.given_up ≡ (if p.given_up then 1 else 0)
@@ -31,11 +31,11 @@ pub record IsPlace (w : GeocomWaiting) (p : Pending Asked) : Type 0 where
 
 -- the first of these places have the bytes of these requests, in order
 abbrev pub HoldRequests : (places : List GeocomWaiting) → (requests : List (Pending Asked)) → Type 0
-HoldRequests places requests = FirstAre IsPlace places requests
+HoldRequests places requests = FirstAre HoldsRequest places requests
 
 -- the numbers of a state can be a client's: the width, the next id, how many requests are outstanding, and how many null
 -- procedures are answered
-pub record HasHead (s : GeocomClient) : Type 0 where
+pub record HasClientNumbers (s : GeocomClient) : Type 0 where
   pub width : IsWidth s.width
   pub next : s.next < IDS
   pub few : s.waiting ≤ s.width
@@ -46,21 +46,21 @@ abbrev pub left_of : GeocomClient → List ℕ
 left_of s = drop s.answered the_word
 
 -- the bytes of a state are those of this client, and the bytes `rest` came since the last line feed
-pub record StandsFor (s : GeocomClient) (c : Windowed Asked) (rest : List ℕ) : Type 0 where
+pub record StandsForClient (s : GeocomClient) (c : Windowed Asked) (rest : List ℕ) : Type 0 where
   pub width : s.width ≡ c.width
   pub next : s.next ≡ c.ids.next
   pub waiting : s.waiting ≡ length c.ids.waiting
-  pub head : HasHead s
+  pub head : HasClientNumbers s
   pub places : HoldRequests s.places c.ids.waiting
   pub incomplete : IsRest s.rest rest
 
 -- the bytes of a state are no client's
 abbrev pub IsAstray : GeocomClient → Type 0
-IsAstray s = (c : Windowed Asked) (rest : List ℕ) → StandsFor s c rest → ⊥
+IsAstray s = (c : Windowed Asked) (rest : List ℕ) → StandsForClient s c rest → ⊥
 
 -- the bytes of a state are some client's
-abbrev pub IsClients : GeocomClient → Type 0
-IsClients s = (c : Windowed Asked) × (rest : List ℕ) × StandsFor s c rest
+abbrev pub IsOfClient : GeocomClient → Type 0
+IsOfClient s = (c : Windowed Asked) × (rest : List ℕ) × StandsForClient s c rest
 
 -- the synchronization has come as far in the state `new` as in `old`
 abbrev pub KeepsAnswered : (old new : GeocomClient) → Type 0
@@ -68,8 +68,8 @@ KeepsAnswered old new = new.answered ≡ old.answered
 
 -- no part of a promise: if the state `old` has a valid rest of a line and a valid count of answered null procedures, the state
 -- `new` stands for the client `c`, with that rest
-abbrev pub Becomes : (old new : GeocomClient) → (c : Windowed Asked) → Type 0
-Becomes old new c = (rest : List ℕ) → IsRest old.rest rest → old.answered ≤ 8 → StandsFor new c rest
+abbrev pub StoresClient : (old new : GeocomClient) → (c : Windowed Asked) → Type 0
+StoresClient old new c = (rest : List ℕ) → IsRest old.rest rest → old.answered ≤ 8 → StandsForClient new c rest
 
 -- no part of a promise: any `count` requests that `places` hold, at their front, are what was read (`found`)
 abbrev pub IsOnlyReading : (places : List GeocomWaiting) → (count : ℕ) → (found : Option (List (Pending Asked))) → Type 0

@@ -13,33 +13,33 @@ use Rattle.gc_client.specs.OneForOne.{begun, course}
 use Rattle.gc_client.specs.OneForOne as one
 use Rattle.gc_client.specs.Rule.{heard}
 use Rattle.geocom_c.specs.Beginning.{left_by_restart, given, left_by_bytes}
-use Rattle.geocom_c.specs.Following.{Stage}
+use Rattle.geocom_c.specs.Following.{CallStage}
 use Rattle.geocom_c.specs.Rest.{lines_completed}
-use Rattle.geocom_c.specs.declared.following.Step.{Step}
-use Rattle.geocom_c.specs.declared.following.Step.TheVariants.{Send, SendRaw, Begin, Feed, Expire, Restart}
+use Rattle.geocom_c.specs.declared.following.StateCall.{StateCall}
+use Rattle.geocom_c.specs.declared.following.StateCall.TheVariants.{Send, SendRaw, Begin, Feed, Expire, Restart}
 
 -- what happens to a client: while it synchronizes, a null procedure is sent, or a line comes; once it has synchronized, it
 -- makes a step
-pub data Event : Type 0 where
-  Null : Event
-  Came : (line : List ℕ) → Event
-  Stepped : (step : one.Step Asked) → Event
+pub data ClientEvent : Type 0 where
+  Null : ClientEvent
+  Came : (line : List ℕ) → ClientEvent
+  Stepped : (step : one.Step Asked) → ClientEvent
 
 -- the event of a line that is sent while the client synchronizes: a null procedure is asked for. Without a line there is no
 -- event
-abbrev pub ask_events : Option (List ℕ) → List Event
+abbrev pub ask_events : Option (List ℕ) → List ClientEvent
 ask_events None = []
 ask_events (Some line) = Null ∷ []
 
 -- the events of a begin: while the client synchronizes, each line that the bytes end comes, and then a null procedure may be
 -- sent. Once it has synchronized there are none, and the lines are discarded
-abbrev pub begin_events : (left rest bytes : List ℕ) → List Event
+abbrev pub begin_events : (left rest bytes : List ℕ) → List ClientEvent
 begin_events [] rest bytes = []
 begin_events (asked ∷ later) rest bytes =
     map Came (lines_completed rest bytes) ++ ask_events (given bytes (asked ∷ later) (left_by_bytes (asked ∷ later) rest bytes))
 
 -- the events of steps of the client: none while it synchronizes
-abbrev pub step_events : (left : List ℕ) → List (one.Step Asked) → List Event
+abbrev pub step_events : (left : List ℕ) → List (one.Step Asked) → List ClientEvent
 step_events [] steps = map Stepped steps
 step_events (asked ∷ later) steps = []
 
@@ -48,25 +48,25 @@ step_events (asked ∷ later) steps = []
 -- send is one if they are a raw call's; otherwise the send is no event. A begin is its `begin_events`. Once the client has
 -- synchronized, each line that a feed ends is a step, and so are a moment and a restart; while it synchronizes, none of these is
 -- an event. A restart discards `rest` in both cases
-abbrev pub AreEvents : (left rest : List ℕ) → List Step → List Event → Type 0
+abbrev pub AreEvents : (left rest : List ℕ) → List StateCall → List ClientEvent → Type 0
 AreEvents left rest [] events = events ≡ []
 AreEvents left rest (Send target deadline procedure params ∷ calls) events =
-    ((call : Call) × (later : List Event) × (left ≡ []) × IsCall procedure params.now call × (events ≡ Stepped (one.Send target (Table call) deadline) ∷ later)
+    ((call : Call) × (later : List ClientEvent) × (left ≡ []) × IsCall procedure params.now call × (events ≡ Stepped (one.Send target (Table call) deadline) ∷ later)
     × AreEvents left rest calls later)
     ⊎ ((left ≡ [] → (call : Call) → IsCall procedure params.now call → ⊥) × AreEvents left rest calls events)
 AreEvents left rest (SendRaw target deadline procedure params ∷ calls) events =
-    ((raw : RawCall) × (later : List Event) × (left ≡ []) × IsAsked procedure params.now (Raw raw) × (events ≡ Stepped (one.Send target (Raw raw) deadline) ∷ later)
+    ((raw : RawCall) × (later : List ClientEvent) × (left ≡ []) × IsAsked procedure params.now (Raw raw) × (events ≡ Stepped (one.Send target (Raw raw) deadline) ∷ later)
     × AreEvents left rest calls later)
     ⊎ ((left ≡ [] → (raw : RawCall) → IsAsked procedure params.now (Raw raw) → ⊥) × AreEvents left rest calls events)
 AreEvents left rest (Begin bytes ∷ calls) events =
-    (later : List Event) × (events ≡ begin_events left rest bytes.now ++ later) × AreEvents (left_by_bytes left rest bytes.now) (rest_behind rest bytes.now) calls later
+    (later : List ClientEvent) × (events ≡ begin_events left rest bytes.now ++ later) × AreEvents (left_by_bytes left rest bytes.now) (rest_behind rest bytes.now) calls later
 AreEvents left rest (Feed bytes ∷ calls) events =
-    (later : List Event) × (events ≡ step_events left (map one.Hear (lines_completed rest bytes.now)) ++ later) × AreEvents left (rest_behind rest bytes.now) calls later
-AreEvents left rest (Expire now ∷ calls) events = (later : List Event) × (events ≡ step_events left (one.Expire now ∷ []) ++ later) × AreEvents left rest calls later
-AreEvents left rest (Restart ∷ calls) events = (later : List Event) × (events ≡ step_events left (one.Restart ∷ []) ++ later) × AreEvents (left_by_restart left) [] calls later
+    (later : List ClientEvent) × (events ≡ step_events left (map one.Hear (lines_completed rest bytes.now)) ++ later) × AreEvents left (rest_behind rest bytes.now) calls later
+AreEvents left rest (Expire now ∷ calls) events = (later : List ClientEvent) × (events ≡ step_events left (one.Expire now ∷ []) ++ later) × AreEvents left rest calls later
+AreEvents left rest (Restart ∷ calls) events = (later : List ClientEvent) × (events ≡ step_events left (one.Restart ∷ []) ++ later) × AreEvents (left_by_restart left) [] calls later
 
 -- the steps of the client among events
-abbrev pub steps_among : List Event → List (one.Step Asked)
+abbrev pub steps_among : List ClientEvent → List (one.Step Asked)
 steps_among [] = []
 steps_among (Null ∷ events) = steps_among events
 steps_among (Came line ∷ events) = steps_among events
@@ -80,14 +80,14 @@ left_by_step (one.Expire now) = []
 left_by_step one.Restart = the_word
 
 -- the ids that aren't answered after these events, where `left` weren't before
-abbrev pub left_among : (left : List ℕ) → List Event → List ℕ
+abbrev pub left_among : (left : List ℕ) → List ClientEvent → List ℕ
 left_among left [] = left
 left_among left (Null ∷ events) = left_among left events
 left_among left (Came line ∷ events) = left_among (left_by left (heard line)) events
 left_among left (Stepped step ∷ events) = left_among (left_by_step step) events
 
 -- no step of the client comes before all ids of the word are answered; at first `left` aren't, and after each restart none is
-abbrev pub AreInTurn : (left : List ℕ) → List Event → Type 0
+abbrev pub AreInTurn : (left : List ℕ) → List ClientEvent → Type 0
 AreInTurn left [] = Unit {0}
 AreInTurn left (Null ∷ events) = AreInTurn left events
 AreInTurn left (Came line ∷ events) = AreInTurn (left_by left (heard line)) events
@@ -95,10 +95,10 @@ AreInTurn left (Stepped step ∷ events) = (left ≡ []) × AreInTurn (left_by_s
 
 -- these calls are one list of events, and no other, each in its turn; and they bring the client to what its rule makes of the
 -- steps among those events, and its synchronization to the ids that those events leave unanswered
-pub record IsOverEvents (width : ℕ) (calls : List Step) (t : Stage) : Type 0 where
-  pub events : List Event
+pub record IsOverEvents (width : ℕ) (calls : List StateCall) (t : CallStage) : Type 0 where
+  pub events : List ClientEvent
   pub are : AreEvents the_word [] calls events
-  pub only : (others : List Event) → AreEvents the_word [] calls others → others ≡ events
+  pub only : (others : List ClientEvent) → AreEvents the_word [] calls others → others ≡ events
   pub turns : AreInTurn the_word events
   pub reached : t.reached ≡ course width begun (steps_among events)
   pub left : t.left ≡ left_among the_word events

@@ -72,7 +72,7 @@ pub(crate) fn refused(fault: u32) -> GeocomCount
 }
 
 // Success: `count` bytes of a line are to be sent, and `answered` null procedures are answered so far.
-pub(crate) fn begun(count: u32, answered: u8) -> GeocomBeginning
+pub(crate) fn synchronizing(count: u32, answered: u8) -> GeocomBeginning
     ensures fault { result.fault ≡ 0 }
     ensures count { result.count ≡ count }
     ensures answered { result.answered ≡ answered }
@@ -98,17 +98,17 @@ pub(crate) fn unbegun(fault: u32) -> GeocomBeginning
     }
 }
 
-// Success of a feed of this kind (`MORE` to `OVERLONG`), which wrote `count` records. `line_fault` is the number of what is
-// wrong with the line, or 0. `used` is 0 here; `using` sets it.
-pub(crate) fn heard(kind: u32, line_fault: u32, count: u32) -> GeocomHeard
-    ensures { result ≡ record { used = 0; fault = 0; count = count; kind = kind; line_fault = line_fault } }
+// Success of a feed of this kind (`MORE` to `OVERLONG`), which wrote no records and found no fault in a line. `used` is 0 here;
+// `using` sets it.
+pub(crate) fn heard(kind: u32) -> GeocomHeard
+    ensures { result ≡ record { used = 0; fault = 0; count = 0; kind = kind; line_fault = 0 } }
 {
     GeocomHeard {
         used: 0,
         fault: 0,
-        count,
+        count: 0,
         kind,
-        line_fault,
+        line_fault: 0,
     }
 }
 
@@ -117,11 +117,8 @@ pub(crate) fn unheard(fault: u32) -> GeocomHeard
     ensures { result ≡ unheard_with fault }
 {
     GeocomHeard {
-        used: 0,
         fault,
-        count: 0,
-        kind: MORE,
-        line_fault: 0,
+        ..heard(MORE)
     }
 }
 

@@ -5,16 +5,16 @@ ghost use Rattle.std.specs.Prelude.{◌≡◌, ◌≤◌, ℕ, List, [], length,
 ghost use Rattle.gc_lines.specs.Frames.{frame_of, rest_behind};
 ghost use Rattle.gc_lines.specs.Taking.{IsUsedOf};
 ghost use Rattle.gc_client.specs.Beginning.{asks};
-ghost use Rattle.geocom_c.specs.Beginning.{given, given_unless, left_by_bytes, left_past, BeginFaultLeavesAll, GivesLine, HearsBytes, IsGiven, ReportsBegun};
+ghost use Rattle.geocom_c.specs.Beginning.{came_in_vain, given_unless, left_by_bytes, left_past, BeginFaultLeavesAll, GivesLine, HearsBytes, IsGiven, ReportsBegun};
 ghost use Rattle.gc_client.specs.Beginning.{the_word};
 ghost use Rattle.geocom_c.specs.Rest.{IsValid, IsRest, UsesFirstLine, UsesUnended};
 ghost use Rattle.geocom_c.specs.Rooms.{KeepsLength, KeepsAfter, ReportsNoClient, ReportsNoRoom};
-ghost use Rattle.geocom_c.specs.State.{IsClients};
+ghost use Rattle.geocom_c.specs.State.{IsOfClient};
 ghost use Rattle.geocom_c.specs.declared.header.TheConstants.{LINE_ROOM};
 
-use crate::answers::{GeocomBeginning, begun, unbegun};
+use crate::answers::{GeocomBeginning, synchronizing, unbegun};
 use crate::header::{LINE_ROOM, NO_CLIENT, NO_ROOM};
-use crate::rest::{GeocomRest, bytes_from, put};
+use crate::rest::{GeocomRest, bytes_from, put_line};
 use crate::state::{GeocomClient, load};
 use gc_client::Beginning;
 use gc_lines::Frame;
@@ -68,11 +68,7 @@ fn ask(beginning: &Beginning, line: &mut [u8]) -> u32
     ensures length { KeepsLength line.old line.new }
 {
     match beginning.ask() {
-        Some(text) => {
-            put(line, 0, text.as_slice());
-            put(line, text.len(), b"\r\n");
-            text.len() as u32 + 2
-        }
+        Some(text) => put_line(line, &text),
         None => 0,
     }
 }
@@ -91,13 +87,12 @@ fn ask_unless(is_waiting: bool, beginning: &Beginning, line: &mut [u8]) -> u32
     ask(beginning, line)
 }
 
-// Whether bytes came that answered no null procedure, so that no line is to be sent now: the reply of the one that is asked for
-// is still waited for, or all eight were answered before. `before` and `after` are how many were answered before and after these
-// bytes.
-fn is_waiting(bytes: &[u8], before: u8, after: u8) -> bool
+// Whether bytes came, and answered no null procedure: no line is to be sent then. `before` and `after` are how many were answered
+// before and after these bytes.
+fn came_in_vain(bytes: &[u8], before: u8, after: u8) -> bool
     requires before { before ≤ 8 }
     requires after { after ≤ 8 }
-    ensures { (given_unless result (drop after the_word)) ≡ given bytes.now (drop before the_word) (drop after the_word) }
+    ensures { result ≡ came_in_vain bytes.now (drop before the_word) (drop after the_word) }
 {
     !bytes.is_empty() && before == after
 }
@@ -126,7 +121,7 @@ pub extern "C" fn geocom_client_begin(
     ensures answered { result.fault ≡ 0 → result.answered ≡ state.new.answered }
     ensures room { ReportsNoRoom line.old LINE_ROOM result.fault }
     ensures astray { ReportsNoClient line.old LINE_ROOM state.old result.fault }
-    ensures done { result.fault ≡ 0 → IsClients state.old }
+    ensures done { result.fault ≡ 0 → IsOfClient state.old }
     ensures refused { BeginFaultLeavesAll result state.old state.new line.old line.new }
     ensures untouched { KeepsAfter result.count line.old line.new }
     ensures length { KeepsLength line.old line.new }
@@ -141,7 +136,7 @@ pub extern "C" fn geocom_client_begin(
     let mut beginning = Beginning::resume(usize::from(before));
     hear_all(&mut state.rest, &mut beginning, bytes);
     state.answered = beginning.answered() as u8;
-    let waits = is_waiting(bytes, before, state.answered);
-    let count = ask_unless(waits, &beginning, line);
-    begun(count, state.answered)
+    let is_waiting = came_in_vain(bytes, before, state.answered);
+    let count = ask_unless(is_waiting, &beginning, line);
+    synchronizing(count, state.answered)
 }

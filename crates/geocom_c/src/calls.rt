@@ -4,7 +4,7 @@ ghost use Rattle.std.specs.Prelude.{◌≡◌, ◌≢◌, ◌↔◌, ◌≤◌, 
 ghost use Rattle.gc_client.specs.Rule.{IsWidth};
 ghost use Rattle.gc_client.specs.Rule;
 ghost use Rattle.gc_client.specs.Beginning.{the_word};
-ghost use Rattle.geocom_c.specs.State.{StandsFor, IsAstray, IsClients, KeepsAnswered, left_of};
+ghost use Rattle.geocom_c.specs.State.{StandsForClient, IsAstray, IsOfClient, KeepsAnswered, left_of};
 ghost use Rattle.geocom_c.specs.Rooms.{FaultLeavesAll, KeepsLength, KeepsAfter, ReportsNoClient, ReportsNoRoom, WritesFirst};
 ghost use Rattle.geocom_c.specs.Deadlines.{Expires, IsBlankIfUnset, ReportsEarliest, ReportsWaiting};
 ghost use Rattle.geocom_c.specs.declared.header.TheConstants.{VERSION, NO_WIDTH, NO_CLIENT};
@@ -35,7 +35,7 @@ pub extern "C" fn geocom_version() -> u32
 /// Fault 61: another width; the state is as it was.
 #[unsafe(no_mangle)]
 pub extern "C" fn geocom_client_init(state: &mut GeocomClient, width: u8) -> u32
-    ensures made { IsWidth width → (result ≡ 0) × StandsFor state.new (record { width = width; ids = Rule.fresh }) [] }
+    ensures made { IsWidth width → (result ≡ 0) × StandsForClient state.new (record { width = width; ids = Rule.fresh }) [] }
     ensures begins { IsWidth width → left_of state.new ≡ the_word }
     ensures refused { (IsWidth width → ⊥) → (result ≡ NO_WIDTH) × (state.new ≡ state.old) }
 {
@@ -70,7 +70,7 @@ pub extern "C" fn geocom_client_expire(
     ensures expired { WINDOW ≤ length targets.old → Expires now state.old state.new result targets.new }
     ensures room { ReportsNoRoom targets.old WINDOW result.fault }
     ensures astray { ReportsNoClient targets.old WINDOW state.old result.fault }
-    ensures done { result.fault ≡ 0 → IsClients state.old }
+    ensures done { result.fault ≡ 0 → IsOfClient state.old }
     ensures refused { FaultLeavesAll result state.old state.new targets.old targets.new }
     ensures answered { KeepsAnswered state.old state.new }
     ensures written { WritesFirst result.count targets.old targets.new }
@@ -95,7 +95,7 @@ pub extern "C" fn geocom_client_expire(
 pub extern "C" fn geocom_client_next_deadline(state: &GeocomClient) -> GeocomDeadline
     ensures earliest { ReportsEarliest state.now result }
     ensures astray { (result.fault ≡ NO_CLIENT) ↔ IsAstray state.now }
-    ensures done { result.fault ≡ 0 → IsClients state.now }
+    ensures done { result.fault ≡ 0 → IsOfClient state.now }
     ensures refused { result.fault ≢ 0 → result.is_set ≡ 0 }
     ensures unset { IsBlankIfUnset result }
 {
@@ -122,7 +122,7 @@ pub extern "C" fn geocom_client_next_deadline(state: &GeocomClient) -> GeocomDea
 pub extern "C" fn geocom_client_waiting(state: &GeocomClient) -> GeocomCount
     ensures waiting { ReportsWaiting state.now result }
     ensures astray { (result.fault ≡ NO_CLIENT) ↔ IsAstray state.now }
-    ensures done { result.fault ≡ 0 → IsClients state.now }
+    ensures done { result.fault ≡ 0 → IsOfClient state.now }
     ensures refused { result.fault ≢ 0 → result.count ≡ 0 }
 {
     match load(state) {

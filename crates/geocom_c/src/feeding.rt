@@ -8,9 +8,9 @@ ghost use Rattle.gc_client.specs.Beginning.{the_word};
 ghost use Rattle.gc_client.specs.declared.window.TheConstants.{WINDOW};
 ghost use Rattle.geocom_c.specs.Beginning.{left_by_restart};
 ghost use Rattle.geocom_c.specs.Rest.{IsValid};
-ghost use Rattle.geocom_c.specs.State.{Becomes, IsAstray, IsClients, KeepsAnswered, StandsFor, left_of};
+ghost use Rattle.geocom_c.specs.State.{StoresClient, IsAstray, IsOfClient, KeepsAnswered, StandsForClient, left_of};
 ghost use Rattle.geocom_c.specs.Rooms.{FaultLeavesAll, ReportsNoClient, ReportsNoRoom, WritesFirst};
-ghost use Rattle.geocom_c.specs.Feeding.{FeedFaultLeavesState, FeedsFirst, FeedsUnended, HasRoom, IsFed, Restarts, WritesSettled, client_past};
+ghost use Rattle.geocom_c.specs.Feeding.{FeedFaultLeavesState, FeedsFirst, FeedsUnended, HasRoomToSettle, IsFed, RestartsClient, WritesSettled, client_past};
 ghost use Rattle.geocom_c.specs.declared.header.TheConstants.{NO_ROOM, NO_CLIENT};
 
 use crate::answers::{GeocomCount, GeocomHeard, counted, heard, refused, unheard, using};
@@ -26,8 +26,8 @@ use gc_client::{Client, Heard, SlotsOf, WINDOW};
 use gc_lines::{Frame, Line};
 
 // Whether there is room for what a line can settle.
-fn has_room(settlements: &[GeocomSettlement], text: &[u8]) -> bool
-    ensures { IsTrue result ↔ HasRoom settlements.now text.now }
+fn has_room_to_settle(settlements: &[GeocomSettlement], text: &[u8]) -> bool
+    ensures { IsTrue result ↔ HasRoomToSettle settlements.now text.now }
 {
     settlements.len() >= WINDOW && text.len() >= TEXT_ROOM
 }
@@ -42,9 +42,9 @@ fn hear(
     settlements: &mut [GeocomSettlement],
     text: &mut [u8],
 ) -> GeocomHeard
-    requires { HasRoom settlements.old text.old }
+    requires { HasRoomToSettle settlements.old text.old }
     ensures fed { IsFed client (Frame.Line line.now) result settlements.new text.new }
-    ensures state { Becomes state.old state.new (client_past client (Frame.Line line.now)) }
+    ensures state { StoresClient state.old state.new (client_past client (Frame.Line line.now)) }
     ensures answered { KeepsAnswered state.old state.new }
     ensures written { WritesSettled result.count settlements.old settlements.new text.old text.new }
 {
@@ -55,10 +55,16 @@ fn hear(
             let answer = list_line(line);
             put(text, 0, answer.text.as_slice());
             put_records(settlements, settled.as_slice(), &answer);
-            heard(SETTLED, 0, settled.len() as u32)
+            GeocomHeard {
+                count: settled.len() as u32,
+                ..heard(SETTLED)
+            }
         }
-        Heard::Stray => heard(STRAY, 0, 0),
-        Heard::Unread(fault) => heard(UNREAD, u32::from(fault.number()), 0),
+        Heard::Stray => heard(STRAY),
+        Heard::Unread(fault) => GeocomHeard {
+            line_fault: u32::from(fault.number()),
+            ..heard(UNREAD)
+        },
     }
 }
 
@@ -71,17 +77,17 @@ fn feed_frame(
     settlements: &mut [GeocomSettlement],
     text: &mut [u8],
 ) -> GeocomHeard
-    requires { HasRoom settlements.old text.old }
+    requires { HasRoomToSettle settlements.old text.old }
     ensures fed { IsFed client frame.now result settlements.new text.new }
-    ensures state { (rest : List ℕ) → StandsFor state.old client rest → StandsFor state.new (client_past client frame.now) rest }
+    ensures state { (rest : List ℕ) → StandsForClient state.old client rest → StandsForClient state.new (client_past client frame.now) rest }
     ensures answered { KeepsAnswered state.old state.new }
     ensures written { WritesSettled result.count settlements.old settlements.new text.old text.new }
 {
     match frame {
         Frame::Line(line) => hear(state, client, line, settlements, text),
-        Frame::Cleared => heard(CLEARED, 0, 0),
-        Frame::Overlong => heard(OVERLONG, 0, 0),
-        Frame::More => heard(MORE, 0, 0),
+        Frame::Cleared => heard(CLEARED),
+        Frame::Overlong => heard(OVERLONG),
+        Frame::More => heard(MORE),
     }
 }
 
@@ -94,7 +100,7 @@ fn feed(
     settlements: &mut [GeocomSettlement],
     text: &mut [u8],
 ) -> GeocomHeard
-    requires room { HasRoom settlements.old text.old }
+    requires room { HasRoomToSettle settlements.old text.old }
     requires cut { IsValid state.old.rest }
     ensures more { FeedsUnended client bytes.now state.old state.new result }
     ensures frame { FeedsFirst client bytes.now state.old state.new result settlements.new text.new }
@@ -126,18 +132,18 @@ pub extern "C" fn geocom_client_feed(
     settlements: &mut [GeocomSettlement],
     text: &mut [u8],
 ) -> GeocomHeard
-    ensures more { HasRoom settlements.old text.old → (c : Windowed Asked) → FeedsUnended c bytes.now state.old state.new result }
-    ensures frame { HasRoom settlements.old text.old → (c : Windowed Asked)
+    ensures more { HasRoomToSettle settlements.old text.old → (c : Windowed Asked) → FeedsUnended c bytes.now state.old state.new result }
+    ensures frame { HasRoomToSettle settlements.old text.old → (c : Windowed Asked)
         → FeedsFirst c bytes.now state.old state.new result settlements.new text.new }
     ensures used { (result.used ≤ length bytes.now) × (result.fault ≡ 0 → 0 < length bytes.now → 0 < result.used) }
-    ensures room { (result.fault ≡ NO_ROOM) ↔ (HasRoom settlements.old text.old → ⊥) }
-    ensures astray { (result.fault ≡ NO_CLIENT) ↔ (HasRoom settlements.old text.old × IsAstray state.old) }
-    ensures done { result.fault ≡ 0 → IsClients state.old }
+    ensures room { (result.fault ≡ NO_ROOM) ↔ (HasRoomToSettle settlements.old text.old → ⊥) }
+    ensures astray { (result.fault ≡ NO_CLIENT) ↔ (HasRoomToSettle settlements.old text.old × IsAstray state.old) }
+    ensures done { result.fault ≡ 0 → IsOfClient state.old }
     ensures refused { FeedFaultLeavesState result state.old state.new }
     ensures answered { KeepsAnswered state.old state.new }
     ensures written { WritesSettled result.count settlements.old settlements.new text.old text.new }
 {
-    if !has_room(settlements, text) {
+    if !has_room_to_settle(settlements, text) {
         return unheard(NO_ROOM);
     }
     match load(state) {
@@ -169,11 +175,11 @@ pub extern "C" fn geocom_client_restart(
     state: &mut GeocomClient,
     settlements: &mut [GeocomSettlement],
 ) -> GeocomCount
-    ensures restarted { WINDOW ≤ length settlements.old → Restarts state.old state.new result settlements.new }
+    ensures restarted { WINDOW ≤ length settlements.old → RestartsClient state.old state.new result settlements.new }
     ensures begins { result.fault ≡ 0 → left_of state.new ≡ left_by_restart (left_of state.old) }
     ensures room { ReportsNoRoom settlements.old WINDOW result.fault }
     ensures astray { ReportsNoClient settlements.old WINDOW state.old result.fault }
-    ensures done { result.fault ≡ 0 → IsClients state.old }
+    ensures done { result.fault ≡ 0 → IsOfClient state.old }
     ensures refused { FaultLeavesAll result state.old state.new settlements.old settlements.new }
     ensures written { WritesFirst result.count settlements.old settlements.new }
 {

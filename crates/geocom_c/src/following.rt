@@ -3,9 +3,9 @@
 ghost use Rattle.std.specs.Prelude.{◌≡◌, ◌<◌, ℕ, List, ◌∷◌, length, drop, slice_get, Some};
 ghost use Rattle.gc_lines.specs.Taking.{IsUsedOf};
 ghost use Rattle.gc_client.specs.Rule.{IsWidth};
-ghost use Rattle.gc_client.specs.OneForOne.{IsOneForOne};
+ghost use Rattle.gc_client.specs.OneForOne.{AccountsForSends};
 ghost use Rattle.geocom_c.specs.State.{KeepsAnswered};
-ghost use Rattle.geocom_c.specs.Following.{FeedsBut, FeedsBytes, CallsReach, IsAt, Reached, Stage, opened};
+ghost use Rattle.geocom_c.specs.Following.{FeedsBut, FeedsBytes, CallsReach, IsAt, Reached, CallStage, first_stage};
 
 use crate::beginning::geocom_client_begin;
 use crate::calls::{geocom_client_expire, geocom_client_init};
@@ -23,7 +23,7 @@ use gc_values::MOST_ITEMS;
 /// A call on a state: each variant is the `geocom_client_` function of its name, with the arguments but the state and the rooms
 /// for what it writes.
 #[derive(Clone, Copy)]
-pub enum Step<'a> {
+pub enum StateCall<'a> {
     Send {
         target: u32,
         deadline: u64,
@@ -84,13 +84,13 @@ fn feed_all(state: &mut GeocomClient, bytes: &[u8])
     }
 }
 
-// Makes the call that a step is, with ample room. What it returns and writes is dropped; a fault leaves the state as it is.
-fn call(state: &mut GeocomClient, step: &Step<'_>)
-    ensures { (width : ℕ) (s : Stage) (steps : List Step) → IsAt width s state.old
-        → Reached width s (step.now ∷ steps) state.new steps }
+// Makes this call, with ample room. What it returns and writes is dropped; a fault leaves the state as it is.
+fn make_call(state: &mut GeocomClient, call: &StateCall<'_>)
+    ensures { (width : ℕ) (s : CallStage) (calls : List StateCall) → IsAt width s state.old
+        → Reached width s (call.now ∷ calls) state.new calls }
 {
-    match step {
-        Step::Send {
+    match call {
+        StateCall::Send {
             target,
             deadline,
             procedure,
@@ -99,7 +99,7 @@ fn call(state: &mut GeocomClient, step: &Step<'_>)
             let mut line = [0; LINE_ROOM];
             let _ = geocom_client_send(state, *target, *deadline, *procedure, params, &mut line);
         }
-        Step::SendRaw {
+        StateCall::SendRaw {
             target,
             deadline,
             procedure,
@@ -110,16 +110,16 @@ fn call(state: &mut GeocomClient, step: &Step<'_>)
                 state, *target, *deadline, *procedure, params, &mut line,
             );
         }
-        Step::Begin(bytes) => {
+        StateCall::Begin(bytes) => {
             let mut line = [0; LINE_ROOM];
             let _ = geocom_client_begin(state, bytes, &mut line);
         }
-        Step::Feed(bytes) => feed_all(state, bytes),
-        Step::Expire(now) => {
+        StateCall::Feed(bytes) => feed_all(state, bytes),
+        StateCall::Expire(now) => {
             let mut targets = [0; WINDOW];
             let _ = geocom_client_expire(state, *now, &mut targets);
         }
-        Step::Restart => {
+        StateCall::Restart => {
             let mut settlements = [VACANT; WINDOW];
             let _ = geocom_client_restart(state, &mut settlements);
         }
@@ -127,22 +127,23 @@ fn call(state: &mut GeocomClient, step: &Step<'_>)
 }
 
 // The call at place `k`, counted from 0.
-fn step_at<'a>(steps: &[Step<'a>], k: usize) -> Step<'a>
-    requires { k < length steps.now }
-    ensures { slice_get steps.now k ≡ Some result }
+fn call_at<'a>(calls: &[StateCall<'a>], k: usize) -> StateCall<'a>
+    requires { k < length calls.now }
+    ensures { slice_get calls.now k ≡ Some result }
 {
-    steps[k]
+    calls[k]
 }
 
 /// Makes a client of this width, 1 to 7, and then these calls, each with ample room. Whatever the calls are, the state stands for
 /// the client that the rule makes of them, for the bytes that came since the last line feed, and for how far its synchronization
 /// came. What was settled, and after it the outstanding requests, are the sends that weren't refused, in order, each once. With
 /// another width no client is made: the calls are made on the state as it was, and nothing is said of what comes of it.
-pub fn follow(state: &mut GeocomClient, width: u8, steps: &[Step<'_>])
-    ensures { IsWidth width → (t : Stage) × CallsReach width opened steps.now t × IsAt width t state.new × IsOneForOne t.reached }
+pub fn follow(state: &mut GeocomClient, width: u8, calls: &[StateCall<'_>])
+    ensures { IsWidth width → (t : CallStage) × CallsReach width first_stage calls.now t × IsAt width t state.new
+        × AccountsForSends t.reached }
 {
     let _ = geocom_client_init(state, width);
-    for k in 0..steps.len() {
-        call(state, &step_at(steps, k));
+    for k in 0..calls.len() {
+        make_call(state, &call_at(calls, k));
     }
 }

@@ -24,7 +24,7 @@ pub use calls::{
     geocom_version,
 };
 pub use feeding::{geocom_client_feed, geocom_client_restart};
-pub use following::{Step, follow};
+pub use following::{StateCall, follow};
 pub use header::numbers_are_the_headers;
 pub use listed::GeocomItem;
 pub use raws::geocom_client_send_raw;

@@ -5,7 +5,7 @@ ghost use Rattle.arrayvec.specs.ArrayVec.{array_vec_len};
 ghost use Rattle.geocom_c.specs.Rooms.{KeepsLength};
 ghost use Rattle.geocom_c.specs.Settled.{IsListingOf, ListsItems, StandIn};
 ghost use Rattle.gc_station.specs.Records.{Grew};
-ghost use Rattle.gc_values.specs.Params.{bytes_in};
+ghost use Rattle.gc_values.specs.Params.{total_length};
 ghost use Rattle.geocom_c.specs.declared.header.TheConstants.{TEXT_ROOM};
 
 use crate::header::TEXT_ROOM;
@@ -39,7 +39,7 @@ pub(crate) struct ListedLine {
 // Appends items to a text, and writes into `places` where each is.
 fn put_items(text: &mut ArrayVec<u8, TEXT_ROOM>, places: &mut [GeocomItem], items: &Items<'_>)
     requires few { length items.now ≤ length places.old }
-    requires room { array_vec_len text.old + bytes_in items.now ≤ TEXT_ROOM }
+    requires room { array_vec_len text.old + total_length items.now ≤ TEXT_ROOM }
     ensures front { Grew text.old.items text.new.items }
     ensures places { StandIn text.new.items places.new items.now }
     ensures length { KeepsLength places.old places.new }

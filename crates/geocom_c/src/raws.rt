@@ -6,7 +6,7 @@ ghost use Rattle.gc_lines.specs.Requests.{request_text};
 ghost use Rattle.gc_catalogue.specs.declared.asked.Asked.TheVariants.{Raw};
 ghost use Rattle.gc_catalogue.specs.Raws.{IsRawRefusal};
 ghost use Rattle.geocom_c.specs.Rooms.{WritesText};
-ghost use Rattle.geocom_c.specs.Sending.{IsRawOf, IsReadAs, IsSend, raw_number, send_effect};
+ghost use Rattle.geocom_c.specs.Sending.{IsRawOf, AsksOrRefuses, IsSend, raw_number, send_effect};
 
 use crate::answers::GeocomCount;
 use crate::header::IN_TABLE;
@@ -31,7 +31,7 @@ fn number_of(fault: RawFault) -> u32
 
 // What a number and parameters ask for exactly as they are. `Err`: the number of the fault with which they are refused.
 fn read_raw(procedure: u16, params: &[u8]) -> Result<Asked, u32>
-    ensures { IsReadAs Raw (IsRawOf procedure params.now) (IsRawRefusal procedure params.now) raw_number result }
+    ensures { AsksOrRefuses Raw (IsRawOf procedure params.now) (IsRawRefusal procedure params.now) raw_number result }
 {
     match raw_call(procedure, params) {
         Ok(raw) => Ok(Asked::Raw(raw)),

@@ -1,13 +1,16 @@
 //! The bytes of an incomplete line: a state keeps of them what the frame of the next line feed depends on.
 
-ghost use Rattle.std.specs.Prelude.{◌≡◌, ◌≢◌, ◌≤◌, ◌↔◌, All, ◌+◌, ◌++◌, ℕ, List, [], length, drop, None, IsTrue};
+ghost use Rattle.std.specs.Prelude.{◌≡◌, ◌≢◌, ◌≤◌, ◌↔◌, All, ◌+◌, ◌++◌, ℕ, List, [], length, drop, Some, None, IsTrue};
 ghost use Rattle.std.specs.List.{position};
 ghost use Rattle.gc_lines.specs.Frames.{frame_of, is_line_feed};
 ghost use Rattle.gc_lines.specs.Taking.{IsUsedOf};
+ghost use Rattle.geocom_c.specs.Beginning.{IsGiven};
 ghost use Rattle.geocom_c.specs.Rest.{IsValid, IsRest, UsesFirstLine, UsesUnended};
 ghost use Rattle.geocom_c.specs.Rooms.{IsWritten, KeepsLength, KeepsAfter};
+ghost use Rattle.geocom_c.specs.declared.header.TheConstants.{LINE_ROOM};
 
-use gc_lines::{Assembler, Frame};
+use crate::header::LINE_ROOM;
+use gc_lines::{Assembler, Frame, Line, with_end};
 
 // How many bytes are kept at most: a line of 512, its CR, and the last byte that came after these.
 const KEPT: usize = 514;
@@ -111,6 +114,18 @@ pub(crate) fn put(bytes: &mut [u8], at: usize, text: &[u8])
     ensures fits { at + length text.now ≤ length bytes.new }
 {
     bytes[at..at + text.len()].copy_from_slice(text);
+}
+
+/// Writes a line with its CR LF to the front of `room`, and returns how many bytes these are.
+pub(crate) fn put_line(room: &mut [u8], line: &Line) -> u32
+    requires { LINE_ROOM ≤ length room.old }
+    ensures given { IsGiven (Some line.now.items) result room.new }
+    ensures untouched { KeepsAfter result room.old room.new }
+    ensures length { KeepsLength room.old room.new }
+{
+    let text = with_end(line);
+    put(room, 0, text.as_slice());
+    text.len() as u32
 }
 
 /// The bytes from place `at` on, counted from 0. `at` is at most their number.

@@ -9,12 +9,12 @@ ghost use Rattle.gc_catalogue.specs.CallFault.{refusal_number};
 ghost use Rattle.gc_catalogue.specs.Calls.{IsCall, IsRefusal};
 ghost use Rattle.geocom_c.specs.State.{KeepsAnswered};
 ghost use Rattle.geocom_c.specs.Rooms.{FaultLeavesAll, KeepsLength, KeepsAfter, WritesText};
-ghost use Rattle.geocom_c.specs.Sending.{IsOfRequest, IsReadAs, IsSend, SendsAsked, SendsRead, send_effect};
+ghost use Rattle.geocom_c.specs.Sending.{IsOfRequest, AsksOrRefuses, IsSend, SendsAsked, SendsRead, send_effect};
 ghost use Rattle.geocom_c.specs.declared.header.TheConstants.{LINE_ROOM, WINDOW_FULL};
 
 use crate::answers::{GeocomCount, counted, refused};
 use crate::header::{LINE_ROOM, NO_CLIENT, NO_ROOM, NOT_BEGUN};
-use crate::rest::put;
+use crate::rest::put_line;
 use crate::state::{GeocomClient, NULLS, load, store};
 use gc_catalogue::{Asked, decode_call};
 use gc_client::{Client, SlotsOf};
@@ -45,9 +45,7 @@ fn send_asked(
     match client.send(target, asked, deadline) {
         Ok(text) => {
             store(state, client);
-            put(line, 0, text.as_slice());
-            put(line, text.len(), b"\r\n");
-            counted(text.len() as u32 + 2)
+            counted(put_line(line, &text))
         }
         Err(full) => refused(u32::from(full.number())),
     }
@@ -85,7 +83,7 @@ pub(crate) fn send_read(
 
 // What a number and parameters ask for of the table. `Err`: the number of the fault with which they are refused.
 fn read_call(procedure: u16, params: &[u8]) -> Result<Asked, u32>
-    ensures { IsReadAs Table (IsCall procedure params.now) (IsRefusal procedure params.now) refusal_number result }
+    ensures { AsksOrRefuses Table (IsCall procedure params.now) (IsRefusal procedure params.now) refusal_number result }
 {
     let request = Request {
         rpc: procedure,

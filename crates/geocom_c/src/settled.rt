@@ -1,10 +1,10 @@
 //! The records of settlements: how a request ended, in plain fields.
 
 ghost use Rattle.std.specs.Prelude.{◌≡◌, ◌≤◌, [], length};
-ghost use Rattle.gc_catalogue.specs.Asked.{IsAskedReading};
+ghost use Rattle.gc_catalogue.specs.Asked.{procedure_of, IsAskedReading};
 ghost use Rattle.gc_client.specs.Settlements.{AreReadBy, IsReadBy, settlement_seen};
 ghost use Rattle.geocom_c.specs.Rooms.{KeepsLength, KeepsAfter};
-ghost use Rattle.geocom_c.specs.Settled.{AreLost, AreRecords, IsKind, IsListingOf, IsProcedureOf, IsRecord, IsUnanswered, ListsAnswer, ListsAnswers, RecordsReading};
+ghost use Rattle.geocom_c.specs.Settled.{AreLost, AreRecords, IsKind, IsListingOf, IsRecord, RecordsNoAnswer, ListsAnswer, ListsAnswers, RecordsReading};
 
 use crate::header::{ANSWERED, COM_FAULT, LATE, LOST, NONE, REFUSED, UNREADABLE, VALUE};
 use crate::listed::{GeocomItem, ListedLine, NOWHERE};
@@ -39,8 +39,8 @@ pub struct GeocomSettlement {
 // The record of a request that ended with this outcome, without an answer.
 fn unanswered(settlement: &Settlement<Asked>, outcome: u8) -> GeocomSettlement
     ensures target { result.target ≡ settlement.now.target }
-    ensures procedure { IsProcedureOf result.procedure settlement.now.call }
-    ensures unanswered { IsUnanswered result outcome }
+    ensures procedure { result.procedure ≡ procedure_of settlement.now.call }
+    ensures unanswered { RecordsNoAnswer result outcome }
 {
     GeocomSettlement {
         target: settlement.target,
@@ -75,7 +75,7 @@ fn answered(
 ) -> GeocomSettlement
     requires { IsListingOf told.now line.now.items }
     ensures target { result.target ≡ settlement.now.target }
-    ensures procedure { IsProcedureOf result.procedure settlement.now.call }
+    ensures procedure { result.procedure ≡ procedure_of settlement.now.call }
     ensures answered { RecordsReading result told.now.text.items settlement.now.call line.now.items reading.now }
 {
     let (kind, code) = kind_of(reading);

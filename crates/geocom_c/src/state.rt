@@ -7,14 +7,15 @@ ghost use Rattle.gc_client.specs.Beginning.{the_word};
 ghost use Rattle.gc_client.specs.declared.pending.Pending.{Pending};
 ghost use Rattle.gc_client.specs.Rule.{Windowed};
 ghost use Rattle.gc_client.specs.Rule;
-ghost use Rattle.geocom_c.specs.Rest.{kept};
-ghost use Rattle.geocom_c.specs.State.{Becomes, HasHead, HoldRequests, IsAstray, IsLineOf, IsOnlyReading, IsPlace, KeepsAnswered, StandsFor, left_of};
+ghost use Rattle.geocom_c.specs.Rest.{kept_bytes};
+ghost use Rattle.geocom_c.specs.State.{StoresClient, HasClientNumbers, HoldRequests, IsAstray, IsLineOf, IsOnlyReading, HoldsRequest, KeepsAnswered, StandsForClient, left_of};
 ghost use Rattle.geocom_c.specs.Rooms.{KeepsLength};
 
 use crate::rest::GeocomRest;
 use gc_catalogue::{Asked, decode_asked, encode_asked};
 use gc_client::{Client, IDS, Pending, SlotsOf, WINDOW, Window};
-use gc_lines::{Line, Request, read_request};
+use gc_lines::{Request, read_request};
+use gc_values::filled_up;
 
 /// An outstanding request.
 #[repr(C)]
@@ -66,7 +67,7 @@ pub(crate) const NULLS: u8 = 8;
 pub(crate) fn fresh(width: u8) -> GeocomClient
     requires least { 1 ≤ width }
     requires most { width ≤ WINDOW }
-    ensures client { StandsFor result (record { width = width; ids = Rule.fresh }) [] }
+    ensures client { StandsForClient result (record { width = width; ids = Rule.fresh }) [] }
     ensures begins { left_of result ≡ the_word }
 {
     GeocomClient {
@@ -133,15 +134,11 @@ fn flag_of(byte: u8) -> Option<bool>
 
 // The request that a place's bytes stand for. `None`: they stand for no request.
 fn read_place(place: &GeocomWaiting) -> Option<Pending<Asked>>
-    ensures found { IfSome result (λ p. IsPlace place.now p) }
-    ensures only { (p : Pending Asked) → IsPlace place.now p → result ≡ Some p }
+    ensures found { IfSome result (λ p. HoldsRequest place.now p) }
+    ensures only { (p : Pending Asked) → HoldsRequest place.now p → result ≡ Some p }
 {
-    let Some(call) = asked_at(place) else {
-        return None;
-    };
-    let Some(given_up) = flag_of(place.given_up) else {
-        return None;
-    };
+    let call = asked_at(place)?;
+    let given_up = flag_of(place.given_up)?;
     Some(Pending {
         target: place.target,
         call,
@@ -150,18 +147,9 @@ fn read_place(place: &GeocomWaiting) -> Option<Pending<Asked>>
     })
 }
 
-// The bytes of a line, and after them zeros: 512 bytes in all. (That they are zeros the contract doesn't say.)
-fn padded(line: &Line) -> [u8; 512]
-    ensures { take (length line.now.items) result ≡ line.now.items }
-{
-    let mut bytes = [0; 512];
-    bytes[..line.len()].copy_from_slice(line.as_slice());
-    bytes
-}
-
 // The place that holds a request's bytes.
 fn write_place(p: &Pending<Asked>) -> GeocomWaiting
-    ensures { IsPlace result p.now }
+    ensures { HoldsRequest result p.now }
 {
     let text = encode_asked(None, &p.call);
     GeocomWaiting {
@@ -169,7 +157,7 @@ fn write_place(p: &Pending<Asked>) -> GeocomWaiting
         target: p.target,
         length: text.len() as u16,
         given_up: u8::from(p.given_up),
-        line: padded(&text),
+        line: filled_up(text.as_slice()),
     }
 }
 
@@ -183,9 +171,7 @@ fn read_places(places: &[GeocomWaiting], count: usize) -> Option<SlotsOf<Asked>>
 {
     let mut window = SlotsOf::new();
     for k in 0..count {
-        let Some(p) = read_place(&places[k]) else {
-            return None;
-        };
+        let p = read_place(&places[k])?;
         window.push(p);
     }
     Some(window)
@@ -204,8 +190,8 @@ fn write_places(places: &mut [GeocomWaiting], window: &SlotsOf<Asked>)
 
 // Whether the numbers of a state can be a client's: its width, its next id, how many requests are outstanding, and how many null
 // procedures are answered.
-fn has_head(state: &GeocomClient) -> bool
-    ensures { IsTrue result ↔ HasHead state.now }
+fn has_client_numbers(state: &GeocomClient) -> bool
+    ensures { IsTrue result ↔ HasClientNumbers state.now }
 {
     1 <= state.width
         && state.width <= WINDOW as u8
@@ -216,23 +202,21 @@ fn has_head(state: &GeocomClient) -> bool
 
 // The client that a state's bytes stand for. `None`: they stand for no client.
 pub(crate) fn load(state: &GeocomClient) -> Option<Client<SlotsOf<Asked>>>
-    ensures found { IfSome result (λ c. StandsFor state.now c (kept state.now.rest)) }
-    ensures only { (c : Windowed Asked) (rest : List ℕ) → StandsFor state.now c rest → result ≡ Some c }
+    ensures found { IfSome result (λ c. StandsForClient state.now c (kept_bytes state.now.rest)) }
+    ensures only { (c : Windowed Asked) (rest : List ℕ) → StandsForClient state.now c rest → result ≡ Some c }
     ensures none { result ≡ None → IsAstray state.now }
 {
-    if !has_head(state) || !state.rest.is_valid() {
+    if !has_client_numbers(state) || !state.rest.is_valid() {
         return None;
     }
-    let Some(window) = read_places(&state.places, usize::from(state.waiting)) else {
-        return None;
-    };
+    let window = read_places(&state.places, usize::from(state.waiting))?;
     Some(Client::resume(window, state.width, state.next))
 }
 
 // Stores a client in a state. The bytes of an incomplete line and the number of null procedures that are answered stay as they
 // are.
 pub(crate) fn store(state: &mut GeocomClient, client: Client<SlotsOf<Asked>>)
-    ensures client { Becomes state.old state.new client }
+    ensures client { StoresClient state.old state.new client }
     ensures rest { state.new.rest ≡ state.old.rest }
     ensures answered { KeepsAnswered state.old state.new }
 {

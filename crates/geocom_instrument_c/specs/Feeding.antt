@@ -9,9 +9,9 @@ use Rattle.geocom_instrument_c.specs.Bench.{BenchState}
 use Rattle.geocom_instrument_c.specs.declared.header.TheConstants.{NO_INSTRUMENT}
 use Rattle.geocom_instrument_c.specs.declared.replied.GeocomReplied.{GeocomReplied}
 
--- there is no reply; the fault is this one, or there is none where it is 0; and this many bytes were used
+-- there is no reply, the fault is this one (0 stands for none), and this many bytes were used
 pub record IsWithoutReply (fault used : ℕ) (r : GeocomReplied) : Type 0 where
-  pub is : r.fault ≡ fault
+  pub has_fault : r.fault ≡ fault
   pub used_bytes : r.used ≡ used
   pub none : r.count ≡ 0
   pub not_due : r.due ≡ 0
@@ -31,7 +31,7 @@ CarriesReply (Some text) used due r = IsSent text used due r
 
 -- the instrument hears a frame at the moment `now`, which changes its state from `before` to `after`; and the result has its
 -- reply, if there is one
-pub record Answers (before : SlowState) (frame : Frame) (now : ℕ) (after : SlowState) (used : ℕ) (r : GeocomReplied) : Type 0 where
+pub record HearsAndAnswers (before : SlowState) (frame : Frame) (now : ℕ) (after : SlowState) (used : ℕ) (r : GeocomReplied) : Type 0 where
   pub text : Option (List ℕ)
   pub hears : HearsFrame before frame now after text
   pub says : CarriesReply text used after.free_from r
@@ -45,7 +45,7 @@ pub record IsKept (before : BenchState) (bytes : List ℕ) (after : BenchState) 
 -- bytes whose first line feed is at this place: the instrument hears the frame that the line feed ends, at the moment `now`, and
 -- the result has its reply, if there is one. All bytes through the line feed were used, and no byte of a line is left
 pub record HearsFirstFrame (before : BenchState) (bytes : List ℕ) (at now : ℕ) (after : BenchState) (r : GeocomReplied) : Type 0 where
-  pub answers : (rest : List ℕ) → StandsFor before.incomplete rest → Answers before.slow (frame_of (rest ++ take at bytes)) now after.slow (at + 1) r
+  pub answers : (rest : List ℕ) → StandsFor before.incomplete rest → HearsAndAnswers before.slow (frame_of (rest ++ take at bytes)) now after.slow (at + 1) r
   pub start : StandsFor after.incomplete []
 
 -- bytes were fed to an instrument at the moment `now`: through the first line feed, or all if there is none

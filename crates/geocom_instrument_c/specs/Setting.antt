@@ -22,13 +22,13 @@ pub record IsRestarted (before after : Option BenchState) (fault : ℕ) : Type 0
   pub present : (b : BenchState) → before ≡ Some b → (c : BenchState) × (after ≡ Some c) × IsBenchRestarted b c × (fault ≡ 0)
 
 -- the number of the scene's line that a fault names; 0 if it names none
-abbrev pub line_of : RunFault → ℕ
-line_of (Schedule line) = line
-line_of other = 0
+abbrev pub faulty_line : RunFault → ℕ
+faulty_line (Schedule line) = line
+faulty_line other = 0
 
 -- the scene of this text was set up: the fault and the line are 0, and the instrument is in its opening state, at the start of a
 -- stream. Or the scene was refused, for a fault of its text or because memory was refused (`TimedFault`), the result has the
 -- number of that fault and the line that it names, and there is no instrument
 pub record IsSetUp (text : List ℕ) (after : Option BenchState) (r : GeocomMade) : Type 0 where
   pub present : (b : BenchState) → after ≡ Some b → (r.fault ≡ 0) × (r.line ≡ 0) × IsTimedScene text b.slow × StandsFor b.incomplete []
-  pub absent : after ≡ None → (e : RunFault) × TimedFault text e × (r.fault ≡ run_fault_number e) × (r.line ≡ line_of e)
+  pub absent : after ≡ None → (e : RunFault) × TimedFault text e × (r.fault ≡ run_fault_number e) × (r.line ≡ faulty_line e)

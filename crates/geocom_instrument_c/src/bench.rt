@@ -4,7 +4,7 @@
 ghost use Rattle.std.specs.Prelude.{◌≡◌, [], None};
 ghost use Rattle.gc_lines.specs.Assembler.{StandsFor};
 ghost use Rattle.gc_lines.specs.Lent.{lent_seen};
-ghost use Rattle.geocom_instrument_c.specs.Feeding.{Answers, IsFed, IsFedTo};
+ghost use Rattle.geocom_instrument_c.specs.Feeding.{HearsAndAnswers, IsFed, IsFedTo};
 ghost use Rattle.geocom_instrument_c.specs.Setting.{IsRestarted, IsBenchRestarted};
 
 use crate::header::{NO_INSTRUMENT, REPLY_ROOM};
@@ -64,7 +64,7 @@ impl Bench {
 // Passes the instrument the line that a frame is, if it is one, at the moment `now`, in milliseconds. Returns the result of a
 // feed that used this many bytes (`used`): it has the instrument's reply with CR LF, if there is one, and when that goes out.
 fn answer(slow: &mut SlowInstrument, frame: Lent<'_>, now: u64, used: usize) -> GeocomReplied
-    ensures { Answers slow.old (lent_seen frame.entry) now slow.new used result }
+    ensures { HearsAndAnswers slow.old (lent_seen frame.entry) now slow.new used result }
 {
     let Lent::Line(line) = frame else {
         return GeocomReplied::without_reply(0, used);

@@ -1,7 +1,7 @@
 //! Setting up the instrument of a scene's text.
 
 ghost use Rattle.std.specs.Prelude.{◌≡◌};
-ghost use Rattle.geocom_instrument_c.specs.Setting.{IsSetUp, line_of};
+ghost use Rattle.geocom_instrument_c.specs.Setting.{IsSetUp, faulty_line};
 
 use crate::bench::{Bench, GeocomInstrument};
 use crate::replied::GeocomMade;
@@ -25,7 +25,7 @@ impl GeocomInstrument {
                 self.bench = None;
                 GeocomMade {
                     fault: u32::from(fault.number()),
-                    line: line_of(fault),
+                    line: faulty_line(fault),
                 }
             }
         }
@@ -33,8 +33,8 @@ impl GeocomInstrument {
 }
 
 // The number of the scene's line that a fault names; 0 if it names none.
-fn line_of(fault: RunFault) -> u32
-    ensures { result ≡ line_of fault }
+fn faulty_line(fault: RunFault) -> u32
+    ensures { result ≡ faulty_line fault }
 {
     match fault {
         RunFault::Schedule { line } => line,

@@ -4,8 +4,8 @@
 //! the first run of a group and one more in each further one.
 
 use crate::cases::engines::push_single;
-use crate::cases::outcome::{Came, End};
-use crate::cases::setup::Setup;
+use crate::cases::outcome::{End, RunOutcome};
+use crate::cases::setup::{Port, Setup, port_named};
 use gc_cases::{Case, Player, Told};
 use std::alloc::{AllocError, Global};
 use std::io;
@@ -24,8 +24,8 @@ impl Player for Failing {
     // If memory runs out for the set-up, `wrong` notes that it lacks a part.
     fn play(&self, rt: &HostRuntime, case: &Case<'_>, wrong: &mut Told) -> io::Result<()> {
         let mut setup = Setup::unset(rt.alloc());
-        match take_single(rt.alloc(), case, &mut setup) {
-            Ok(()) => play_calls(rt.alloc(), case, &mut setup, wrong),
+        match take_single(case, &mut setup) {
+            Ok(()) => play_port(case, &mut setup, wrong),
             Err(_) => wrong.lack(),
         }
         Ok(())
@@ -33,28 +33,36 @@ impl Player for Failing {
 }
 
 // Takes the set-up that a case says, with the input in single bytes after the sizes that the case names. `Err`: memory ran out.
-fn take_single(alloc: Global, case: &Case<'_>, setup: &mut Setup) -> Result<(), AllocError> {
-    setup.take(alloc, case)?;
+fn take_single(case: &Case<'_>, setup: &mut Setup) -> Result<(), AllocError> {
+    setup.take(case)?;
     push_single(&mut setup.sizes, setup.input.as_slice())
 }
 
-// Runs a set-up with its port failing at call k, for each k from 0 until a run ends well, at most `MOST_CALLS` times, and compares the
-// groups of runs with those that the case expects.
-fn play_calls(alloc: Global, case: &Case<'_>, setup: &mut Setup, wrong: &mut Told) {
-    let whole = setup.run(alloc, &[]);
-    let mut groups = Groups::new(alloc, *case, whole);
+// Plays a set-up with the port that the case names failing at each call in turn; if it names none, only that is reported.
+fn play_port(case: &Case<'_>, setup: &mut Setup, wrong: &mut Told) {
+    match port_named(case.value("port")) {
+        Some(port) => play_calls(case, port, setup, wrong),
+        None => case.tell_wrong("port", b"none", wrong),
+    }
+}
+
+// Runs a set-up with this port failing at call k, for each k from 0 until a run ends well, at most `MOST_CALLS` times, and
+// compares the groups of runs with those that the case expects.
+fn play_calls(case: &Case<'_>, port: Port, setup: &mut Setup, wrong: &mut Told) {
+    let whole = setup.run(&[]);
+    let mut groups = Groups::new(setup.alloc, *case, port, whole);
     for k in 0..MOST_CALLS {
-        setup.fail_at(case.value("port"), k);
-        if groups.play_call(alloc, setup, k, wrong) {
+        setup.fail_at(port, k);
+        if groups.play_call(setup, k, wrong) {
             break;
         }
     }
-    groups.finish(alloc, wrong);
+    groups.finish(wrong);
 }
 
 // Appends how a run with a failing call ended, and what it wrote (`output`). `place` is the run's place in its group, counted from 0: a
 // number of bytes that equals it is appended as `byte +`, so that the text is the same for each run of the group.
-fn append_call(end: &End, output: &Told, place: u64, text: &mut Told) {
+fn append_run(end: &End, output: &Told, place: u64, text: &mut Told) {
     text.append(&end.text);
     match end.bytes {
         Some(bytes) if bytes as u64 == place => text.text(" byte +"),
@@ -69,9 +77,12 @@ fn append_call(end: &End, output: &Told, place: u64, text: &mut Told) {
 // ended.
 #[derive(Drop)]
 struct Groups<'a> {
+    alloc: Global,
     case: Case<'a>,
+    // The port that fails.
+    port: Port,
     // What the run without a fault came to.
-    whole: Came,
+    whole: RunOutcome,
     // How many groups have ended.
     ended: usize,
     // What each run of the last group came to.
@@ -82,9 +93,11 @@ struct Groups<'a> {
 
 impl<'a> Groups<'a> {
     // No group yet.
-    fn new(alloc: Global, case: Case<'a>, whole: Came) -> Groups<'a> {
+    fn new(alloc: Global, case: Case<'a>, port: Port, whole: RunOutcome) -> Groups<'a> {
         Groups {
+            alloc,
             case,
+            port,
             whole,
             ended: 0,
             text: Told::new(alloc),
@@ -94,19 +107,19 @@ impl<'a> Groups<'a> {
 
     // Plays the run that is set up, whose port fails at call k, adds it to the groups, and returns whether it went well. Where a
     // group ends that isn't what the case expects, a line is appended to `wrong`.
-    fn play_call(&mut self, alloc: Global, setup: &Setup, k: u64, wrong: &mut Told) -> bool {
-        let came = setup.run(alloc, setup.sizes.as_slice());
-        let mut output = Told::new(alloc);
+    fn play_call(&mut self, setup: &Setup, k: u64, wrong: &mut Told) -> bool {
+        let came = setup.run(setup.sizes.as_slice());
+        let mut output = Told::new(self.alloc);
         self.append_output(&came, k, &mut output);
-        self.add(alloc, &came.end, &output, wrong);
+        self.add(&came.end, &output, wrong);
         came.end.is_done
     }
 
     // Appends what was written by the run whose port failed at call k. If the port is the output, and the run wrote the first k
     // bytes of what the run without a fault wrote, it appends `a part` instead.
-    fn append_output(&self, came: &Came, k: u64, output: &mut Told) {
+    fn append_output(&self, came: &RunOutcome, k: u64, output: &mut Told) {
         let written = came.output.taken();
-        if self.case.is("port", "output") && self.whole.begins_with(written, k) {
+        if matches!(self.port, Port::Output) && self.whole.begins_with(written, k) {
             output.text("a part");
         } else {
             output.escaped(written);
@@ -114,36 +127,36 @@ impl<'a> Groups<'a> {
     }
 
     // Adds a run to the last group, if it came to the same, or begins another one with it.
-    fn add(&mut self, alloc: Global, end: &End, output: &Told, wrong: &mut Told) {
-        let mut text = Told::new(alloc);
-        append_call(end, output, self.count, &mut text);
+    fn add(&mut self, end: &End, output: &Told, wrong: &mut Told) {
+        let mut text = Told::new(self.alloc);
+        append_run(end, output, self.count, &mut text);
         if self.count > 0 && text.as_bytes() == self.text.as_bytes() {
             self.count = self.count.saturating_add(1);
         } else {
-            self.begin(alloc, end, output, wrong);
+            self.begin(end, output, wrong);
         }
     }
 
     // Ends the last group, if there is one, and begins another one with this run.
-    fn begin(&mut self, alloc: Global, end: &End, output: &Told, wrong: &mut Told) {
-        self.close(alloc, wrong);
+    fn begin(&mut self, end: &End, output: &Told, wrong: &mut Told) {
+        self.close(wrong);
         self.text.clear();
-        append_call(end, output, 0, &mut self.text);
+        append_run(end, output, 0, &mut self.text);
         self.count = 1;
     }
 
     // Ends the last group, if it has a run: compares it with what the case expects, and counts it.
-    fn close(&mut self, alloc: Global, wrong: &mut Told) {
+    fn close(&mut self, wrong: &mut Told) {
         if self.count > 0 {
-            self.compare(alloc, wrong);
+            self.compare(wrong);
             self.ended = self.ended.saturating_add(1);
         }
     }
 
     // Compares the last group, how many runs it has and what they came to, with what the case has under the group's key. A
     // sixth or later group has none, and is compared with the value under `?`.
-    fn compare(&self, alloc: Global, wrong: &mut Told) {
-        let mut told = Told::new(alloc);
+    fn compare(&self, wrong: &mut Told) {
+        let mut told = Told::new(self.alloc);
         told.counted(&self.count, " calls: ");
         told.append(&self.text);
         let key = KEYS.get(self.ended).copied().unwrap_or("?");
@@ -152,8 +165,8 @@ impl<'a> Groups<'a> {
 
     // Ends the last group, if it has a run, and compares an empty text with the value under each later key, so that no group
     // which the case expects is missed.
-    fn finish(&mut self, alloc: Global, wrong: &mut Told) {
-        self.close(alloc, wrong);
+    fn finish(&mut self, wrong: &mut Told) {
+        self.close(wrong);
         for key in KEYS.iter().skip(self.ended) {
             self.case.tell(key, b"", wrong);
         }

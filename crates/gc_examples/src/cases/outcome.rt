@@ -19,6 +19,17 @@ pub struct End {
     pub is_done: bool,
 }
 
+/// What a run returned.
+#[derive(Clone, Copy)]
+pub enum Returned {
+    /// That of an engine that counts the lines that it writes.
+    Served(Result<Served, ServeFault>),
+    /// That of an engine that doesn't count them, or the fault of its scene.
+    Run(Result<(), RunFault>),
+    /// The case names no engine.
+    NoEngine,
+}
+
 /// A way of giving a run its input in other pieces.
 #[derive(Clone, Copy)]
 pub enum Recut {
@@ -28,7 +39,7 @@ pub enum Recut {
 
 /// What came of a run.
 #[derive(Drop)]
-pub struct Came {
+pub struct RunOutcome {
     pub end: End,
     pub output: Taking,
     /// What went out over the link of `ask`; nothing for any other engine.
@@ -45,10 +56,10 @@ impl Recut {
     }
 }
 
-impl Came {
+impl RunOutcome {
     /// A run that hasn't begun, with one sink for its output and one for what it sends over the link.
-    pub fn new(alloc: Global, output: Taking, link: Taking) -> Came {
-        Came {
+    pub fn new(alloc: Global, output: Taking, link: Taking) -> RunOutcome {
+        RunOutcome {
             end: End::new(alloc),
             output,
             link,
@@ -57,7 +68,7 @@ impl Came {
 
     /// Whether another run ended in the same way, and wrote and sent the same bytes, in however many writes. `false`, too, if memory ran
     /// out for the text of how this one ended.
-    pub fn is_same_as(&self, other: &Came) -> bool {
+    pub fn is_same_as(&self, other: &RunOutcome) -> bool {
         self.end.is_same_as(&other.end)
             && self.output.taken() == other.output.taken()
             && self.link.taken() == other.link.taken()
@@ -140,8 +151,17 @@ impl End {
         self.bytes = Some(bytes);
     }
 
-    /// Stores the end of a run of an engine that counts the lines that it writes, with the count. To be called once.
-    pub fn set_served(&mut self, end: Result<Served, ServeFault>) {
+    /// Stores how a run ended that returned this. To be called once.
+    pub fn set(&mut self, returned: Returned) {
+        match returned {
+            Returned::Served(end) => self.set_served(end),
+            Returned::Run(end) => self.set_run(end),
+            Returned::NoEngine => self.text.text("no such engine"),
+        }
+    }
+
+    // Stores the end of a run of an engine that counts the lines that it writes, with the count.
+    fn set_served(&mut self, end: Result<Served, ServeFault>) {
         match end {
             Err(ServeFault::Write { replies, bytes }) => self.set_write_failed(replies, bytes),
             Ok(Served { replies }) => {
@@ -155,9 +175,8 @@ impl End {
         }
     }
 
-    /// Stores the end of a run of an engine that doesn't count the lines that it writes, or whose scene doesn't read. To be
-    /// called once.
-    pub fn set_run(&mut self, end: Result<(), RunFault>) {
+    // Stores the end of a run of an engine that doesn't count the lines that it writes, or whose scene doesn't read.
+    fn set_run(&mut self, end: Result<(), RunFault>) {
         match end {
             Ok(()) => {
                 self.is_done = true;

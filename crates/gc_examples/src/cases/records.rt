@@ -2,6 +2,8 @@
 //! ended. They are of the second cycle, of place 3 and of the first attempt, where the case doesn't say `cycle`, `place` or
 //! `attempt`.
 
+ghost use Rattle.std.specs.Prelude.{◌≤◌, length};
+
 use gc_cases::{Case, Player, Told, bytes_of};
 use gc_catalogue::{Answer, Asked, Asking, Call, Reading};
 use gc_lines::{Line, ToWriter, read_reply};
@@ -44,77 +46,38 @@ fn form_of(word: &str) -> Option<Form> {
     }
 }
 
-// Appends the record of a case to `written`; for a case without a command, the head that is written before all records. If memory
-// runs out for the name or the reply, `written` notes that it lacks a part.
+// Appends the record of a case to `written`; for a case without a command, the head that is written before all records. If
+// memory runs out for the name or the reply, `written` notes that it lacks a part. Where it runs out for the command,
+// `command_of` says what comes instead.
 fn write_case(alloc: Global, case: &Case<'_>, form: Form, written: &mut Told) {
     if case.is("command", "") {
         let _ = write_head(&mut ToWriter::new(written), form);
         return;
     }
-    match bytes_of(alloc, case.value("name")) {
-        Ok(name) => write_with_name(alloc, case, form, name.as_slice(), written),
-        Err(_) => written.lack(),
-    }
-}
-
-// Appends the record of a case for a target of this name to `written`. If memory runs out for the reply, `written` notes that it
-// lacks a part. Where it runs out for the command, `command_of` says what comes instead.
-fn write_with_name(alloc: Global, case: &Case<'_>, form: Form, name: &[u8], written: &mut Told) {
+    let Ok(name) = bytes_of(alloc, case.value("name")) else {
+        return written.lack();
+    };
+    let Ok(reply) = bytes_of(alloc, case.value("reply")) else {
+        return written.lack();
+    };
     let command = command_of(alloc, case.value("command").as_bytes());
-    match bytes_of(alloc, case.value("reply")) {
-        Ok(reply) => {
-            let spelled = Spelled {
-                name,
-                reply: reply.as_slice(),
-            };
-            write_with_reply(case, form, &command, spelled, written)
-        }
-        Err(_) => written.lack(),
-    }
-}
-
-// The bytes that a case spells for a record: the target's name, and the reply.
-#[derive(Clone, Copy)]
-struct Spelled<'a> {
-    name: &'a [u8],
-    reply: &'a [u8],
-}
-
-// Appends the record of a command that ended with this reply, or as the case has it under `ending`.
-fn write_with_reply(
-    case: &Case<'_>,
-    form: Form,
-    command: &Wish,
-    spelled: Spelled<'_>,
-    written: &mut Told,
-) {
-    let line = line_of(spelled.reply);
+    let line = line_of(reply.as_slice());
     let reading = reading_of(&command.call, &line);
     let zeroed = reading_as_zero(&command.call, &line);
-    let ending = ending_of(case.value("ending"), &reading, &zeroed, &line);
-    write_ended(case, form, command, spelled.name, ending, written)
+    let ended = EndedCommand {
+        when: when_of(case),
+        name: front_of(name.as_slice()),
+        command: &command,
+        ending: ending_of(case.value("ending"), &reading, &zeroed, &line),
+    };
+    let _ = write_record(&mut ToWriter::new(written), form, ended);
 }
 
-// Appends the record of a command that ended so, for a target of this name, of which the first 64 bytes are used.
-fn write_ended<'a>(
-    case: &Case<'_>,
-    form: Form,
-    command: &'a Wish,
-    name: &'a [u8],
-    ending: Ending<'a>,
-    written: &mut Told,
-) {
-    let name = name.get(..64).unwrap_or(name);
-    // Always so: the contract of `write_record` asks for it.
-    if name.len() <= 64 {
-        let ended = EndedCommand {
-            when: when_of(case),
-            name,
-            command,
-            ending,
-        };
-        let _ = write_record(&mut ToWriter::new(&mut *written), form, ended);
-    }
+// The first 64 bytes of a name, as many as a target's name has at most.
+fn front_of(name: &[u8]) -> &[u8]
+    ensures { length result.now ≤ 64 }
+{
+    &name[..name.len().min(64)]
 }
 
 // The moments of a record, in milliseconds since 1970: when its run began, when its request was sent (none if the case's `sent` is no

@@ -4,15 +4,15 @@ ghost use Rattle.std.specs.Prelude.{◌≤◌};
 ghost use Rattle.gc_client.specs.declared.window.TheConstants.{WINDOW};
 
 use crate::cases::engines::push_single;
-use crate::cases::outcome::Came;
+use crate::cases::outcome::{Returned, RunOutcome};
+use crate::cases::scene_runs::reading_alone;
 use crate::cases::sink::Taking;
 use gc_ask::{Duplex, run_ask, run_loop_on};
 use gc_cases::{Case, input_of, push_bytes_of};
 use gc_engines::{
-    Playable, StillForm, read_rule_scene, read_scene, run_check, run_check_log, run_drill_on,
-    run_exec,
+    Playable, RuleForm, StillForm, read_rule_scene, read_scene, read_timed_scene, run_check,
+    run_check_log, run_drill_on, run_exec,
 };
-use gc_lines::{ServeFault, Served};
 use gc_probes::{PieceSource, Pipe};
 use gc_texts::RunFault;
 use std::alloc::{AllocError, Global};
@@ -54,7 +54,7 @@ pub enum Engine {
 
 /// How many calls of each port are answered before it fails.
 #[derive(Clone, Copy)]
-pub struct Answers {
+pub struct AnsweredCalls {
     /// Reads of the input.
     pub input: u64,
     /// Writes of the output.
@@ -69,9 +69,42 @@ pub struct Answers {
     pub instrument_out: u64,
 }
 
+/// A port that fails, or what stands for one.
+#[derive(Clone, Copy)]
+pub enum Port {
+    Input,
+    Output,
+    /// What the client reads from the link.
+    LinkIn,
+    /// What the client writes to the link.
+    LinkOut,
+    /// What the instrument of `loop` reads.
+    InstrumentIn,
+    /// What the instrument of `loop` writes.
+    InstrumentOut,
+    /// The number of reads that are allowed.
+    Allowed,
+}
+
+/// The port that a word names. `None`: it names none.
+pub fn port_named(word: &str) -> Option<Port> {
+    match word {
+        "input" => Some(Port::Input),
+        "output" => Some(Port::Output),
+        "link-in" => Some(Port::LinkIn),
+        "link-out" => Some(Port::LinkOut),
+        "instrument-in" => Some(Port::InstrumentIn),
+        "instrument-out" => Some(Port::InstrumentOut),
+        "allowed" => Some(Port::Allowed),
+        _ => None,
+    }
+}
+
 /// How a run is set up.
 #[derive(Drop)]
 pub struct Setup {
+    /// Where the run takes memory.
+    pub alloc: Global,
     pub engine: Engine,
     pub input: Vec<u8>,
     /// The sizes of the pieces in which the input comes.
@@ -86,7 +119,7 @@ pub struct Setup {
     pub moments: Vec<usize>,
     /// How many reads are allowed.
     pub allowed: u32,
-    pub answers: Answers,
+    pub answers: AnsweredCalls,
     /// The most bytes that one write of the output takes.
     pub most: usize,
     /// The most bytes that one write of the link takes.
@@ -159,6 +192,7 @@ impl Setup {
     /// text, there are no moments, and a drill prints its totals and has a window of 7.
     pub fn new(alloc: Global, engine: Engine, input: Vec<u8>) -> Setup {
         Setup {
+            alloc,
             engine,
             input,
             sizes: Vec::new(alloc),
@@ -167,7 +201,7 @@ impl Setup {
             scene: Vec::new(alloc),
             moments: Vec::new(alloc),
             allowed: u32::MAX,
-            answers: Answers {
+            answers: AnsweredCalls {
                 input: u64::MAX,
                 output: u64::MAX,
                 link_in: u64::MAX,
@@ -188,10 +222,10 @@ impl Setup {
     }
 
     /// Sets up a run that is unset, as a case says. `Err`: memory ran out.
-    pub fn take(&mut self, alloc: Global, case: &Case<'_>) -> Result<(), AllocError> {
+    pub fn take(&mut self, case: &Case<'_>) -> Result<(), AllocError> {
         self.engine = engine_of(case.value("engine"));
         self.take_numbers(case);
-        self.input = input_of(alloc, case)?;
+        self.input = input_of(self.alloc, case)?;
         self.take_lists(case)
     }
 
@@ -220,143 +254,103 @@ impl Setup {
         self.width = case.number("width", self.width);
     }
 
-    /// Has a port fail at its call k, counted from 0. The port `allowed` stands for the number of reads that are allowed. If the port
-    /// is unknown, the input fails at its first call.
-    pub fn fail_at(&mut self, port: &str, k: u64) {
+    /// Has a port fail at its call k, counted from 0.
+    pub fn fail_at(&mut self, port: Port, k: u64) {
         match port {
-            "input" => self.answers.input = k,
-            "output" => self.answers.output = k,
-            "link-in" => self.answers.link_in = k,
-            "link-out" => self.answers.link_out = k,
-            "instrument-in" => self.answers.instrument_in = k,
-            "instrument-out" => self.answers.instrument_out = k,
-            "allowed" => self.allowed = u32::try_from(k).unwrap_or(u32::MAX),
-            _ => self.answers.input = 0,
+            Port::Input => self.answers.input = k,
+            Port::Output => self.answers.output = k,
+            Port::LinkIn => self.answers.link_in = k,
+            Port::LinkOut => self.answers.link_out = k,
+            Port::InstrumentIn => self.answers.instrument_in = k,
+            Port::InstrumentOut => self.answers.instrument_out = k,
+            Port::Allowed => self.allowed = u32::try_from(k).unwrap_or(u32::MAX),
         }
     }
 
     /// Whether the input in single bytes comes to `whole`, which it came to in as few pieces as the reads allow; `false`, too, if
     /// memory runs out for the sizes.
-    pub fn is_same_in_single_bytes(&self, alloc: Global, whole: &Came) -> bool {
-        let mut ones = Vec::new(alloc);
+    pub fn is_same_in_single_bytes(&self, whole: &RunOutcome) -> bool {
+        let mut ones = Vec::new(self.alloc);
         push_single(&mut ones, self.input.as_slice()).is_ok()
-            && self.comes_to(alloc, ones.as_slice(), whole)
+            && self.comes_to(ones.as_slice(), whole)
     }
 
     /// Whether the input, cut in two, comes to `whole` at each place of the cut; `true` for an input of at most one byte.
-    pub fn is_same_cut_in_two(&self, alloc: Global, whole: &Came) -> bool {
+    pub fn is_same_cut_in_two(&self, whole: &RunOutcome) -> bool {
         for place in 1..self.input.len() {
-            if !self.comes_to(alloc, &[place], whole) {
+            if !self.comes_to(&[place], whole) {
                 return false;
             }
         }
         true
     }
 
-    // Whether the input in pieces of these sizes comes to `whole`, as `Came::is_same_as` says.
-    fn comes_to(&self, alloc: Global, sizes: &[usize], whole: &Came) -> bool {
-        self.run(alloc, sizes).is_same_as(whole)
+    // Whether the input in pieces of these sizes comes to `whole`, as `RunOutcome::is_same_as` says.
+    fn comes_to(&self, sizes: &[usize], whole: &RunOutcome) -> bool {
+        self.run(sizes).is_same_as(whole)
     }
 
     /// Runs the engine over the input in pieces of these sizes, with what is behind the last one in as few pieces as the reads allow, and
     /// returns how it ended, what it wrote and what it sent over the link.
-    pub fn run(&self, alloc: Global, sizes: &[usize]) -> Came {
-        let output = Taking::new(alloc, self.most, self.answers.output);
-        let link = Taking::new(alloc, self.link_most, self.answers.link_out);
-        let mut came = Came::new(alloc, output, link);
+    pub fn run(&self, sizes: &[usize]) -> RunOutcome {
+        let output = Taking::new(self.alloc, self.most, self.answers.output);
+        let link = Taking::new(self.alloc, self.link_most, self.answers.link_out);
+        let mut came = RunOutcome::new(self.alloc, output, link);
         let mut source = PieceSource::new(self.input.as_slice(), sizes, self.answers.input);
-        self.run_on(alloc, &mut source, &mut came);
+        let returned = self.run_on(&mut source, &mut came);
+        came.end.set(returned);
         came
     }
 
-    // Runs the engine over this source, and stores in `came` how it ended, what it wrote and what it sent over the link. `Slow`, `Rules`
-    // with moments, and each engine that only reads a scene take the input as a whole, and nothing from the source. Without an engine
-    // the end is `no such engine`.
-    fn run_on(&self, alloc: Global, source: &mut PieceSource<'_>, came: &mut Came) {
+    // Runs the engine over this source, the link and the output of `came`, and returns what it returned. `Slow`, `Rules` with moments,
+    // and each engine that only reads a scene take the input as a whole, and nothing from the source.
+    fn run_on(&self, source: &mut PieceSource<'_>, came: &mut RunOutcome) -> Returned {
+        let text = self.input.as_slice();
+        let output = &mut came.output;
         match self.engine {
-            Engine::Exec | Engine::Check | Engine::CheckLog => self.run_counting(source, came),
-            Engine::Serve => self.serve(alloc, source, came),
-            Engine::Rules => self.serve_rules(alloc, source, came),
-            Engine::Slow => self.serve_slow(alloc, came),
-            Engine::None => came.end.text.text("no such engine"),
-            _ => self.run_plain(alloc, source, came),
-        }
-    }
-
-    // Runs `exec`, `check` or `check` of a log, which count the lines that they write, and stores in `came` how it ended, with the count.
-    fn run_counting(&self, source: &mut PieceSource<'_>, came: &mut Came) {
-        let end = self.run_counting_to(source, &mut came.output);
-        came.end.set_served(end);
-    }
-
-    // Runs `exec`, `check` or, for any other engine, `check` of a log, and returns how it ended.
-    fn run_counting_to(
-        &self,
-        source: &mut PieceSource<'_>,
-        output: &mut Taking,
-    ) -> Result<Served, ServeFault> {
-        match self.engine {
-            Engine::Exec => run_exec(source, output, self.allowed),
-            Engine::Check => run_check(source, output, self.allowed),
-            _ => run_check_log(source, output, self.allowed),
-        }
-    }
-
-    // Runs one of the engines that don't count the lines that they write, and stores in `came` how it ended.
-    fn run_plain(&self, alloc: Global, source: &mut PieceSource<'_>, came: &mut Came) {
-        let end = self.run_plain_to(alloc, source, came);
-        came.end.set_run(end);
-    }
-
-    // Runs one of the engines that don't count the lines that they write, over the link and the output of `came`, and returns
-    // how it ended. Any engine but `Drill`, `DrillRules`, `Ask` and `Loop` reads the input as a scene.
-    fn run_plain_to(
-        &self,
-        alloc: Global,
-        source: &mut PieceSource<'_>,
-        came: &mut Came,
-    ) -> Result<(), RunFault> {
-        match self.engine {
-            Engine::Drill => self.drill(alloc, source, &mut came.output),
-            Engine::DrillRules => self.drill_rules(alloc, source, &mut came.output),
-            Engine::Ask => self.ask(alloc, source, came),
-            Engine::Loop => self.ask_in_a_loop(alloc, source, &mut came.output),
-            _ => self.read_input_scene(alloc),
+            Engine::Exec => Returned::Served(run_exec(source, output, self.allowed)),
+            Engine::Check => Returned::Served(run_check(source, output, self.allowed)),
+            Engine::CheckLog => Returned::Served(run_check_log(source, output, self.allowed)),
+            Engine::Serve => self.serve(source, output),
+            Engine::Rules => self.serve_rules(source, output),
+            Engine::Slow => self.serve_slow(output),
+            Engine::Drill => Returned::Run(self.drill(source, output)),
+            Engine::DrillRules => Returned::Run(self.drill_rules(source, output)),
+            Engine::Ask => Returned::Run(self.ask(source, &mut came.link, output)),
+            Engine::Loop => Returned::Run(self.ask_in_a_loop(source, output)),
+            Engine::Scene => reading_alone(read_scene(self.alloc, text)),
+            Engine::RuleScene => reading_alone(read_rule_scene::<RuleForm>(self.alloc, text)),
+            Engine::TimedScene => reading_alone(read_timed_scene(self.alloc, text)),
+            Engine::StillScene => reading_alone(read_rule_scene::<StillForm>(self.alloc, text)),
+            Engine::None => Returned::NoEngine,
         }
     }
 
     // Drills the input on the instrument of the scene, which has no rules. `Err`: the fault of the scene, or of the drill.
-    fn drill(
-        &self,
-        alloc: Global,
-        source: &mut PieceSource<'_>,
-        output: &mut Taking,
-    ) -> Result<(), RunFault> {
-        let instrument = read_scene(alloc, self.scene.as_slice())?;
-        self.drill_on(alloc, instrument, source, output)
+    fn drill(&self, source: &mut PieceSource<'_>, output: &mut Taking) -> Result<(), RunFault> {
+        let instrument = read_scene(self.alloc, self.scene.as_slice())?;
+        self.drill_on(instrument, source, output)
     }
 
     // Drills the input on the instrument of the scene, which has rules. `Err`: the fault of the scene, or of the drill.
     fn drill_rules(
         &self,
-        alloc: Global,
         source: &mut PieceSource<'_>,
         output: &mut Taking,
     ) -> Result<(), RunFault> {
-        let instrument = read_rule_scene::<StillForm>(alloc, self.scene.as_slice())?;
-        self.drill_on(alloc, instrument, source, output)
+        let instrument = read_rule_scene::<StillForm>(self.alloc, self.scene.as_slice())?;
+        self.drill_on(instrument, source, output)
     }
 
     // Drills the input on this instrument. `Err`: the fault of the drill.
     fn drill_on<I: Playable>(
         &self,
-        alloc: Global,
         instrument: I,
         source: &mut PieceSource<'_>,
         output: &mut Taking,
     ) -> Result<(), RunFault> {
         run_drill_on(
-            alloc,
+            self.alloc,
             instrument,
             source,
             output,
@@ -368,9 +362,9 @@ impl Setup {
     // Asks the commands of the input over a link that gives what the case says, whatever is sent to it. `Err`: as `run_ask` says.
     fn ask(
         &self,
-        alloc: Global,
         source: &mut PieceSource<'_>,
-        came: &mut Came,
+        link_out: &mut Taking,
+        output: &mut Taking,
     ) -> Result<(), RunFault> {
         let mut link_in = PieceSource::new(
             self.link.as_slice(),
@@ -378,11 +372,11 @@ impl Setup {
             self.answers.link_in,
         );
         run_ask(
-            alloc,
+            self.alloc,
             source,
             &mut link_in,
-            &mut came.link,
-            &mut came.output,
+            link_out,
+            output,
             self.allowed,
         )
     }
@@ -390,12 +384,11 @@ impl Setup {
     // Asks the commands of the input over two pipes, with the scene's instrument at their other end. `Err`: as `loop_over`.
     fn ask_in_a_loop(
         &self,
-        alloc: Global,
         source: &mut PieceSource<'_>,
         output: &mut Taking,
     ) -> Result<(), RunFault> {
-        let (up, down) = (Pipe::new(alloc), Pipe::new(alloc));
-        self.loop_over(alloc, &up, &down, source, output)
+        let (up, down) = (Pipe::new(self.alloc), Pipe::new(self.alloc));
+        self.loop_over(&up, &down, source, output)
     }
 
     // Asks the commands of `source` over two pipes: the client writes to `up` and reads from `down`, and the scene's instrument does
@@ -403,7 +396,6 @@ impl Setup {
     // `run_loop_on` says.
     fn loop_over(
         &self,
-        alloc: Global,
         up: &Pipe,
         down: &Pipe,
         source: &mut PieceSource<'_>,
@@ -419,8 +411,8 @@ impl Setup {
             sink: down.sink(most, self.answers.instrument_out),
         };
         run_loop_on(
-            alloc,
-            read_scene(alloc, self.scene.as_slice())?,
+            self.alloc,
+            read_scene(self.alloc, self.scene.as_slice())?,
             source,
             &mut client,
             &mut instrument_end,

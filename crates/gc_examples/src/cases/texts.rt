@@ -34,7 +34,7 @@ impl Player for Texts {
 // the name of that target with the value under `name`. What differs goes to `wrong`.
 fn play_text(alloc: Global, case: &Case<'_>, text: &[u8], wrong: &mut Told) {
     let mut came = Told::new(alloc);
-    read(alloc, case, text, &mut came);
+    read_as_said(alloc, case, text, &mut came);
     case.tell_told("is", &came, wrong);
     if !case.is("of", "") {
         compare_name(alloc, case, text, wrong);
@@ -42,21 +42,13 @@ fn play_text(alloc: Global, case: &Case<'_>, text: &[u8], wrong: &mut Told) {
 }
 
 // Appends what comes of a text, as the case's `as` says: its line with the number under `line`, counted from 1; what is printed of it as a
-// faulty line; the line that a log has of it; or the fault that it names. For any other word it is what `read_text` says.
-fn read(alloc: Global, case: &Case<'_>, text: &[u8], came: &mut Told) {
+// faulty line; the line that a log has of it; the fault that it names; or what it reads as. For any other word `no such text`.
+fn read_as_said(alloc: Global, case: &Case<'_>, text: &[u8], came: &mut Told) {
     match case.value("as") {
         "line" => came.bytes(line_at(text, case.number("line", 0))),
         "trouble" => append_trouble(text, came),
         "log" => write_as_log_line(text, came),
         "fault" => append_named_fault(case, came),
-        word => read_text(alloc, word, case, text, came),
-    }
-}
-
-// Appends what comes of a text that is read as this word says: as commands, a schedule, a station's tasks, the call of its first task, a
-// place, or a line of a log; for another word `no such text`.
-fn read_text(alloc: Global, word: &str, case: &Case<'_>, text: &[u8], came: &mut Told) {
-    match word {
         "commands" => read_as_commands(alloc, text, came),
         "schedule" => read_as_schedule(alloc, text, came),
         "tasks" => read_as_tasks(alloc, case, text, came),
@@ -293,13 +285,6 @@ fn fault_of(case: &Case<'_>) -> Option<RunFault> {
         "Schedule" => RunFault::Schedule {
             line: case.number("line", 0),
         },
-        word => return plain_fault_of(word),
-    })
-}
-
-// The fault of this name, among those without numbers. `None`: there is no such fault.
-fn plain_fault_of(word: &str) -> Option<RunFault> {
-    Some(match word {
         "SceneFull" => RunFault::SceneFull,
         "Read" => RunFault::Read,
         "TooManyReads" => RunFault::TooManyReads,

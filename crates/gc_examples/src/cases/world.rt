@@ -12,9 +12,45 @@ use gc_world::{Event, Report, play_width};
 use std::alloc::{AllocError, Global};
 use std::{fs, io};
 
+// A part of a report.
+#[derive(Clone, Copy)]
+enum Part {
+    // The numbers of the executed requests.
+    Executed,
+    // How many requests were executed before each restart of the instrument.
+    Starts,
+    // The id of the instrument's stored reply.
+    Kept,
+    // Whether each direction is at the start of a line.
+    Lines,
+}
+
+// What a row asks for of what the events lead to.
+#[derive(Clone, Copy)]
+enum Wanted {
+    // All of it, over each window.
+    End,
+    // A part of the report.
+    Part(Part),
+}
+
+// What a word asks for. `None`: it asks for nothing.
+fn wanted_by(word: &str) -> Option<Wanted> {
+    match word {
+        "end" => Some(Wanted::End),
+        "executed" => Some(Wanted::Part(Part::Executed)),
+        "starts" => Some(Wanted::Part(Part::Starts)),
+        "kept" => Some(Wanted::Part(Part::Kept)),
+        "lines" => Some(Wanted::Part(Part::Lines)),
+        _ => None,
+    }
+}
+
 /// The world that the rows of a case have set up so far: its events, its window and its simulator.
 #[derive(Drop)]
 pub struct WorldRows {
+    /// Where playing takes memory.
+    pub alloc: Global,
     // The events, as the text of a schedule.
     text: Told,
     // The width of the window, as the case says it. `width_of` says which ones count.
@@ -27,6 +63,7 @@ impl WorldRows {
     /// A world without events, with a window of 7 requests and a simulator with a precision of 15 digits.
     pub fn new(alloc: Global) -> WorldRows {
         WorldRows {
+            alloc,
             text: Told::new(alloc),
             width: 7,
             precision: 15,
@@ -51,12 +88,11 @@ impl WorldRows {
     /// The report and the client to which these events lead over this window, with the case's width and precision. `Err`: memory ran out.
     pub fn play_events<W: Window<Asked = Call>>(
         &self,
-        alloc: Global,
         window: W,
         events: &[Event],
     ) -> Result<(Report, Client<W>), AllocError> {
         play_width(
-            alloc,
+            self.alloc,
             self.instrument(),
             window,
             width_of(self.width),
@@ -65,69 +101,69 @@ impl WorldRows {
     }
 
     // Appends what events lead to over this window. If memory runs out, `came` notes that it lacks a part.
-    fn append_over<W: Window<Asked = Call>>(
-        &self,
-        alloc: Global,
-        window: W,
-        events: &[Event],
-        came: &mut Told,
-    ) {
-        match self.play_events(alloc, window, events) {
+    fn append_over<W: Window<Asked = Call>>(&self, window: W, events: &[Event], came: &mut Told) {
+        match self.play_events(window, events) {
             Ok((report, client)) => append_report(&report, &client, came),
             Err(_) => came.lack(),
         }
     }
 
     // Appends what events lead to over a ring. If memory runs out, `came` notes that it lacks a part.
-    fn append_over_ring(&self, alloc: Global, events: &[Event], came: &mut Told) {
-        match Ring::new(alloc) {
-            Ok(ring) => self.append_over(alloc, ring, events, came),
+    fn append_over_ring(&self, events: &[Event], came: &mut Told) {
+        match Ring::new(self.alloc) {
+            Ok(ring) => self.append_over(ring, events, came),
             Err(_) => came.lack(),
         }
     }
 
     // Appends what events lead to over places, with each delivery in single bytes. If memory runs out, `came` notes that it lacks
     // a part.
-    fn append_in_single_bytes(&self, alloc: Global, events: &[Event], came: &mut Told) {
-        match in_single_bytes(alloc, self, events) {
-            Ok(pieces) => self.append_over(alloc, Slots::new(), pieces.as_slice(), came),
+    fn append_in_single_bytes(&self, events: &[Event], came: &mut Told) {
+        match in_single_bytes(self, events) {
+            Ok(pieces) => self.append_over(Slots::new(), pieces.as_slice(), came),
             Err(_) => came.lack(),
         }
     }
 
     // Appends what events lead to over places, as `append_report` has it; and what they lead to over a ring, and with each
     // delivery in single bytes, where that differs.
-    fn append_end(&self, alloc: Global, events: &[Event], came: &mut Told) {
-        let mut places = Told::new(alloc);
-        self.append_over(alloc, Slots::new(), events, &mut places);
+    fn append_end(&self, events: &[Event], came: &mut Told) {
+        let mut places = Told::new(self.alloc);
+        self.append_over(Slots::new(), events, &mut places);
         came.append(&places);
-        let mut ring = Told::new(alloc);
-        self.append_over_ring(alloc, events, &mut ring);
+        let mut ring = Told::new(self.alloc);
+        self.append_over_ring(events, &mut ring);
         append_difference(&places, ", and over a ring ", &ring, came);
-        let mut pieces = Told::new(alloc);
-        self.append_in_single_bytes(alloc, events, &mut pieces);
+        let mut pieces = Told::new(self.alloc);
+        self.append_in_single_bytes(events, &mut pieces);
         append_difference(&places, ", and in single bytes ", &pieces, came);
     }
 
-    // Plays events over places, and appends the part of their report that `word` asks for. If memory runs out, `came` notes that it lacks
-    // a part.
-    fn append_played_part(&self, alloc: Global, word: &str, events: &[Event], came: &mut Told) {
-        match self.play_events(alloc, Slots::new(), events) {
-            Ok((report, _)) => append_part(&report, word, came),
+    // Plays events over places, and appends this part of their report. If memory runs out, `came` notes that it lacks a part.
+    fn append_played_part(&self, part: Part, events: &[Event], came: &mut Told) {
+        match self.play_events(Slots::new(), events) {
+            Ok((report, _)) => append_part(&report, part, came),
             Err(_) => came.lack(),
         }
     }
 
-    // Plays the events so far, and appends all that they lead to if `word` is `end`, otherwise the part of their report that it
-    // asks for; or `no schedule` if their lines don't read as one, or memory ran out for the list of events. If memory had run
-    // out for a line, or the case's schedule couldn't be read, `came` notes that it lacks a part.
-    fn append_end_or_part(&self, alloc: Global, word: &str, came: &mut Told) {
+    // Plays events, and appends what is wanted of what they lead to.
+    fn append_wanted_of(&self, wanted: Wanted, events: &[Event], came: &mut Told) {
+        match wanted {
+            Wanted::End => self.append_end(events, came),
+            Wanted::Part(part) => self.append_played_part(part, events, came),
+        }
+    }
+
+    // Plays the events so far, and appends what is wanted of what they lead to; or `no schedule` if their lines don't read as one, or
+    // memory ran out for the list of events. If memory had run out for a line, or the case's schedule couldn't be read, `came` notes
+    // that it lacks a part.
+    fn append_wanted(&self, wanted: Wanted, came: &mut Told) {
         if self.text.is_lacking() {
             came.lack();
         }
-        match read_schedule(alloc, self.text.as_bytes()) {
-            Ok(events) if word == "end" => self.append_end(alloc, events.as_slice(), came),
-            Ok(events) => self.append_played_part(alloc, word, events.as_slice(), came),
+        match read_schedule(self.alloc, self.text.as_bytes()) {
+            Ok(events) => self.append_wanted_of(wanted, events.as_slice(), came),
             Err(_) => came.text("no schedule"),
         }
     }
@@ -141,15 +177,13 @@ fn append_difference(told: &Told, way: &str, other: &Told, came: &mut Told) {
     }
 }
 
-// Appends the part of a report that a word asks for: `executed`, the numbers of the executed requests; `starts`, how many were executed
-// before each restart of the instrument; `kept`, the id of the instrument's stored reply; and for `lines`, or any other word, whether each
-// direction is at the start of a line.
-fn append_part(report: &Report, word: &str, came: &mut Told) {
-    match word {
-        "executed" => came.debug(&report.executed.as_slice()),
-        "starts" => came.debug(&report.starts.as_slice()),
-        "kept" => came.debug(&report.instrument.kept_id()),
-        _ => append_at_start(report, came),
+// Appends a part of a report.
+fn append_part(report: &Report, part: Part, came: &mut Told) {
+    match part {
+        Part::Executed => came.debug(&report.executed.as_slice()),
+        Part::Starts => came.debug(&report.starts.as_slice()),
+        Part::Kept => came.debug(&report.instrument.kept_id()),
+        Part::Lines => append_at_start(report, came),
     }
 }
 
@@ -162,14 +196,15 @@ fn append_at_start(report: &Report, came: &mut Told) {
 impl Rows for WorldRows {
     // Adds an event, sets the width or the precision, or appends what the events so far lead to; or appends that the word is
     // unknown.
-    fn play(&mut self, alloc: Global, word: &str, what: &str, _bytes: &[u8], came: &mut Told) {
+    fn play(&mut self, _alloc: Global, word: &str, what: &str, _bytes: &[u8], came: &mut Told) {
+        if let Some(wanted) = wanted_by(word) {
+            self.append_wanted(wanted, came);
+            return;
+        }
         match word {
             "send" | "up" | "down" | "expire" | "restart" => self.add_event(word, what),
-            "width" => self.width = came.number(what),
-            "precision" => self.precision = came.number(what),
-            "end" | "executed" | "starts" | "kept" | "lines" => self.append_end_or_part(
-                alloc, word, came,
-            ),
+            "width" => self.width = came.number_in(what),
+            "precision" => self.precision = came.number_in(what),
             _ => came.text("an unknown word"),
         }
     }

@@ -28,8 +28,8 @@ impl Instrument {
         (rc, answer)
     }
 
-    // As `execute`, but the answer is written into `answer`, which has to be `Answer::Nothing` before. It returns the return code, as the
-    // methods below do, one for each call that sets values, has several outcomes or has a large answer.
+    // As `execute`, but the answer is written into `answer`, which has to be `Answer::Nothing` before, and the return code alone is
+    // returned. Each call that sets values, has several outcomes or has a large answer has a method below, which does the same.
     #[inline(always)]
     #[tactic(auto, unfolding(crate::specs::Execution::exec))]
     pub(super) fn carry_out(&mut self, call: &Call, answer: &mut Answer) -> u16

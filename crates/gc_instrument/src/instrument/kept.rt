@@ -65,12 +65,8 @@ impl Kept {
         ensures line { option_map (λ r. r.now) result ≡ kept_line self.now id }
         ensures within { IfSome result (λ r. length r.now ≤ 512) }
     {
-        let Some(asked) = id else {
-            return None;
-        };
-        let Some(kept) = self.id else {
-            return None;
-        };
+        let asked = id?;
+        let kept = self.id?;
         if kept == asked {
             Some(&self.bytes[..self.len])
         } else {

@@ -4,7 +4,7 @@ ghost use Rattle.std.specs.Prelude.{◌≡◌};
 ghost use Rattle.gc_lines.specs.Lent.{IsLineWithin};
 ghost use Rattle.gc_lines.specs.Ports.{FailsWith};
 ghost use Rattle.gc_station.specs.Model.{piece_came, piece_taken, piece_at};
-ghost use Rattle.gc_station.specs.Stations.{MovesByReading, seen, Becomes, frame_came};
+ghost use Rattle.gc_station.specs.Stations.{MovesByReading, as_seen, KeepsToModel, frame_came};
 
 use super::Station;
 use crate::book::Book;
@@ -27,7 +27,7 @@ impl Station {
         frame: Lent<'_>,
     ) -> Result<(), PortFailed>
         requires { IsLineWithin frame }
-        ensures hears { Becomes (frame_came begun frame.entry) (B.text book.old) (B.taken book.old) (B.taken book.new) self.old self.new result }
+        ensures hears { KeepsToModel (frame_came begun frame.entry) (B.text book.old) (B.taken book.old) (B.taken book.new) self.old self.new result }
         ensures fails { FailsWith result (B.failed book.old) (B.failed book.new) }
         ensures form { B.text book.new ≡ B.text book.old }
     {
@@ -52,7 +52,7 @@ impl Station {
     // the piece after the last answer of a synchronization settle nothing. `Err`: the book failed at a record, and the lines after
     // it weren't heard.
     fn listen<B: Book>(&mut self, book: &mut B, begun: bool, piece: &[u8]) -> Result<(), PortFailed>
-        ensures listens { Becomes (piece_came begun piece.now) (B.text book.old) (B.taken book.old) (B.taken book.new) self.old self.new result }
+        ensures listens { KeepsToModel (piece_came begun piece.now) (B.text book.old) (B.taken book.old) (B.taken book.new) self.old self.new result }
         ensures fails { FailsWith result (B.failed book.old) (B.failed book.new) }
         ensures form { B.text book.new ≡ B.text book.old }
     {
@@ -71,7 +71,7 @@ impl Station {
     // Hears the lines of a piece (`listen`). In a phase in which nothing is heard the piece is discarded. `Err`: the book failed
     // at a record.
     fn take_lines<B: Book>(&mut self, book: &mut B, piece: &[u8]) -> Result<(), PortFailed>
-        ensures takes { Becomes (piece_taken piece.now) (B.text book.old) (B.taken book.old) (B.taken book.new) self.old self.new result }
+        ensures takes { KeepsToModel (piece_taken piece.now) (B.text book.old) (B.taken book.old) (B.taken book.new) self.old self.new result }
         ensures fails { FailsWith result (B.failed book.old) (B.failed book.new) }
         ensures form { B.text book.new ≡ B.text book.old }
     {
@@ -92,7 +92,7 @@ impl Station {
         piece: &[u8],
         now: Moment,
     ) -> Result<(), PortFailed>
-        ensures takes { Becomes (piece_at plan.now until piece.now now) (B.text book.old) (B.taken book.old) (B.taken book.new) self.old self.new result }
+        ensures takes { KeepsToModel (piece_at plan.now until piece.now now) (B.text book.old) (B.taken book.old) (B.taken book.new) self.old self.new result }
         ensures fails { FailsWith result (B.failed book.old) (B.failed book.new) }
         ensures form { B.text book.new ≡ B.text book.old }
     {
@@ -119,8 +119,8 @@ impl Station {
         until: Until,
     ) -> Result<(), PortFailed>
         ensures does { MovesByReading plan.now until
-            (seen (L.acts link.old) (B.text book.old) (B.taken book.old) self.old)
-            (seen (L.acts link.new) (B.text book.old) (B.taken book.new) self.new) result }
+            (as_seen (L.acts link.old) (B.text book.old) (B.taken book.old) self.old)
+            (as_seen (L.acts link.new) (B.text book.old) (B.taken book.new) self.new) result }
         ensures fails { FailsWith result (B.failed book.old) (B.failed book.new) }
         ensures form { B.text book.new ≡ B.text book.old }
     {

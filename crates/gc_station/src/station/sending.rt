@@ -1,13 +1,12 @@
 //! What a station sends: the line feed on a new connection, which ends a request that was cut off before, and requests. A request
 //! whose write is cut counts as sent, and the connection is to be closed for that (`note_cut`).
 
-ghost use Rattle.std.specs.Prelude.{◌≡◌, ◌<◌, ◌≤◌, [], ◌∷◌, false, length, drop, Option};
+ghost use Rattle.std.specs.Prelude.{◌≡◌, ◌<◌, ◌≤◌, [], ◌∷◌, false, length, Option};
 ghost use Rattle.gc_lines.specs.Lines.{with_end};
-ghost use Rattle.gc_links.specs.Acts.{Tells, put_act, IsPart};
+ghost use Rattle.gc_links.specs.Acts.{AddsActs, put_act, IsPart};
 ghost use Rattle.gc_station.specs.Deciding.{has_begun};
-ghost use Rattle.gc_station.specs.Model.{request_text, null_text};
-ghost use Rattle.gc_station.specs.NextCommand.{mark_setup};
-ghost use Rattle.gc_station.specs.Stations.{CanSend, DoesAlone, cut_progress, request_for, null_request, setup_asked, station_asking};
+ghost use Rattle.gc_station.specs.Model.{next_request_text, null_text, request_for, null_request, request_of_setup};
+ghost use Rattle.gc_station.specs.Stations.{CanSend, DoesAlone, cut_progress, station_asking};
 ghost use Rattle.gc_station.specs.declared.progress.Action.TheVariants.{Clear, Ask, Prepare, Send, Flush};
 
 use super::Station;
@@ -15,9 +14,8 @@ use crate::cause::Cause;
 use crate::mark::Mark;
 use crate::plan::Plan;
 use crate::progressing::later;
-use arrayvec::ArrayVec;
 use gc_catalogue::{Asked, Call};
-use gc_lines::{Line, append};
+use gc_lines::{Line, with_end};
 use gc_links::Link;
 use gc_texts::{Task, Wish};
 
@@ -59,14 +57,10 @@ fn null_request(plan: &Plan) -> Outgoing
 
 // Writes a line and then CR LF, as one call of the link. `Err`: the write was cut, with the number of bytes that were sent.
 fn put_line<L: Link>(link: &mut L, line: &Line) -> Result<(), usize>
-    ensures tells { Tells (L.acts link.old) (L.acts link.new) (put_act result (with_end line.now.items) ∷ []) }
+    ensures tells { AddsActs (L.acts link.old) (L.acts link.new) (put_act result (with_end line.now.items) ∷ []) }
     ensures part { IsPart result (with_end line.now.items) }
 {
-    // A line has at most 512 bytes.
-    let mut text = ArrayVec::<u8, 514>::new();
-    append(&mut text, line);
-    append(&mut text, b"\r\n");
-    link.put(text.as_slice())
+    link.put(&with_end(line))
 }
 
 impl Station {
@@ -93,8 +87,8 @@ impl Station {
     // Sends a request. `Err`: the write was cut, with the number of bytes that were sent. The request is outstanding then, too.
     fn ask<L: Link>(&mut self, link: &mut L, asking: &Outgoing) -> Result<(), usize>
         requires { CanSend self.old }
-        ensures tells { Tells (L.acts link.old) (L.acts link.new) (put_act result (request_text self.old.client.ids asking.now.command.call) ∷ []) }
-        ensures part { IsPart result (request_text self.old.client.ids asking.now.command.call) }
+        ensures tells { AddsActs (L.acts link.old) (L.acts link.new) (put_act result (next_request_text self.old.client.ids asking.now.command.call) ∷ []) }
+        ensures part { IsPart result (next_request_text self.old.client.ids asking.now.command.call) }
         ensures asks { self.new ≡ station_asking asking.now self.old }
     {
         let command = &asking.command;
@@ -114,7 +108,7 @@ impl Station {
     // with the number of bytes that were sent.
     fn put_null<L: Link>(&self, link: &mut L) -> Result<(), usize>
         requires { has_begun self.now.progress ≡ false }
-        ensures tells { Tells (L.acts link.old) (L.acts link.new) (put_act result (null_text self.now.progress.word) ∷ []) }
+        ensures tells { AddsActs (L.acts link.old) (L.acts link.new) (put_act result (null_text self.now.progress.word) ∷ []) }
         ensures part { IsPart result (null_text self.now.progress.word) }
     {
         let Some(line) = self.progress.word.ask() else {
@@ -153,7 +147,7 @@ impl Station {
 
     // The request for the next command of the setup, if the list has one; otherwise for a null procedure.
     fn next_setup(&self, plan: &Plan, commands: &[Task]) -> Outgoing
-        ensures { result ≡ setup_asked plan.now (mark_setup commands.now self.now.progress) (drop self.now.progress.prepared commands.now) }
+        ensures { result ≡ request_of_setup plan.now commands.now self.now.progress }
     {
         let mark = self.mark_setup(commands);
         match commands.get(self.progress.prepared) {

@@ -6,7 +6,7 @@ ghost use Rattle.gc_links.specs.Acts.{Told};
 ghost use Rattle.gc_texts.specs.Endings.{ending_seen};
 ghost use Rattle.gc_station.specs.Records.{WritesMore};
 ghost use Rattle.gc_station.specs.Model.{end_unsent, unsent_record};
-ghost use Rattle.gc_station.specs.Stations.{DoesAlone, Moves, seen, station_advancing, station_skipping};
+ghost use Rattle.gc_station.specs.Stations.{DoesAlone, Moves, as_seen, station_advancing, station_skipping};
 ghost use Rattle.gc_station.specs.declared.progress.Action.TheVariants.{Skip, Pass};
 
 use super::Station;
@@ -29,8 +29,8 @@ impl Station {
         requires unsent { 0 < self.old.progress.unsent }
         requires within { self.old.progress.unsent ≤ length commands.now }
         ensures does { Moves plan.now commands.now Skip
-            (seen (L.acts link.old) (B.text book.old) (B.taken book.old) self.old)
-            (seen (L.acts link.new) (B.text book.old) (B.taken book.new) self.new) result }
+            (as_seen (L.acts link.old) (B.text book.old) (B.taken book.old) self.old)
+            (as_seen (L.acts link.new) (B.text book.old) (B.taken book.new) self.new) result }
         ensures fails { FailsWith result (B.failed book.old) (B.failed book.new) }
         ensures form { B.text book.new ≡ B.text book.old }
     {
@@ -100,7 +100,7 @@ impl Station {
         let task = &commands[self.place(commands)];
         let stamp = Stamp {
             sent: None,
-            utc: self.progress.skipped_at(moment),
+            utc: self.progress.unsent_at(moment),
             cycle: mark.cycle,
             place: mark.place,
             turn: mark.expected.turn,

@@ -1,9 +1,9 @@
 use Rattle.std.proofs.Common.{◌≡◌, ℕ, ◌+◌, ◌<◌, List, [], ◌++◌, length, take, drop, Ok, Err, ap, ◌∙◌, refl, arith, length-append}
 use Rattle.std.proofs.lemmas.List.{length-take, take_all}
 use Rattle.std.proofs.KnownBytes.{Consumes-trans, Consumes-nil}
-use Rattle.gc_ask.specs.Asking.{LinkEnd, idle}
+use Rattle.gc_ask.specs.Asking.{LinkResult, idle}
 use Rattle.gc_ask.specs.Links.{SeenStep}
-use Rattle.gc_ask.specs.Listening.{heard_by, seen_through}
+use Rattle.gc_ask.specs.Listening.{heard_by, reads_of, seen_through}
 use Rattle.gc_ask.specs.Looping.{BothEnd, SeenAtBoth}
 use Rattle.gc_ask.proofs.Asked.{course_start, course_all}
 use Rattle.gc_ask.proofs.Ends.{sound_start, sound_on, both_end, both_sound, ends_as}
@@ -16,7 +16,7 @@ use Rattle.gc_texts.specs.declared.fault.RunFault.TheVariants.{TooManyReads}
 pub loop-place-init : goal.loop-place-init
 loop-place-init g c = record {
   course = ([], Consumes-nil _, omega arith, rw c.new-asking.ensures.ahead (course_start _ _ _ c.new-asking.ensures.assembler c.new-asking.ensures.client));
-  reads = ap (λ n. (g.L.Link.client c.args.link.now).reads + (g.L.Link.instrument c.args.link.now).reads + n) c.new-asking.ensures.reads;
+  reads = ap (λ n. reads_of g.L.AskedLink c.args.link.now + n) c.new-asking.ensures.reads;
   client = sound_start _;
   instrument = sound_start _;
   sink = refl;
@@ -45,11 +45,11 @@ loop-place-preserved g c =
     let one = c.in_default.ensures.asks in
     let old = c.loop-place.asking in
     let asking = c.ask.new.self in
-    let next = course_next g.L.Link.is_remote (take place commands) command place _ one.0 (heard_by asking.end at.now (old.ahead ++ one.0) asking.ahead)
-    (seen_through g.L.Link c.ask.new.link g.K.Sink c.ask.new.sink) at (place_is commands place c.loop-place-test.true) (one.3 at.now at.stands) in
+    let next = course_next g.L.AskedLink.is_remote (take place commands) command place _ one.0 (heard_by asking.end at.now (old.ahead ++ one.0) asking.ahead)
+    (seen_through g.L.AskedLink c.ask.new.link g.K.Sink c.ask.new.sink) at (place_is commands place c.loop-place-test.true) (one.3 at.now at.stands) in
     let sound = sound_on
-    (seen_through g.L.Link c.args.link.now g.K.Sink c.args.sink.now) (seen_through g.L.Link c.loop-place.link g.K.Sink c.loop-place.sink)
-    (seen_through g.L.Link c.ask.new.link g.K.Sink c.ask.new.sink) c.loop-place.invariant.client c.loop-place.invariant.instrument c.in_default.ensures.ends in
+    (seen_through g.L.AskedLink c.args.link.now g.K.Sink c.args.sink.now) (seen_through g.L.AskedLink c.loop-place.link g.K.Sink c.loop-place.sink)
+    (seen_through g.L.AskedLink c.ask.new.link g.K.Sink c.ask.new.sink) c.loop-place.invariant.client c.loop-place.invariant.instrument c.in_default.ensures.ends in
     record {
       course = (
         so.0 ++ one.0,
@@ -81,9 +81,9 @@ returns-in-Err-clause-asks g c =
     let one = c.in-Err.ensures.asks in
     let old = c.loop-place.asking in
     let asking = c.ask.new.self in
-    let first : SeenAtBoth = seen_through g.L.Link c.args.link.now g.K.Sink c.args.sink.now in
-    let before : SeenAtBoth = seen_through g.L.Link c.loop-place.link g.K.Sink c.loop-place.sink in
-    let new : SeenAtBoth = seen_through g.L.Link c.ask.new.link g.K.Sink c.ask.new.sink in
+    let first : SeenAtBoth = seen_through g.L.AskedLink c.args.link.now g.K.Sink c.args.sink.now in
+    let before : SeenAtBoth = seen_through g.L.AskedLink c.loop-place.link g.K.Sink c.loop-place.sink in
+    let new : SeenAtBoth = seen_through g.L.AskedLink c.ask.new.link g.K.Sink c.ask.new.sink in
     record {
       given = so.0 ++ one.0;
       gave = Consumes-trans _ _ _ so.0 one.0 so.1 one.1;
@@ -95,7 +95,7 @@ returns-in-Err-clause-asks g c =
         c.loop-place.invariant.client.grows,
         c.in-Err.ensures.spends.grows,
       );
-      asks = run_fault g.L.Link.is_remote commands place _ (record {
+      asks = run_fault g.L.AskedLink.is_remote commands place _ (record {
         done = take place commands;
         command = command;
         later = drop (place + 1) commands;
@@ -104,7 +104,7 @@ returns-in-Err-clause-asks g c =
       }) one.0 (heard_by asking.end at.now (old.ahead ++ one.0) asking.ahead) new c.in-Err.fault
           c.loop-place.invariant.client c.loop-place.invariant.instrument (place_is commands place c.loop-place-test.true)
           (one.3 at.now at.stands) c.in-Err.ensures.ends;
-      ends = ends_as (SeenStep before new) (BothEnd first.client new.client first.instrument new.instrument)
+      ends = ends_as (SeenStep before new) (BothEnd first new)
           (λ r. both_end first before new r c.loop-place.invariant.client c.loop-place.invariant.instrument)
           first.sink.failed before.sink.failed new.sink.failed c.loop-place.invariant.sink (Err c.in-Err.fault) c.in-Err.ensures.ends;
       bound = omega (arith, c.loop-place.invariant.reads, c.in-Err.ensures.spends.reads);
@@ -115,7 +115,7 @@ pub returns-in-Err-clause-held : goal.returns-in-Err-clause-held
 returns-in-Err-clause-held g c = c.in-Err.ensures.spends.held ∙ c.loop-place.invariant.held
 
 -- a good end is no fault
-went_well : (e : RunFault) → ◌≡◌ {A = LinkEnd} (Ok tt) (Err e) → ⊥
+went_well : (e : RunFault) → ◌≡◌ {A = LinkResult} (Ok tt) (Err e) → ⊥
 went_well e is = cc
 
 pub returns-clause-asks : goal.returns-clause-asks
@@ -127,7 +127,11 @@ returns-clause-asks g c =
       gave = so.1;
       few = so.2;
       asks = course_all _ _ (rw whole at so.3);
-      ends = (both_sound _ _ _ _ c.loop-place.invariant.client c.loop-place.invariant.instrument, c.loop-place.invariant.sink);
+      ends = (
+        both_sound (seen_through g.L.AskedLink c.args.link.now g.K.Sink c.args.sink.now) (seen_through g.L.AskedLink c.loop-place.link g.K.Sink c.loop-place.sink)
+            c.loop-place.invariant.client c.loop-place.invariant.instrument,
+        c.loop-place.invariant.sink,
+      );
       bound = omega (arith, c.loop-place.invariant.reads);
       too_many = λ is. absurd (went_well TooManyReads is);
     }

@@ -1,6 +1,6 @@
 use Rattle.std.proofs.Common.{◌≡◌, ap, rules}
 use Rattle.gc_lines.specs.Answering.{ports_of}
-use Rattle.gc_ask.specs.AskRuns.{AskRuns, Seen}
+use Rattle.gc_ask.specs.AskRuns.{AskRuns, SeenAtClient}
 use Rattle.gc_ask.specs.Asking.{taken_by}
 use Rattle.gc_ask.specs.Looping.{SeenAtBoth}
 use Rattle.gc_ask.proofs.Runs.{runs_remote}
@@ -17,7 +17,7 @@ returns-clause-asks g c =
 
 pub returns-clause-memory : goal.returns-clause-memory
 returns-clause-memory g c is =
-    let same : ◌≡◌ {A = Seen}
+    let same : ◌≡◌ {A = SeenAtClient}
     (record { link = ports_of g.I.Source c.run_over.new.link.source.now g.O.Sink c.run_over.new.link.sink.now; sink = taken_by g.K.Sink c.run_over.new.sink })
     (record { link = ports_of g.I.Source c.args.link_in.now g.O.Sink c.args.link_out.now; sink = taken_by g.K.Sink c.args.sink.now }) =
     ap (λ (s : SeenAtBoth). record { link = s.client; sink = s.sink }) (c.run_over.ensures.memory is) in

@@ -1,6 +1,6 @@
 use Rattle.std.proofs.Common.{◌≡◌, ℕ, ap, rules, subst, Some, None}
 use Rattle.std.specs.Option.{option_copied}
-use Rattle.gc_texts.specs.Procedures.{IsNumber}
+use Rattle.gc_texts.specs.Procedures.{IsNumber, IsTarget}
 use Rattle.gc_texts.proofs.Procedures.{with_rest}
 use Rattle.gc_engines.proofs.Forms.{has_target, has_deadline, has_procedure}
 use Rattle.gc_engines.proofs.InThree.{in_three, no_first_space, no_second_space}
@@ -17,17 +17,17 @@ returns-in_default-procedure-clause-none c isnt t call d r =
     (with_rest 32 c.args.text.now c.cut_at.result.0.now (option_copied c.cut_at.result.1) (Some c.in-Some.rest.now) c.cut_at.ensures (ap option_copied c.in-Some.is))
     (with_rest 32 c.in-Some.rest.now c.cut_at-2.result.0.now (option_copied c.cut_at-2.result.1) None c.cut_at-2.ensures (search rules))
 
-pub returns-in_default-number_of-clause-none : goal.returns-in_default-number_of-clause-none
-returns-in_default-number_of-clause-none c isnt t call d r =
+pub returns-in_default-target_of-clause-none : goal.returns-in_default-target_of-clause-none
+returns-in_default-target_of-clause-none c isnt t call d r =
     has_target c.args.text.now t call d r c.cut_at.result.0.now c.in-Some.rest.now
     (with_rest 32 c.args.text.now c.cut_at.result.0.now (option_copied c.cut_at.result.1) (Some c.in-Some.rest.now) c.cut_at.ensures (ap option_copied c.in-Some.is))
-    c.in_default-number_of.ensures
+    c.in_default-target_of.ensures
 
-pub returns-in_default-number_of-2-clause-none : goal.returns-in_default-number_of-2-clause-none
-returns-in_default-number_of-2-clause-none c isnt t call d r =
+pub returns-in_default-number_of-clause-none : goal.returns-in_default-number_of-clause-none
+returns-in_default-number_of-clause-none c isnt t call d r =
     has_deadline c.args.text.now t call d r c.cut_at.result.0.now c.in-Some.rest.now c.cut_at-2.result.0.now (option_copied c.cut_at-2.result.1)
     (with_rest 32 c.args.text.now c.cut_at.result.0.now (option_copied c.cut_at.result.1) (Some c.in-Some.rest.now) c.cut_at.ensures (ap option_copied c.in-Some.is))
-    c.cut_at-2.ensures c.in_default-number_of-2.ensures
+    c.cut_at-2.ensures c.in_default-number_of.ensures
 
 pub returns-clause-none : goal.returns-clause-none
 returns-clause-none c isnt t call d r =
@@ -39,13 +39,13 @@ returns-clause-none c isnt t call d r =
 pub returns-clause-found : goal.returns-clause-found
 returns-clause-found c = λ found.
     let sent = c.in-Send.is in
-    let target : c.in-Some-number_of.target ≡ c.in-Send.field-0 = cc in
-    let deadline : c.in-Some-number_of-2.deadline ≡ c.in-Send.field-2 = cc in
+    let target : c.in-Some-target_of.target ≡ c.in-Send.field-0 = cc in
+    let deadline : c.in-Some-number_of.deadline ≡ c.in-Send.field-2 = cc in
     record {
       parts = in_three c.args.text.now c.cut_at.result.0.now c.in-Some.rest.now c.cut_at-2.result.0.now c.in-Some-procedure.procedure.now
           (with_rest 32 c.args.text.now c.cut_at.result.0.now (option_copied c.cut_at.result.1) (Some c.in-Some.rest.now) c.cut_at.ensures (ap option_copied c.in-Some.is))
           (with_rest 32 c.in-Some.rest.now c.cut_at-2.result.0.now (option_copied c.cut_at-2.result.1) (Some c.in-Some-procedure.procedure.now) c.cut_at-2.ensures (ap option_copied c.in-Some-procedure.is));
-      target_is = subst (λ (n : ℕ). IsNumber c.cut_at.result.0.now n 4294967295) target c.in-Some-number_of.ensures;
-      deadline_is = subst (λ (n : ℕ). IsNumber c.cut_at-2.result.0.now n 18446744073709551615) deadline c.in-Some-number_of-2.ensures;
+      target_is = subst (λ (n : ℕ). IsTarget c.cut_at.result.0.now n) target c.in-Some-target_of.ensures;
+      deadline_is = subst (λ (n : ℕ). IsNumber c.cut_at-2.result.0.now n 18446744073709551615) deadline c.in-Some-number_of.ensures;
       procedure_is = c.read_procedure_into.ensures.found found;
     }

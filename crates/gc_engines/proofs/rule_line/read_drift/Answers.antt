@@ -1,6 +1,6 @@
 use Rattle.std.proofs.Common.{ap, ◌∙◌, subst, List, ℕ, sym}
 use Rattle.gc_texts.specs.Cuts.{behind}
-use Rattle.gc_engines.specs.RuleScenes.{IsOffset}
+use Rattle.gc_engines.specs.Scenes.{IsOffset}
 use Rattle.gc_engines.proofs.rule_line.read_drift.Goals as goal
 
 pub returns-in-None : goal.returns-in-None

@@ -1,4 +1,4 @@
-use Rattle.std.proofs.Common.{rules, ℕ, ap, arith}
+use Rattle.std.proofs.Common.{ap}
 use Rattle.std.specs.Option.{option_copied}
 use Rattle.gc_fates.proofs.ShareForms.{parts_at, no_whole, no_thousandths, too_much}
 use Rattle.gc_fates.proofs.share.read_share.Goals as goal

@@ -4,4 +4,4 @@ use Rattle.gc_field.proofs.Pointed.{pointed}
 use Rattle.gc_field.proofs.laws.chains_are_measured_where_they_pointed.Goals as goal
 
 pub returns : goal.returns
-returns c = λ plan commands scope acts u rs field. pointed plan commands scope acts u rs field chains_stay marks_go_on records_stay
+returns c = λ u x field. pointed u x field chains_stay marks_go_on records_stay

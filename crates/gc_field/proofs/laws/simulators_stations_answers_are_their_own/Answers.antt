@@ -2,7 +2,7 @@ use Rattle.std.proofs.Common.{sym, ◌∙◌}
 use Rattle.gc_client.specs.OneForOne.{begun}
 use Rattle.gc_station.proofs.Booking.{course_client}
 use Rattle.gc_instrument.specs.State.{IsFittingState}
-use Rattle.gc_field.specs.Simulator.{ends}
+use Rattle.gc_field.specs.Simulator.{simulator_ends}
 use Rattle.gc_field.specs.Laws.{kept_of}
 use Rattle.gc_field.specs.Field.{seen}
 use Rattle.gc_field.proofs.InTime.{clean_faithful}
@@ -11,4 +11,4 @@ use Rattle.gc_field.proofs.laws.simulators_stations_answers_are_their_own.Goals 
 
 pub returns : goal.returns
 returns c = λ u rest acts ms carried.
-    let f = clean_faithful ends IsFittingState kept_of simulator.instrument u carried.clean ms carried.possible in record { faithful = f; client = sym (course_client (seen ms) begun) ∙ f.stands }
+    let f = clean_faithful simulator_ends IsFittingState kept_of simulator.instrument u carried.clean ms carried.possible in record { faithful = f; client = sym (course_client (seen ms) begun) ∙ f.stands }

@@ -11,13 +11,13 @@ loop-at-preserved g c =
     record {
       within = room;
       few = omega (arith, c.loop-at.invariant.few, c.feeds_in-lines.ensures.within, size);
-      puts = λ known is. puts_block _ _ _ (content known) c.read_all.new.buf c.loop-at.at c.min-size.result (c.in-Ok.ensures known is) size
-          (c.loop-at.invariant.puts known is) c.in-Ok-append_all.ensures.ok;
-      count = λ known is. counts_block (content known) c.read_all.new.buf c.loop-at.at c.min-size.result c.loop-at.lines c.feeds_in-lines.result (c.in-Ok.ensures known is) size
+      puts = λ known is. puts_block _ _ _ (content known) c.read_all.new.buf c.loop-at.at c.min-size.result (c.in_ok-read_all.ensures known is) size
+          (c.loop-at.invariant.puts known is) c.in_ok-append_all.ensures.ok;
+      count = λ known is. counts_block (content known) c.read_all.new.buf c.loop-at.at c.min-size.result c.loop-at.lines c.feeds_in-lines.result (c.in_ok-read_all.ensures known is) size
           (c.loop-at.invariant.count known is) c.feeds_in-lines.ensures.is;
     }
 
-pub returns-in-Ok-sync-clause-copied : goal.returns-in-Ok-sync-clause-copied
-returns-in-Ok-sync-clause-copied g c known is =
+pub returns-clause-copied : goal.returns-clause-copied
+returns-clause-copied g c known is =
     puts_all _ _ _ (content known) c.loop-at.at (omega (arith, c.in_ok-len.ensures known is, c.loop-at-test.false, c.loop-at.invariant.within))
-    (c.loop-at.invariant.puts known is) c.in-Ok-sync.ensures.step
+    (c.loop-at.invariant.puts known is) c.in_ok-sync.ensures.step

@@ -10,7 +10,7 @@ returns-then-rows-gt0-clause-end g c known is =
     let at = c.loop-end.end - c.min-size.result in
     let ends : at + length c.read_all.new.buf ≡ c.loop-end.end = omega (arith, few, size) in
     ap (λ n. at + n) c.whole_len-rows.ensures.len
-    ∙ block_some at (length c.read_all.new.buf) c.loop-end.end (content known) c.read_all.new.buf (c.in-Ok.ensures known is) ends
+    ∙ block_some at (length c.read_all.new.buf) c.loop-end.end (content known) c.read_all.new.buf (c.in_ok-read_all.ensures known is) ends
     (omega (arith, c.loop-end.invariant.within, c.requires known is)) (c.loop-end.invariant.none known is)
     (omega (arith, c.if-rows-gt0.true, c.whole_len-rows.ensures.len))
 
@@ -22,7 +22,7 @@ loop-end-preserved g c =
     let ends : at + length c.read_all.new.buf ≡ c.loop-end.end = omega (arith, few, size) in
     record {
       within = omega (arith, c.loop-end.invariant.within);
-      none = λ known is. block_none at (length c.read_all.new.buf) c.loop-end.end (content known) c.read_all.new.buf (c.in-Ok.ensures known is) ends
+      none = λ known is. block_none at (length c.read_all.new.buf) c.loop-end.end (content known) c.read_all.new.buf (c.in_ok-read_all.ensures known is) ends
           (c.loop-end.invariant.none known is) (omega (arith, c.if-rows-gt0.false, c.whole_len-rows.ensures.len));
     }
 

@@ -3,7 +3,7 @@ use Rattle.std.proofs.lemmas.List.{take_rest}
 use Rattle.gc_lines.specs.Numbers.{NoDigitFirst}
 use Rattle.gc_lines.proofs.Digits.{run_more, value_next, value_small, digit_range, run_long, number_long, number_read, number_refused, stops_at, stops_end}
 use Rattle.gc_lines.proofs.number.number_of.Goals as goal
-use Rattle.gc_lines.proofs.number.number_of.Goals.{then-loop-len-test+else-is_ascii_digit, else-loop-len-test, then-len-eq0-via-then-len-eq0, then-len-eq0-via-else-len-eq0+then-value-gt65535}
+use Rattle.gc_lines.proofs.number.number_of.Goals.{then-loop-len-test+else-is_ascii_digit, else-loop-len-test}
 
 pub returns-then-len-eq5 : goal.returns-then-len-eq5
 returns-then-len-eq5 c =

@@ -1,4 +1,3 @@
-use Rattle.std.proofs.Common.{arith}
 use Rattle.gc_rehearsal.proofs.Queued.{line_found}
 use Rattle.gc_rehearsal.proofs.flight.line_of.Goals as goal
 

@@ -4,8 +4,8 @@ use Rattle.std.proofs.lemmas.Bool.{lt-ltb}
 use Rattle.arrayvec.specs.ArrayVec.{array_vec_len}
 use Rattle.gc_rows.specs.declared.json_line.TheConstants.{STRINGS_ROOM}
 use Rattle.gc_rows.specs.JsonLines.{string_text, strings_text}
-use Rattle.gc_values.specs.Params.{bytes_in}
-use Rattle.gc_values.proofs.ItemBytes.{bytes_in_next}
+use Rattle.gc_values.specs.Params.{total_length}
+use Rattle.gc_values.proofs.ItemBytes.{total_length_next}
 use Rattle.gc_rows.proofs.Items.{bytes_below}
 use Rattle.gc_rows.proofs.JsonLines.{strings_next}
 use Rattle.gc_rows.proofs.json_line.append_strings.Goals as goal
@@ -39,7 +39,7 @@ loop-k-preserved g c =
     let k = c.loop-k.k in
     let lt : k < length texts = search rules in
     let on : k + 1 ≡ suc k = omega arith in
-    let more = ap (λ n. bytes_in (take n texts)) on ∙ bytes_in_next texts k lt in
+    let more = ap (λ n. total_length (take n texts)) on ∙ total_length_next texts k lt in
     let room = c.loop-k.invariant.room in
     let comma = c.append_comma.ensures.room in
     let string = c.append_string.ensures.room in

@@ -1,7 +1,7 @@
 use Rattle.std.proofs.Common.{◌≡◌, ◌+◌, ◌*◌, ◌≤◌, ◌++◌, false, take, drop}
 use Rattle.std.specs.Prelude.{nat_lt}
 use Rattle.arrayvec.specs.ArrayVec.{array_vec_len}
-use Rattle.gc_values.specs.Params.{bytes_in}
+use Rattle.gc_values.specs.Params.{total_length}
 use Rattle.gc_rows.specs.JsonLines.{strings_text}
 use Rattle.gc_rows.proofs.json_line.append_strings.Given as goal
 
@@ -9,5 +9,5 @@ use Rattle.gc_rows.proofs.json_line.append_strings.Given as goal
 abbrev pub invariant-loop-k : goal.invariant-loop-k
 invariant-loop-k g l = record {
   written : l.line.items ++ strings_text (nat_lt 0 l.k) (drop l.k l.texts) ≡ l.initial.line.items ++ strings_text false l.texts;
-  room : array_vec_len l.line ≤ array_vec_len l.initial.line + 8 * bytes_in (take l.k l.texts) + 3 * l.k;
+  room : array_vec_len l.line ≤ array_vec_len l.initial.line + 8 * total_length (take l.k l.texts) + 3 * l.k;
 }

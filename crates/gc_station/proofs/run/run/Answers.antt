@@ -50,16 +50,16 @@ returns-in-Err-step g c =
           (g.B.Book.taken c.loop-unsynced.book) (g.B.Book.taken c.sync.new.self) c.loop-unsynced.station c.sync.ensures.same
           (c.loop-unsynced.invariant.went reads are) in
           let w = went_kept plan commands scope (g.B.Book.text c.args.book.now) told (g.L.Link.acts c.loop-unsynced.link) taken (g.B.Book.taken c.sync.new.self)
-          (g.B.Book.taken c.report_health_and_overrun-reported.new.book) c.loop-unsynced.station
-          (kept_same (g.B.Book.taken c.sync.new.self) (g.B.Book.taken c.report_health_and_overrun-reported.new.book) c.report_health_and_overrun-reported.ensures.taken) kept in
+          (g.B.Book.taken c.report_to-reported.new.book) c.loop-unsynced.station
+          (kept_same (g.B.Book.taken c.sync.new.self) (g.B.Book.taken c.report_to-reported.new.book) c.report_to-reported.ensures.taken) kept in
           let s = state_after plan commands scope w.acts in
           let same = same_readings s.reads reads (reads_as_in_scope plan commands scope w.acts) are in
           inl (went_wrong plan commands scope (g.B.Book.text c.args.book.now) told (g.L.Link.acts c.loop-unsynced.link) (g.L.Link.acts c.step.new.link)
-          (g.L.Link.acts c.close-in-Err-step.new.self) taken (g.B.Book.taken c.report_health_and_overrun-reported.new.book)
+          (g.L.Link.acts c.close-in-Err-step.new.self) taken (g.B.Book.taken c.report_to-reported.new.book)
           (g.B.Book.taken c.step.new.book) c.loop-unsynced.station c.action-action.result w
           (c.action-action.ensures.action s w.stands same)
           (on_call c.action-action.result _ c.in_default-action.not-Stop
-          (rw (c.report_health_and_overrun-reported.ensures.form ∙ c.sync.ensures.form ∙ c.loop-unsynced.invariant.form) at c.in-Err-step.ensures.does))
+          (rw (c.report_to-reported.ensures.form ∙ c.sync.ensures.form ∙ c.loop-unsynced.invariant.form) at c.in-Err-step.ensures.does))
           c.close-in-Err-step.ensures are);
       keeps = λ reads are.
           let scope : Scope = record { turns = c.args.max_turns; reads = reads } in
@@ -67,21 +67,21 @@ returns-in-Err-step g c =
           let m = noted_kept plan commands scope text told taken (g.L.Link.acts c.loop-unsynced.link) (g.B.Book.taken c.loop-unsynced.book)
           (g.B.Book.taken c.sync.new.self) c.loop-unsynced.station c.args.kept.now.turns c.loop-unsynced.kept.turns c.sync.ensures.same (c.loop-unsynced.invariant.noted reads are) in
           let n = noted_kept plan commands scope text told taken (g.L.Link.acts c.loop-unsynced.link) (g.B.Book.taken c.sync.new.self)
-          (g.B.Book.taken c.report_health_and_overrun-reported.new.book) c.loop-unsynced.station c.args.kept.now.turns c.loop-unsynced.kept.turns
-          (kept_same (g.B.Book.taken c.sync.new.self) (g.B.Book.taken c.report_health_and_overrun-reported.new.book) c.report_health_and_overrun-reported.ensures.taken) m in
+          (g.B.Book.taken c.report_to-reported.new.book) c.loop-unsynced.station c.args.kept.now.turns c.loop-unsynced.kept.turns
+          (kept_same (g.B.Book.taken c.sync.new.self) (g.B.Book.taken c.report_to-reported.new.book) c.report_to-reported.ensures.taken) m in
           let s = state_after plan commands scope n.went.acts in
           let same = same_readings s.reads reads (reads_as_in_scope plan commands scope n.went.acts) are in
           noted_refused plan commands scope text told taken (g.L.Link.acts c.loop-unsynced.link) (g.L.Link.acts c.step.new.link)
-          (g.L.Link.acts c.close-in-Err-step.new.self) (g.B.Book.taken c.report_health_and_overrun-reported.new.book)
-          (g.B.Book.taken c.step.new.book) (g.B.Book.is_durable c.report_health_and_overrun-reported.new.book) c.loop-unsynced.station c.action-action.result
+          (g.L.Link.acts c.close-in-Err-step.new.self) (g.B.Book.taken c.report_to-reported.new.book)
+          (g.B.Book.taken c.step.new.book) (g.B.Book.is_durable c.report_to-reported.new.book) c.loop-unsynced.station c.action-action.result
           c.args.kept.now.turns c.loop-unsynced.kept.turns c.with_snapshot.result.turns n
           (c.action-action.ensures.action s n.went.stands same)
           (on_call c.action-action.result _ c.in_default-action.not-Stop
-          (rw (c.report_health_and_overrun-reported.ensures.form ∙ c.sync.ensures.form ∙ c.loop-unsynced.invariant.form) at c.in-Err-step.ensures.does))
-          c.close-in-Err-step.ensures c.with_snapshot.ensures (c.report_health_and_overrun-reported.ensures.is_durable ∙ c.in_default.ensures.is_durable);
+          (rw (c.report_to-reported.ensures.form ∙ c.sync.ensures.form ∙ c.loop-unsynced.invariant.form) at c.in-Err-step.ensures.does))
+          c.close-in-Err-step.ensures c.with_snapshot.ensures (c.report_to-reported.ensures.is_durable ∙ c.in_default.ensures.is_durable);
       is_durable = tt;
       fails = c.in-Err-step.ensures.fails;
-      form = c.in-Err-step.ensures.form ∙ c.report_health_and_overrun-reported.ensures.form ∙ c.sync.ensures.form ∙ c.loop-unsynced.invariant.form;
+      form = c.in-Err-step.ensures.form ∙ c.report_to-reported.ensures.form ∙ c.sync.ensures.form ∙ c.loop-unsynced.invariant.form;
     }
 
 pub loop-unsynced-smaller : goal.loop-unsynced-smaller
@@ -89,10 +89,10 @@ loop-unsynced-smaller g c =
     let plan = c.args.plan.now in
     let commands = c.args.commands.now in
     (went_nearer plan commands (g.B.Book.text c.args.book.now) (g.L.Link.acts c.loop-unsynced.link) (g.L.Link.acts c.step.new.link)
-    (g.B.Book.taken c.report_health_and_overrun-reported.new.book) (g.B.Book.taken c.step.new.book) c.loop-unsynced.station c.step.new.self c.action-action.result
+    (g.B.Book.taken c.report_to-reported.new.book) (g.B.Book.taken c.step.new.book) c.loop-unsynced.station c.step.new.self c.action-action.result
     c.action-action.ensures.is c.loop-unsynced.invariant.some
     (on_call c.action-action.result _ c.in_default-action.not-Stop
-    (rw (c.report_health_and_overrun-reported.ensures.form ∙ c.sync.ensures.form ∙ c.loop-unsynced.invariant.form) at c.in_default-step.ensures.does))
+    (rw (c.report_to-reported.ensures.form ∙ c.sync.ensures.form ∙ c.loop-unsynced.invariant.form) at c.in_default-step.ensures.does))
     c.loop-unsynced.invariant.below).less
 
 pub loop-unsynced-preserved : goal.loop-unsynced-preserved
@@ -102,18 +102,18 @@ loop-unsynced-preserved g c =
     let told = g.L.Link.acts c.args.link.now in
     let taken = g.B.Book.taken c.args.book.now in
     let makes = on_call c.action-action.result _ c.in_default-action.not-Stop
-    (rw (c.report_health_and_overrun-reported.ensures.form ∙ c.sync.ensures.form ∙ c.loop-unsynced.invariant.form) at c.in_default-step.ensures.does) in
+    (rw (c.report_to-reported.ensures.form ∙ c.sync.ensures.form ∙ c.loop-unsynced.invariant.form) at c.in_default-step.ensures.does) in
     let nearer = went_nearer plan commands (g.B.Book.text c.args.book.now) (g.L.Link.acts c.loop-unsynced.link) (g.L.Link.acts c.step.new.link)
-    (g.B.Book.taken c.report_health_and_overrun-reported.new.book) (g.B.Book.taken c.step.new.book) c.loop-unsynced.station c.step.new.self c.action-action.result
+    (g.B.Book.taken c.report_to-reported.new.book) (g.B.Book.taken c.step.new.book) c.loop-unsynced.station c.step.new.self c.action-action.result
     c.action-action.ensures.is c.loop-unsynced.invariant.some
     (on_call c.action-action.result _ c.in_default-action.not-Stop
-    (rw (c.report_health_and_overrun-reported.ensures.form ∙ c.sync.ensures.form ∙ c.loop-unsynced.invariant.form) at c.in_default-step.ensures.does))
+    (rw (c.report_to-reported.ensures.form ∙ c.sync.ensures.form ∙ c.loop-unsynced.invariant.form) at c.in_default-step.ensures.does))
     c.loop-unsynced.invariant.below in
     record {
       within = omega (arith, nearer.within);
       below = nearer.within;
       some = has_model_on plan commands (g.B.Book.text c.args.book.now) (g.L.Link.acts c.loop-unsynced.link) (g.L.Link.acts c.step.new.link)
-          (g.B.Book.taken c.report_health_and_overrun-reported.new.book) (g.B.Book.taken c.step.new.book) c.loop-unsynced.station c.step.new.self c.action-action.result makes
+          (g.B.Book.taken c.report_to-reported.new.book) (g.B.Book.taken c.step.new.book) c.loop-unsynced.station c.step.new.self c.action-action.result makes
           c.loop-unsynced.invariant.some;
       went = λ reads are.
           let scope : Scope = record { turns = c.args.max_turns; reads = reads } in
@@ -121,12 +121,12 @@ loop-unsynced-preserved g c =
           (g.B.Book.taken c.loop-unsynced.book) (g.B.Book.taken c.sync.new.self) c.loop-unsynced.station c.sync.ensures.same
           (c.loop-unsynced.invariant.went reads are) in
           let w = went_kept plan commands scope (g.B.Book.text c.args.book.now) told (g.L.Link.acts c.loop-unsynced.link) taken (g.B.Book.taken c.sync.new.self)
-          (g.B.Book.taken c.report_health_and_overrun-reported.new.book) c.loop-unsynced.station
-          (kept_same (g.B.Book.taken c.sync.new.self) (g.B.Book.taken c.report_health_and_overrun-reported.new.book) c.report_health_and_overrun-reported.ensures.taken) kept in
+          (g.B.Book.taken c.report_to-reported.new.book) c.loop-unsynced.station
+          (kept_same (g.B.Book.taken c.sync.new.self) (g.B.Book.taken c.report_to-reported.new.book) c.report_to-reported.ensures.taken) kept in
           let s = state_after plan commands scope w.acts in
           let same = same_readings s.reads reads (reads_as_in_scope plan commands scope w.acts) are in
           went_on plan commands scope (g.B.Book.text c.args.book.now) told (g.L.Link.acts c.loop-unsynced.link) (g.L.Link.acts c.step.new.link) taken
-          (g.B.Book.taken c.report_health_and_overrun-reported.new.book) (g.B.Book.taken c.step.new.book) c.loop-unsynced.station c.step.new.self c.action-action.result w
+          (g.B.Book.taken c.report_to-reported.new.book) (g.B.Book.taken c.step.new.book) c.loop-unsynced.station c.step.new.self c.action-action.result w
           (c.action-action.ensures.action s w.stands same) makes are;
       noted = λ reads are.
           let scope : Scope = record { turns = c.args.max_turns; reads = reads } in
@@ -134,17 +134,17 @@ loop-unsynced-preserved g c =
           let m = noted_kept plan commands scope text told taken (g.L.Link.acts c.loop-unsynced.link) (g.B.Book.taken c.loop-unsynced.book)
           (g.B.Book.taken c.sync.new.self) c.loop-unsynced.station c.args.kept.now.turns c.loop-unsynced.kept.turns c.sync.ensures.same (c.loop-unsynced.invariant.noted reads are) in
           let n = noted_kept plan commands scope text told taken (g.L.Link.acts c.loop-unsynced.link) (g.B.Book.taken c.sync.new.self)
-          (g.B.Book.taken c.report_health_and_overrun-reported.new.book) c.loop-unsynced.station c.args.kept.now.turns c.loop-unsynced.kept.turns
-          (kept_same (g.B.Book.taken c.sync.new.self) (g.B.Book.taken c.report_health_and_overrun-reported.new.book) c.report_health_and_overrun-reported.ensures.taken) m in
+          (g.B.Book.taken c.report_to-reported.new.book) c.loop-unsynced.station c.args.kept.now.turns c.loop-unsynced.kept.turns
+          (kept_same (g.B.Book.taken c.sync.new.self) (g.B.Book.taken c.report_to-reported.new.book) c.report_to-reported.ensures.taken) m in
           let s = state_after plan commands scope n.went.acts in
           let same = same_readings s.reads reads (reads_as_in_scope plan commands scope n.went.acts) are in
           noted_on plan commands scope text told taken (g.L.Link.acts c.loop-unsynced.link) (g.L.Link.acts c.step.new.link)
-          (g.B.Book.taken c.report_health_and_overrun-reported.new.book) (g.B.Book.taken c.step.new.book) (g.B.Book.is_durable c.report_health_and_overrun-reported.new.book)
+          (g.B.Book.taken c.report_to-reported.new.book) (g.B.Book.taken c.step.new.book) (g.B.Book.is_durable c.report_to-reported.new.book)
           c.loop-unsynced.station c.step.new.self c.action-action.result
           c.args.kept.now.turns c.loop-unsynced.kept.turns c.with_snapshot.result.turns n
-          (c.action-action.ensures.action s n.went.stands same) makes are c.with_snapshot.ensures (c.report_health_and_overrun-reported.ensures.is_durable ∙ c.in_default.ensures.is_durable);
-      form = c.in_default-step.ensures.form ∙ c.report_health_and_overrun-reported.ensures.form ∙ c.sync.ensures.form ∙ c.loop-unsynced.invariant.form;
-      failed = c.in_default-step.ensures.fails ∙ c.report_health_and_overrun-reported.ensures.failed ∙ c.in_default.ensures.fails ∙ c.loop-unsynced.invariant.failed;
+          (c.action-action.ensures.action s n.went.stands same) makes are c.with_snapshot.ensures (c.report_to-reported.ensures.is_durable ∙ c.in_default.ensures.is_durable);
+      form = c.in_default-step.ensures.form ∙ c.report_to-reported.ensures.form ∙ c.sync.ensures.form ∙ c.loop-unsynced.invariant.form;
+      failed = c.in_default-step.ensures.fails ∙ c.report_to-reported.ensures.failed ∙ c.in_default.ensures.fails ∙ c.loop-unsynced.invariant.failed;
     }
 
 pub loop-unsynced-init : goal.loop-unsynced-init

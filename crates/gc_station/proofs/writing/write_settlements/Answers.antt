@@ -1,9 +1,9 @@
 use Rattle.std.proofs.Common.{[], ◌∷◌, ◌+◌, ◌++◌, take, drop, map, refl, ap, sym, ◌∙◌, append_assoc, append-nil, drop-drop}
 use Rattle.gc_lines.proofs.Known.{Appends-is}
 use Rattle.gc_client.specs.Settlements.{settlement_seen}
-use Rattle.gc_station.specs.Marks.{records_of}
+use Rattle.gc_station.specs.Marks.{first_mark, records_of}
 use Rattle.gc_station.specs.Records.{texts_of}
-use Rattle.gc_station.proofs.Records.{first_of, records-none, records_seen_more, records_seen_left, part_behind, recorded-none, recorded_more}
+use Rattle.gc_station.proofs.Records.{records-none, records_seen_more, records_seen_left, part_behind, recorded-none, recorded_more}
 use Rattle.gc_station.proofs.writing.write_settlements.Goals as goal
 
 pub loop-settlement-init : goal.loop-settlement-init
@@ -27,7 +27,7 @@ returns-in-Err-clause-wrote g c reads are start before so =
     let i = c.loop-settlement.settlement-index in
     let s = c.settlement-item.result in
     let b = c.loop-settlement.invariant in
-    let first = c.take_mark-mark.ensures.first ∙ ap first_of b.marks in
+    let first = c.take_mark-mark.ensures.first ∙ ap first_mark b.marks in
     let more = records_seen_more reads marks ss i s c.take_mark-mark.result c.loop-settlement-test.true c.settlement-item.is first utc in
     let front = records_of reads utc marks (map settlement_seen (take i ss)) in
     part_behind (g.B.Book.text c.args.book.now) before front _ _ _ _ start (g.B.Book.taken c.write_settlement.new.book) more (records_seen_left reads utc marks ss (i + 1))
@@ -41,7 +41,7 @@ loop-settlement-preserved g c =
     let i = c.loop-settlement.settlement-index in
     let s = c.settlement-item.result in
     let b = c.loop-settlement.invariant in
-    let first = c.take_mark-mark.ensures.first ∙ ap first_of b.marks in
+    let first = c.take_mark-mark.ensures.first ∙ ap first_mark b.marks in
     record {
       wrote = λ reads are start before so.
           let more = records_seen_more reads marks ss i s c.take_mark-mark.result c.loop-settlement-test.true c.settlement-item.is first utc in

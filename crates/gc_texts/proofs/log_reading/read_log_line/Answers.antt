@@ -18,11 +18,11 @@ returns-in_default-read_mark c = λ moment mark bytes room is.
     another_mark c.args.line.now c.cut_at.result.0.now (option_copied c.cut_at.result.1) c.cut_at.ensures moment mark bytes is
     c.in-Some.behind.now c.cut_at-2.result.0.now (option_copied c.cut_at-2.result.1) (ap option_copied c.in-Some.is) c.cut_at-2.ensures (c.in_default-read_mark.ensures)
 
-pub returns-in_default-read_bytes : goal.returns-in_default-read_bytes
-returns-in_default-read_bytes c = λ moment mark bytes room is.
+pub returns-in_default-read_escaped : goal.returns-in_default-read_escaped
+returns-in_default-read_escaped c = λ moment mark bytes room is.
     other_bytes c.args.line.now c.cut_at.result.0.now (option_copied c.cut_at.result.1) c.cut_at.ensures moment mark bytes is
     c.in-Some.behind.now c.cut_at-2.result.0.now c.in-Some-text.text.now (ap option_copied c.in-Some.is)
-    (subst (Cuts 32 c.in-Some.behind.now c.cut_at-2.result.0.now) (ap option_copied c.in-Some-text.is) c.cut_at-2.ensures) room (c.in_default-read_bytes.ensures)
+    (subst (Cuts 32 c.in-Some.behind.now c.cut_at-2.result.0.now) (ap option_copied c.in-Some-text.is) c.cut_at-2.ensures) room (c.in_default-read_escaped.ensures)
 
 pub returns-then-not-is_printable : goal.returns-then-not-is_printable
 returns-then-not-is_printable c = λ moment mark bytes room is.

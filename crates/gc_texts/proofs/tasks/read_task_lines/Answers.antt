@@ -1,7 +1,7 @@
 use Rattle.std.proofs.Common.{rules, length, ◌≤◌, [], Some, inl, refl, ap, sym, ◌∙◌, arith}
 use Rattle.std.specs.Option.{option_copied}
 use Rattle.gc_texts.specs.TaskLines.{IsTaskLine}
-use Rattle.gc_texts.specs.Tasks.{opening, Grows}
+use Rattle.gc_texts.specs.Tasks.{first_mode, Grows}
 use Rattle.gc_texts.proofs.TextLines.{Reads, comes_to}
 use Rattle.gc_texts.proofs.TaskReading.{counted, cycle_few, tasks_few, task_skips, task_reads, task_fails, task_refused, task_wants}
 use Rattle.gc_texts.proofs.tasks.read_task_lines.Goals as goal
@@ -13,7 +13,7 @@ loop-left-init c =
       said = [];
       reads = reads;
       follow = tt;
-      gave = c.new-given.ensures (opening c.args.deadline c.args.chained);
+      gave = c.new-given.ensures (first_mode c.args.deadline c.args.chained);
       mode_is = c.first_mode-mode.ensures;
       reached = inl refl;
     }

@@ -1,5 +1,5 @@
 use Rattle.std.specs.Option.{option_copied}
-use Rattle.gc_texts.specs.Tasks.{opening}
+use Rattle.gc_texts.specs.Tasks.{first_mode}
 use Rattle.gc_texts.proofs.TextLines.{much_left}
 use Rattle.gc_texts.proofs.TaskReading.{ReadsTasks}
 use Rattle.gc_texts.proofs.tasks.read_task_lines.Given as goal
@@ -7,7 +7,7 @@ use Rattle.gc_texts.proofs.tasks.read_task_lines.Given as goal
 -- the lines so far gave this, and the mode is the one after them
 abbrev pub invariant-loop-left : goal.invariant-loop-left
 invariant-loop-left l =
-    ReadsTasks l.text (opening l.fn.deadline l.fn.chained) (option_copied l.left) l.number l.given l.mode
+    ReadsTasks l.text (first_mode l.fn.deadline l.fn.chained) (option_copied l.left) l.number l.given l.mode
 
 -- each line that is read leaves less of the text
 abbrev pub decreases-loop-left : goal.decreases-loop-left

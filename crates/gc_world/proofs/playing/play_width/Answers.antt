@@ -5,7 +5,7 @@ use Rattle.gc_catalogue.specs.declared.call.Call.{Call}
 use Rattle.gc_client.specs.Rule.{ById}
 use Rattle.gc_instrument.specs.State.{State}
 use Rattle.gc_world.specs.Clients.{by_ids, ends, streamed}
-use Rattle.gc_world.specs.Stages.{seen, AreStreamsOf}
+use Rattle.gc_world.specs.Stages.{stage_parts, AreStreamsOf}
 use Rattle.gc_world.specs.Staging.{streams_at_start}
 use Rattle.gc_world.specs.Streams.{Streams}
 use Rattle.gc_world.proofs.Faithfulness.{faithful, once, no_longer_than}
@@ -15,7 +15,7 @@ use Rattle.gc_world.proofs.playing.play_width.Goals as goal
 
 pub loop-event-preserved : goal.loop-event-preserved
 loop-event-preserved g c =
-    let s = seen c.happen.new.self in
+    let s = stage_parts c.happen.new.self in
     let i = c.loop-event.event-index in
     let events = c.args.events.now in
     let opening = c.args.instrument in
@@ -39,7 +39,7 @@ returns-in_err-happen-clause-spare g c =
 
 pub returns-clause-played : goal.returns-clause-played
 returns-clause-played g c =
-    let s = seen c.loop-event.stage in
+    let s = stage_parts c.loop-event.stage in
     let width = c.args.width in
     let opening = c.args.instrument in
     let events = c.args.events.now in

@@ -4,7 +4,7 @@ use Rattle.gc_client.specs.Beginning.{the_word}
 use Rattle.geocom_c.specs.Beginning.{left_by_bytes}
 use Rattle.geocom_c.specs.declared.answers.GeocomBeginning.{GeocomBeginning}
 use Rattle.geocom_c.specs.declared.header.TheConstants.{NO_CLIENT}
-use Rattle.geocom_c.proofs.Answering.{is_begun, not_begun}
+use Rattle.geocom_c.proofs.Answering.{none_left_at_eight, some_left_below_eight}
 use Rattle.geocom_c.proofs.beginning.geocom_client_begin.Goals as goal
 
 pub returns-in_default-clause-heard : goal.returns-in_default-clause-heard
@@ -17,7 +17,7 @@ pub returns-clause-heard : goal.returns-clause-heard
 returns-clause-heard c = λ room c' rest s.
     let told = c.hear_all.ensures rest s.incomplete in
     let left = sym c.answered.ensures.answered ∙ told.1 ∙ ap (λ l. left_by_bytes l rest c.args.bytes.now) (c.resume-beginning.ensures ∙ ap (λ n. drop n the_word) c.from.ensures) in (
-      c.begun.ensures.fault,
+      c.synchronizing.ensures.fault,
       record {
         width = s.width;
         next = s.next;
@@ -30,14 +30,14 @@ returns-clause-heard c = λ room c' rest s.
     )
 
 pub returns-clause-astray : goal.returns-clause-astray
-returns-clause-astray c = (λ e. let zero : 0 ≡ NO_CLIENT = sym c.begun.ensures.fault ∙ e in cc, λ both. absurd (both.1 _ _ c.in-Some.ensures.found))
+returns-clause-astray c = (λ e. let zero : 0 ≡ NO_CLIENT = sym c.synchronizing.ensures.fault ∙ e in cc, λ both. absurd (both.1 _ _ c.in-Some.ensures.found))
 
 pub returns-clause-begun : goal.returns-clause-begun
 returns-clause-begun c = λ _.
     let answered = c.answered.result in (
-      (λ one. is_begun answered (let all = c.begun.ensures.begun.0 one in omega (arith, all))),
-      (λ none. c.begun.ensures.begun.1 (elim (cases_lt answered 8) [
-        | inl few ↦ absurd (not_begun answered few none)
+      (λ one. none_left_at_eight answered (let all = c.synchronizing.ensures.begun.0 one in omega (arith, all))),
+      (λ none. c.synchronizing.ensures.begun.1 (elim (cases_lt answered 8) [
+        | inl few ↦ absurd (some_left_below_eight answered few none)
         | inr many ↦ let most = c.answered.ensures.within in omega (arith, many, most)
       ])),
     )

@@ -4,7 +4,7 @@ use Rattle.std.specs.List.{position}
 use Rattle.gc_client.specs.Beginning.{unanswered_after}
 use Rattle.gc_lines.specs.Frames.{is_line_feed, frame_of}
 use Rattle.geocom_c.specs.Beginning.{left_past}
-use Rattle.geocom_c.specs.Rest.{kept}
+use Rattle.geocom_c.specs.Rest.{kept_bytes}
 use Rattle.geocom_c.proofs.Answering.{synchronizes_in_turn, HasLeft}
 use Rattle.geocom_c.proofs.Hearings.{either, heard_all, heard_none, heard_on, heard_some, nothing_left}
 use Rattle.geocom_c.proofs.beginning.hear_all.Goals as goal
@@ -13,7 +13,7 @@ pub loop-left-init : goal.loop-left-init
 loop-left-init c = λ r is. record { reached = c.args.beginning.now; now = r; stands = (is, refl); same = refl; behind = refl }
 
 pub hear_line-used-requires : goal.hear_line-used-requires
-hear_line-used-requires c = (c.loop-left.invariant (kept c.args.rest.now) (record { valid = c.requires; same = λ more. refl })).stands.0.valid
+hear_line-used-requires c = (c.loop-left.invariant (kept_bytes c.args.rest.now) (record { valid = c.requires; same = λ more. refl })).stands.0.valid
 
 pub loop-left-preserved : goal.loop-left-preserved
 loop-left-preserved c = λ r is.

@@ -2,7 +2,7 @@ use Rattle.std.proofs.Common.{rules, ◌≡◌, ◌∙◌, sym, subst, length, t
 use Rattle.gc_catalogue.specs.declared.asked.Asked.{Asked}
 use Rattle.gc_client.specs.Rule.{Windowed, expiring}
 use Rattle.geocom_c.specs.Deadlines.{HasExpired}
-use Rattle.geocom_c.specs.State.{StandsFor}
+use Rattle.geocom_c.specs.State.{StandsForClient}
 use Rattle.geocom_c.specs.declared.header.TheConstants.{NO_CLIENT}
 use Rattle.std.proofs.lemmas.Option.{same_Some}
 use Rattle.geocom_c.proofs.calls.geocom_client_expire.Goals as goal
@@ -19,7 +19,7 @@ returns-clause-expired c = λ room c' rest s.
     let due = c.expire-due.ensures.targets in
     let n : c.counted.result.count ≡ length (expiring now c.in-Some.client.ids.waiting) = search rules in
     let text : take c.counted.result.count c.put_targets.new.targets ≡ expiring now c.in-Some.client.ids.waiting = search rules in
-    let stands = subst (λ (d : Windowed Asked). StandsFor c.store.new.state d rest) c.expire-due.ensures.client (c.store.ensures.client rest s.incomplete s.head.answered) in
+    let stands = subst (λ (d : Windowed Asked). StandsForClient c.store.new.state d rest) c.expire-due.ensures.client (c.store.ensures.client rest s.incomplete s.head.answered) in
     subst (λ (d : Windowed Asked). HasExpired d rest now c.store.new.state c.counted.result c.put_targets.new.targets)
     (same_Some c.in-Some.client c' (sym c.in-Some.is ∙ c.load.ensures.only c' rest s))
     (record { fault = c.counted.ensures.fault; stands = stands; count = n; front = text })

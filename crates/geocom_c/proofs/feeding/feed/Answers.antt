@@ -1,10 +1,10 @@
 use Rattle.std.proofs.Common.{◌∙◌, ◌++◌, ℕ, [], take, arith, sym, ap, subst}
 use Rattle.gc_lines.specs.Frames.{frame_of}
 use Rattle.gc_lines.specs.declared.frame.Frame.{Frame}
-use Rattle.geocom_c.specs.State.{StandsFor}
+use Rattle.geocom_c.specs.State.{StandsForClient}
 use Rattle.geocom_c.specs.Feeding.{WritesSettled, client_past}
 use Rattle.geocom_c.specs.declared.answers.GeocomHeard.{GeocomHeard}
-use Rattle.geocom_c.proofs.Frames.{with_rest, fed_unended, fed_used}
+use Rattle.geocom_c.proofs.Frames.{stands_with_rest, fed_unended, fed_used}
 use Rattle.geocom_c.proofs.feeding.feed.Goals as goal
 
 pub returns : goal.returns
@@ -20,16 +20,16 @@ returns c =
       more = λ rest s none.
           let t = took.more rest s.incomplete none in (
             fed_unended client frame c.feed_frame.result c.using.result _ _ used same fed _ t.1.0 t.0,
-            subst (λ (g : Frame). StandsFor c.feed_frame.new.state (client_past client g) (rest ++ c.args.bytes.now)) t.1.0
-                (c.feed_frame.ensures.state (rest ++ c.args.bytes.now) (with_rest c.args.state.now rest_now client rest (rest ++ c.args.bytes.now) s t.1.1)),
+            subst (λ (g : Frame). StandsForClient c.feed_frame.new.state (client_past client g) (rest ++ c.args.bytes.now)) t.1.0
+                (c.feed_frame.ensures.state (rest ++ c.args.bytes.now) (stands_with_rest c.args.state.now rest_now client rest (rest ++ c.args.bytes.now) s t.1.1)),
           );
       frame = λ rest at s some.
           let t = took.frame rest at s.incomplete some in
           record {
             used_is = ap (λ (x : GeocomHeard). x.used) same ∙ t.0;
             fed = fed_used client frame c.feed_frame.result c.using.result _ _ used same fed (frame_of (rest ++ take at c.args.bytes.now)) t.1.0;
-            stands = subst (λ (g : Frame). StandsFor c.feed_frame.new.state (client_past client g) []) t.1.0
-                (c.feed_frame.ensures.state [] (with_rest c.args.state.now rest_now client rest [] s t.1.1));
+            stands = subst (λ (g : Frame). StandsForClient c.feed_frame.new.state (client_past client g) []) t.1.0
+                (c.feed_frame.ensures.state [] (stands_with_rest c.args.state.now rest_now client rest [] s t.1.1));
           };
       fault = ap (λ (x : GeocomHeard). x.fault) same ∙ fed.fault;
       used = (

@@ -2,8 +2,8 @@ use Rattle.std.proofs.Common.{rules, ◌≡◌, ◌∙◌, ◌++◌, ◌+◌, No
 use Rattle.gc_lines.specs.Frames.{frame_of}
 use Rattle.gc_catalogue.specs.declared.asked.Asked.{Asked}
 use Rattle.gc_client.specs.Rule.{Windowed}
-use Rattle.geocom_c.specs.State.{StandsFor}
-use Rattle.geocom_c.specs.Feeding.{FeedsFrame, HasRoom}
+use Rattle.geocom_c.specs.State.{StandsForClient}
+use Rattle.geocom_c.specs.Feeding.{FeedsFrame, HasRoomToSettle}
 use Rattle.geocom_c.specs.declared.answers.GeocomHeard.{GeocomHeard}
 use Rattle.geocom_c.specs.declared.header.TheConstants.{NO_CLIENT}
 use Rattle.std.proofs.lemmas.Option.{same_Some}
@@ -12,14 +12,14 @@ use Rattle.geocom_c.proofs.feeding.geocom_client_feed.Goals as goal
 pub returns-in-Some-clause-more : goal.returns-in-Some-clause-more
 returns-in-Some-clause-more c = λ room c' rest s none.
     let same = same_Some c.in-Some.client c' (sym c.in-Some.is ∙ c.load.ensures.only c' rest s) in
-    let told = c.feed.ensures.more rest (subst (λ (d : Windowed Asked). StandsFor c.args.state.now d rest) (sym same) s) none in
-    (told.0, subst (λ (d : Windowed Asked). StandsFor c.feed.new.state d (rest ++ c.args.bytes.now)) same told.1)
+    let told = c.feed.ensures.more rest (subst (λ (d : Windowed Asked). StandsForClient c.args.state.now d rest) (sym same) s) none in
+    (told.0, subst (λ (d : Windowed Asked). StandsForClient c.feed.new.state d (rest ++ c.args.bytes.now)) same told.1)
 
 pub returns-in-Some-clause-frame : goal.returns-in-Some-clause-frame
 returns-in-Some-clause-frame c = λ room c' rest at s some.
     let same = same_Some c.in-Some.client c' (sym c.in-Some.is ∙ c.load.ensures.only c' rest s) in
     let frame = frame_of (rest ++ take at c.args.bytes.now) in
-    let told = c.feed.ensures.frame rest at (subst (λ (d : Windowed Asked). StandsFor c.args.state.now d rest) (sym same) s) some in
+    let told = c.feed.ensures.frame rest at (subst (λ (d : Windowed Asked). StandsForClient c.args.state.now d rest) (sym same) s) some in
     subst (λ (d : Windowed Asked). FeedsFrame d frame (at + 1) c.feed.new.state c.feed.result c.feed.new.settlements c.feed.new.text) same told
 
 pub returns-in-Some-clause-astray : goal.returns-in-Some-clause-astray
@@ -33,5 +33,5 @@ returns-in-None-clause-frame c = λ room c' rest at s some. let bad : None ≡ S
 
 pub returns-in-None-clause-astray : goal.returns-in-None-clause-astray
 returns-in-None-clause-astray c =
-    let room : HasRoom c.args.settlements.now c.args.text.now = search (rules, c.has_room.ensures) in
+    let room : HasRoomToSettle c.args.settlements.now c.args.text.now = search (rules, c.has_room_to_settle.ensures) in
     (λ _. (room, c.load.ensures.none c.in-None.is), λ _. ap (λ (x : GeocomHeard). x.fault) c.unheard-in-None.ensures)

@@ -5,7 +5,7 @@ use Rattle.gc_client.specs.Rule.{Settlement, Windowed, restarts}
 use Rattle.gc_client.specs.Settlements.{settlement_seen}
 use Rattle.geocom_c.specs.FirstAre.{FirstAre}
 use Rattle.geocom_c.specs.Feeding.{HasRestarted}
-use Rattle.geocom_c.specs.State.{StandsFor}
+use Rattle.geocom_c.specs.State.{StandsForClient}
 use Rattle.geocom_c.specs.Settled.{IsRecord}
 use Rattle.geocom_c.specs.declared.header.TheConstants.{NO_CLIENT}
 use Rattle.std.proofs.lemmas.Option.{same_Some}
@@ -24,7 +24,7 @@ returns-clause-restarted c = λ room c' rest s.
     let seen : map settlement_seen c.as_slice.result.now ≡ (restarts ids).settlements = ap (map settlement_seen) c.as_slice.ensures.value ∙ are in
     let n : c.counted.result.count ≡ length (restarts ids).settlements =
     omega (arith, c.counted.ensures.count, c.len.ensures.value, ap length are, length-map c.restart-settled.result.items settlement_seen) in
-    let stands = subst (λ (d : Windowed Asked). StandsFor c.store.new.state d []) c.restart-settled.ensures.client
+    let stands = subst (λ (d : Windowed Asked). StandsForClient c.store.new.state d []) c.restart-settled.ensures.client
     (c.store.ensures.client [] c.new-state.ensures c.answered_after_restart-state.ensures.within) in
     let told = subst (λ (ss : List (Settlement Asked)). FirstAre (IsRecord []) c.put_lost.new.records ss) seen c.put_lost.ensures.records in
     subst (λ (d : Windowed Asked). HasRestarted d c.store.new.state c.counted.result c.put_lost.new.records)

@@ -5,11 +5,11 @@ use Rattle.gc_catalogue.specs.declared.asked.Asked.{Asked}
 use Rattle.gc_client.specs.Rule.{Settlement, Windowed, hears, heard}
 use Rattle.gc_client.specs.Settlements.{settlement_seen}
 use Rattle.geocom_c.specs.FirstAre.{FirstAre}
-use Rattle.geocom_c.specs.State.{StandsFor}
+use Rattle.geocom_c.specs.State.{StandsForClient}
 use Rattle.geocom_c.specs.Settled.{IsRecord, AnswersHaveLine}
 use Rattle.geocom_c.specs.declared.answers.GeocomHeard.{GeocomHeard}
 use Rattle.geocom_c.proofs.Places.{first_map}
-use Rattle.geocom_c.proofs.Records.{heard_have_line, more_record, settling}
+use Rattle.geocom_c.proofs.Records.{heard_have_line, more_record, settles_kind}
 use Rattle.geocom_c.proofs.feeding.hear.Goals as goal
 
 pub put_records-requires-clause-told : goal.put_records-requires-clause-told
@@ -26,7 +26,7 @@ returns-in-Settled-clause-fed c =
     let ids = c.args.client.ids in
     let ruled = (hears ids line (heard line)).settlements in
     let h = c.heard.ensures in
-    let kinds = settling ids (reply_at line) c.in-Settled.ensures.heard in
+    let kinds = settles_kind ids (reply_at line) c.in-Settled.ensures.heard in
     let are = c.in-Settled.ensures.settled.seen in
     let seen : map settlement_seen c.as_slice-in-Settled.result.now ≡ ruled = ap (map settlement_seen) c.as_slice-in-Settled.ensures.value ∙ are in
     let t = c.list_line-answer.result.text.items in
@@ -39,7 +39,7 @@ returns-in-Settled-clause-fed c =
       fault = ap (λ (x : GeocomHeard). x.fault) h;
       kind = ap (λ (x : GeocomHeard). x.kind) h ∙ kinds.0;
       line_fault = ap (λ (x : GeocomHeard). x.line_fault) h ∙ kinds.1;
-      count = let number = ap (λ (x : GeocomHeard). x.count) h in omega (arith, number, c.len.ensures.value, ap length are, length-map c.in-Settled.settled.items settlement_seen);
+      count = omega (arith, c.len.ensures.value, ap length are, length-map c.in-Settled.settled.items settlement_seen);
       front = λ some. ap (take (length line)) whole ∙ take-append-le (length line) t (drop n new)
           (omega (arith, ap length c.list_line-answer.ensures.front, length-take (length line) t)) ∙ c.list_line-answer.ensures.front;
       recorded = subst (λ (ss : List (Settlement Asked)). FirstAre (IsRecord new) c.put_records.new.records ss) seen
@@ -47,10 +47,10 @@ returns-in-Settled-clause-fed c =
     }
 
 pub returns-in-Settled-clause-state : goal.returns-in-Settled-clause-state
-returns-in-Settled-clause-state c = λ rest is part. subst (λ (d : Windowed Asked). StandsFor c.store.new.state d rest) c.on_line-told.ensures.client (c.store.ensures.client rest is part)
+returns-in-Settled-clause-state c = λ rest is part. subst (λ (d : Windowed Asked). StandsForClient c.store.new.state d rest) c.on_line-told.ensures.client (c.store.ensures.client rest is part)
 
 pub returns-in-Stray-clause-state : goal.returns-in-Stray-clause-state
-returns-in-Stray-clause-state c = λ rest is part. subst (λ (d : Windowed Asked). StandsFor c.store.new.state d rest) c.on_line-told.ensures.client (c.store.ensures.client rest is part)
+returns-in-Stray-clause-state c = λ rest is part. subst (λ (d : Windowed Asked). StandsForClient c.store.new.state d rest) c.on_line-told.ensures.client (c.store.ensures.client rest is part)
 
 pub returns-in-Unread-clause-state : goal.returns-in-Unread-clause-state
-returns-in-Unread-clause-state c = λ rest is part. subst (λ (d : Windowed Asked). StandsFor c.store.new.state d rest) c.on_line-told.ensures.client (c.store.ensures.client rest is part)
+returns-in-Unread-clause-state c = λ rest is part. subst (λ (d : Windowed Asked). StandsForClient c.store.new.state d rest) c.on_line-told.ensures.client (c.store.ensures.client rest is part)

@@ -5,7 +5,7 @@ use Rattle.gc_catalogue.specs.declared.asked.Asked.{Asked}
 use Rattle.gc_client.specs.OneForOne.{Course}
 use Rattle.gc_client.specs.Rule.{Windowed}
 use Rattle.geocom_c.specs.Following.{hearing_lines, StandsForCourse}
-use Rattle.geocom_c.specs.State.{StandsFor}
+use Rattle.geocom_c.specs.State.{StandsForClient}
 use Rattle.geocom_c.specs.declared.answers.GeocomHeard.{GeocomHeard}
 use Rattle.geocom_c.proofs.Hearings.{client_of_course, course_past, courses_in_turn, either, heard_none, heard_some, nothing_left}
 use Rattle.geocom_c.proofs.following.feed_line.Goals as goal
@@ -29,4 +29,4 @@ returns-clause-fed c = λ width x rest s.
     (nothing_left bytes heard.result.used (ap (λ (h : GeocomHeard). h.used) told.0)) told.1)
     (λ at e. let told = heard.ensures.frame (record { for_records = search rules; for_text = search rules }) client rest at s e in
     heard_some (hearing_lines width) (course_past width) (courses_in_turn width) New x rest bytes _ at e (ap (λ n. drop n bytes) told.used_is)
-    (subst (λ (d : Windowed Asked). StandsFor heard.new.state d []) (client_of_course width x (frame_of (rest ++ take at bytes))) told.stands))
+    (subst (λ (d : Windowed Asked). StandsForClient heard.new.state d []) (client_of_course width x (frame_of (rest ++ take at bytes))) told.stands))

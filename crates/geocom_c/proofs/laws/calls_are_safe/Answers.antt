@@ -1,10 +1,10 @@
 use Rattle.gc_field.specs.Instrument.{AnyState}
-use Rattle.geocom_c.specs.Runs.{parts}
+use Rattle.geocom_c.specs.Runs.{placed_runs}
 use Rattle.geocom_c.proofs.Safely.{alike_safe, calls_safe}
 use Rattle.geocom_c.proofs.laws.calls_are_safe.Goals as goal
 
 pub returns : goal.returns
 returns g c = record {
-  alike = λ ends kept alike width u rs. alike_safe width ends AnyState kept alike (parts width ends u rs);
+  alike = λ ends kept alike width u rs. alike_safe width ends AnyState kept alike (placed_runs width ends u rs);
   table = λ ends kept. calls_safe ends AnyState kept;
 }

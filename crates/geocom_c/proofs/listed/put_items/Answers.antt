@@ -3,8 +3,8 @@ use Rattle.std.specs.Prelude.{slice_get, slice_set}
 use Rattle.std.proofs.lemmas.Option.{slice_get-get_or}
 use Rattle.std.proofs.lemmas.List.{append-nil, take_all}
 use Rattle.geocom_c.specs.FirstAre.{FirstAre}
-use Rattle.gc_values.specs.Params.{bytes_in}
-use Rattle.gc_values.proofs.ItemBytes.{bytes_in_next, bytes_in_front}
+use Rattle.gc_values.specs.Params.{total_length}
+use Rattle.gc_values.proofs.ItemBytes.{total_length_next, total_length_front}
 use Rattle.geocom_c.specs.Settled.{StandsAt}
 use Rattle.geocom_c.specs.declared.listed.GeocomItem.{GeocomItem}
 use Rattle.geocom_c.proofs.Places.{first_map, first_written}
@@ -24,14 +24,14 @@ overflow_cast-places-in-loop-k c =
     let items = c.args.items.now in
     let k = c.loop-k.k in
     let lt : k < length items = omega (arith, c.loop-k-test.true, c.len-k-end.ensures.value) in
-    omega (arith, c.requires.room, bytes_in_next items k lt, bytes_in_front items (suc k), ap length c.get-item.ensures)
+    omega (arith, c.requires.room, total_length_next items k lt, total_length_front items (suc k), ap length c.get-item.ensures)
 
 pub append-requires : goal.append-requires
 append-requires c =
     let items = c.args.items.now in
     let k = c.loop-k.k in
     let lt : k < length items = omega (arith, c.loop-k-test.true, c.len-k-end.ensures.value) in
-    omega (arith, c.requires.room, c.loop-k.invariant.room, bytes_in_next items k lt, bytes_in_front items (suc k), ap length c.get-item.ensures)
+    omega (arith, c.requires.room, c.loop-k.invariant.room, total_length_next items k lt, total_length_front items (suc k), ap length c.get-item.ensures)
 
 pub loop-k-preserved : goal.loop-k-preserved
 loop-k-preserved c =
@@ -53,7 +53,7 @@ loop-k-preserved c =
       places = subst (λ (x : List ℕ). FirstAre (StandsAt x) (slice_set c.loop-k.places k place) (take (k + 1) items)) (sym e)
           (subst (λ m. FirstAre (StandsAt (t ++ item)) (slice_set c.loop-k.places k place) (take m items)) next all);
       size = length-set c.loop-k.places k place ∙ before.size;
-      room = omega (arith, ap length e, length-append t item, before.room, bytes_in_next items k lt, ap length c.get-item.ensures, ap (λ m. bytes_in (take m items)) next);
+      room = omega (arith, ap length e, length-append t item, before.room, total_length_next items k lt, ap length c.get-item.ensures, ap (λ m. total_length (take m items)) next);
     }
 
 pub returns-clause-front : goal.returns-clause-front

@@ -1,6 +1,6 @@
 use Rattle.std.proofs.Common.{◌≡◌, ◌+◌, ◌++◌, ℕ, List, length, take}
 use Rattle.geocom_c.specs.FirstAre.{FirstAre}
-use Rattle.gc_values.specs.Params.{bytes_in}
+use Rattle.gc_values.specs.Params.{total_length}
 use Rattle.geocom_c.specs.Settled.{StandsAt}
 use Rattle.geocom_c.proofs.listed.put_items.Given as goal
 
@@ -11,5 +11,5 @@ invariant-loop-k l =
       front : (more : List ℕ) × (l.text.items ≡ l.initial.text.items ++ more);
       places : FirstAre (StandsAt l.text.items) l.places (take l.k l.items);
       size : length l.places ≡ length l.initial.places;
-      room : length l.text.items ≡ length l.initial.text.items + bytes_in (take l.k l.items);
+      room : length l.text.items ≡ length l.initial.text.items + total_length (take l.k l.items);
     }

@@ -4,9 +4,9 @@ use Rattle.gc_catalogue.specs.Asked.{asked_line}
 use Rattle.gc_catalogue.specs.declared.asked.Asked.{Asked}
 use Rattle.gc_client.specs.Rule.{Windowed, sends}
 use Rattle.geocom_c.specs.Sending.{SendMeets, send_effect}
-use Rattle.geocom_c.specs.Rest.{kept}
-use Rattle.geocom_c.proofs.Answering.{is_begun, not_begun}
-use Rattle.geocom_c.proofs.Sendings.{never_above_full, never_both, same_error, same_value}
+use Rattle.geocom_c.specs.Rest.{kept_bytes}
+use Rattle.geocom_c.proofs.Answering.{none_left_at_eight, some_left_below_eight}
+use Rattle.geocom_c.proofs.Sendings.{never_above_full, never_both, one_error_of, one_value_of}
 use Rattle.std.proofs.lemmas.Option.{same_Some}
 use Rattle.geocom_c.proofs.sends.send_read.Goals as goal
 
@@ -54,7 +54,7 @@ returns-in_default-clause-sends c =
 pub returns-then-not-has_begun-clause-sends : goal.returns-then-not-has_begun-clause-sends
 returns-then-not-has_begun-clause-sends c =
     let room = c.if-line-lt-LINE_ROOM.false in
-    let left = not_begun c.args.state.now.answered c.if-not-has_begun.true in
+    let left = some_left_below_eight c.args.state.now.answered c.if-not-has_begun.true in
     let fault = c.refused-then-not-has_begun.ensures.fault in
     record {
       sent = λ _ c' rest x stands begun is. absurd (left begun);
@@ -77,12 +77,12 @@ returns-in-Ok-clause-sends c =
     let room = c.if-line-lt-LINE_ROOM.false in
     let client = c.in-Some.client in
     let asked = c.in-Ok.asked in
-    let begun = is_begun c.args.state.now.answered c.if-not-has_begun.false in
+    let begun = none_left_at_eight c.args.state.now.answered c.if-not-has_begun.false in
     let s = send_effect c.args.state.now c.send_asked.new.state c.args.line.now c.send_asked.new.line c.send_asked.result in
     let either = c.send_asked.ensures.either in
     record {
       sent = λ _ c' rest x stands _ is.
-          subst (λ (a : Asked). SendMeets c' rest a (sends c'.width c'.ids c.args.target a c.args.deadline) s) (same_value c.args.read asked x c.in-Ok.is is)
+          subst (λ (a : Asked). SendMeets c' rest a (sends c'.width c'.ids c.args.target a c.args.deadline) s) (one_value_of c.args.read asked x c.in-Ok.is is)
           (subst (λ (d : Windowed Asked). SendMeets d rest asked (sends d.width d.ids c.args.target asked c.args.deadline) s)
           (same_Some client c' (sym c.in-Some.is ∙ c.load.ensures.only c' rest stands))
           (c.send_asked.ensures.sent rest stands.incomplete stands.head.answered));
@@ -93,7 +93,7 @@ returns-in-Ok-clause-sends c =
       astray = (λ e. absurd (never_above_full _ _ either (omega arith) e), λ both. absurd (both.1 _ _ c.in-Some.ensures.found));
       full = λ e. record {
         client = client;
-        rest = kept c.args.state.now.rest;
+        rest = kept_bytes c.args.state.now.rest;
         asked = asked;
         stands = c.in-Some.ensures.found;
         begun = begun;
@@ -102,7 +102,7 @@ returns-in-Ok-clause-sends c =
       };
       done = λ e. record {
         client = client;
-        rest = kept c.args.state.now.rest;
+        rest = kept_bytes c.args.state.now.rest;
         asked = asked;
         stands = c.in-Some.ensures.found;
         begun = begun;
@@ -119,12 +119,12 @@ returns-in-Ok-clause-sends c =
 pub returns-in-Err-clause-sends : goal.returns-in-Err-clause-sends
 returns-in-Err-clause-sends c =
     let room = c.if-line-lt-LINE_ROOM.false in
-    let begun = is_begun c.args.state.now.answered c.if-not-has_begun.false in
+    let begun = none_left_at_eight c.args.state.now.answered c.if-not-has_begun.false in
     let fault = c.refused-in-Err.ensures.fault in
     let of_request = c.requires c.in-Err.fault c.in-Err.is in
     record {
       sent = λ _ c' rest x stands _ is. absurd (never_both c.args.read x c.in-Err.fault is c.in-Err.is);
-      refuses = λ _ c' rest e stands _ is. fault ∙ same_error c.args.read c.in-Err.fault e c.in-Err.is is;
+      refuses = λ _ c' rest e stands _ is. fault ∙ one_error_of c.args.read c.in-Err.fault e c.in-Err.is is;
       begins = λ _ c' rest stands unbegun. absurd (unbegun begun);
       begun = λ e. absurd (of_request.4 (sym fault ∙ e));
       room = (λ e. absurd (of_request.2 (sym fault ∙ e)), λ short. absurd (omega (arith, room, short)));
@@ -150,7 +150,7 @@ returns-then-not-has_begun-clause-given c = λ asked is none. absurd (omega (ari
 pub returns-in-Ok-clause-given : goal.returns-in-Ok-clause-given
 returns-in-Ok-clause-given c = λ asked is none.
     c.send_asked.ensures.given none
-    ∙ ap (λ (a : Asked). with_end (asked_line (Some c.in-Some.client.ids.next) a)) (same_value c.args.read c.in-Ok.asked asked c.in-Ok.is is)
+    ∙ ap (λ (a : Asked). with_end (asked_line (Some c.in-Some.client.ids.next) a)) (one_value_of c.args.read c.in-Ok.asked asked c.in-Ok.is is)
     ∙ ap (λ n. with_end (asked_line (Some n) asked)) (sym c.in-Some.ensures.found.next)
 
 pub returns-in-Err-clause-given : goal.returns-in-Err-clause-given

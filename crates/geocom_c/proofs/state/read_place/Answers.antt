@@ -1,7 +1,7 @@
 use Rattle.std.proofs.Common.{◌≡◌, ℕ, Bool, Some, refl, sym, ap, ◌∙◌}
 use Rattle.gc_catalogue.specs.declared.asked.Asked.{Asked}
 use Rattle.gc_client.specs.declared.pending.Pending.{Pending}
-use Rattle.std.proofs.lemmas.Option.{same_Some}
+use Rattle.std.proofs.lemmas.Option.{none-some, same_Some}
 use Rattle.geocom_c.proofs.state.read_place.Goals as goal
 
 -- a request with the same target, call, deadline and `given_up` as p is p
@@ -12,9 +12,9 @@ same_pending p target call deadline given_up a b d e = rw (a, b, d, e) refl
 pub returns-clause-only : goal.returns-clause-only
 returns-clause-only c = λ p is.
     ap Some (
-    same_pending p _ _ _ _ is.target (same_Some _ _ (sym c.in-Some.is ∙ c.asked_at.ensures.only p.call is.within is.line)) is.deadline
-    (same_Some _ _ (sym c.in-Some-flag_of.is ∙ c.flag_of.ensures.only p.given_up is.given_up))
+    same_pending p _ _ _ _ is.target (same_Some _ _ (sym c.in_ok-call.was ∙ c.asked_at.ensures.only p.call is.within is.line)) is.deadline
+    (same_Some _ _ (sym c.in_ok-given_up.was ∙ c.flag_of.ensures.only p.given_up is.given_up))
     )
 
-pub returns-in_default-clause-only : goal.returns-in_default-clause-only
-returns-in_default-clause-only c = λ p is. absurd (c.in_default.not-Some p.call (c.asked_at.ensures.only p.call is.within is.line))
+pub returns-in_err-call-clause-only : goal.returns-in_err-call-clause-only
+returns-in_err-call-clause-only c = λ p is. absurd (none-some p.call (sym c.in_err-call.was ∙ c.asked_at.ensures.only p.call is.within is.line))

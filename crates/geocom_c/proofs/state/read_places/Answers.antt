@@ -1,14 +1,14 @@
 use Rattle.std.proofs.Common.{◌≡◌, ◌<◌, ◌+◌, ◌++◌, ◌∷◌, [], List, suc, length, take, Some, ◌∙◌, sym, ap, subst, arith, length-append}
 use Rattle.std.specs.Prelude.{slice_get}
-use Rattle.std.proofs.lemmas.Option.{slice_get-get_or}
+use Rattle.std.proofs.lemmas.Option.{none-some, slice_get-get_or}
 use Rattle.std.proofs.lemmas.List.{take_all}
 use Rattle.gc_catalogue.specs.declared.asked.Asked.{Asked}
 use Rattle.gc_client.proofs.Lists.{take_turn}
 use Rattle.gc_client.specs.declared.pending.Pending.{Pending}
 use Rattle.gc_world.proofs.Places.{element_at}
 use Rattle.geocom_c.specs.FirstAre.{FirstAre}
-use Rattle.geocom_c.specs.State.{IsPlace}
-use Rattle.geocom_c.proofs.Places.{first_more, first_at}
+use Rattle.geocom_c.specs.State.{HoldsRequest}
+use Rattle.geocom_c.proofs.Places.{first_more, placed_together}
 use Rattle.geocom_c.proofs.state.read_places.Goals as goal
 
 pub loop-k-init : goal.loop-k-init
@@ -16,7 +16,7 @@ loop-k-init c =
     let e = c.new-window.ensures in
     record {
       count = ap length e;
-      found = subst (λ (w : List (Pending Asked)). FirstAre IsPlace c.args.places.now w) (sym e) tt;
+      found = subst (λ (w : List (Pending Asked)). FirstAre HoldsRequest c.args.places.now w) (sym e) tt;
       only = λ ps n are. e;
     }
 
@@ -29,26 +29,26 @@ loop-k-preserved c =
     let within : k < length places = omega (arith, c.loop-k-test.true, c.requires.there) in
     let here = slice_get-get_or places k _ within in
     record {
-      count = omega (arith, ap length e, length-append c.loop-k.window (c.in-Some.p ∷ []), before.count);
-      found = subst (λ (w : List (Pending Asked)). FirstAre IsPlace places w) (sym e)
-          (first_more IsPlace places c.loop-k.window _ c.in-Some.p before.found (ap (slice_get places) before.count ∙ here) c.in-Some.ensures.found);
+      count = omega (arith, ap length e, length-append c.loop-k.window (c.in_ok-p.p ∷ []), before.count);
+      found = subst (λ (w : List (Pending Asked)). FirstAre HoldsRequest places w) (sym e)
+          (first_more HoldsRequest places c.loop-k.window _ c.in_ok-p.p before.found (ap (slice_get places) before.count ∙ here) c.in_ok-p.ensures.found);
       only = λ ps n are.
           let it = element_at ps k (omega (arith, n, c.loop-k-test.true)) in
-          let both : Some c.in-Some.p ≡ Some it.0 = sym c.in-Some.is ∙ c.read_place.ensures.only it.0 (first_at IsPlace places ps k _ it.0 are here it.1) in
-          let same : c.in-Some.p ≡ it.0 = cc in
+          let both : Some c.in_ok-p.p ≡ Some it.0 = sym c.in_ok-p.was ∙ c.read_place.ensures.only it.0 (placed_together HoldsRequest places ps k _ it.0 are here it.1) in
+          let same : c.in_ok-p.p ≡ it.0 = cc in
           let next : suc k ≡ k + 1 = omega arith in
-          e ∙ ap (λ (w : List (Pending Asked)). w ++ c.in-Some.p ∷ []) (before.only ps n are) ∙ ap (λ q. take k ps ++ q ∷ []) same
+          e ∙ ap (λ (w : List (Pending Asked)). w ++ c.in_ok-p.p ∷ []) (before.only ps n are) ∙ ap (λ q. take k ps ++ q ∷ []) same
           ∙ sym (take_turn ps k it.0 it.1) ∙ ap (λ m. take m ps) next;
     }
 
-pub returns-in_default-clause-only : goal.returns-in_default-clause-only
-returns-in_default-clause-only c = λ ps n are.
+pub returns-in_err-p-clause-only : goal.returns-in_err-p-clause-only
+returns-in_err-p-clause-only c = λ ps n are.
     let k = c.loop-k.k in
     let places = c.args.places.now in
     let within : k < length places = omega (arith, c.loop-k-test.true, c.requires.there) in
     let it = element_at ps k (omega (arith, n, c.loop-k-test.true)) in
     let here = slice_get-get_or places k _ within in
-    absurd (c.in_default.not-Some it.0 (c.read_place.ensures.only it.0 (first_at IsPlace places ps k _ it.0 are here it.1)))
+    absurd (none-some it.0 (sym c.in_err-p.was ∙ c.read_place.ensures.only it.0 (placed_together HoldsRequest places ps k _ it.0 are here it.1)))
 
 pub returns-clause-only : goal.returns-clause-only
 returns-clause-only c = λ ps n are. ap Some (c.loop-k.invariant.only ps n are ∙ take_all c.loop-k.k ps (omega (arith, n, c.loop-k-test.false)))

@@ -2,7 +2,7 @@ use Rattle.std.proofs.Common.{◌≡◌, List, length, take}
 use Rattle.gc_catalogue.specs.declared.asked.Asked.{Asked}
 use Rattle.gc_client.specs.declared.pending.Pending.{Pending}
 use Rattle.geocom_c.specs.FirstAre.{FirstAre}
-use Rattle.geocom_c.specs.State.{IsPlace}
+use Rattle.geocom_c.specs.State.{HoldsRequest}
 use Rattle.geocom_c.proofs.state.read_places.Given as goal
 
 -- the window has the requests of the first k places, and these places hold no others
@@ -10,6 +10,6 @@ abbrev pub invariant-loop-k : goal.invariant-loop-k
 invariant-loop-k l =
     record {
       count : length l.window ≡ l.k;
-      found : FirstAre IsPlace l.places l.window;
-      only : (ps : List (Pending Asked)) → length ps ≡ l.count → FirstAre IsPlace l.places ps → l.window ≡ take l.k ps;
+      found : FirstAre HoldsRequest l.places l.window;
+      only : (ps : List (Pending Asked)) → length ps ≡ l.count → FirstAre HoldsRequest l.places ps → l.window ≡ take l.k ps;
     }

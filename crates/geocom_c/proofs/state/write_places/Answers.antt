@@ -1,7 +1,7 @@
 use Rattle.std.proofs.Common.{◌≡◌, ◌+◌, suc, take, ◌∙◌, subst, arith, length-set}
 use Rattle.std.specs.Prelude.{slice_set}
 use Rattle.geocom_c.specs.FirstAre.{FirstAre}
-use Rattle.geocom_c.specs.State.{IsPlace}
+use Rattle.geocom_c.specs.State.{HoldsRequest}
 use Rattle.geocom_c.proofs.Places.{first_written}
 use Rattle.geocom_c.proofs.state.write_places.Goals as goal
 
@@ -11,8 +11,8 @@ loop-k-preserved c =
     let next : suc k ≡ k + 1 = omega arith in
     let before = c.loop-k.invariant in
     record {
-      places = subst (λ m. FirstAre IsPlace (slice_set c.loop-k.places k c.write_place.result) (take m c.args.window.now)) next
-          (first_written IsPlace c.loop-k.places c.args.window.now k c.write_place.result c.get.result before.places
+      places = subst (λ m. FirstAre HoldsRequest (slice_set c.loop-k.places k c.write_place.result) (take m c.args.window.now)) next
+          (first_written HoldsRequest c.loop-k.places c.args.window.now k c.write_place.result c.get.result before.places
           (omega (arith, c.loop-k-test.true, c.len-k-end.ensures.len, c.requires, before.length)) c.get.ensures c.write_place.ensures);
       length = length-set c.loop-k.places k c.write_place.result ∙ before.length;
     }

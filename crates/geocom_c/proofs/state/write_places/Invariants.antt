@@ -1,12 +1,12 @@
 use Rattle.std.proofs.Common.{◌≡◌, length, take}
 use Rattle.geocom_c.specs.FirstAre.{FirstAre}
-use Rattle.geocom_c.specs.State.{IsPlace}
+use Rattle.geocom_c.specs.State.{HoldsRequest}
 use Rattle.geocom_c.proofs.state.write_places.Given as goal
 
 -- the first k places hold the first k requests, and there are as many places as at first
 abbrev pub invariant-loop-k : goal.invariant-loop-k
 invariant-loop-k l =
     record {
-      places : FirstAre IsPlace l.places (take l.k l.window);
+      places : FirstAre HoldsRequest l.places (take l.k l.window);
       length : length l.places ≡ length l.initial.places;
     }

@@ -23,10 +23,10 @@ pub returns-in-Err : goal.returns-in-Err
 returns-in-Err g c =
     let before = c.loop-used.invariant in
     let h = before.heard in
-    let read = c.in-Err.ensures.more in
-    let next = c.in-Err.ensures.only in
-    let first = g.L.Link.client c.args.link.now in
-    let now = g.L.Link.client c.read.new.self in
+    let next = c.in-Err.ensures in
+    let read = next.more in
+    let first = g.L.AskedLink.client c.args.link.now in
+    let now = g.L.AskedLink.client c.read.new.self in
     record {
       hears = (
         h.0,
@@ -38,18 +38,18 @@ returns-in-Err g c =
       );
       grows = omega (arith, before.grows, read.grows);
       reads = omega (arith, before.reads, read.reads);
-      ends = ends_then (source_of first) (source_of (g.L.Link.client c.loop-used.link)) (source_of now) c.loop-used.reads c.read.new.reads (Err c.in-Err.fault)
+      ends = ends_then (source_of first) (source_of (g.L.AskedLink.client c.loop-used.link)) (source_of now) c.loop-used.reads c.read.new.reads (Err c.in-Err.fault)
           before.grows read.grows (before.going, before.same, before.failed) read.ends;
-      only = (next.0 ∙ before.only.0, next.1 ∙ before.only.1, next.2 ∙ before.only.2, next.3 ∙ before.only.3);
+      only = ((next.only.0 ∙ before.only.0.0, next.only.1 ∙ before.only.0.1), next.instrument ∙ before.only.1, next.held ∙ before.only.2);
     }
 
 pub loop-used-preserved : goal.loop-used-preserved
 loop-used-preserved g c =
     let before = c.loop-used.invariant in
     let h = before.heard in
-    let read = c.in_default-read.ensures.more in
-    let next = c.in_default-read.ensures.only in
-    let ends = ends_then (source_of (g.L.Link.client c.args.link.now)) (source_of (g.L.Link.client c.loop-used.link)) (source_of (g.L.Link.client c.read.new.self))
+    let next = c.in_default-read.ensures in
+    let read = next.more in
+    let ends = ends_then (source_of (g.L.AskedLink.client c.args.link.now)) (source_of (g.L.AskedLink.client c.loop-used.link)) (source_of (g.L.AskedLink.client c.read.new.self))
     c.loop-used.reads c.read.new.reads (Ok tt) before.grows read.grows (before.going, before.same, before.failed) read.ends in
     record {
       heard = (
@@ -65,5 +65,5 @@ loop-used-preserved g c =
       going = ends.0;
       same = ends.1;
       failed = ends.2;
-      only = (next.0 ∙ before.only.0, next.1 ∙ before.only.1, next.2 ∙ before.only.2, next.3 ∙ before.only.3);
+      only = ((next.only.0 ∙ before.only.0.0, next.only.1 ∙ before.only.0.1), next.instrument ∙ before.only.1, next.held ∙ before.only.2);
     }

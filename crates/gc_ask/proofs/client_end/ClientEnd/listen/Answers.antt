@@ -2,7 +2,7 @@ use Rattle.std.proofs.Common.{◌≡◌, [], drop, arith, length-drop, drop-drop
 use Rattle.std.proofs.lemmas.List.{take_rest, drop_all}
 use Rattle.gc_lines.specs.Lent.{lent_seen}
 use Rattle.gc_lines.proofs.Passing.{Takes, takes}
-use Rattle.gc_ask.specs.Listening.{Heard, heard_by}
+use Rattle.gc_ask.specs.Listening.{ClientHeard, heard_by}
 use Rattle.gc_ask.proofs.FirstReplies.{passed_on, passed_settles, passed_end}
 use Rattle.gc_ask.proofs.client_end.ClientEnd.listen.Goals as goal
 
@@ -19,7 +19,7 @@ loop-at-preserved c =
       within = omega (arith, fewer, length-drop at piece, c.loop-at.invariant.within);
       passed = λ rest s.
           let p = c.loop-at.invariant.passed rest s in
-          let next : Heard = record (heard_by c.take_frame.new.self rest piece left) { kept = c.next-used.new.self } in
+          let next : ClientHeard = record (heard_by c.take_frame.new.self rest piece left) { kept = c.next-used.new.self } in
           let t : Takes p.now left used (lent_seen c.next-used.result.1) c.next-used.new.self = takes p.now left used (lent_seen c.next-used.result.1) _
           (λ e. let m = more e in (m.0, m.1, m.2 p.now p.stands)) (λ i e. let m = whole i e in (m.0, m.1 p.now p.stands, m.2)) in
           rw (c.if-take_frame.ensures.same, ← drop-drop used at piece) (passed_on _ (heard_by c.loop-at.self rest piece left) next used _ p t c.if-take_frame.ensures.takes);
@@ -41,7 +41,7 @@ returns-then-take_frame-clause-listens c rest s =
     let more = rw (take_rest piece at) at c.next-used.ensures.more in
     let whole = rw (take_rest piece at) at c.next-used.ensures.frame in
     let p = c.loop-at.invariant.passed rest s in
-    let next : Heard = record (heard_by c.take_frame.new.self rest piece left) { kept = c.next-used.new.self } in
+    let next : ClientHeard = record (heard_by c.take_frame.new.self rest piece left) { kept = c.next-used.new.self } in
     rw (c.if-take_frame.ensures.same, ← drop-drop used at piece) (passed_settles _ (heard_by c.loop-at.self rest piece left) next used _ p
     c.if-take_frame.ensures.takes (λ e. (more e).1) (λ i e. let m = whole i e in (m.0, m.1 p.now p.stands, m.2)))
 

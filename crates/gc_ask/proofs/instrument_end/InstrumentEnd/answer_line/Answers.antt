@@ -1,4 +1,4 @@
-use Rattle.std.proofs.Common.{◌≡◌, Ok, Err, refl, arith}
+use Rattle.std.proofs.Common.{Ok, Err, refl, arith}
 use Rattle.gc_lines.specs.Answering.{ports_of}
 use Rattle.gc_ask.specs.Links.{ReadEnds}
 use Rattle.gc_ask.proofs.Ends.{ends_then, ends_too_many, ends_uncut, step_hears}

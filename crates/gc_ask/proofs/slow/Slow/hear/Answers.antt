@@ -2,16 +2,16 @@ use Rattle.std.proofs.Common.{subst, true, false}
 use Rattle.gc_lines.specs.Answering.{AppendsAnswer}
 use Rattle.gc_lines.specs.declared.frame.Frame.TheVariants.{Line}
 use Rattle.gc_scenes.specs.Slow.{SlowState, HearsSometime}
-use Rattle.gc_ask.proofs.Slowly.{heard_line, unheard_line}
+use Rattle.gc_ask.proofs.Slowly.{slowly_answered, slowly_unanswered}
 use Rattle.gc_ask.proofs.slow.Slow.hear.Goals as goal
 
 pub returns-then-not-hear-clause-heard : goal.returns-then-not-hear-clause-heard
 returns-then-not-hear-clause-heard c =
     subst (λ (b : SlowState). AppendsAnswer (HearsSometime b (Line (record { items = c.args.line.now })) c.hear.new.self) c.args.text.now.items c.hear.new.out.items false)
-    c.self.view_is (unheard_line c.self.inside.slow c.hear.new.self c.args.line.now c.args.at c.args.text.now.items c.hear.new.out.items c.if-not-hear.ensures.heard)
+    c.self.view_is (slowly_unanswered c.self.inside.slow c.hear.new.self c.args.line.now c.args.at c.args.text.now.items c.hear.new.out.items c.if-not-hear.ensures.heard)
 
 pub returns-clause-heard : goal.returns-clause-heard
 returns-clause-heard c =
     subst (λ (b : SlowState). AppendsAnswer (HearsSometime b (Line (record { items = c.args.line.now })) c.hear.new.self) c.args.text.now.items c.append.new.to.items true)
-    c.self.view_is (heard_line c.self.inside.slow c.hear.new.self c.args.line.now c.args.at c.args.text.now.items c.hear.new.out.items c.append.new.to.items
+    c.self.view_is (slowly_answered c.self.inside.slow c.hear.new.self c.args.line.now c.args.at c.args.text.now.items c.hear.new.out.items c.append.new.to.items
     c.if-not-hear.ensures.heard c.append.ensures)

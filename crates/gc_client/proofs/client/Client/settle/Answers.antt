@@ -2,7 +2,7 @@ use Rattle.std.proofs.Common.{◌≡◌, ◌+◌, ◌<◌, true, [], ◌∷◌, 
 use Rattle.std.proofs.lemmas.List.{take_all}
 use Rattle.arrayvec.specs.ArrayVec.{ArrayVec}
 use Rattle.gc_client.specs.declared.settlement.Settlement.{Settlement}
-use Rattle.gc_client.specs.Rule.{Windowed, lost, settled_by_line, settle, id_settled}
+use Rattle.gc_client.specs.Rule.{Windowed, lost, settled_by_line, settle, settles_at}
 use Rattle.gc_client.specs.Settlements.{AreSettledBy}
 use Rattle.gc_client.proofs.Ends.{settle_is, fewer_left}
 use Rattle.gc_client.proofs.Lists.{left_turn, none_there}
@@ -45,4 +45,4 @@ returns-clause-client g c =
     let ws = g.W.Window.pendings c.self.inside.window in
     let left = left_turn ws c.args.k c.take_first-p.result (g.W.Window.pendings c.lose.new.window) (g.W.Window.pendings c.take_first-p.new.self) c.lose.ensures.left c.take_first-p.ensures in
     ap (λ ps. let d : Windowed _ = record { width = c.self.inside.width; ids = record { next = c.self.inside.next; waiting = ps } } in d) left
-    ∙ ap (λ (d : Windowed _). record d { ids = (id_settled d.ids c.args.line.now c.args.k true).client }) c.self.view_is
+    ∙ ap (λ (d : Windowed _). record d { ids = (settles_at d.ids c.args.line.now c.args.k true).client }) c.self.view_is

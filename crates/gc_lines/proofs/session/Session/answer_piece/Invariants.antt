@@ -1,13 +1,13 @@
 use Rattle.std.proofs.Common.{◌≡◌, ◌+◌, ◌≤◌, List, ℕ, length}
 use Rattle.gc_lines.specs.Assembler.{StandsFor}
-use Rattle.gc_lines.specs.Passing.{HasRoom, session_progress}
+use Rattle.gc_lines.specs.Passing.{HasRoomForText, session_progress}
 use Rattle.gc_lines.proofs.Passing.{PieceAnswered}
 use Rattle.gc_lines.proofs.session.Session.answer_piece.Given as goal
 
 abbrev pub invariant-loop-left : goal.invariant-loop-left
 invariant-loop-left g l = record {
   count : l.self.replies + length l.self.lengths + length l.left ≤ l.initial.self.replies + length l.fn.piece;
-  room : HasRoom l.self.text.items l.self.lengths l.self.gathers;
+  room : HasRoomForText l.self;
   gathers : l.self.gathers ≡ l.initial.self.gathers;
   failed : g.K.Sink.failed l.sink ≡ g.K.Sink.failed l.initial.sink;
   going : (rest : List ℕ) → StandsFor l.initial.self.assembler rest → PieceAnswered g.A.Answers.answers rest l.fn.piece l.left

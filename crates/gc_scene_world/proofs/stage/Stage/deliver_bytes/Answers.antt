@@ -3,7 +3,7 @@ use Rattle.gc_catalogue.specs.declared.call.Call.{Call}
 use Rattle.gc_client.specs.Rule.{ById}
 use Rattle.gc_scenes.specs.SceneState.{SceneState}
 use Rattle.gc_scene_world.specs.SceneRuns.{scene_ends}
-use Rattle.gc_scene_world.specs.SceneStages.{seen, AreStreamsOf}
+use Rattle.gc_scene_world.specs.SceneStages.{stage_parts, AreStreamsOf}
 use Rattle.gc_world.specs.Clients.{by_ids}
 use Rattle.gc_world.specs.Streams.{Streams}
 use Rattle.gc_scene_world.proofs.Handed.{reached, reaches_next, reaches_end, runs_dry}
@@ -14,7 +14,7 @@ use Rattle.gc_scene_world.proofs.stage.Stage.deliver_bytes.Goals.{then-n-eq0-via
 
 pub returns-then-n-eq0 : goal.returns-then-n-eq0
 returns-then-n-eq0 c =
-    let s = seen c.args.self.now in
+    let s = stage_parts c.args.self.now in
     let left = c.remaining-remaining in
     elim c.then-n-eq0.branch [
       | then-n-eq0-via-then-n-eq0 w ↦ λ width v h. streams_idle_bytes width s v h c.args.direction c.args.n left.result (left.ensures width v h) (inl w.if-n-eq0.true)
@@ -25,7 +25,7 @@ returns-then-n-eq0 c =
 pub loop-left-init : goal.loop-left-init
 loop-left-init c =
     record {
-      follows = λ width v h. reached width c.args.direction (seen c.args.self.now) v c.args.n h;
+      follows = λ width v h. reached width c.args.direction (stage_parts c.args.self.now) v c.args.n h;
       remaining = c.remaining-remaining.ensures;
     }
 
@@ -39,15 +39,23 @@ deliver-requires-clause-executed c =
       at.shows.counts.executed,
       h.counts.executed,
       at.room.executed,
-      up_length width (seen c.loop-left.self) at.now at.shows,
-      up_length width (seen c.args.self.now) v h,
+      up_length width (stage_parts c.loop-left.self) at.now at.shows,
+      up_length width (stage_parts c.args.self.now) v h,
     )
 
 pub deliver-requires-clause-made : goal.deliver-requires-clause-made
 deliver-requires-clause-made c =
     let (width, v, h) = c.requires.shown in
     let at = c.loop-left.invariant.follows width v h in
-    omega (arith, c.requires.room.made, at.shows.counts.made, h.counts.made, at.room.made, up_length width (seen c.loop-left.self) at.now at.shows, up_length width (seen c.args.self.now) v h)
+    omega (
+      arith,
+      c.requires.room.made,
+      at.shows.counts.made,
+      h.counts.made,
+      at.room.made,
+      up_length width (stage_parts c.loop-left.self) at.now at.shows,
+      up_length width (stage_parts c.args.self.now) v h,
+    )
 
 pub deliver-requires-clause-idle : goal.deliver-requires-clause-idle
 deliver-requires-clause-idle c =
@@ -68,12 +76,12 @@ loop-left-smaller c =
 
 pub loop-left-preserved : goal.loop-left-preserved
 loop-left-preserved c =
-    let t = seen c.loop-left.self in
+    let t = stage_parts c.loop-left.self in
     let done = c.completes.ensures.0 c.loop-left-test.true in
     record {
       follows = λ width v h.
           let at = c.loop-left.invariant.follows width v h in
-          reaches_next width c.args.direction t v c.args.n c.loop-left.left at (seen c.deliver.new.self) c.loop-left.remaining
+          reaches_next width c.args.direction t v c.args.n c.loop-left.left at (stage_parts c.deliver.new.self) c.loop-left.remaining
           (c.loop-left.invariant.remaining width at.now at.shows).left done.0 done.1 (c.in_ok-deliver.ensures width at.now at.shows);
       remaining = c.remaining-remaining-in-loop-left.ensures;
     }
@@ -89,8 +97,8 @@ go_on-requires-clause-some c = λ width v h. subst (λ k. c.loop-left.left < k) 
 
 pub returns-then-left-remaining : goal.returns-then-left-remaining
 returns-then-left-remaining c =
-    let t = seen c.loop-left.self in
-    let u = seen c.go_on.new.self in
+    let t = stage_parts c.loop-left.self in
+    let u = stage_parts c.go_on.new.self in
     let first = c.remaining-remaining in
     λ width v h.
     let at = c.loop-left.invariant.follows width v h in
@@ -100,7 +108,7 @@ returns-then-left-remaining c =
 
 pub returns-else-left-remaining : goal.returns-else-left-remaining
 returns-else-left-remaining c =
-    let t = seen c.loop-left.self in
+    let t = stage_parts c.loop-left.self in
     let first = c.remaining-remaining in
     λ width v h.
     let at = c.loop-left.invariant.follows width v h in

@@ -2,7 +2,7 @@ use Rattle.std.proofs.Common.{ℕ}
 use Rattle.gc_catalogue.specs.declared.call.Call.{Call}
 use Rattle.gc_client.specs.Rule.{ById}
 use Rattle.gc_scenes.specs.SceneState.{SceneState}
-use Rattle.gc_scene_world.specs.SceneStages.{seen, staging, ShowsRemainder}
+use Rattle.gc_scene_world.specs.SceneStages.{stage_parts, staging, ShowsRemainder}
 use Rattle.gc_world.specs.Streams.{Streams}
 use Rattle.gc_scene_world.proofs.Handed.{IsReached}
 use Rattle.gc_scene_world.proofs.stage.Stage.deliver_bytes.Given as goal
@@ -12,7 +12,7 @@ use Rattle.gc_scene_world.proofs.stage.Stage.deliver_bytes.Given as goal
 abbrev pub invariant-loop-left : goal.invariant-loop-left
 invariant-loop-left l =
     record {
-      follows : (width : ℕ) (v : Streams (ById Call) SceneState) → staging.shows width l.fn.self v → IsReached width l.direction (seen l.self) v l.n l.left;
+      follows : (width : ℕ) (v : Streams (ById Call) SceneState) → staging.shows width l.fn.self v → IsReached width l.direction (stage_parts l.self) v l.n l.left;
       remaining : ShowsRemainder l.self l.direction l.remaining;
     }
 

@@ -1,8 +1,8 @@
-use Rattle.std.proofs.Common.{sym, subst, refl}
+use Rattle.std.proofs.Common.{sym, subst}
 use Rattle.gc_scene_world.specs.declared.report.Counts.{Counts}
 use Rattle.gc_scene_world.specs.Lanes.{is_whole}
 use Rattle.gc_scene_world.specs.SceneRuns.{scene_ends}
-use Rattle.gc_scene_world.specs.SceneStages.{seen, staging, AreStreamsOf}
+use Rattle.gc_scene_world.specs.SceneStages.{stage_parts, staging, AreStreamsOf}
 use Rattle.gc_world.specs.declared.event.Event.TheVariants as kind
 use Rattle.gc_world.specs.Staging.{Follows, after_event}
 use Rattle.gc_scene_world.proofs.Shown.{tallied_is, up_lost, up_repeated, down_lost, down_repeated}
@@ -45,33 +45,33 @@ returns-in-UpLose c =
     let s = c.args.self.now in
     let k = c.in-UpLose.k in
     subst (λ event. Follows staging s event (record s { up = c.lose.new.lane; counts = record s.counts { idle_events = c.lose.new.idle } })) (sym c.in-UpLose.is)
-    (λ width v h. subst (λ (x : Counts). AreStreamsOf width (record (seen s) { up = c.lose.new.lane; counts = x }) (after_event scene_ends width v (kind.UpLose k)))
+    (λ width v h. subst (λ (x : Counts). AreStreamsOf width (record (stage_parts s) { up = c.lose.new.lane; counts = x }) (after_event scene_ends width v (kind.UpLose k)))
     (tallied_is (is_whole k s.up) s.counts c.lose.new.idle c.lose.ensures.idle)
-    (up_lost width (seen s) v h k (is_whole k s.up) c.lose.new.lane refl c.lose.ensures.left))
+    (up_lost width (stage_parts s) v h k c.lose.new.lane c.lose.ensures.left))
 
 pub returns-in_ok-repeat-in-UpRepeat : goal.returns-in_ok-repeat-in-UpRepeat
 returns-in_ok-repeat-in-UpRepeat c =
     let s = c.args.self.now in
     let k = c.in-UpRepeat.k in
     subst (λ event. Follows staging s event (record s { up = c.repeat.new.lane; counts = record s.counts { idle_events = c.repeat.new.idle } })) (sym c.in-UpRepeat.is)
-    (λ width v h. subst (λ (x : Counts). AreStreamsOf width (record (seen s) { up = c.repeat.new.lane; counts = x }) (after_event scene_ends width v (kind.UpRepeat k)))
+    (λ width v h. subst (λ (x : Counts). AreStreamsOf width (record (stage_parts s) { up = c.repeat.new.lane; counts = x }) (after_event scene_ends width v (kind.UpRepeat k)))
     (tallied_is (is_whole k s.up) s.counts c.repeat.new.idle c.in_ok-repeat-in-UpRepeat.ensures.idle)
-    (up_repeated width (seen s) v h k (is_whole k s.up) c.repeat.new.lane refl c.in_ok-repeat-in-UpRepeat.ensures.left))
+    (up_repeated width (stage_parts s) v h k c.repeat.new.lane c.in_ok-repeat-in-UpRepeat.ensures.left))
 
 pub returns-in-DownLose : goal.returns-in-DownLose
 returns-in-DownLose c =
     let s = c.args.self.now in
     let k = c.in-DownLose.k in
     subst (λ event. Follows staging s event (record s { down = c.lose-in-DownLose.new.lane; counts = record s.counts { idle_events = c.lose-in-DownLose.new.idle } })) (sym c.in-DownLose.is)
-    (λ width v h. subst (λ (x : Counts). AreStreamsOf width (record (seen s) { down = c.lose-in-DownLose.new.lane; counts = x }) (after_event scene_ends width v (kind.DownLose k)))
+    (λ width v h. subst (λ (x : Counts). AreStreamsOf width (record (stage_parts s) { down = c.lose-in-DownLose.new.lane; counts = x }) (after_event scene_ends width v (kind.DownLose k)))
     (tallied_is (is_whole k s.down) s.counts c.lose-in-DownLose.new.idle c.lose-in-DownLose.ensures.idle)
-    (down_lost width (seen s) v h k (is_whole k s.down) c.lose-in-DownLose.new.lane refl c.lose-in-DownLose.ensures.left))
+    (down_lost width (stage_parts s) v h k c.lose-in-DownLose.new.lane c.lose-in-DownLose.ensures.left))
 
 pub returns-in_ok-repeat-in-DownRepeat : goal.returns-in_ok-repeat-in-DownRepeat
 returns-in_ok-repeat-in-DownRepeat c =
     let s = c.args.self.now in
     let k = c.in-DownRepeat.k in
     subst (λ event. Follows staging s event (record s { down = c.repeat-in-DownRepeat.new.lane; counts = record s.counts { idle_events = c.repeat-in-DownRepeat.new.idle } })) (sym c.in-DownRepeat.is)
-    (λ width v h. subst (λ (x : Counts). AreStreamsOf width (record (seen s) { down = c.repeat-in-DownRepeat.new.lane; counts = x }) (after_event scene_ends width v (kind.DownRepeat k)))
+    (λ width v h. subst (λ (x : Counts). AreStreamsOf width (record (stage_parts s) { down = c.repeat-in-DownRepeat.new.lane; counts = x }) (after_event scene_ends width v (kind.DownRepeat k)))
     (tallied_is (is_whole k s.down) s.counts c.repeat-in-DownRepeat.new.idle c.in_ok-repeat-in-DownRepeat.ensures.idle)
-    (down_repeated width (seen s) v h k (is_whole k s.down) c.repeat-in-DownRepeat.new.lane refl c.in_ok-repeat-in-DownRepeat.ensures.left))
+    (down_repeated width (stage_parts s) v h k c.repeat-in-DownRepeat.new.lane c.in_ok-repeat-in-DownRepeat.ensures.left))

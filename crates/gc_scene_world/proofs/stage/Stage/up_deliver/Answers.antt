@@ -2,7 +2,7 @@ use Rattle.std.proofs.Common.{◌≡◌, [], List, ℕ, subst, rules}
 use Rattle.std.proofs.lemmas.Result.{on_ok_weaker}
 use Rattle.gc_lines.specs.Answering.{AppendsAnswer}
 use Rattle.gc_scenes.specs.SceneReplying.{IsPlayed}
-use Rattle.gc_scene_world.specs.SceneStages.{seen, Notes}
+use Rattle.gc_scene_world.specs.SceneStages.{stage_parts, Notes}
 use Rattle.gc_scene_world.proofs.Exchanges.{notes_are}
 use Rattle.gc_scene_world.proofs.Shown.{streams_up_deliver}
 use Rattle.gc_world.proofs.Handing.{kept_id}
@@ -20,7 +20,7 @@ returns c =
     let notes : Notes s.instrument.repeats (kept_id s.instrument.base.kept) (kept_id did.new.self.base.kept) s.counts.executed noted.new.executed =
     notes_are c.repeats-repeats.ensures c.kept_id-before.ensures c.kept_id-after.ensures noted.ensures in
     on_ok_weaker c.push.result
-    (λ pushed width v h. streams_up_deliver width (seen s) v h (record {
+    (λ pushed width v h. streams_up_deliver width (stage_parts s) v h (record {
       request = request.items;
       up = c.take.new.self;
       instrument = did.new.self;

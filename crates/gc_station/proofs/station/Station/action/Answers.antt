@@ -1,12 +1,12 @@
 use Rattle.std.proofs.Common.{sym, ap, ◌∙◌, subst}
 use Rattle.gc_station.specs.Deciding.{action_of}
-use Rattle.gc_station.specs.Stations.{waiting_in, IsFitting}
-use Rattle.gc_station.proofs.Facts.{action_fits}
+use Rattle.gc_station.specs.Stations.{waiting_of_station, SuitsAction}
+use Rattle.gc_station.proofs.Facts.{action_suits}
 use Rattle.gc_station.proofs.station.Station.action.Goals as goal
 
 pub returns-clause-room : goal.returns-clause-room
 returns-clause-room c =
     let plan = c.args.plan.now in
     let p = c.args.self.now.progress in
-    let w = waiting_in c.args.self.now in
-    subst (λ action. IsFitting p w.all action) (sym (c.action.ensures ∙ ap (action_of plan p) c.waiting.ensures)) (action_fits plan p w)
+    let w = waiting_of_station c.args.self.now in
+    subst (λ action. SuitsAction p w.all action) (sym (c.action.ensures ∙ ap (action_of plan p) c.waiting.ensures)) (action_suits plan p w)

@@ -4,7 +4,7 @@ use Rattle.std.proofs.lemmas.List.{take_rest}
 use Rattle.gc_lines.specs.Lent.{lent_seen}
 use Rattle.gc_lines.proofs.Passing.{Takes, takes}
 use Rattle.gc_station.specs.Model.{with_rest}
-use Rattle.gc_station.proofs.Hearing.{Hearing, hearing_on, hearing_part, hearing_end, with_kept}
+use Rattle.gc_station.proofs.Hearing.{HeardSoFar, hearing_on, hearing_part, hearing_end, with_kept}
 use Rattle.gc_station.proofs.station.Station.listen.Goals as goal
 
 pub loop-at-preserved : goal.loop-at-preserved
@@ -52,4 +52,4 @@ returns-clause-listens g c s start stands so =
     let past : length piece ≤ at = omega (arith, c.loop-at-test.false) in
     let h = c.loop-at.invariant.hearing s start stands so in
     hearing_end c.args.begun (g.B.Book.text c.args.book.now) start (g.B.Book.taken c.loop-at.book) c.loop-at.self s piece
-    (subst (λ left. Hearing c.args.begun (g.B.Book.text c.args.book.now) start (g.B.Book.taken c.loop-at.book) c.loop-at.self s piece left) (drop_of_length-le piece past) h)
+    (subst (λ left. HeardSoFar c.args.begun (g.B.Book.text c.args.book.now) start (g.B.Book.taken c.loop-at.book) c.loop-at.self s piece left) (drop_of_length-le piece past) h)

@@ -1,14 +1,12 @@
-use Rattle.std.proofs.Common.{◌≡◌, drop, ap, refl, ◌∙◌}
+use Rattle.std.proofs.Common.{◌≡◌, drop, ap, ◌∙◌}
 use Rattle.gc_catalogue.specs.declared.asked.Asked.{Asked}
 use Rattle.gc_client.specs.Rule.{ById}
 use Rattle.gc_links.specs.Acts.{put_act}
 use Rattle.gc_station.specs.declared.station.sending.Outgoing.{Outgoing}
-use Rattle.gc_station.specs.declared.progress.Progress.{Progress}
 use Rattle.gc_station.specs.Progressing.{setup_sent}
-use Rattle.gc_station.specs.Stations.{setup_asked}
-use Rattle.gc_station.specs.Model.{Model, request_text, text_or_null, asks_setup, with_progress}
+use Rattle.gc_station.specs.Model.{Model, next_request_text, text_or_null, request_of_setup, asks_setup, with_progress}
 use Rattle.gc_station.specs.NextCommand.{mark_setup, commands_before}
-use Rattle.gc_station.proofs.Making.{refines_with, asks_refines, put_puts, put_refines, put_took, setup_refines, setup_text, setup_took}
+use Rattle.gc_station.proofs.Making.{refines_with, asks_refines, put_puts, put_refines, put_took, setup_text}
 use Rattle.gc_station.proofs.station.Station.prepare.Goals as goal
 
 pub returns : goal.returns
@@ -18,23 +16,21 @@ returns g c text known =
     let plan = c.args.plan.now in
     let commands = c.args.commands.now in
     let asking = c.next_setup-asking.result in
-    let line = request_text old.client.ids asking.command.call in
+    let line = next_request_text old.client.ids asking.command.call in
     record {
       act = put_act put line;
       tells = c.ask-put.ensures.tells;
       goes = λ s start stands so.
           let list = drop s.progress.prepared commands in
           let mark = mark_setup commands s.progress in
-          let is : asking ≡ setup_asked plan mark list =
-          c.next_setup-asking.ensures ∙ ap (λ (p : Progress). setup_asked plan (mark_setup commands p) (drop p.prepared commands)) stands.progress in
+          let is : asking ≡ request_of_setup plan commands s.progress = c.next_setup-asking.ensures ∙ ap (request_of_setup plan commands) stands.progress in
           let f : Model → Model = λ (x : Model). with_progress (setup_sent plan) (asks_setup plan commands x) in
-          let asked = asks_refines old c.ask-put.new.self s asking asking stands c.requires.1 refl c.ask-put.ensures.asks in
-          let first = setup_refines plan c.ask-put.new.self s asking mark list is asked in (
-            put_puts put line (text_or_null s.progress.moment.utc s.client list) (ap (λ (ids : ById Asked). request_text ids asking.command.call) stands.ids
-                ∙ ap (λ (a : Outgoing). request_text s.client a.command.call) is ∙ setup_text plan s.client mark list) c.ask-put.ensures.part,
+          let asked = asks_refines old c.ask-put.new.self s asking (request_of_setup plan commands s.progress) stands c.requires.1 is c.ask-put.ensures.asks in (
+            put_puts put line (text_or_null s.progress.moment.utc s.client list) (ap (λ (ids : ById Asked). next_request_text ids asking.command.call) stands.ids
+                ∙ ap (λ (a : Outgoing). next_request_text s.client a.command.call) is ∙ setup_text plan s.client mark list) c.ask-put.ensures.part,
             put_refines put line c.commands_before-requests.result (commands_before plan commands s.progress) f s (record c.ask-put.new.self { progress = c.note_setup.new.self }) c.note_cut.new.self
-                (refines_with c.ask-put.new.self c.note_setup.new.self (setup_sent plan) (asks_setup plan commands s) first c.note_setup.ensures) c.note_cut.ensures
+                (refines_with c.ask-put.new.self c.note_setup.new.self (setup_sent plan) (asks_setup plan commands s) asked c.note_setup.ensures) c.note_cut.ensures
                 (c.commands_before-requests.ensures ∙ ap (commands_before plan commands) stands.progress),
-            put_took text start known put line (commands_before plan commands s.progress) f s (setup_took plan text start known s mark list so),
+            put_took text start known put line (commands_before plan commands s.progress) f s so,
           );
     }

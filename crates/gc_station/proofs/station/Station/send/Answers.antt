@@ -8,8 +8,7 @@ use Rattle.gc_links.specs.Acts.{put_act}
 use Rattle.gc_station.specs.declared.mark.Mark.{Mark}
 use Rattle.gc_station.specs.declared.progress.Upcoming.{Upcoming}
 use Rattle.gc_station.specs.Progressing.{sent}
-use Rattle.gc_station.specs.Stations.{request_for}
-use Rattle.gc_station.specs.Model.{Model, request_text, first_text, asks_next, with_progress}
+use Rattle.gc_station.specs.Model.{Model, next_request_text, first_text, request_for, asks_next, with_progress}
 use Rattle.gc_station.specs.NextCommand.{place_next, mark_next, upcoming_after, commands_before}
 use Rattle.gc_station.proofs.Making.{refines_with, asks_refines, put_puts, put_refines, put_took, first_refines, first_took}
 use Rattle.gc_station.proofs.station.Station.send.Goals as goal
@@ -29,7 +28,7 @@ returns g c text known =
     drop_more commands place task below ∙ ap (λ x. x ∷ others) (sym c.index-commands-place.is) in
     let mark = c.mark-mark.result in
     let asking = c.request_for-asking.result in
-    let line = request_text old.client.ids asking.command.call in
+    let line = next_request_text old.client.ids asking.command.call in
     record {
       act = put_act put line;
       tells = c.ask-put.ensures.tells;
@@ -41,8 +40,8 @@ returns g c text known =
           let utc = s.progress.moment.utc in
           let next : mark ≡ mark_next plan commands s.progress = c.mark-mark.ensures ∙ ap (mark_next plan commands) stands.progress in
           let first = first_refines c.ask-put.new.self s mark (mark_next plan commands s.progress) list task others is next asked in (
-            put_puts put line (first_text utc s.client list) (ap (λ (ids : ById Asked). request_text ids asking.command.call) stands.ids
-                ∙ ap (λ (a : Outgoing). request_text s.client a.command.call) (c.request_for-asking.ensures ∙ ap (λ (m : Mark). request_for m task) next) ∙ sym
+            put_puts put line (first_text utc s.client list) (ap (λ (ids : ById Asked). next_request_text ids asking.command.call) stands.ids
+                ∙ ap (λ (a : Outgoing). next_request_text s.client a.command.call) (c.request_for-asking.ensures ∙ ap (λ (m : Mark). request_for m task) next) ∙ sym
                 (ap (first_text utc s.client) is)) c.ask-put.ensures.part,
             put_refines put line c.commands_before-requests.result (commands_before plan commands s.progress) f s (record c.ask-put.new.self { progress = c.note_sent.new.self }) c.note_cut.new.self
                 (refines_with c.ask-put.new.self c.note_sent.new.self (sent (upcoming_after 1 commands s.progress)) (asks_next plan commands s) first

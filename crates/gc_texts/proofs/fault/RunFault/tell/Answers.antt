@@ -2,7 +2,7 @@ use Rattle.std.proofs.Common.{ℕ, List, [], ◌∷◌, ◌++◌, OnOk, sym, ap,
 use Rattle.std.specs.Prelude.{codes}
 use Rattle.std.specs.Fmt.{decimal}
 use Rattle.std.specs.Io.KnownBytes.{Appends}
-use Rattle.gc_lines.specs.Answering.{numbered}
+use Rattle.gc_lines.specs.Answering.{numbered_fault}
 use Rattle.gc_lines.specs.declared.served.TheConstants.{WRITE_FAILED}
 use Rattle.gc_texts.specs.Faults.{run_fault_number, run_fault_text, fault_line}
 use Rattle.gc_texts.proofs.FaultLines.{plain_detail, line_with}
@@ -27,7 +27,7 @@ returns-in-Schedule g c =
 
 pub returns-in_default : goal.returns-in_default
 returns-in_default g c =
-    let number = line_with c.number-in_default.result [] ∙ ap (λ n. fault_line (numbered n ++ [])) c.number-in_default.ensures in
+    let number = line_with c.number-in_default.result [] ∙ ap (λ n. fault_line (numbered_fault n ++ [])) c.number-in_default.ensures in
     let detail = sym (plain_detail c.args.self c.in_default.not-Write c.in_default.not-Schedule) in
-    let line = number ∙ ap (λ d. fault_line (numbered (run_fault_number c.args.self) ++ d)) detail in
+    let line = number ∙ ap (λ d. fault_line (numbered_fault (run_fault_number c.args.self) ++ d)) detail in
     subst (λ l. OnOk c.writeln-in_default.result (Appends (g.E.Write.contents c.args.messages.now) (g.E.Write.contents c.writeln-in_default.new.self) l)) line c.writeln-in_default.ensures.bytes

@@ -5,7 +5,7 @@ use Rattle.gc_client.specs.Rule.{ById}
 use Rattle.gc_instrument.specs.State.{State}
 use Rattle.gc_world.specs.Clients.{by_ids, ends}
 use Rattle.gc_world.specs.Directions.{delivery}
-use Rattle.gc_world.specs.Stages.{seen, AreStreamsOf}
+use Rattle.gc_world.specs.Stages.{stage_parts, AreStreamsOf}
 use Rattle.gc_world.specs.Staging.{after_event}
 use Rattle.gc_world.specs.Streams.{Streams}
 use Rattle.gc_world.proofs.Handed.{reached, reaches_next, next_spares, reaches_end, runs_dry, bytes_handed, runs_out}
@@ -15,7 +15,7 @@ use Rattle.gc_world.proofs.stage.Stage.deliver_bytes.Goals.{then-n-eq0-via-then-
 
 pub returns-then-n-eq0-clause-follows : goal.returns-then-n-eq0-clause-follows
 returns-then-n-eq0-clause-follows g c =
-    let s = seen c.args.self.now in
+    let s = stage_parts c.args.self.now in
     let left = c.remaining-remaining in
     elim c.then-n-eq0.branch [
       | then-n-eq0-via-then-n-eq0 w ↦ λ width v h. streams_idle_bytes width s v h c.args.direction c.args.n left.result (left.ensures width v h) (inl w.if-n-eq0.true)
@@ -25,7 +25,7 @@ returns-then-n-eq0-clause-follows g c =
 pub loop-left-init : goal.loop-left-init
 loop-left-init g c =
     record {
-      follows = λ width v h. reached width c.args.direction (seen c.args.self.now) v c.args.n h;
+      follows = λ width v h. reached width c.args.direction (stage_parts c.args.self.now) v c.args.n h;
       remaining = c.remaining-remaining.ensures;
     }
 
@@ -41,7 +41,7 @@ deliver-requires-clause-shown g c =
 
 pub returns-in_err-deliver-clause-spare : goal.returns-in_err-deliver-clause-spare
 returns-in_err-deliver-clause-spare g c =
-    let t = seen c.loop-left.self in
+    let t = stage_parts c.loop-left.self in
     let done = c.completes.ensures.0 c.loop-left-test.true in
     λ width v h none.
     let at = c.loop-left.invariant.follows width v h in
@@ -61,12 +61,12 @@ loop-left-smaller g c =
 
 pub loop-left-preserved : goal.loop-left-preserved
 loop-left-preserved g c =
-    let t = seen c.loop-left.self in
+    let t = stage_parts c.loop-left.self in
     let done = c.completes.ensures.0 c.loop-left-test.true in
     record {
       follows = λ width v h.
           let at = c.loop-left.invariant.follows width v h in
-          reaches_next width c.args.direction t v c.args.n c.loop-left.left at (seen c.deliver.new.self) c.loop-left.remaining
+          reaches_next width c.args.direction t v c.args.n c.loop-left.left at (stage_parts c.deliver.new.self) c.loop-left.remaining
           (c.loop-left.invariant.remaining width at.now at.shows) done.0 done.1 (c.in_ok-deliver.ensures.follows width at.now at.shows);
       remaining = c.remaining-remaining-in-loop-left.ensures;
     }
@@ -81,8 +81,8 @@ go_on-requires-clause-some g c = λ width v h. subst (λ k. c.loop-left.left < k
 
 pub returns-then-left-remaining-clause-follows : goal.returns-then-left-remaining-clause-follows
 returns-then-left-remaining-clause-follows g c =
-    let t = seen c.loop-left.self in
-    let u = seen c.go_on.new.self in
+    let t = stage_parts c.loop-left.self in
+    let u = stage_parts c.go_on.new.self in
     let first = c.remaining-remaining in
     λ width v h.
     let at = c.loop-left.invariant.follows width v h in
@@ -92,7 +92,7 @@ returns-then-left-remaining-clause-follows g c =
 
 pub returns-else-left-remaining-clause-follows : goal.returns-else-left-remaining-clause-follows
 returns-else-left-remaining-clause-follows g c =
-    let t = seen c.loop-left.self in
+    let t = stage_parts c.loop-left.self in
     let first = c.remaining-remaining in
     λ width v h.
     let at = c.loop-left.invariant.follows width v h in

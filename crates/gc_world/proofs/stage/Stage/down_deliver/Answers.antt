@@ -5,7 +5,7 @@ use Rattle.std.proofs.lemmas.Bool.{false≢true}
 use Rattle.std.proofs.lemmas.Option.{slice_get_within}
 use Rattle.gc_world.specs.declared.direction.Direction.TheVariants.{Down}
 use Rattle.gc_world.specs.declared.report.Made.{Made}
-use Rattle.gc_world.specs.Stages.{seen}
+use Rattle.gc_world.specs.Stages.{stage_parts}
 use Rattle.gc_world.specs.Streams.{down_texts}
 use Rattle.gc_world.proofs.Pieces.{came_out, none_else}
 use Rattle.gc_world.proofs.Showing.{none_settled}
@@ -16,14 +16,14 @@ use Rattle.gc_world.proofs.stage.Stage.down_deliver.Goals as goal
 
 pub at-requires : goal.at-requires
 at-requires g c =
-    let s = seen c.args.self.now in
+    let s = stage_parts c.args.self.now in
     let shown = c.requires.shown in
     let front = front_reply shown.0 s shown.1 shown.2 c.in-Some.place c.take_front.new.self c.in-Some.ensures in
     slice_get_within s.report.made c.in-Some.place front.0 front.1
 
 pub finish-frame-requires-clause-flow : goal.finish-frame-requires-clause-flow
 finish-frame-requires-clause-flow g c =
-    let s = seen c.args.self.now in
+    let s = stage_parts c.args.self.now in
     let shown = c.requires.shown in
     let texts = down_texts shown.1.world.wire in
     let text : option_map (λ (m : Made). m.line.items) (slice_get s.report.made c.in-Some.place) ≡ Some c.as_slice-line.result.now =
@@ -37,7 +37,7 @@ returns-in_default-frame g c =
 
 pub returns-in_err-append_all-clause-spare : goal.returns-in_err-append_all-clause-spare
 returns-in_err-append_all-clause-spare g c =
-    let s = seen c.args.self.now in
+    let s = stage_parts c.args.self.now in
     let shown = c.requires.shown in
     let line = c.at.result.now.line in
     let reply = c.in-Line.reply.now in
@@ -49,7 +49,7 @@ returns-in_err-append_all-clause-spare g c =
 
 pub returns-in_ok-append_all-clause-follows : goal.returns-in_ok-append_all-clause-follows
 returns-in_ok-append_all-clause-follows g c =
-    let s = seen c.args.self.now in
+    let s = stage_parts c.args.self.now in
     let shown = c.requires.shown in
     let line = c.at.result.now.line in
     let reply = c.in-Line.reply.now in
@@ -73,7 +73,7 @@ returns-in_ok-append_all-clause-follows g c =
 
 pub returns-in_default-hear-clause-follows : goal.returns-in_default-hear-clause-follows
 returns-in_default-hear-clause-follows g c =
-    let s = seen c.args.self.now in
+    let s = stage_parts c.args.self.now in
     let shown = c.requires.shown in
     let line = c.at.result.now.line in
     let reply = c.in-Line.reply.now in

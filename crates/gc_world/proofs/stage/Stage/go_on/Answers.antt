@@ -3,7 +3,7 @@ use Rattle.gc_world.specs.declared.direction.Direction.{Direction}
 use Rattle.gc_world.specs.declared.direction.Direction.TheVariants.{Up, Down}
 use Rattle.gc_world.specs.Clients.{ends}
 use Rattle.gc_world.specs.Directions.{gone, lines, texts}
-use Rattle.gc_world.specs.Stages.{seen, Shows}
+use Rattle.gc_world.specs.Stages.{stage_parts, Shows}
 use Rattle.gc_world.specs.Staging.{after_bytes}
 use Rattle.gc_world.specs.Streams.{remaining}
 use Rattle.gc_world.proofs.Shown.{carries, more_left, streams_begin}
@@ -11,7 +11,7 @@ use Rattle.gc_world.proofs.stage.Stage.go_on.Goals as goal
 
 pub go_on-requires : goal.go_on-requires
 go_on-requires g c =
-    let s = seen c.args.self.now in
+    let s = stage_parts c.args.self.now in
     let (width, v, h) = c.requires.shown in (
       texts Up v.world.wire,
       carries width s v h Up,
@@ -21,7 +21,7 @@ go_on-requires g c =
 
 pub go_on-requires-in-Down : goal.go_on-requires-in-Down
 go_on-requires-in-Down g c =
-    let s = seen c.args.self.now in
+    let s = stage_parts c.args.self.now in
     let (width, v, h) = c.requires.shown in (
       texts Down v.world.wire,
       carries width s v h Down,
@@ -31,7 +31,7 @@ go_on-requires-in-Down g c =
 
 pub returns-in-Up : goal.returns-in-Up
 returns-in-Up g c =
-    let s = seen c.args.self.now in
+    let s = stage_parts c.args.self.now in
     let did = c.go_on.ensures in
     λ width v h.
     subst (λ (d : Direction). Shows width (record c.args.self.now { up = c.go_on.new.self; cut = c.go_on.new.cut }) (after_bytes ends width d v c.args.n)) (sym c.in-Up.is)
@@ -40,7 +40,7 @@ returns-in-Up g c =
 
 pub returns-in-Down : goal.returns-in-Down
 returns-in-Down g c =
-    let s = seen c.args.self.now in
+    let s = stage_parts c.args.self.now in
     let did = c.go_on-in-Down.ensures in
     λ width v h.
     subst (λ (d : Direction). Shows width (record c.args.self.now { down = c.go_on-in-Down.new.self; cut = c.go_on-in-Down.new.cut }) (after_bytes ends width d v c.args.n)) (sym c.in-Down.is)

@@ -1,7 +1,7 @@
 use Rattle.std.proofs.Common.{sym, subst}
 use Rattle.std.proofs.lemmas.Bool.{false≢true}
 use Rattle.gc_world.specs.Memory.{TakesNoMemory}
-use Rattle.gc_world.specs.Stages.{seen, staging}
+use Rattle.gc_world.specs.Stages.{stage_parts, staging}
 use Rattle.gc_world.specs.Staging.{Follows}
 use Rattle.gc_world.proofs.Shown.{up_lost, up_repeated, down_lost, down_repeated}
 use Rattle.gc_world.proofs.Sparing.{full, none_up, no_repeat_up, no_repeat_down, busy}
@@ -45,25 +45,25 @@ pub returns-in-UpLose-clause-follows : goal.returns-in-UpLose-clause-follows
 returns-in-UpLose-clause-follows g c =
     let s = c.args.self.now in
     subst (λ event. Follows staging s event (record s { report = record s.report { idle_events = c.lose.new.idle }; up = c.lose.new.self })) (sym c.in-UpLose.is)
-    (λ width v h. up_lost width (seen s) v h c.in-UpLose.k c.lose.new.self c.lose.new.idle c.lose.ensures)
+    (λ width v h. up_lost width (stage_parts s) v h c.in-UpLose.k c.lose.new.self c.lose.new.idle c.lose.ensures)
 
 pub returns-in_ok-repeat-in-UpRepeat-clause-follows : goal.returns-in_ok-repeat-in-UpRepeat-clause-follows
 returns-in_ok-repeat-in-UpRepeat-clause-follows g c =
     let s = c.args.self.now in
     subst (λ event. Follows staging s event (record s { report = record s.report { idle_events = c.repeat.new.idle }; up = c.repeat.new.self })) (sym c.in-UpRepeat.is)
-    (λ width v h. up_repeated width (seen s) v h c.in-UpRepeat.k c.repeat.new.self c.repeat.new.idle c.in_ok-repeat-in-UpRepeat.ensures.changes)
+    (λ width v h. up_repeated width (stage_parts s) v h c.in-UpRepeat.k c.repeat.new.self c.repeat.new.idle c.in_ok-repeat-in-UpRepeat.ensures.changes)
 
 pub returns-in-DownLose-clause-follows : goal.returns-in-DownLose-clause-follows
 returns-in-DownLose-clause-follows g c =
     let s = c.args.self.now in
     subst (λ event. Follows staging s event (record s { report = record s.report { idle_events = c.lose-in-DownLose.new.idle }; down = c.lose-in-DownLose.new.self })) (sym c.in-DownLose.is)
-    (λ width v h. down_lost width (seen s) v h c.in-DownLose.k c.lose-in-DownLose.new.self c.lose-in-DownLose.new.idle c.lose-in-DownLose.ensures)
+    (λ width v h. down_lost width (stage_parts s) v h c.in-DownLose.k c.lose-in-DownLose.new.self c.lose-in-DownLose.new.idle c.lose-in-DownLose.ensures)
 
 pub returns-in_ok-repeat-in-DownRepeat-clause-follows : goal.returns-in_ok-repeat-in-DownRepeat-clause-follows
 returns-in_ok-repeat-in-DownRepeat-clause-follows g c =
     let s = c.args.self.now in
     subst (λ event. Follows staging s event (record s { report = record s.report { idle_events = c.repeat-in-DownRepeat.new.idle }; down = c.repeat-in-DownRepeat.new.self })) (sym c.in-DownRepeat.is)
-    (λ width v h. down_repeated width (seen s) v h c.in-DownRepeat.k c.repeat-in-DownRepeat.new.self c.repeat-in-DownRepeat.new.idle c.in_ok-repeat-in-DownRepeat.ensures.changes)
+    (λ width v h. down_repeated width (stage_parts s) v h c.in-DownRepeat.k c.repeat-in-DownRepeat.new.self c.repeat-in-DownRepeat.new.idle c.in_ok-repeat-in-DownRepeat.ensures.changes)
 
 -- An event that takes no memory doesn't fail for memory.
 

@@ -2,27 +2,27 @@ use Rattle.std.proofs.Common.{◌≡◌, sym, subst}
 use Rattle.gc_world.specs.declared.direction.Direction.{Direction}
 use Rattle.gc_world.specs.declared.direction.Direction.TheVariants.{Up, Down}
 use Rattle.gc_world.specs.Directions.{gone, lines, texts}
-use Rattle.gc_world.specs.Stages.{seen}
+use Rattle.gc_world.specs.Stages.{stage_parts}
 use Rattle.gc_world.specs.Streams.{remaining}
 use Rattle.gc_world.proofs.Shown.{carries, left_is}
 use Rattle.gc_world.proofs.stage.Stage.remaining.Goals as goal
 
 pub remaining-requires : goal.remaining-requires
-remaining-requires g c = (texts Up c.requires.1.world.wire, carries c.requires.0 (seen c.args.self.now) c.requires.1 c.requires.2 Up)
+remaining-requires g c = (texts Up c.requires.1.world.wire, carries c.requires.0 (stage_parts c.args.self.now) c.requires.1 c.requires.2 Up)
 
 pub remaining-requires-in-Down : goal.remaining-requires-in-Down
-remaining-requires-in-Down g c = (texts Down c.requires.1.world.wire, carries c.requires.0 (seen c.args.self.now) c.requires.1 c.requires.2 Down)
+remaining-requires-in-Down g c = (texts Down c.requires.1.world.wire, carries c.requires.0 (stage_parts c.args.self.now) c.requires.1 c.requires.2 Down)
 
 pub returns-in-Up : goal.returns-in-Up
 returns-in-Up g c =
-    let s = seen c.args.self.now in
+    let s = stage_parts c.args.self.now in
     λ width v h.
     subst (λ (d : Direction). c.remaining.result ≡ remaining (gone d v) (lines d v.world.wire)) (sym c.in-Up.is)
     (left_is width s v h Up c.remaining.result (c.remaining.ensures (texts Up v.world.wire) (carries width s v h Up)))
 
 pub returns-in-Down : goal.returns-in-Down
 returns-in-Down g c =
-    let s = seen c.args.self.now in
+    let s = stage_parts c.args.self.now in
     λ width v h.
     subst (λ (d : Direction). c.remaining-in-Down.result ≡ remaining (gone d v) (lines d v.world.wire)) (sym c.in-Down.is)
     (left_is width s v h Down c.remaining-in-Down.result (c.remaining-in-Down.ensures (texts Down v.world.wire) (carries width s v h Down)))

@@ -1,7 +1,7 @@
 use Rattle.std.proofs.Common.{[], ◌∷◌, ◌++◌, ◌∙◌, ap}
 use Rattle.std.proofs.lemmas.Result.{on_ok_weaker}
 use Rattle.gc_world.specs.declared.report.Sent.{Sent}
-use Rattle.gc_world.specs.Stages.{seen}
+use Rattle.gc_world.specs.Stages.{stage_parts}
 use Rattle.gc_world.proofs.Shown.{streams_send}
 use Rattle.gc_world.proofs.stage.Stage.send.Goals as goal
 
@@ -10,7 +10,7 @@ returns-clause-follows g c =
     let s = c.args.self.now in
     let entry : Sent = record { target = c.args.target; call = c.args.call.now; line = c.send_into.new.line } in
     on_ok_weaker c.push_sent.result
-    (λ pushed width v h. streams_send width (seen s) v h entry c.args.deadline (record {
+    (λ pushed width v h. streams_send width (stage_parts s) v h entry c.args.deadline (record {
       client = c.send_into.new.self;
       sent = c.push_sent.new.self;
       queue = c.push.new.self;

@@ -5,7 +5,7 @@ use Rattle.std.proofs.lemmas.Option.{slice_get_within}
 use Rattle.gc_world.specs.declared.direction.Direction.TheVariants.{Up}
 use Rattle.gc_world.specs.declared.report.Made.{Made}
 use Rattle.gc_world.specs.declared.report.Sent.{Sent}
-use Rattle.gc_world.specs.Stages.{seen}
+use Rattle.gc_world.specs.Stages.{stage_parts}
 use Rattle.gc_world.specs.Streams.{up_texts}
 use Rattle.gc_world.proofs.Pieces.{came_out, none_else}
 use Rattle.gc_world.proofs.Contracts.{Notes}
@@ -16,14 +16,14 @@ use Rattle.gc_world.proofs.stage.Stage.up_deliver.Goals as goal
 
 pub at-requires : goal.at-requires
 at-requires g c =
-    let s = seen c.args.self.now in
+    let s = stage_parts c.args.self.now in
     let shown = c.requires.shown in
     let front = front_request shown.0 s shown.1 shown.2 c.in-Some.number c.take_front.new.self c.in-Some.ensures in
     slice_get_within s.report.sent c.in-Some.number front.0 front.1
 
 pub finish-frame-requires-clause-flow : goal.finish-frame-requires-clause-flow
 finish-frame-requires-clause-flow g c =
-    let s = seen c.args.self.now in
+    let s = stage_parts c.args.self.now in
     let shown = c.requires.shown in
     let texts = up_texts shown.1.world.wire in
     let text : option_map (λ (q : Sent). q.line.items) (slice_get s.report.sent c.in-Some.number) ≡ Some c.as_slice-line.result.now =
@@ -32,7 +32,7 @@ finish-frame-requires-clause-flow g c =
 
 pub returns-in_ok-push_made-clause-follows : goal.returns-in_ok-push_made-clause-follows
 returns-in_ok-push_made-clause-follows g c =
-    let s = seen c.args.self.now in
+    let s = stage_parts c.args.self.now in
     let shown = c.requires.shown in
     let made = c.reply_onto.new.out in
     let line = c.at.result.now.line.items in
@@ -67,7 +67,7 @@ returns-in_ok-push_made-clause-follows g c =
 
 pub returns-else-reply_onto-clause-follows : goal.returns-else-reply_onto-clause-follows
 returns-else-reply_onto-clause-follows g c =
-    let s = seen c.args.self.now in
+    let s = stage_parts c.args.self.now in
     let shown = c.requires.shown in
     let made = c.reply_onto.new.out in
     let line = c.at.result.now.line.items in

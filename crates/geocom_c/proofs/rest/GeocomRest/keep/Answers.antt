@@ -1,6 +1,6 @@
 use Rattle.std.proofs.Common.{rules, ◌≡◌, ◌+◌, ◌-◌, ◌++◌, ◌∙◌, ap, ap₂, arith, take, length}
 use Rattle.std.proofs.lemmas.List.{length-take, take_all}
-use Rattle.geocom_c.proofs.LineFeeds.{none_clean}
+use Rattle.geocom_c.proofs.LineFeeds.{clean_if_none_found}
 use Rattle.geocom_c.proofs.Keeping.{all_rest, cut_rest}
 use Rattle.geocom_c.proofs.rest.GeocomRest.keep.Goals as goal
 
@@ -15,7 +15,7 @@ returns-then-fitting-piece c = λ rest is none.
     let sum : c.args.self.now.length + f ≡ c.from-length.result + length (take f p) = omega (arith, c.from-length.ensures, length-take f p, c.if-fitting-piece.true) in
     let text : take (c.args.self.now.length + f) c.put.new.bytes ≡ t ++ take f p =
     ap (λ m. take m c.put.new.bytes) sum ∙ c.put.ensures.text ∙ ap (λ m. take m bytes ++ take f p) c.from-length.ensures in
-    cut_rest c.put.new.bytes t p rest c.args.self.now.length f n is.valid.unended (none_clean p none) is.same
+    cut_rest c.put.new.bytes t p rest c.args.self.now.length f n is.valid.unended (clean_if_none_found p none) is.same
     c.in-Some.last.now is.valid.short room c.if-fitting-piece.true text (search rules) (search rules)
 
 pub returns-else-fitting-piece : goal.returns-else-fitting-piece
@@ -29,5 +29,5 @@ returns-else-fitting-piece c = λ rest is none.
     let sum : c.args.self.now.length + f ≡ c.from-length.result + length (take f p) = omega (arith, c.from-length.ensures, ap length all, c.if-fitting-piece.false, c.min-fitting.ensures) in
     let text : take (c.args.self.now.length + f) c.put.new.bytes ≡ t ++ p =
     ap (λ m. take m c.put.new.bytes) sum ∙ c.put.ensures.text ∙ ap₂ (λ m u. take m bytes ++ u) c.from-length.ensures all in
-    all_rest c.put.new.bytes t p rest c.args.self.now.length f n is.valid.unended (none_clean p none) is.same
+    all_rest c.put.new.bytes t p rest c.args.self.now.length f n is.valid.unended (clean_if_none_found p none) is.same
     (omega (arith, c.min-fitting.ensures, c.from-length.ensures, is.valid.short)) text

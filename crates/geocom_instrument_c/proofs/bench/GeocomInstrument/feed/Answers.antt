@@ -1,6 +1,6 @@
 use Rattle.std.proofs.Common.{rules}
-use Rattle.geocom_instrument_c.proofs.Cases.{fed}
+use Rattle.geocom_instrument_c.proofs.Cases.{is_fed}
 use Rattle.geocom_instrument_c.proofs.bench.GeocomInstrument.feed.Goals as goal
 
 pub returns : goal.returns
-returns c = fed c.args.self.now c.in-Some.bench c.feed.new.self c.args.bytes.now c.args.now c.feed.result (search rules) c.feed.ensures
+returns c = is_fed c.args.self.now c.in-Some.bench c.feed.new.self c.args.bytes.now c.args.now c.feed.result (search rules) c.feed.ensures

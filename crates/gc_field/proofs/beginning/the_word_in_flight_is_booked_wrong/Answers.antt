@@ -1,5 +1,0 @@
-use Rattle.gc_field.proofs.BeginWitness.{from_before}
-use Rattle.gc_field.proofs.beginning.the_word_in_flight_is_booked_wrong.Goals as goal
-
-pub returns : goal.returns
-returns c = from_before

@@ -1,7 +1,0 @@
-use Rattle.std.proofs.Common.{◌≡◌, drop}
-use Rattle.gc_measuring.specs.Choices.{longest}
-use Rattle.gc_measuring.proofs.plan.longest.Given as goal
-
--- the longest of `longest` and the deadlines of the tasks still to come is the longest deadline in use
-abbrev pub invariant-loop-task : goal.invariant-loop-task
-invariant-loop-task l = longest l.longest (drop l.task-index l.tasks) ≡ longest l.deadline l.tasks

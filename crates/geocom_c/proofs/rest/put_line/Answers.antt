@@ -1,0 +1,15 @@
+use Rattle.std.proofs.Common.{◌≡◌, ◌+◌, ◌∙◌, ℕ, ap, subst, arith, length, take, drop}
+use Rattle.geocom_c.proofs.rest.put_line.Goals as goal
+
+-- the room begins with the line and its CR LF
+pub returns-clause-given : goal.returns-clause-given
+returns-clause-given c =
+    let all : c.len.result ≡ 0 + length c.as_slice.result.now = omega (arith, c.len.ensures.value, ap length c.as_slice.ensures.value) in (
+      c.len.ensures.value ∙ ap length c.with_end-text.ensures,
+      ap (λ n. take n c.put.new.bytes) all ∙ c.put.ensures.text ∙ c.as_slice.ensures.value ∙ c.with_end-text.ensures,
+    )
+
+pub returns-clause-untouched : goal.returns-clause-untouched
+returns-clause-untouched c =
+    let all : 0 + length c.as_slice.result.now ≡ c.len.result = omega (arith, c.len.ensures.value, ap length c.as_slice.ensures.value) in
+    subst (λ (n : ℕ). drop n c.put.new.bytes ≡ drop n c.args.room.now) all c.put.ensures.untouched
