@@ -16,7 +16,7 @@ use Rattle.gc_catalogue.specs.declared.call.Call.{Call}
 use Rattle.gc_client.specs.Rule.{ById, Settlement, heard, fits, hears, settled_by_line, place_in}
 use Rattle.gc_client.specs.Settlements.{settlement_seen}
 use Rattle.gc_ask.specs.Asking.{awaited, idle, waiting_for, FirstReply, first_reply, settled_by, asked_from, asked, written_request, written_requests, lost_of}
-use Rattle.gc_ask.specs.Asking.{LinkResult, IsNext, AsksAll, IsCutAt, LosesOne, StopsAt, WritesPart}
+use Rattle.gc_ask.specs.Asking.{LinkResult, IsNext, AsksAll, ReachesCommand, IsCutAt, LosesOne, StopsAt, WritesPart}
 use Rattle.gc_texts.specs.declared.commands.Command.{Command}
 use Rattle.gc_texts.specs.Settlements.{settlement_line, settlement_lines, lines_from, WrotePartOfSettlements}
 use Rattle.gc_ask.specs.Looping.{SeenAtBoth, written_at_both}
@@ -133,27 +133,27 @@ course_start kept client seen s is = record {
 }
 
 -- by all bytes that came, also by those that come next, the commands asked so far are settled as the course says
-pub asked_so : (done : List Command) (s : RunState) (more : List ℕ) (at : Course done s) → asked done (s.given ++ more) ≡ at.settled
-asked_so done s more at =
+pub asked_as_in_course : (done : List Command) (s : RunState) (more : List ℕ) (at : Course done s) → asked done (s.given ++ more) ≡ at.settled
+asked_as_in_course done s more at =
     let came = lines_completed at.now (s.left ++ more) in
     ap (λ xs. asked_from 0 xs (lines (s.given ++ more))) (sym (append-nil done)) ∙ ap (asked_from 0 (done ++ [])) (more_came s.given s.left more at.now at.looked at.seen at.rests).0
     ∙ at.asks [] came ∙ append-nil at.settled
 
 -- where `r` is the first reply to one more command, the bytes that came settle what the course says, then that command by
 -- `r`, and then the later ones by the lines after `r`; without a reply they settle what the course says, and no more
-asked_on : (done : List Command) (s : RunState) (more : List ℕ) (at : Course done s) (command : Command) (later : List Command) (r : Option FirstReply)
+asked_past_course : (done : List Command) (s : RunState) (more : List ℕ) (at : Course done s) (command : Command) (later : List Command) (r : Option FirstReply)
     → first_reply (waiting_for (length done) command) (lines_completed at.now (s.left ++ more)) ≡ r
     → asked (done ++ command ∷ later) (s.given ++ more) ≡ at.settled ++ settled_by (waiting_for (length done) command) (asked_from (length done + 1) later) r
-asked_on done s more at command later r is =
+asked_past_course done s more at command later r is =
     let came = lines_completed at.now (s.left ++ more) in
     ap (asked_from 0 (done ++ command ∷ later)) (more_came s.given s.left more at.now at.looked at.seen at.rests).0
     ∙ at.asks (command ∷ later) came ∙ ap (λ x. at.settled ++ settled_by (waiting_for (length done) command) (asked_from (length done + 1) later) x) is
 
 -- a line that settles a request of the client `from` (`Settles`) is the first reply among the lines that were completed, and the lines
 -- of the bytes that are left come after it
-first_is : (from : ById Call) (h : ClientHeard) (s : Settles from h)
+first_reply_is : (from : ById Call) (h : ClientHeard) (s : Settles from h)
     → first_reply from (lines_completed h.rest h.bytes) ≡ Some (record { line = s.line; later = lines_completed [] h.left })
-first_is from h s = ap (first_reply from) s.seen ∙ first_reply-at from s.front s.line (lines_completed [] h.left) s.none s.fits
+first_reply_is from h s = ap (first_reply from) s.seen ∙ first_reply-at from s.front s.line (lines_completed [] h.left) s.none s.fits
 
 -- where a line settles the request of a client that waits for request k alone (`Settles`), what was settled is that one request,
 -- by that line, and the client is then the one before request k + 1
@@ -165,12 +165,12 @@ settled_is k command h s =
 
 -- where a line of the bytes that came settles one more command (`Settles`), these bytes settle what the course says, and then
 -- this command by that line
-pub asked_with : (done : List Command) (s : RunState) (more : List ℕ) (at : Course done s) (command : Command) (h : ClientHeard)
+pub asked_with_reply : (done : List Command) (s : RunState) (more : List ℕ) (at : Course done s) (command : Command) (h : ClientHeard)
     (by : Settles (waiting_for (length done) command) (heard_after at more h))
     → asked (done ++ command ∷ []) (s.given ++ more) ≡ at.settled ++ settled_by_line (awaited command) by.line ∷ []
-asked_with done s more at command h by =
-    asked_on done s more at command [] (Some (record { line = by.line; later = lines_completed [] h.left }))
-    (first_is (waiting_for (length done) command) (heard_after at more h) by)
+asked_with_reply done s more at command h by =
+    asked_past_course done s more at command [] (Some (record { line = by.line; later = lines_completed [] h.left }))
+    (first_reply_is (waiting_for (length done) command) (heard_after at more h) by)
     ∙ ap (λ zs. at.settled ++ (zs ++ [])) (hears_one (length done) command by.line by.fits).0
 
 -- where `Course` is true of the commands `done`, one more command was sent, a line settles it (`Settles`), and the line of its
@@ -216,7 +216,7 @@ course_more done command s more h new at by sent told =
 -- where `Course` is true of all commands, all were asked and settled, as `AsksAll` has it
 pub course_all : (commands : List Command) (s : RunState) → Course commands s → AsksAll commands s.given (written_at_both s.first s.latest)
 course_all commands s at =
-    let all : asked commands s.given ≡ at.settled = ap (asked commands) (sym (append-nil s.given)) ∙ asked_so commands s [] at in
+    let all : asked commands s.given ≡ at.settled = ap (asked commands) (sym (append-nil s.given)) ∙ asked_as_in_course commands s [] at in
     record {
       settled = ap length all ∙ at.count;
       sent = at.link;
@@ -231,20 +231,26 @@ pub record AtNext (commands : List Command) (s : RunState) : Type 0 where
   pub order : commands ≡ done ++ command ∷ later
   pub course : Course done s
 
+-- by all bytes that came, also those that come next, asking came to the next command
+abbrev course_comes : (commands : List Command) (s : RunState) (n : AtNext commands s) (more : List ℕ) → ReachesCommand commands (s.given ++ more)
+course_comes commands s n more = record {
+  earlier = n.done;
+  command = n.command;
+  later = n.later;
+  order = n.order;
+  settled = ap length (asked_as_in_course n.done s more n.course) ∙ n.course.count;
+}
+
 -- where the line was written that says the next command is lost, that command is lost (`LosesOne`)
 abbrev course_loses : (commands : List Command) (s : RunState) (n : AtNext commands s) (more : List ℕ) (new : SeenAtBoth)
     → Appends s.latest.sink.bytes new.sink.bytes (lines_from (length n.done) (lost_of n.command ∷ [])) → LosesOne commands (s.given ++ more) (written_at_both s.first new)
 course_loses commands s n more new told =
-    let at = n.course in
-    let so : asked n.done (s.given ++ more) ≡ at.settled = asked_so n.done s more at in
+    let course = n.course in
+    let so : asked n.done (s.given ++ more) ≡ course.settled = asked_as_in_course n.done s more course in
     record {
-      earlier = n.done;
-      command = n.command;
-      later = n.later;
-      order = n.order;
-      settled = ap length so ∙ at.count;
-      sink_took = Appends-is _ _ _ _ (sym (lines_last at.settled (length n.done) (lost_of n.command) at.count)
-          ∙ ap (λ zs. settlement_lines (zs ++ lost_of n.command ∷ [])) (sym so)) (Appends-trans _ _ _ _ _ at.sink told);
+      at = course_comes commands s n more;
+      sink_took = Appends-is _ _ _ _ (sym (lines_last course.settled (length n.done) (lost_of n.command) course.count)
+          ∙ ap (λ zs. settlement_lines (zs ++ lost_of n.command ∷ [])) (sym so)) (Appends-trans _ _ _ _ _ course.sink told);
     }
 
 -- where the next command was sent, what came doesn't settle it if the link is remote, and the line was written that says it is lost,
@@ -255,10 +261,10 @@ pub course_stops : (is_remote : Bool) (commands : List Command) (s : RunState) (
     → Appends s.latest.sink.bytes new.sink.bytes (lines_from (length n.done) (lost_of n.command ∷ []))
     → StopsAt is_remote commands (s.given ++ more) (written_at_both s.first new)
 course_stops is_remote commands s n more new none sent told = record {
-  at = course_loses commands s n more new told;
+  loses = course_loses commands s n more new told;
   sent = Appends-is _ _ _ _ (sym (all_requests_last n.done n.command)) (Appends-trans _ _ _ _ _ n.course.link sent);
-  no_more = λ is. ap (λ xs. asked xs (s.given ++ more)) n.order ∙ asked_on n.done s more n.course n.command n.later None (none is) ∙ append-nil n.course.settled
-      ∙ sym (asked_so n.done s more n.course);
+  no_more = λ is. ap (λ xs. asked xs (s.given ++ more)) n.order ∙ asked_past_course n.done s more n.course n.command n.later None (none is) ∙ append-nil n.course.settled
+      ∙ sym (asked_as_in_course n.done s more n.course);
 }
 
 -- where the link took the first `bytes` bytes of the next command's request (if the link is remote, `part` bytes, and not all), and the
@@ -269,7 +275,7 @@ pub course_cut : (is_remote : Bool) (commands : List Command) (s : RunState) (n 
     → Appends s.latest.sink.bytes new.sink.bytes (lines_from (length n.done) (lost_of n.command ∷ []))
     → IsCutAt is_remote commands (s.given ++ more) (written_at_both s.first new) count part
 course_cut is_remote commands s n more new count part bytes is cut sent told = record {
-  at = course_loses commands s n more new told;
+  loses = course_loses commands s n more new told;
   count_is = is;
   bytes = bytes;
   sent = Appends-is _ _ _ _ (ap (λ k. all_of (written_requests 0 n.done) ++ take bytes (written_request k n.command)) (sym is)) (Appends-trans _ _ _ _ _ n.course.link sent);
@@ -286,18 +292,14 @@ pub course_sink_failed : (commands : List Command) (s : RunState) (n : AtNext co
     → WritesPart commands (s.given ++ more) (written_at_both s.first new) over
 course_sink_failed commands s n more new bytes next over link ends is sent told =
     let done = n.done in
-    let at = n.course in
-    let so : asked done (s.given ++ more) ≡ at.settled = asked_so done s more at in
+    let course = n.course in
+    let so : asked done (s.given ++ more) ≡ course.settled = asked_as_in_course done s more course in
     let alone = alone_in told.earlier told.later told.next next told.order in
     let same : length done + length told.earlier ≡ length done = ap (λ (xs : List (Settlement Call)). length done + length xs) alone.0 ∙ omega arith in
     record {
-      earlier = done;
-      command = n.command;
-      later = n.later;
-      order = n.order;
-      settled = ap length so ∙ at.count;
+      at = course_comes commands s n more;
       bytes = bytes;
-      sent = Appends-trans _ _ _ _ _ at.link sent;
+      sent = Appends-trans _ _ _ _ _ course.link sent;
       link = link;
       ends = ends;
       next = next;
@@ -305,7 +307,7 @@ course_sink_failed commands s n more new bytes next over link ends is sent told 
       part = told.part;
       not_all = subst (λ (t : List ℕ). told.part < length t) (the_line same alone.1) told.not_all;
       sink_took = Appends-is _ _ _ _ (ap (λ zs. settlement_lines zs ++ take told.part (settlement_line (length done) next)) (sym so))
-          (Appends-trans _ _ _ _ _ at.sink (Appends-is _ _ _ _ (ap (λ (xs : List (Settlement Call)). lines_from (length done) xs ++ take told.part
+          (Appends-trans _ _ _ _ _ course.sink (Appends-is _ _ _ _ (ap (λ (xs : List (Settlement Call)). lines_from (length done) xs ++ take told.part
           (settlement_line (length done + length told.earlier) told.next)) alone.0 ∙ ap (take told.part) (the_line same alone.1)) told.took));
     } where
       -- a list of one element that is split round an element has that one, with nothing before it

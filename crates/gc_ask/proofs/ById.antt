@@ -15,17 +15,17 @@ one_within_limits : (k : ℕ) (c : Command) → IsWithinLimits (waiting_for k c)
 one_within_limits k c = record { digit = omega arith; few = omega arith }
 
 -- the rule's id of the oldest request that waits, where request k is the only one, is k modulo 8
-its_id : (k : ℕ) → ((k + 1) % 8 + 8 - 1 + 0) % 8 ≡ k % 8
-its_id k = omega arith
+oldest_id : (k : ℕ) → ((k + 1) % 8 + 8 - 1 + 0) % 8 ≡ k % 8
+oldest_id k = omega arith
 
 -- a reply with the id of request k fits the client that waits for it
-fits_its : (k : ℕ) (c : Command) (line : List ℕ) → heard line ≡ Some (k % 8) → fits (waiting_for k c) (heard line) ≡ true
-fits_its k c line e =
-    ap (fits (waiting_for k c)) e ∙ (fits_where_it_waits (waiting_for k c) (k % 8) (one_within_limits k c) (heard_digit line (k % 8) e)).1 (0, omega arith, its_id k)
+fits_by_id : (k : ℕ) (c : Command) (line : List ℕ) → heard line ≡ Some (k % 8) → fits (waiting_for k c) (heard line) ≡ true
+fits_by_id k c line e =
+    ap (fits (waiting_for k c)) e ∙ (fits_where_it_waits (waiting_for k c) (k % 8) (one_within_limits k c) (heard_digit line (k % 8) e)).1 (0, omega arith, oldest_id k)
 
 -- only a reply with the id of request k fits the client that waits for it
-fits_only : (k : ℕ) (c : Command) (line : List ℕ) → fits (waiting_for k c) (heard line) ≡ true → heard line ≡ Some (k % 8)
-fits_only k c line fit = by_id (heard line) refl fit where
+fits_by_id_only : (k : ℕ) (c : Command) (line : List ℕ) → fits (waiting_for k c) (heard line) ≡ true → heard line ≡ Some (k % 8)
+fits_by_id_only k c line fit = by_id (heard line) refl fit where
   -- an id for which a request waits is that of request k
   the_id : (id : ℕ) → heard line ≡ Some id → Waits (waiting_for k c) id → id ≡ k % 8
   the_id id e (place, below, same) = omega (arith, below, same)
@@ -40,7 +40,7 @@ no_first_reply : (k : ℕ) (c : Command) (came : List (List ℕ)) → HasNoReply
 no_first_reply k c [] none = refl
 no_first_reply k c (line ∷ later) none = elim (fits (waiting_for k c) (heard line)) as
     (λ v. fits (waiting_for k c) (heard line) ≡ v → cond v (Some (record { line = line; later = later })) (first_reply (waiting_for k c) later) ≡ None) [
-      | true ↦ λ e. absurd (none.0 (fits_only k c line e))
+      | true ↦ λ e. absurd (none.0 (fits_by_id_only k c line e))
       | false ↦ λ e. no_first_reply k c later none.1
     ] refl
 
@@ -48,7 +48,7 @@ no_first_reply k c (line ∷ later) none = elim (fits (waiting_for k c) (heard l
 pub asks_by_id : (k : ℕ) (command : Command) (later : List Command) → AsksById k command later
 asks_by_id k command later = record {
   settled = λ front line rest none its.
-      let fit = fits_its k command line its in
+      let fit = fits_by_id k command line its in
       ap (settled_by (waiting_for k command) (asked_from (k + 1) later)) (first_reply-at (waiting_for k command) front line rest (no_first_reply k command front none) fit)
       ∙ ap (λ (zs : List (Settlement Call)). zs ++ asked_from (k + 1) later rest) (hears_one k command line fit).0;
   unsettled = λ came none. ap (settled_by (waiting_for k command) (asked_from (k + 1) later)) (no_first_reply k command came none);

@@ -4,10 +4,10 @@ use Rattle.std.proofs.Common.{◌≡◌, ℕ, ◌<◌, ◌≤◌, Bool, true, fa
 use Rattle.std.specs.Io.KnownBytes.{Consumes}
 use Rattle.std.proofs.lemmas.Bool.{cases_lt}
 use Rattle.std.proofs.KnownBytes.{Consumes-nil}
-use Rattle.gc_lines.specs.Answering.{Ports}
+use Rattle.gc_lines.specs.Answering.{Ports, Taken}
 use Rattle.gc_ask.specs.AskRuns.{SeenAtClient}
-use Rattle.gc_ask.specs.Asking.{EndsWith, LinkResult, UseEnds, Taken}
-use Rattle.gc_ask.specs.Links.{BothStep, CountsReplies, ReadEnds, SeenStep, Sends, StepEnds, no_ports}
+use Rattle.gc_ask.specs.Asking.{EndsWith, LinkResult, UseEnds}
+use Rattle.gc_ask.specs.Links.{BothStep, CountsReplies, ReadEnds, SeenStep, Sends, StaysOpen, StepEnds, no_ports}
 use Rattle.gc_ask.specs.Looping.{BothEnd, SeenAtBoth, seen_at_both}
 use Rattle.gc_texts.specs.declared.fault.RunFault.{RunFault}
 use Rattle.gc_texts.specs.declared.fault.RunFault.TheVariants.{Read, Write, TooManyReads, LinkClosed, Output}
@@ -43,9 +43,9 @@ sends_not_too_many place text old new r s is = (subst (λ (e : LinkResult). Send
 -- waiting for a reply, while nothing was written, is a step of the end with the result of the waiting
 pub step_hears : (old new : Ports) (after : ℕ) (r : LinkResult) → ReadEnds (source_of old) (source_of new) after r
     → old.reads ≤ new.reads → new.sink_failed ≡ old.sink_failed → StepEnds old new r
-step_hears old new after (Ok u) h grows sink = record { ends = (h.0, h.2, sink); same = h.1; grows = grows }
-step_hears old new after (Err Read) h grows sink = record { ends = (h.0, h.3, sink); same = h.1; grows = grows }
-step_hears old new after (Err TooManyReads) h grows sink = record { ends = (h.0, h.3, sink); same = h.1; grows = grows }
+step_hears old new after (Ok u) h grows sink = record { ends = (h.0.0, h.1, sink); same = h.0.1; grows = grows }
+step_hears old new after (Err Read) h grows sink = record { ends = (h.0.0, h.2, sink); same = h.0.1; grows = grows }
+step_hears old new after (Err TooManyReads) h grows sink = record { ends = (h.0.0, h.2, sink); same = h.0.1; grows = grows }
 step_hears old new after (Err LinkClosed) h grows sink = record { ends = (h.0, h.1, h.2, sink); same = λ e. absurd (omega (arith, e, h.0)); grows = grows }
 step_hears old new after (Err (Write count part)) h grows sink = absurd h
 step_hears old new after (Err other) h grows sink = absurd h
@@ -88,33 +88,26 @@ none_in_both old mid new mid_end new_end more going on same below = elim (cases_
   | inr still ↦ let stays : new ≡ mid = omega (arith, still, more) in same stays ∙ going (omega (arith, stays, below))
 ]
 
+-- a source that stays open from `old` to `mid`, and from `mid` to `new`, stays open from `old` to `new`
+open_then : (old mid new : Input) → old.reads ≤ mid.reads → mid.reads ≤ new.reads → StaysOpen old mid → StaysOpen mid new → StaysOpen old new
+open_then old mid new more on e f = (
+  none_in_both old.reads mid.reads new.reads mid.ended new.ended on e.0 f.0 f.1,
+  λ same. f.1 (omega (arith, same, more, on)) ∙ e.1 (omega (arith, same, more, on)),
+)
+
 -- where reading went on well from `old` to `mid`, and then ended so by `new`, that is how it ended from `old` on
 pub ends_then : (old mid new : Input) (between after : ℕ) (r : LinkResult) → (more : old.reads ≤ mid.reads) → (on : mid.reads ≤ new.reads)
     → ReadEnds old mid between (Ok tt) → ReadEnds mid new after r → ReadEnds old new after r
-ends_then old mid new between after (Ok u) more on e f = (
-  none_in_both old.reads mid.reads new.reads mid.ended new.ended on e.0 f.0 f.1,
-  λ same. f.1 (omega (arith, same, more, on)) ∙ e.1 (omega (arith, same, more, on)),
-  f.2 ∙ e.2,
-)
-ends_then old mid new between after (Err Read) more on e f = (
-  none_in_both old.reads mid.reads new.reads mid.ended new.ended on e.0 f.0 f.1,
-  λ same. f.1 (omega (arith, same, more, on)) ∙ e.1 (omega (arith, same, more, on)),
-  f.2,
-  f.3,
-)
-ends_then old mid new between after (Err TooManyReads) more on e f = (
-  none_in_both old.reads mid.reads new.reads mid.ended new.ended on e.0 f.0 f.1,
-  λ same. f.1 (omega (arith, same, more, on)) ∙ e.1 (omega (arith, same, more, on)),
-  f.2,
-  f.3 ∙ e.2,
-)
-ends_then old mid new between after (Err LinkClosed) more on e f = (omega (arith, f.0, more), f.1, f.2 ∙ e.2)
+ends_then old mid new between after (Ok u) more on e f = (open_then old mid new more on e.0 f.0, f.1 ∙ e.1)
+ends_then old mid new between after (Err Read) more on e f = (open_then old mid new more on e.0 f.0, f.1, f.2)
+ends_then old mid new between after (Err TooManyReads) more on e f = (open_then old mid new more on e.0 f.0, f.1, f.2 ∙ e.1)
+ends_then old mid new between after (Err LinkClosed) more on e f = (omega (arith, f.0, more), f.1, f.2 ∙ e.1)
 ends_then old mid new between after (Err (Write count part)) more on e f = absurd f
 ends_then old mid new between after (Err other) more on e f = absurd f
 
 -- where reading ended with `TooManyReads`, no read is left
 pub ends_too_many : (old new : Input) (after : ℕ) (r : LinkResult) → ReadEnds old new after r → r ≡ Err TooManyReads → after ≡ 0
-ends_too_many old new after r e is = (subst (λ (x : LinkResult). ReadEnds old new after x) is e).2
+ends_too_many old new after r e is = (subst (λ (x : LinkResult). ReadEnds old new after x) is e).1
 
 -- reading never ends with `Write`
 pub ends_uncut : (place : ℕ) (old new : Input) (after : ℕ) (fault : RunFault) → ReadEnds old new after (Err fault) → CountsReplies place (Err fault)
@@ -151,24 +144,30 @@ link_step old mid new (Err other) g s = absurd s.ends
 sound_step : (old mid new : Ports) → Sound old mid → StepEnds mid new (Ok tt) → Sound old new
 sound_step old mid new g s = record { ends = link_step old mid new (Ok tt) g s; grows = omega (arith, g.grows, s.grows) }
 
+-- both ends of a link are sound so far (`Sound`)
+pub record BothSound (first latest : SeenAtBoth) : Type 0 where
+  pub client : Sound first.client latest.client
+  pub instrument : Sound first.instrument latest.instrument
+
 -- two ends that were sound before a step that went well are sound after it
-pub sound_on : (first old new : SeenAtBoth) → Sound first.client old.client → Sound first.instrument old.instrument
-    → EndsWith (SeenStep old new) old.sink.failed new.sink.failed (Ok tt) → Sound first.client new.client × Sound first.instrument new.instrument
-sound_on first old new client instrument ends =
+pub sound_on : (first old new : SeenAtBoth) → BothSound first old → EndsWith (SeenStep old new) old.sink.failed new.sink.failed (Ok tt) → BothSound first new
+sound_on first old new sound ends =
     let both = both_ok old.client new.client old.instrument new.instrument ends.0 in
-    (sound_step first.client old.client new.client client both.0, sound_step first.instrument old.instrument new.instrument instrument both.1)
+    record {
+      client = sound_step first.client old.client new.client sound.client both.0;
+      instrument = sound_step first.instrument old.instrument new.instrument sound.instrument both.1;
+    }
 
 -- where two ends were sound, and then made a step with this result, their whole use ended with this result
-pub both_end : (first old new : SeenAtBoth) (r : LinkResult) → Sound first.client old.client → Sound first.instrument old.instrument → SeenStep old new r
-    → BothEnd first new r
-both_end first old new r client instrument (inl s) =
-    inl (link_step first.client old.client new.client r client s.0, link_step first.instrument old.instrument new.instrument (Ok tt) instrument s.1)
-both_end first old new r client instrument (inr s) =
-    inr (link_step first.client old.client new.client (Ok tt) client s.0, link_step first.instrument old.instrument new.instrument r instrument s.1)
+pub both_end : (first old new : SeenAtBoth) (r : LinkResult) → BothSound first old → SeenStep old new r → BothEnd first new r
+both_end first old new r sound (inl s) =
+    inl (link_step first.client old.client new.client r sound.client s.0, link_step first.instrument old.instrument new.instrument (Ok tt) sound.instrument s.1)
+both_end first old new r sound (inr s) =
+    inr (link_step first.client old.client new.client (Ok tt) sound.client s.0, link_step first.instrument old.instrument new.instrument r sound.instrument s.1)
 
 -- where both ends are sound, their whole use ended well, as `BothEnd` has it
-pub both_sound : (first new : SeenAtBoth) → Sound first.client new.client → Sound first.instrument new.instrument → BothEnd first new (Ok tt)
-both_sound first new client instrument = inl (client.ends, instrument.ends)
+pub both_well : (first new : SeenAtBoth) → BothSound first new → BothEnd first new (Ok tt)
+both_well first new sound = inl (sound.client.ends, sound.instrument.ends)
 
 -- a step of the link's ends never ends with `Output`, the fault of the sink of the settlements
 pub no_output : (old new : SeenAtBoth) → SeenStep old new (Err Output) → ⊥
@@ -193,8 +192,8 @@ remote_end old new (Err other) (inr s) = absurd s.1
 
 -- `EndsWith over` implies `EndsWith other`, if `over` implies `other`, and if whether the sink had failed is the same at the moment from
 -- which on `over` speaks (`mid`) as at an earlier one, from which on `other` does (`first`)
-pub ends_as : (over other : LinkResult → Type 0) → ((r : LinkResult) → over r → other r) → (first mid now : Bool) → mid ≡ first → (r : LinkResult)
+pub ends_with_weaker : (over other : LinkResult → Type 0) → ((r : LinkResult) → over r → other r) → (first mid now : Bool) → mid ≡ first → (r : LinkResult)
     → EndsWith over mid now r → EndsWith other first now r
-ends_as over other so first mid now same (Ok u) ends = (so (Ok u) ends.0, ends.1 ∙ same)
-ends_as over other so first mid now same (Err Output) ends = (ends.0, (ends.1.0, so ends.1.0 ends.1.1))
-ends_as over other so first mid now same (Err e) ends = (so (Err e) ends.0, ends.1 ∙ same)
+ends_with_weaker over other so first mid now same (Ok u) ends = (so (Ok u) ends.0, ends.1 ∙ same)
+ends_with_weaker over other so first mid now same (Err Output) ends = (ends.0, (ends.1.0, so ends.1.0 ends.1.1))
+ends_with_weaker over other so first mid now same (Err e) ends = (so (Err e) ends.0, ends.1 ∙ same)

@@ -6,18 +6,20 @@ use Rattle.std.proofs.Common.{◌≡◌, ℕ, ◌<◌, Bool, true, false, List, 
 use Rattle.std.specs.Io.KnownBytes.{Appends}
 use Rattle.std.proofs.lemmas.Bool.{false≢true}
 use Rattle.std.proofs.lemmas.List.{take_all}
+use Rattle.gc_lines.specs.Ports.{FailsWith}
 use Rattle.gc_lines.proofs.Known.{Appends-is}
 use Rattle.gc_catalogue.specs.declared.call.Call.{Call}
 use Rattle.gc_client.specs.declared.settlement.Settlement.{Settlement}
 use Rattle.gc_client.specs.Rule.{ById, settled_by_line, restarts}
 use Rattle.gc_client.specs.Rule
 use Rattle.gc_client.specs.Settlements.{AreSettlements, settlement_seen}
-use Rattle.gc_ask.specs.Asking.{Asks, awaited, waiting_for, written_request, lost_of, EndsWith, LinkResult, UseEnds, Taken}
+use Rattle.gc_lines.specs.Answering.{Taken}
+use Rattle.gc_ask.specs.Asking.{Asks, awaited, waiting_for, written_request, lost_of, EndsWith, LinkResult, UseEnds}
 use Rattle.gc_ask.specs.Links.{CountsReplies, ReadEnds, SeenStep, Sends, TakesRequest}
 use Rattle.gc_ask.specs.Listening.{AsksOne, Exchanges, ClientHeard, HearsReply, Settles}
 use Rattle.gc_ask.specs.Looping.{BothEnd, SeenAtBoth, written_at_both}
-use Rattle.gc_ask.proofs.Asked.{AtNext, Course, RunState, heard_after, later_on, course_more, course_stops, course_cut, course_sink_failed, settled_is, asked_with}
-use Rattle.gc_ask.proofs.Ends.{Sound, both_end, no_output}
+use Rattle.gc_ask.proofs.Asked.{AtNext, Course, RunState, heard_after, later_on, course_more, course_stops, course_cut, course_sink_failed, settled_is, asked_with_reply}
+use Rattle.gc_ask.proofs.Ends.{BothSound, both_end, no_output}
 use Rattle.gc_texts.specs.declared.commands.Command.{Command}
 use Rattle.gc_texts.specs.declared.fault.RunFault.{RunFault}
 use Rattle.gc_texts.specs.declared.fault.RunFault.TheVariants.{Read, Write, TooManyReads, LinkClosed, Output}
@@ -91,38 +93,35 @@ sent_part is_remote place command h a b other x = (length (written_request place
 
 -- settlements were written, with this result, into a sink of which `old` was seen before, and `new` after
 abbrev pub WroteInto : (place : ℕ) → List (Rule.Settlement Call) → (old new : Taken) → LinkResult → Type 0
-WroteInto place settled old new r = WroteSettlements place settled old.bytes new.bytes old.failed new.failed r
+WroteInto place settled old new r = WroteSettlements place settled old.bytes new.bytes r × FailsWith r old.failed new.failed
 
--- where the link had a fault, and the line of the lost command was written, asking this command ended with that fault (`AsksOne`)
-pub asks_lost : (is_remote : Bool) (place : ℕ) (command : Command) (h : ClientHeard) (to : ById Call) (now : List (Settlement Call)) (old new : SeenAtBoth) (e : RunFault)
-    → SeenStep old new (Err e) → Exchanges is_remote place command h old.client.taken new.client.taken (Err e) → map settlement_seen now ≡ lost_of command ∷ []
-    → Appends old.sink.bytes new.sink.bytes (lines_from place (map settlement_seen now))
-    → AsksOne is_remote place command (record h { client = to }) (written_at_both old new) (SeenStep old new) (Err e)
-asks_lost is_remote place command h to now old new e ends x alone wrote =
-    by_fault e ends x (Appends-is _ _ _ _ (ap (lines_from place) alone) wrote) where
-      -- by the fault e of the exchange: asking ended with it
-      by_fault : (e : RunFault) → SeenStep old new (Err e) → Exchanges is_remote place command h old.client.taken new.client.taken (Err e)
-          → Appends old.sink.bytes new.sink.bytes (lines_from place (lost_of command ∷ []))
-          → AsksOne is_remote place command (record h { client = to }) (written_at_both old new) (SeenStep old new) (Err e)
-      by_fault Output ends x wrote = absurd (no_output old new ends)
-      by_fault other ends x wrote = (x.0, wrote)
+-- the use of the link ended with the fault e, and so did the exchange; what is to be written then says that the command is lost
+module _
+    (is_remote : Bool) (place : ℕ) (command : Command) (h : ClientHeard) (to : ById Call) (now : List (Settlement Call)) (old new : SeenAtBoth) (e : RunFault)
+    (ends : SeenStep old new (Err e)) (exchanged : Exchanges is_remote place command h old.client.taken new.client.taken (Err e))
+    (alone : map settlement_seen now ≡ lost_of command ∷ []) where
+  -- where that line was written, asking this command ended with the fault e (`AsksOne`)
+  pub asks_lost : Appends old.sink.bytes new.sink.bytes (lines_from place (map settlement_seen now))
+      → AsksOne is_remote place command (record h { client = to }) (written_at_both old new) (SeenStep old new) (Err e)
+  asks_lost wrote = by_fault e ends exchanged (Appends-is _ _ _ _ (ap (lines_from place) alone) wrote) where
+    -- by the fault of the exchange: asking ended with it
+    by_fault : (g : RunFault) → SeenStep old new (Err g) → Exchanges is_remote place command h old.client.taken new.client.taken (Err g)
+        → Appends old.sink.bytes new.sink.bytes (lines_from place (lost_of command ∷ []))
+        → AsksOne is_remote place command (record h { client = to }) (written_at_both old new) (SeenStep old new) (Err g)
+    by_fault Output with_output x wrote = absurd (no_output old new with_output)
+    by_fault other with_other x wrote = (x.0, wrote)
 
--- where the link had the fault e, and the sink failed as it took the line of the lost command, asking this command ended with
--- the fault of the sink (f)
-pub asks_sink_failed : (is_remote : Bool) (place : ℕ) (command : Command) (h : ClientHeard) (to : ById Call) (now : List (Settlement Call)) (old new : SeenAtBoth)
-    (e f : RunFault) → SeenStep old new (Err e) → Exchanges is_remote place command h old.client.taken new.client.taken (Err e)
-    → map settlement_seen now ≡ lost_of command ∷ []
-    → WroteInto place (map settlement_seen now) old.sink new.sink (Err f)
-    → AsksOne is_remote place command (record h { client = to }) (written_at_both old new) (SeenStep old new) (Err f)
-asks_sink_failed is_remote place command h to now old new e f ends ex alone wrote =
-    by_fault f (subst (λ (zs : List (Rule.Settlement Call)). WroteInto place zs old.sink new.sink (Err f)) alone wrote) where
-      -- by the fault f of the writing, which is the sink's: asking ended with it
-      by_fault : (f : RunFault) → WroteInto place (lost_of command ∷ []) old.sink new.sink (Err f)
-          → AsksOne is_remote place command (record h { client = to }) (written_at_both old new) (SeenStep old new) (Err f)
-      by_fault Output t =
-          let sent = sent_part is_remote place command h old.client.taken new.client.taken e ex in
-          inr (e, ends, (sent.0, sent.1, t.0))
-      by_fault other t = absurd t
+  -- where the sink failed as it took that line, asking this command ended with the fault of the sink (f)
+  pub asks_sink_failed : (f : RunFault) → WroteInto place (map settlement_seen now) old.sink new.sink (Err f)
+      → AsksOne is_remote place command (record h { client = to }) (written_at_both old new) (SeenStep old new) (Err f)
+  asks_sink_failed f wrote = by_fault f (subst (λ (zs : List (Rule.Settlement Call)). WroteInto place zs old.sink new.sink (Err f)) alone wrote) where
+    -- by the fault of the writing, which is the sink's: asking ended with it
+    by_fault : (g : RunFault) → WroteInto place (lost_of command ∷ []) old.sink new.sink (Err g)
+        → AsksOne is_remote place command (record h { client = to }) (written_at_both old new) (SeenStep old new) (Err g)
+    by_fault Output t =
+        let sent = sent_part is_remote place command h old.client.taken new.client.taken e exchanged in
+        inr (e, ends, (sent.0, sent.1, t.0))
+    by_fault other t = absurd t.0
 
 -- where the request was sent whole, the link's use ended well, a reply settled the request (`Settles`), and the line of the
 -- settlement was written, or the sink failed, asking this command ended as that writing did (`AsksOne`)
@@ -134,14 +133,14 @@ asks_written is_remote place command h now old new (Ok u) link sent s is wrote =
     ((sent, s), subst (λ (zs : List (Settlement Call)). Appends old.sink.bytes new.sink.bytes (lines_from place (map settlement_seen zs))) is wrote.0)
 asks_written is_remote place command h now old new (Err Output) link sent s is wrote =
     inl (link, sent, s, subst (λ (zs : List (Settlement Call)). WrotePartOfSettlements place (map settlement_seen zs) old.sink.bytes new.sink.bytes) is wrote.0)
-asks_written is_remote place command h now old new (Err other) link sent s is wrote = absurd wrote
+asks_written is_remote place command h now old new (Err other) link sent s is wrote = absurd wrote.0
 
 -- where the use of the link ended well, and settlements were written with the result r, the ports are as `EndsWith` says of r
 pub ends_written : (old new : SeenAtBoth) (place : ℕ) (settled : List (Rule.Settlement Call)) (r : LinkResult) → SeenStep old new (Ok tt)
     → WroteInto place settled old.sink new.sink r → EndsWith (SeenStep old new) old.sink.failed new.sink.failed r
 ends_written old new place settled (Ok u) ends wrote = (ends, wrote.1)
 ends_written old new place settled (Err Output) ends wrote = (wrote.1, (Ok tt, ends))
-ends_written old new place settled (Err other) ends wrote = absurd wrote
+ends_written old new place settled (Err other) ends wrote = absurd wrote.0
 
 -- where the use of the link ended with the fault e, and whether the sink has failed is as before, the ports are as `EndsWith`
 -- says of e
@@ -156,20 +155,19 @@ pub ends_sink_failed : (old new : SeenAtBoth) (place : ℕ) (settled : List (Rul
     → WroteInto place settled old.sink new.sink (Err f)
     → EndsWith (SeenStep old new) old.sink.failed new.sink.failed (Err f)
 ends_sink_failed old new place settled e Output ends wrote = (wrote.1, (Err e, ends))
-ends_sink_failed old new place settled e other ends wrote = absurd wrote
+ends_sink_failed old new place settled e other ends wrote = absurd wrote.0
 
 -- The run.
 
--- where the next command (`AtNext`) ended with a fault, and both ends were sound before it (`Sound`), asking all commands ended with
+-- where the next command (`AtNext`) ended with a fault, and both ends were sound before it (`BothSound`), asking all commands ended with
 -- that fault: by the fault, asking stopped at this command, its request or reply was cut, or the sink failed. s says where the run
 -- was before the command, and `new` is what is seen after it
 pub run_fault : (is_remote : Bool) (commands : List Command) (place : ℕ) (s : RunState) (n : AtNext commands s) (more : List ℕ) (h : ClientHeard)
-    (new : SeenAtBoth) (e : RunFault) → Sound s.first.client s.latest.client → Sound s.first.instrument s.latest.instrument
-    → length n.done ≡ place
+    (new : SeenAtBoth) (e : RunFault) → BothSound s.first s.latest → length n.done ≡ place
     → AsksOne is_remote place n.command (heard_after n.course more h) (written_at_both s.latest new) (SeenStep s.latest new) (Err e)
     → EndsWith (SeenStep s.latest new) s.latest.sink.failed new.sink.failed (Err e)
     → Asks is_remote commands (s.given ++ more) (written_at_both s.first new) (BothEnd s.first new) (Err e)
-run_fault is_remote commands place s n more h new e client instrument is one ends =
+run_fault is_remote commands place s n more h new e sound is one ends =
     by_fault e (subst (λ k. AsksOne is_remote k n.command (heard_after n.course more h) (written_at_both s.latest new) (SeenStep s.latest new) (Err e)) (sym is) one) ends where
       -- how the two ends of the link were used in the whole run
       over : LinkResult → Type 0
@@ -177,7 +175,7 @@ run_fault is_remote commands place s n more h new e client instrument is one end
 
       -- the whole use of the two ends ended as the last step did
       whole : (r : LinkResult) → SeenStep s.latest new r → over r
-      whole r = both_end s.first s.latest new r client instrument
+      whole r = both_end s.first s.latest new r sound
 
       -- a result that neither end of the link can have is that of no step
       none : {e : RunFault} → (UseEnds s.latest.client new.client (Err e) → ⊥) → (UseEnds s.latest.instrument new.instrument (Err e) → ⊥)
@@ -200,7 +198,7 @@ run_fault is_remote commands place s n more h new e client instrument is one end
           let text = written_request (length n.done) n.command in
           let next = settled_by_line (awaited n.command) o.2.line in
           course_sink_failed commands s n more new (length text) next over (Ok tt) (whole (Ok tt) o.0)
-          (λ so. asked_with n.done s more n.course n.command h o.2 ∙ ap (λ zs. zs ++ next ∷ []) (sym so))
+          (λ so. asked_with_reply n.done s more n.course n.command h o.2 ∙ ap (λ zs. zs ++ next ∷ []) (sym so))
           (taken_as_front s.latest.client.taken new.client.taken text o.1)
           (subst (λ (zs : List (Rule.Settlement Call)). WrotePartOfSettlements (length n.done) zs s.latest.sink.bytes new.sink.bytes) is.0 o.3)
       by_fault Output (inr o) ends =

@@ -150,15 +150,19 @@ first_line f line fs e = filter_map-append line_in (f ∷ []) fs ∙ ap (λ zs. 
   alone None e = (cc)
   alone (Some x) e = ap (λ (l : List ℕ). l ∷ []) (cc)
 
--- if a frame, as the assembler gives it, has a line, that is the first line of the bytes (`TakesLine`)
+-- the frame that an assembler gives of the bytes `left` after `rest`: without a line feed it is `More`; else the bytes through the first
+-- line feed were used, the frame is that of `rest` and the bytes before the line feed, and the assembler keeps nothing
+pub record GivesFrame (rest left : List ℕ) (used : ℕ) (frame : Frame) (kept : Kept) : Type 0 where
+  pub unended : position is_line_feed left ≡ None → frame ≡ More
+  pub ended : (at : ℕ) → position is_line_feed left ≡ Some at → (used ≡ at + 1) × (frame ≡ frame_of (rest ++ take at left)) × StandsFor kept []
+
+-- if the frame that an assembler gives has a line, that is the first line of the bytes (`TakesLine`)
 takes_line : (rest left : List ℕ) (used : ℕ) (frame : Frame) (line : List ℕ) (kept : Kept) → line_in frame ≡ Some line
-    → (position is_line_feed left ≡ None → frame ≡ More)
-    → ((at : ℕ) → position is_line_feed left ≡ Some at → (used ≡ at + 1) × (frame ≡ frame_of (rest ++ take at left)) × StandsFor kept [])
-    → TakesLine rest left used line kept
-takes_line rest left used frame line kept is more whole = elim (position is_line_feed left) as (λ v. position is_line_feed left ≡ v → TakesLine rest left used line kept) [
-  | None ↦ λ e. absurd (no_line (line_in frame) (ap line_in (more e)) is)
+    → GivesFrame rest left used frame kept → TakesLine rest left used line kept
+takes_line rest left used frame line kept is gives = elim (position is_line_feed left) as (λ v. position is_line_feed left ≡ v → TakesLine rest left used line kept) [
+  | None ↦ λ e. absurd (no_line (line_in frame) (ap line_in (gives.unended e)) is)
   | Some at ↦ λ e.
-      let w = whole at e in
+      let w = gives.ended at e in
       let cut = cut_some rest left at e in
       let its : line_in (frame_of (rest ++ take at left)) ≡ Some line = ap line_in (sym w.1) ∙ is in
       record {
@@ -179,15 +183,14 @@ settling_line : (a b : ById Call) (o : Option (List ℕ)) (settled : List (Settl
 settling_line a b None settled t = absurd t
 settling_line a b (Some line) settled t = (line, refl, t.0, t.1, t.2)
 
--- where the bytes before `h.left` were passed (`Passed`), and the line of the next frame settles a request, the bytes settle that
--- request (`Settles`); `used` and `frame` are what the assembler gave for `h.left`
+-- where the bytes before `h.left` were passed (`Passed`), and the line of the frame that the assembler gives of `h.left` settles a request,
+-- the bytes settle that request (`Settles`)
 pub passed_settles : (from : ById Call) (h next : ClientHeard) (used : ℕ) (frame : Frame) → (p : Passed from h)
-    → TakesFrame h.client next.client (line_in frame) next.settled true → (more : position is_line_feed h.left ≡ None → frame ≡ More)
-    → (whole : (at : ℕ) → position is_line_feed h.left ≡ Some at → (used ≡ at + 1) × (frame ≡ frame_of (p.now ++ take at h.left)) × StandsFor next.kept [])
+    → TakesFrame h.client next.client (line_in frame) next.settled true → GivesFrame p.now h.left used frame next.kept
     → Settles from (used_up h next used)
-passed_settles from h next used frame p taken more whole =
+passed_settles from h next used frame p taken gives =
     let (line, is, fit, settles, client) = settling_line h.client next.client (line_in frame) next.settled taken in
-    let t = takes_line p.now h.left used frame line next.kept is more whole in
+    let t = takes_line p.now h.left used frame line next.kept is gives in
     record {
       front = p.front;
       line = line;

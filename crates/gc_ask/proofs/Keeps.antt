@@ -1,6 +1,6 @@
 -- Callers who are served one after the other, and what is written of them. `ServesCallers` says how many callers were served, which ends
 -- their connections had, and that the messages grew by the lines of these.
-use Rattle.std.proofs.Common.{◌≡◌, ℕ, suc, ◌+◌, Bool, true, List, [], ◌∷◌, ◌++◌, length, Option, Some, None, refl, sym, ap, ◌∙◌, arith, append_assoc, length-append, codes}
+use Rattle.std.proofs.Common.{◌≡◌, ℕ, suc, ◌+◌, Bool, true, List, [], ◌∷◌, ◌++◌, length, Option, Some, None, refl, sym, ap, ◌∙◌, subst, arith, append_assoc, length-append, codes}
 use Rattle.std.proofs.lemmas.List.{append-nil}
 use Rattle.std.specs.Fmt.{decimal}
 use Rattle.std.specs.Io.KnownBytes.{Appends}
@@ -14,14 +14,12 @@ use Rattle.gc_ask.specs.declared.callers.CallerFault.TheVariants.{Socket}
 -- where the ends that are known grew by some, and then by others, they grew by both in this order
 pub adds_more : (a b c : Option (List ConnectionEnd)) (xs ys : List ConnectionEnd) → AddsEnds a b xs → AddsEnds b c ys → AddsEnds a c (xs ++ ys)
 adds_more None b c xs ys h k = tt
-adds_more (Some a) None c xs ys h k = absurd h
-adds_more (Some a) (Some b) None xs ys h k = absurd k
-adds_more (Some a) (Some b) (Some c) xs ys h k = k ∙ ap (λ zs. zs ++ ys) h ∙ append_assoc a xs ys
+adds_more (Some a) b c xs ys h k = subst (λ (o : Option (List ConnectionEnd)). AddsEnds o c ys) h k ∙ ap Some (append_assoc a xs ys)
 
 -- ends that stayed the same grew by none
 pub adds_none : (a : Option (List ConnectionEnd)) → AddsEnds a a []
 adds_none None = tt
-adds_none (Some a) = sym (append-nil a)
+adds_none (Some a) = ap Some (sym (append-nil a))
 
 -- what is written of connections, the first of which has the number n, and of one more is what is written of them, and then what
 -- is written of that one under the next number

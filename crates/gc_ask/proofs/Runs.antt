@@ -2,8 +2,8 @@
 use Rattle.std.proofs.Common.{◌≡◌, ℕ, Bool, true, List, Ok, Err, inl, inr, refl, ap, subst, arith}
 use Rattle.gc_ask.specs.AskRuns.{AskRuns, AsksAtClient, SeenAtClient, written_at_client}
 use Rattle.gc_ask.specs.Asking.{Asks, LinkResult, UseEnds, WritesPart, Written}
-use Rattle.gc_ask.specs.Looping.{AsksAtBoth, BothEnd, RunsAtBoth, SeenAtBoth, written_at_both}
-use Rattle.gc_ask.proofs.Ends.{at_remote, remote_end, ends_as}
+use Rattle.gc_ask.specs.Looping.{AsksAtBoth, BothEnd, RunsAtBoth, SeenAtBoth, at_client, written_at_both}
+use Rattle.gc_ask.proofs.Ends.{at_remote, remote_end, ends_with_weaker}
 use Rattle.gc_texts.specs.declared.commands.Command.{Command}
 use Rattle.gc_texts.specs.declared.fault.RunFault.TheVariants.{Read, Write, TooManyReads, LinkClosed, Output, Memory}
 use Rattle.gc_texts.specs.WholeTexts.{Input}
@@ -12,11 +12,7 @@ use Rattle.gc_texts.specs.WholeTexts.{Input}
 writes_part_weaker : (commands : List Command) (given : List ℕ) (w : Written) (over other : LinkResult → Type 0) → ((r : LinkResult) → over r → other r)
     → WritesPart commands given w over → WritesPart commands given w other
 writes_part_weaker commands given w over other so t = record {
-  earlier = t.earlier;
-  command = t.command;
-  later = t.later;
-  order = t.order;
-  settled = t.settled;
+  at = t.at;
   bytes = t.bytes;
   sent = t.sent;
   link = t.link;
@@ -49,13 +45,13 @@ over_remote commands most old new r x = record {
   asks = asks_weaker true commands x.given (written_at_client old new) (BothEnd (at_remote old) (at_remote new)) (UseEnds old.link new.link) (remote_end old new) r x.asks;
   bound = omega (arith, x.bound);
   too_many = λ is. omega (arith, x.too_many is);
-  ends = ends_as (BothEnd (at_remote old) (at_remote new)) (UseEnds old.link new.link) (remote_end old new) old.sink.failed old.sink.failed new.sink.failed refl r x.ends;
+  ends = ends_with_weaker (BothEnd (at_remote old) (at_remote new)) (UseEnds old.link new.link) (remote_end old new) old.sink.failed old.sink.failed new.sink.failed refl r x.ends;
 }
 
 -- a run of a text over a remote link is what `AskRuns` says
 pub runs_remote : (text_old text_new : Input) (most : ℕ) (old new : SeenAtClient) (r : LinkResult)
     → RunsAtBoth true text_old text_new most (at_remote old) (at_remote new) r → AskRuns text_old text_new most old new r
-runs_remote text_old text_new most old new r (given, gave, few, inl x) = (given, gave, few, inl (x.0, x.1, x.2, ap (λ (s : SeenAtBoth). record { link = s.client; sink = s.sink }) x.3))
+runs_remote text_old text_new most old new r (given, gave, few, inl x) = (given, gave, few, inl (x.0, x.1, x.2, ap at_client x.3))
 runs_remote text_old text_new most old new r (given, gave, few, inr x) = (given, gave, few, inr (x.0, x.1, over_remote x.0 most old new r x.2))
 
 -- asking commands never ends with `Memory`

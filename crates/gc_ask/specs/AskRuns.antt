@@ -1,10 +1,10 @@
 -- A command text that is read whole and asked: this project's own.
 use Rattle.std.specs.Prelude.{◌≡◌, true, ℕ, ◌+◌, ◌*◌, ◌-◌, ◌≤◌, List, length, Err}
 use Rattle.std.specs.Io.KnownBytes.{Consumes}
-use Rattle.gc_lines.specs.Answering.{Ports, ports_of}
+use Rattle.gc_lines.specs.Answering.{Ports, ports_of, Taken, taken_by}
 use Rattle.gc_lines.specs.declared.ports.Source.{Ghosts as Source}
 use Rattle.gc_lines.specs.declared.ports.Sink.{Ghosts as Sink}
-use Rattle.gc_ask.specs.Asking.{AreFresh, Taken, Written, Asks, LinkResult, UseEnds, EndsWith, RunsConnected, RunsText, taken_by}
+use Rattle.gc_ask.specs.Asking.{AreFresh, Written, Asks, LinkResult, UseEnds, EndsWith, RunsConnected, RunsText}
 use Rattle.gc_ask.specs.declared.unused.TheConstants.{ROOM}
 use Rattle.gc_texts.specs.WholeTexts.{Input}
 use Rattle.gc_texts.specs.declared.commands.Command.{Command}

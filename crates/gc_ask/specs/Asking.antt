@@ -1,12 +1,10 @@
 -- Requests that are asked one at a time, each once the one before it is settled: this project's own. Request lines are the
--- manual's. Below, `given` are all bytes that the link gave, and `w` is what the link and the sink of the settlements took;
--- `earlier`, `command` and `later` are a split of the commands in their order.
+-- manual's. Below, `given` are all bytes that the link gave, and `w` is what the link and the sink of the settlements took.
 use Rattle.std.specs.Prelude.{◌≡◌, ℕ, ◌+◌, ◌%◌, ◌<◌, ◌⊎◌, Bool, true, false, List, [], ◌∷◌, ◌++◌, length, take, Option, Some, None, Result, Ok, Err, if◌then◌else◌}
 use Rattle.std.specs.Io.KnownBytes.{Appends}
-use Rattle.gc_lines.specs.Answering.{Ports, all_of}
+use Rattle.gc_lines.specs.Answering.{Ports, Taken, all_of}
 use Rattle.gc_lines.specs.Frames.{lines}
 use Rattle.gc_lines.specs.Lines.{with_end}
-use Rattle.gc_lines.specs.declared.ports.Sink.{Ghosts as Sink}
 use Rattle.gc_catalogue.specs.Texts.{request_line}
 use Rattle.gc_catalogue.specs.declared.call.Call.{Call}
 use Rattle.gc_client.specs.declared.window.TheConstants.{IDS}
@@ -68,15 +66,6 @@ written_requests k (command ∷ later) = written_request k command ∷ written_r
 abbrev pub lost_of : Command → Settlement Call
 lost_of command = lost (awaited command)
 
--- what a sink has taken, where that is known, and whether it has failed
-pub record Taken : Type 0 where
-  pub bytes : Option (List ℕ)
-  pub failed : Bool
-
--- what is seen of this sink, by the ghost members of its trait
-abbrev pub taken_by : {K : Type 0} → Sink K → K → Taken
-taken_by of_sink sink = record { bytes = of_sink.taken sink; failed = of_sink.failed sink }
-
 -- what a link and the sink of the settlements had taken before, and have taken now, where these are known
 pub record Written : Type 0 where
   pub link_old : Option (List ℕ)
@@ -94,31 +83,35 @@ pub record AsksAll (commands : List Command) (given : List ℕ) (w : Written) : 
   pub sent : Appends w.link_old w.link_new (all_of (written_requests 0 commands))
   pub sink_took : Appends w.sink_old w.sink_new (settlement_lines (asked commands given))
 
--- what came settles the commands `earlier`; `command`, the one after them, is lost, even where a reply with its id came already.
--- The sink took the lines of these settlements, and no line of the commands `later`
-pub record LosesOne (commands : List Command) (given : List ℕ) (w : Written) : Type 0 where
+-- asking reached `command`: what came settles the commands `earlier` before it, and `later` are those after it
+pub record ReachesCommand (commands : List Command) (given : List ℕ) : Type 0 where
   pub earlier : List Command
   pub command : Command
   pub later : List Command
   pub order : commands ≡ earlier ++ command ∷ later
   pub settled : length (asked earlier given) ≡ length earlier
-  pub sink_took : Appends w.sink_old w.sink_new (settlement_lines (asked earlier given ++ lost_of command ∷ []))
+
+-- asking reached a command (`ReachesCommand`), which is lost, even where a reply with its id came already. The sink took the lines of the
+-- settlements of the commands before it, and the line that says it is lost
+pub record LosesOne (commands : List Command) (given : List ℕ) (w : Written) : Type 0 where
+  pub at : ReachesCommand commands given
+  pub sink_took : Appends w.sink_old w.sink_new (settlement_lines (asked at.earlier given ++ lost_of at.command ∷ []))
 
 -- asking stopped at a command, which is lost (`LosesOne`), and whose request was sent; the commands after it weren't sent. Where the link is
 -- remote, what came settles the commands before it, and no more
 pub record StopsAt (is_remote : Bool) (commands : List Command) (given : List ℕ) (w : Written) : Type 0 where
-  pub at : LosesOne commands given w
-  pub sent : Appends w.link_old w.link_new (all_of (written_requests 0 (at.earlier ++ at.command ∷ [])))
-  pub no_more : is_remote ≡ true → asked commands given ≡ asked at.earlier given
+  pub loses : LosesOne commands given w
+  pub sent : Appends w.link_old w.link_new (all_of (written_requests 0 (loses.at.earlier ++ loses.at.command ∷ [])))
+  pub no_more : is_remote ≡ true → asked commands given ≡ asked loses.at.earlier given
 
 -- a write was cut, that of a command's request or of the reply to it: the command is lost (`LosesOne`) after `count` others, and of its
 -- request the first `bytes` bytes were sent, or all. Where the link is remote, it was the request, of which `part` bytes were sent, and not all
 pub record IsCutAt (is_remote : Bool) (commands : List Command) (given : List ℕ) (w : Written) (count part : ℕ) : Type 0 where
-  pub at : LosesOne commands given w
-  pub count_is : count ≡ length at.earlier
+  pub loses : LosesOne commands given w
+  pub count_is : count ≡ length loses.at.earlier
   pub bytes : ℕ
-  pub sent : Appends w.link_old w.link_new (all_of (written_requests 0 at.earlier) ++ take bytes (written_request count at.command))
-  pub cut : is_remote ≡ true → (bytes ≡ part) × (part < length (written_request count at.command))
+  pub sent : Appends w.link_old w.link_new (all_of (written_requests 0 loses.at.earlier) ++ take bytes (written_request count loses.at.command))
+  pub cut : is_remote ≡ true → (bytes ≡ part) × (part < length (written_request count loses.at.command))
 
 -- `next` is the settlement of `command`, after those of `earlier`: where the link ended well, the one by the bytes that came;
 -- else the one that says the command is lost
@@ -126,24 +119,20 @@ abbrev pub IsNext : (earlier : List Command) → (command : Command) → (given 
 IsNext earlier command given next (Ok _) = asked (earlier ++ command ∷ []) given ≡ asked earlier given ++ next ∷ []
 IsNext earlier command given next (Err _) = next ≡ lost_of command
 
--- the sink failed as it took the line of `next`, the settlement of `command`: it took the lines of the commands `earlier`, and
--- of this line the first `part` bytes. Of the request of `command` the first `bytes` bytes were sent, or all; `later` weren't
--- sent. `link` is how the use of the link had ended before; `over e` says what the link's ports are after the end e
+-- asking reached a command (`ReachesCommand`), and the sink failed as it took the line of `next`, the settlement of that command: it took the
+-- lines of the commands before it, and of this line the first `part` bytes. Of the command's request the first `bytes` bytes were sent, or
+-- all, and none of a later one. `link` is how the use of the link had ended before; `over e` says what the link's ports are after the end e
 pub record WritesPart (commands : List Command) (given : List ℕ) (w : Written) (over : LinkResult → Type 0) : Type 0 where
-  pub earlier : List Command
-  pub command : Command
-  pub later : List Command
-  pub order : commands ≡ earlier ++ command ∷ later
-  pub settled : length (asked earlier given) ≡ length earlier
+  pub at : ReachesCommand commands given
   pub bytes : ℕ
-  pub sent : Appends w.link_old w.link_new (all_of (written_requests 0 earlier) ++ take bytes (written_request (length earlier) command))
+  pub sent : Appends w.link_old w.link_new (all_of (written_requests 0 at.earlier) ++ take bytes (written_request (length at.earlier) at.command))
   pub link : LinkResult
   pub ends : over link
   pub next : Settlement Call
-  pub next_is : IsNext earlier command given next link
+  pub next_is : IsNext at.earlier at.command given next link
   pub part : ℕ
-  pub not_all : part < length (settlement_line (length earlier) next)
-  pub sink_took : Appends w.sink_old w.sink_new (settlement_lines (asked earlier given) ++ take part (settlement_line (length earlier) next))
+  pub not_all : part < length (settlement_line (length at.earlier) next)
+  pub sink_took : Appends w.sink_old w.sink_new (settlement_lines (asked at.earlier given) ++ take part (settlement_line (length at.earlier) next))
 
 -- what was asked over a link that gave these bytes, by how asking ended. `is_remote` says that somebody other than this program answers at
 -- the other end, and `over e` what the link's ports are after the end e

@@ -34,12 +34,11 @@ abbrev pub end_lines : (number : ℕ) → List ConnectionEnd → List ℕ
 end_lines number [] = []
 end_lines number (end ∷ later) = end_line number end ++ end_lines (number + 1) later
 
--- some connections ended as `more` says: the ends known now are those known before, followed by these. What was known is known now, too.
--- Where the ends before aren't known, nothing is said
+-- some connections ended as `more` says: the ends known now are those known before, followed by these. Where the ends before aren't
+-- known, nothing is said
 abbrev pub AddsEnds : (old new : Option (List ConnectionEnd)) → (more : List ConnectionEnd) → Type 0
 AddsEnds None new more = Unit {0}
-AddsEnds (Some ends) None more = ⊥
-AddsEnds (Some ends) (Some all) more = all ≡ ends ++ more
+AddsEnds (Some ends) new more = new ≡ Some (ends ++ more)
 
 -- `most` callers were served, whatever became of each. If all lines were written (`all_written`), the messages grew by the line of
 -- each fault, and by nothing else. `old` are the ends of the connections that were served before, and `new` those of all,

@@ -4,9 +4,9 @@
 use Rattle.std.specs.Prelude.{◌≡◌, ℕ, ◌+◌, ◌*◌, ◌-◌, ◌<◌, Bool, true, false, not, List, [], Option, Some, Result, Ok, Err, OnOk, ◌≤◌, length, take}
 use Rattle.std.specs.Borrow.{GName}
 use Rattle.std.specs.Io.KnownBytes.{Appends, Consumes, Keeps}
-use Rattle.gc_lines.specs.Answering.{Ports}
+use Rattle.gc_lines.specs.Answering.{Ports, Taken}
 use Rattle.gc_lines.specs.Ports.{TakesFront}
-use Rattle.gc_ask.specs.Asking.{Taken, LinkResult, UseEnds, NoneEnded}
+use Rattle.gc_ask.specs.Asking.{LinkResult, UseEnds, NoneEnded}
 use Rattle.gc_ask.specs.Looping.{IsOfOneEnd, SeenAtBoth}
 use Rattle.gc_ask.specs.declared.unused.TheConstants.{ROOM}
 use Rattle.gc_texts.specs.WholeTexts.{Input}
@@ -24,20 +24,22 @@ pub record HeldNames : Type 0 where
 abbrev pub no_ports : Ports
 no_ports = record { remaining = Some []; reads = 0; ended = false; source_failed = false; taken = Some []; sink_failed = false }
 
--- a source was read once: it gave these bytes (`Ok`, with false where that was its end), or it failed (`Err`)
+-- a source was read once: it gave these bytes (`Ok`, with false where that was its end), or none (`Err`)
 abbrev pub ReadsOnce : {E : Type 0} → (old new : Input) → (given : List ℕ) → Result Bool E → Type 0
-ReadsOnce old new given (Ok more) =
-    Consumes old.remaining new.remaining given × (new.reads ≡ old.reads + 1) × (new.ended ≡ not more) × (old.failed ≡ false) × (new.failed ≡ false)
-ReadsOnce old new given (Err _) = Keeps old.remaining new.remaining × (new.reads ≡ old.reads) × (new.ended ≡ old.ended) × (new.failed ≡ true)
+ReadsOnce old new given (Ok more) = Consumes old.remaining new.remaining given × (new.reads ≡ old.reads + 1) × (new.ended ≡ not more)
+ReadsOnce old new given (Err _) = Keeps old.remaining new.remaining × (new.reads ≡ old.reads) × (new.ended ≡ old.ended)
+
+-- a source was read from `old` to `new`, maybe not once or several times, and none of these reads was the end of its input. Without a
+-- read `ended` is as before
+abbrev pub StaysOpen : (old new : Input) → Type 0
+StaysOpen old new = NoneEnded old new × (new.reads ≡ old.reads → new.ended ≡ old.ended)
 
 -- why reading a source ended, with `after` reads left. Only with `LinkClosed` was the last read the end of the input; with
--- `Read` the source failed, and a read was left; with `TooManyReads` none was. Without a read `ended` is as before
+-- `Read` the source failed, and a read was left; with `TooManyReads` none was
 abbrev pub ReadEnds : (old new : Input) → (after : ℕ) → LinkResult → Type 0
-ReadEnds old new after (Ok _) = NoneEnded old new × (new.reads ≡ old.reads → new.ended ≡ old.ended) × (new.failed ≡ old.failed)
-ReadEnds old new after (Err Read) =
-    NoneEnded old new × (new.reads ≡ old.reads → new.ended ≡ old.ended) × (0 < after) × (new.failed ≡ true)
-ReadEnds old new after (Err TooManyReads) =
-    NoneEnded old new × (new.reads ≡ old.reads → new.ended ≡ old.ended) × (after ≡ 0) × (new.failed ≡ old.failed)
+ReadEnds old new after (Ok _) = StaysOpen old new × (new.failed ≡ old.failed)
+ReadEnds old new after (Err Read) = StaysOpen old new × (0 < after) × (new.failed ≡ true)
+ReadEnds old new after (Err TooManyReads) = StaysOpen old new × (after ≡ 0) × (new.failed ≡ old.failed)
 ReadEnds old new after (Err LinkClosed) = (old.reads < new.reads) × (new.ended ≡ true) × (new.failed ≡ old.failed)
 ReadEnds old new after (Err _) = ⊥
 

@@ -4,7 +4,7 @@
 -- says what the link's ports are after the end e. `from` and `to` are the client before and after.
 use Rattle.std.specs.Prelude.{◌≡◌, ℕ, ◌+◌, ◌*◌, ◌-◌, ◌≤◌, ◌⊎◌, Bool, true, false, List, [], ◌∷◌, ◌++◌, length, Option, Some, None, Ok, Err, take, drop, map}
 use Rattle.std.specs.Io.KnownBytes.{Appends, Consumes}
-use Rattle.gc_lines.specs.Answering.{Ports}
+use Rattle.gc_lines.specs.Answering.{Ports, taken_by}
 use Rattle.gc_lines.specs.Assembler.{Kept, StandsFor}
 use Rattle.gc_lines.specs.Frames.{rest_behind}
 use Rattle.gc_lines.specs.Passing.{lines_completed}
@@ -18,7 +18,7 @@ use Rattle.gc_ask.specs.declared.ask.AskState.{AskState}
 use Rattle.gc_ask.specs.declared.client_end.ClientEnd.{ClientEnd}
 use Rattle.gc_ask.specs.declared.link.AskedLink.{Ghosts as AskedLink}
 use Rattle.gc_ask.specs.declared.unused.TheConstants.{ROOM}
-use Rattle.gc_ask.specs.Asking.{Written, LinkResult, taken_by, first_reply, waiting_for, written_request, lost_of}
+use Rattle.gc_ask.specs.Asking.{Written, LinkResult, first_reply, waiting_for, written_request, lost_of}
 use Rattle.gc_ask.specs.Links.{BothStep, OnlyReads, SeenStep, TakesRequest}
 use Rattle.gc_ask.specs.Looping.{SeenAtBoth, seen_at_both, written_at_both}
 use Rattle.gc_texts.specs.declared.commands.Command.{Command}
@@ -158,18 +158,26 @@ ExchangesOver of_link place command from to old new result =
     HearsOn from to (of_link.client old) (of_link.client new)
     (λ hearing. Exchanges of_link.is_remote place command hearing (of_link.client old).taken (of_link.client new).taken result)
 
--- the sink failed as it took the line of a settlement. Where the link had ended well (left case), the request was sent whole, and
--- that is the settlement by the reply; after a fault of the link (right case), the first bytes of the request were sent, or none
--- or all of them, and that is the settlement that says the command is lost
-abbrev pub WritesOnePart : (place : ℕ) → Command → ClientHeard → Written → (over : LinkResult → Type 0) → Type 0
-WritesOnePart place command hearing w over =
-    (over (Ok tt) × Appends w.link_old w.link_new (written_request place command)
-    × Settles (waiting_for place command) hearing × WrotePartOfSettlements place (map settlement_seen hearing.settled) w.sink_old w.sink_new)
-    ⊎ ((fault : RunFault) × over (Err fault)
-    × ((part : ℕ) × Appends w.link_old w.link_new (take part (written_request place command))
-    × WrotePartOfSettlements place (lost_of command ∷ []) w.sink_old w.sink_new))
+-- the link had ended well, the request was sent whole, and its reply settles it; the sink took a part of that settlement's line
+abbrev pub WritesPartOfReply : (place : ℕ) → Command → ClientHeard → Written → (over : LinkResult → Type 0) → Type 0
+WritesPartOfReply place command hearing w over =
+    over (Ok tt) × Appends w.link_old w.link_new (written_request place command)
+    × Settles (waiting_for place command) hearing × WrotePartOfSettlements place (map settlement_seen hearing.settled) w.sink_old w.sink_new
 
--- a request was sent, its reply waited for (`SendsAndHears`), and its settlement written, by how that ended. `Ok`: the sink took the
+-- the link had ended with a fault, after none, a first part or all of the request; the sink took a part of the line that says the
+-- command is lost
+abbrev pub WritesPartOfLoss : (place : ℕ) → Command → Written → (over : LinkResult → Type 0) → Type 0
+WritesPartOfLoss place command w over =
+    (fault : RunFault) × over (Err fault)
+    × ((part : ℕ) × Appends w.link_old w.link_new (take part (written_request place command))
+    × WrotePartOfSettlements place (lost_of command ∷ []) w.sink_old w.sink_new)
+
+-- the sink failed as it took the line of a settlement: that by the reply, or the one that says the command is lost. `over` says of a
+-- result that the link may have ended with it
+abbrev pub WritesOnePart : (place : ℕ) → Command → ClientHeard → Written → (over : LinkResult → Type 0) → Type 0
+WritesOnePart place command hearing w over = WritesPartOfReply place command hearing w over ⊎ WritesPartOfLoss place command w over
+
+-- a request was sent, its reply waited for (`SendsAndHears`), and its settlement written, by how that ended; `over`: as in `WritesOnePart`. `Ok`: the sink took the
 -- settlement by the reply. `Output`: the sink failed. Another fault: the sink took the line that says the command is lost
 abbrev pub AsksOne : (is_remote : Bool) → (place : ℕ) → Command → ClientHeard → Written → (over : LinkResult → Type 0) → LinkResult → Type 0
 AsksOne is_remote place command hearing w over (Ok x) =

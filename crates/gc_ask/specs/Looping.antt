@@ -2,14 +2,15 @@
 -- `is_remote` says that somebody other than this program answers there.
 use Rattle.std.specs.Prelude.{◌≡◌, Bool, false, ℕ, ◌+◌, ◌*◌, ◌-◌, ◌≤◌, ◌⊎◌, List, length, Ok, Err}
 use Rattle.std.specs.Io.KnownBytes.{Consumes}
-use Rattle.gc_lines.specs.Answering.{Ports, ports_of}
+use Rattle.gc_lines.specs.Answering.{Ports, ports_of, taken_by, Taken}
 use Rattle.gc_lines.specs.declared.ports.Source.{Ghosts as Source}
 use Rattle.gc_lines.specs.declared.ports.Sink.{Ghosts as Sink}
 use Rattle.gc_texts.specs.declared.commands.Command.{Command}
 use Rattle.gc_texts.specs.declared.fault.RunFault.TheVariants.{TooManyReads, Memory, Socket}
 use Rattle.gc_texts.specs.WholeTexts.{Input}
 use Rattle.gc_ask.specs.declared.looped.Duplex.{Duplex}
-use Rattle.gc_ask.specs.Asking.{taken_by, Taken, Written, LinkResult, AreFresh, Asks, UseEnds, EndsWith, RunsConnected, RunsText}
+use Rattle.gc_ask.specs.AskRuns.{SeenAtClient, written_at_client}
+use Rattle.gc_ask.specs.Asking.{Written, LinkResult, AreFresh, Asks, UseEnds, EndsWith, RunsConnected, RunsText}
 use Rattle.gc_ask.specs.declared.unused.TheConstants.{ROOM}
 
 -- one end of a link has this result, and the other ended well: `Client` and `Instrument` say what a result means at each end
@@ -40,9 +41,13 @@ seen_over of_a of_b client of_c of_d instrument of_k k = seen_of of_a client.sou
 abbrev pub BothEnd : (old new : SeenAtBoth) → LinkResult → Type 0
 BothEnd old new result = IsOfOneEnd (UseEnds old.client new.client) (UseEnds old.instrument new.instrument) result
 
+-- of what is seen at both ends, what is seen at the client's end
+abbrev pub at_client : SeenAtBoth → SeenAtClient
+at_client seen = record { link = seen.client; sink = seen.sink }
+
 -- what the client's end and the sink had taken before, and have taken now, by what is seen at both ends
 abbrev pub written_at_both : (old new : SeenAtBoth) → Written
-written_at_both old new = record { link_old = old.client.taken; link_new = new.client.taken; sink_old = old.sink.bytes; sink_new = new.sink.bytes }
+written_at_both old new = written_at_client (at_client old) (at_client new)
 
 -- commands were asked over a link, in at most `most` reads of both its ends, with this result, which is `TooManyReads` only once these are
 -- used up; `given` is what the client's end gave, at most `ROOM` bytes at each read. Which ports have failed then is as `EndsWith` has it

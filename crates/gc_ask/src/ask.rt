@@ -181,10 +181,7 @@ pub(crate) fn run_over<S: Source, L: AskedLink, K: Sink>(
         → seen_through L.AskedLink link.new K.Sink sink.new ≡ seen_through L.AskedLink link.old K.Sink sink.old }
     ensures held { L.held link.new ≡ L.held link.old }
 {
-    let commands = match read_command_text(alloc, commands) {
-        Ok(commands) => commands,
-        Err(fault) => return Err(fault),
-    };
+    let commands = read_command_text(alloc, commands)?;
     ask_all(commands.as_slice(), link, sink, max_reads)
 }
 

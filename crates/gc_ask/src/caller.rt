@@ -201,7 +201,7 @@ fn read_stream(stream: &TcpStream, buf: &mut [u8]) -> io::Result<usize>
     Err(io::Error::from(ErrorKind::Interrupted))
 }
 
-// Reads a device.
+// Reads the wire of a device, once.
 fn read_wire<R: Clock>(wire: &Wire<'_, R>, buf: &mut [u8]) -> io::Result<usize>
     ensures { ReadsAtMost result buf.new }
 {
@@ -209,7 +209,7 @@ fn read_wire<R: Clock>(wire: &Wire<'_, R>, buf: &mut [u8]) -> io::Result<usize>
     wire.read(buf)
 }
 
-// Writes to a device.
+// Writes to the wire of a device, as much as it takes at once.
 fn write_wire<R: Clock>(wire: &Wire<'_, R>, buf: &[u8]) -> io::Result<usize>
     ensures { WritesAtMost result buf.now }
 {

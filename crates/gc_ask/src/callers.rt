@@ -98,9 +98,6 @@ fn tell_end<E: Write>(
 {
     match end {
         Ok(()) => all_written,
-        Err(fault) => match fault.tell(number, messages) {
-            Ok(()) => all_written,
-            Err(_) => false,
-        },
+        Err(fault) => fault.tell(number, messages).is_ok() && all_written,
     }
 }

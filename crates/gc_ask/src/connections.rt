@@ -2,7 +2,7 @@
 
 ghost use Rattle.std.specs.Prelude.{◌≡◌, ◌≤◌};
 ghost use Rattle.gc_ask.specs.AskRuns.{AskRunsConnected, AsksOverFresh};
-ghost use Rattle.gc_ask.specs.Asking.{taken_by};
+ghost use Rattle.gc_lines.specs.Answering.{taken_by};
 ghost use Rattle.gc_ask.specs.Looping.{LoopRunsConnected, LoopsOverFresh};
 ghost use Rattle.gc_ask.specs.Places.{IsFaultOfPlace, fault_of_reason, fault_of_unusable};
 ghost use Rattle.gc_texts.specs.Faults.{end_of_serving};
@@ -51,10 +51,7 @@ pub fn loop_tcp_on<
     ensures loops { LoopRunsConnected (input_of S.Source commands.old) (input_of S.Source commands.new) max_reads
         (taken_by K.Sink sink.old) (taken_by K.Sink sink.new) result }
 {
-    let commands = match read_command_text(alloc, commands) {
-        Ok(commands) => commands,
-        Err(fault) => return Err(fault),
-    };
+    let commands = read_command_text(alloc, commands)?;
     let Ok((near, far)) = both_ends(rt) else {
         return Err(RunFault::Socket);
     };
@@ -176,10 +173,7 @@ pub fn ask_tcp<R: Net<Listener = TcpListener, Stream = TcpStream>, S: Source, K:
     ensures asks { AskRunsConnected (λ fault. fault ≡ RunFault.Socket) (input_of S.Source commands.old) (input_of S.Source commands.new) max_reads
         (taken_by K.Sink sink.old) (taken_by K.Sink sink.new) result }
 {
-    let commands = match read_command_text(alloc, commands) {
-        Ok(commands) => commands,
-        Err(fault) => return Err(fault),
-    };
+    let commands = read_command_text(alloc, commands)?;
     let Ok(stream) = connect_here(rt, port) else {
         return Err(RunFault::Socket);
     };
@@ -205,10 +199,7 @@ pub fn ask_at<
     ensures asks { AskRunsConnected IsFaultOfPlace (input_of S.Source commands.old) (input_of S.Source commands.new) max_reads
         (taken_by K.Sink sink.old) (taken_by K.Sink sink.new) result }
 {
-    let commands = match read_command_text(alloc, commands) {
-        Ok(commands) => commands,
-        Err(fault) => return Err(fault),
-    };
+    let commands = read_command_text(alloc, commands)?;
     let wire = match wire_to(rt, place) {
         Ok(wire) => wire,
         Err(reason) => return Err(fault_of_reason(reason)),

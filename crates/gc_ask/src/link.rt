@@ -3,7 +3,7 @@
 
 ghost use Rattle.std.specs.Prelude.{◌≡◌, ◌+◌, true, Err};
 ghost use Rattle.gc_lines.specs.Lines.{with_end};
-ghost use Rattle.gc_ask.specs.Asking.{taken_by};
+ghost use Rattle.gc_lines.specs.Answering.{taken_by};
 ghost use Rattle.gc_ask.specs.Links.{BothStep, OnlyReads, ReadsMore, Sends, TakesRequest};
 ghost use Rattle.gc_texts.specs.WholeTexts.{source_of};
 ghost use Rattle.gc_texts.specs.declared.fault.RunFault.{RunFault};

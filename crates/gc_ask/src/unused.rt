@@ -1,6 +1,7 @@
 //! What was read of a link and isn't used yet.
 
 ghost use Rattle.std.specs.Prelude.{◌≡◌, ◌≤◌, [], drop, length, false, Ok};
+ghost use Rattle.gc_lines.specs.Ports.{Fails};
 ghost use Rattle.gc_ask.specs.Links.{ReadsMore, ReadsOnce};
 ghost use Rattle.gc_ask.specs.declared.unused.TheConstants.{ROOM};
 ghost use Rattle.gc_texts.specs.WholeTexts.{input_of};
@@ -64,6 +65,7 @@ impl Unused {
         ensures few { length self.new ≤ ROOM }
         ensures end { result ≡ Ok false → self.new ≡ [] }
         ensures bytes { ReadsOnce (input_of S.Source source.old) (input_of S.Source source.new) self.new result }
+        ensures fails { Fails (S.failed source.old) (S.failed source.new) result }
     {
         self.at = 0;
         self.end = 0;

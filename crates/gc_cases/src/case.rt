@@ -17,6 +17,11 @@ impl<'a> Case<'a> {
         self.value_at(key, 0).unwrap_or("")
     }
 
+    /// Whether the first line with this key has a value that isn't empty; `false` if no line has the key.
+    pub fn has(&self, key: &str) -> bool {
+        !self.value(key).is_empty()
+    }
+
     /// The value of the line at a place, counted from 0, among the lines with this key. `None`: there are fewer such lines.
     pub fn value_at(&self, key: &str, place: usize) -> Option<&'a str> {
         self.lines

@@ -2,14 +2,14 @@
 //! differ, a line with what came is appended to the text `wrong`.
 
 use crate::case::{Case, cut_case};
-use crate::told::Told;
+use crate::told::{Told, text_of};
 use std::alloc::{AllocError, Global};
 use std::{fs, io};
 
 /// Plays the cases of files.
 pub trait Player {
-    /// Plays a case, and appends a line to `wrong` for each key or row where something else came than the case expects (`Case::tell`,
-    /// `play_rows`). `Err`: an error of the system; the case counts as one that came to something else.
+    /// Plays a case, and appends a line to `wrong` for each key or row where something else came than the case expects
+    /// (`Case::compare`, `play_rows`). `Err`: an error of the system; the case counts as one that came to something else.
     fn play(&self, rt: &HostRuntime, case: &Case<'_>, wrong: &mut Told) -> io::Result<()>;
 }
 
@@ -99,8 +99,7 @@ fn play_file<P: Player>(
     let text = text_of_file(rt, folder, name)?;
     let mut wrong = Told::new(rt.alloc());
     let counts = play_text(rt, text.as_str(), player, &mut wrong);
-    let wrong = str::from_utf8(wrong.as_bytes()).unwrap_or("no text");
-    tell_file(rt, name, counts, wrong)
+    tell_file(rt, name, counts, text_of(wrong.as_bytes()))
 }
 
 // Reads the text of a file of a folder. `Err`: the file can't be read or isn't UTF-8, or memory ran out.

@@ -10,16 +10,16 @@ impl<'a> Case<'a> {
         self.value(key) == value
     }
 
-    /// Appends a line with what came for a key to `wrong`, where the case has something else there. A case without such a line
-    /// expects no bytes.
-    pub fn tell(&self, key: &str, came: &[u8], wrong: &mut Told) {
+    /// Compares what came for a key with what the case has there, and appends a line with what came to `wrong` if they differ. A
+    /// case without such a line expects no bytes.
+    pub fn compare(&self, key: &str, came: &[u8], wrong: &mut Told) {
         if !spells(self.value(key), came) {
             self.tell_wrong(key, came, wrong);
         }
     }
 
-    /// Does as `tell` does, and appends the line also where what came lacks a part.
-    pub fn tell_told(&self, key: &str, came: &Told, wrong: &mut Told) {
+    /// Does as `compare` does, and appends the line also where what came lacks a part.
+    pub fn compare_told(&self, key: &str, came: &Told, wrong: &mut Told) {
         if !came.is(self.value(key)) {
             self.tell_wrong(key, came.as_bytes(), wrong);
         }

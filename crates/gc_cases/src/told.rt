@@ -10,6 +10,8 @@ use std::str::FromStr;
 /// out, the text notes that it lacks a part, and from then on it is what no case expects.
 #[derive(Drop)]
 pub struct Told {
+    /// Where the text takes memory.
+    pub alloc: Global,
     bytes: Vec<u8>,
     // Whether memory ran out for a part of the text.
     lacks: bool,
@@ -19,6 +21,7 @@ impl Told {
     /// An empty text.
     pub fn new(alloc: Global) -> Told {
         Told {
+            alloc,
             bytes: Vec::new(alloc),
             lacks: false,
         }
@@ -69,6 +72,11 @@ impl Told {
     /// Appends the text `so` where `is_so` is true, and else the text `otherwise`.
     pub fn either(&mut self, is_so: bool, so: &str, otherwise: &str) {
         self.text(if is_so { so } else { otherwise });
+    }
+
+    /// Appends a text where `is_so` is true.
+    pub fn text_if(&mut self, is_so: bool, text: &str) {
+        self.either(is_so, text, "");
     }
 
     /// Appends a value as `Display` prints it.
@@ -146,4 +154,9 @@ impl Write for Told {
     fn flush(&mut self) -> io::Result<()> {
         Ok(())
     }
+}
+
+/// Bytes as a text; `no text` if they aren't UTF-8.
+pub fn text_of(bytes: &[u8]) -> &str {
+    str::from_utf8(bytes).unwrap_or("no text")
 }

@@ -55,7 +55,7 @@ one_asked rpc params (Raw r) (Raw s) x y = ap (Î» z. Raw z) (same_raw r s (x.0 â
 -- the line of what is asked, if that is allowed (`IsAskedFitting`), with an id below 8 or without one, reads back as what was
 -- asked
 pub asked_again : AskedReadBack
-asked_again id (Table call) i fits = let again = call_again id call i fits in record { line = again.line; is_asked = again.is_call }
+asked_again id (Table call) i fits = let again = call_again id call i fits in record { line = again.line; is_asked = again.is_asked }
 asked_again id (Raw raw) i fits = record { line = request_back (raw_request id raw) (record { rpc = raw.is.bound; id = i }); is_asked = (refl, refl) }
 
 -- the request for what is asked has the id that it was given

@@ -23,29 +23,29 @@ use Rattle.gc_catalogue.specs.declared.call.Call.{Call}
 use Rattle.gc_catalogue.proofs.ReadingLaws.{each_reading_by}
 
 -- the value is of this kind: it holds a decimal, a whole number, a truth value or bytes, as the kind says
-abbrev IsMade : Kind → Value → Type 0
-IsMade kind.Double v = (d : Decimal) × (value.Double d ≡ v)
-IsMade kind.Long v = (z : ℤ) × (value.Long z ≡ v)
-IsMade kind.Short v = (z : ℤ) × (value.Short z ≡ v)
-IsMade kind.Byte v = (n : ℕ) × (value.Byte n ≡ v)
-IsMade kind.Bool v = (b : Bool) × (value.Bool b ≡ v)
-IsMade kind.Text v = (bytes : List ℕ) × (value.Text bytes ≡ v)
+abbrev IsOfKind : Kind → Value → Type 0
+IsOfKind kind.Double v = (d : Decimal) × (value.Double d ≡ v)
+IsOfKind kind.Long v = (z : ℤ) × (value.Long z ≡ v)
+IsOfKind kind.Short v = (z : ℤ) × (value.Short z ≡ v)
+IsOfKind kind.Byte v = (n : ℕ) × (value.Byte n ≡ v)
+IsOfKind kind.Bool v = (b : Bool) × (value.Bool b ≡ v)
+IsOfKind kind.Text v = (bytes : List ℕ) × (value.Text bytes ≡ v)
 
--- each value is of its own kind (`IsMade`)
-is_made : (v : Value) → IsMade (kind_of v) v
-is_made (value.Double d) = (d, refl)
-is_made (value.Long z) = (z, refl)
-is_made (value.Short z) = (z, refl)
-is_made (value.Byte n) = (n, refl)
-is_made (value.Bool b) = (b, refl)
-is_made (value.Text bytes) = (bytes, refl)
+-- each value is of its own kind (`IsOfKind`)
+is_of_kind : (v : Value) → IsOfKind (kind_of v) v
+is_of_kind (value.Double d) = (d, refl)
+is_of_kind (value.Long z) = (z, refl)
+is_of_kind (value.Short z) = (z, refl)
+is_of_kind (value.Byte n) = (n, refl)
+is_of_kind (value.Bool b) = (b, refl)
+is_of_kind (value.Text bytes) = (bytes, refl)
 
--- the list vs is a first value, of the kind k (`IsMade`), and the values behind it, of the kinds ks
+-- the list vs is a first value, of the kind k (`IsOfKind`), and the values behind it, of the kinds ks
 record FirstValue (k : Kind) (ks : List Kind) (vs : List Value) : Type 0 where
   first : Value
   behind : List Value
   is : first ∷ behind ≡ vs
-  made : IsMade k first
+  made : IsOfKind k first
   kinds : kinds_of behind ≡ ks
 
 -- a list of values whose kinds are k and then ks has a first value of the kind k, and behind it values of the kinds ks
@@ -53,7 +53,7 @@ first_value : (k : Kind) (ks : List Kind) (vs : List Value) → kinds_of vs ≡ 
 first_value k ks [] e = absurd (cc)
 first_value k ks (v ∷ vs) e =
     let same : kind_of v ≡ k = cc in
-    record { first = v; behind = vs; is = refl; made = subst (λ (j : Kind). IsMade j v) same (is_made v); kinds = cc }
+    record { first = v; behind = vs; is = refl; made = subst (λ (j : Kind). IsOfKind j v) same (is_of_kind v); kinds = cc }
 
 -- a list of values whose list of kinds is empty is empty
 none_left : (vs : List Value) → kinds_of vs ≡ [] → [] ≡ vs
@@ -73,7 +73,7 @@ record ShapeIsAnswered (s : Shape) : Type 0 where
 
 -- for a shape of one value: if `make` gives every value of the kind k, and each of its values alone makes an answer of the shape
 -- s, there is such an answer for each list of one value of that kind
-one_value_answer : {X : Type 0} (k : Kind) (make : X → Value) (s : Shape) → ((v : Value) → IsMade k v → (x : X) × (make x ≡ v))
+one_value_answer : {X : Type 0} (k : Kind) (make : X → Value) (s : Shape) → ((v : Value) → IsOfKind k v → (x : X) × (make x ≡ v))
     → ((x : X) → HasAnswer s (make x ∷ [])) → (vs : List Value) → kinds_of vs ≡ k ∷ [] → HasAnswer s vs
 one_value_answer k make s is says vs e =
     let p = first_value k [] vs e in

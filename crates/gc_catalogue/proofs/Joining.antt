@@ -11,7 +11,7 @@ use Rattle.gc_lines.specs.Requests.{request_signature, request_text}
 use Rattle.gc_values.specs.Item.{text}
 use Rattle.gc_values.specs.declared.value.Value.{Value}
 use Rattle.gc_catalogue.specs.Lists.{before_commas, behind_commas, params_of, IsWithoutComma}
-use Rattle.gc_values.proofs.TextShape.{text_is_some}
+use Rattle.gc_values.proofs.TextShape.{text_not_empty}
 
 -- values joined by commas are the first one's text, and then the others' texts, each after a comma
 pub params_of-cons : (v : Value) (vs : List Value) → params_of (v ∷ vs) ≡ text v ++ behind_commas vs
@@ -30,7 +30,7 @@ append_not_empty (x ∷ xs) ys h = omega arith
 -- what is written in a reply of parameters joined from these values is the values' texts, each after a comma
 pub params_text-params_of : (vs : List Value) → params_text (params_of vs) ≡ behind_commas vs
 params_text-params_of [] = refl
-params_text-params_of (v ∷ vs) = ap params_text (params_of-cons v vs) ∙ params_text-some (text v ++ behind_commas vs) (append_not_empty (text v) (behind_commas vs) (text_is_some v))
+params_text-params_of (v ∷ vs) = ap params_text (params_of-cons v vs) ∙ params_text-some (text v ++ behind_commas vs) (append_not_empty (text v) (behind_commas vs) (text_not_empty v))
 
 -- the texts of at least one value, each before a comma, are the values joined by commas, and a comma after them
 before-params : (v : Value) (vs : List Value) → before_commas (v ∷ vs) ≡ params_of (v ∷ vs) ++ 44 ∷ []

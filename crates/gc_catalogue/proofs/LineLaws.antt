@@ -21,7 +21,7 @@ use Rattle.gc_catalogue.proofs.Table.{number_fits, shape-rounded, values-rounded
 
 -- the line of a call with values in range, with an id below 8 or without one, reads back as the call
 pub call_again : CallsReadBack
-call_again id call i fits = record { line = request_back (request_of id call) (record { rpc = number_fits call; id = i }); is_call = written_is_call call fits }
+call_again id call i fits = record { line = request_back (request_of id call) (record { rpc = number_fits call; id = i }); is_asked = written_is_call call fits }
 
 -- values in their ranges stay there when doubles are rounded
 shown_fit : (places : ℕ) (vs : List Value) → AreValues vs → AreValues (shown_values places vs)

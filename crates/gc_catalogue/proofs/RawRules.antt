@@ -41,21 +41,21 @@ one_items_refusal params e f (inr x) (inl y) = absurd (even_not_odd _ (params_ev
 one_items_refusal params e f (inr x) (inr y) = x.0 ∙ sym y.0
 
 -- parameters that split into items are at most 16 items, or there is a fault for which they aren't
-by_count : (params : List ℕ) (items : List (List ℕ)) → IsParams params items → AreFewItems params ⊎ ((e : ValueFault) × IsItemsRefusal params e)
-by_count params items is = elim (cases_lt 16 (length items)) [
+few_or_not_split : (params : List ℕ) (items : List (List ℕ)) → IsParams params items → AreFewItems params ⊎ ((e : ValueFault) × IsItemsRefusal params e)
+few_or_not_split params items is = elim (cases_lt 16 (length items)) [
   | inl many ↦ inr (fault.TooMany, inr (refl, (items, is, many)))
   | inr few ↦ inl (items, is, few)
 ]
 
 -- parameters that have a fault as a list of no values (`IsListFault`) are at most 16 items, or there is a fault for which they
 -- aren't
-by_fault : (params : List ℕ) (e : ValueFault) → IsListFault [] params e → AreFewItems params ⊎ ((f : ValueFault) × IsItemsRefusal params f)
-by_fault params e (open_quote is odd) = inr (fault.OpenQuote, inl (refl, odd))
-by_fault params e (faulty_items items is faulty) = by_count params items is
+few_or_not_faulty : (params : List ℕ) (e : ValueFault) → IsListFault [] params e → AreFewItems params ⊎ ((f : ValueFault) × IsItemsRefusal params f)
+few_or_not_faulty params e (open_quote is odd) = inr (fault.OpenQuote, inl (refl, odd))
+few_or_not_faulty params e (faulty_items items is faulty) = few_or_not_split params items is
 
 -- parameters are at most 16 items, or there is a fault for which they aren't
 few_or_not : (params : List ℕ) → AreFewItems params ⊎ ((e : ValueFault) × IsItemsRefusal params e)
-few_or_not params = elim (each_list [] params) [ inl read ↦ by_count params read.2.items read.2.split | inr faulty ↦ by_fault params faulty.0 faulty.1 ]
+few_or_not params = elim (each_list [] params) [ inl read ↦ few_or_not_split params read.2.items read.2.split | inr faulty ↦ few_or_not_faulty params faulty.0 faulty.1 ]
 
 -- a number and parameters that may be asked for as they are have no refusal
 pub no_raw_refusal : (rpc : ℕ) (params : List ℕ) (e : RawFault) → IsRawCall rpc params → IsRawRefusal rpc params e → ⊥

@@ -1,13 +1,12 @@
 -- What is claimed of the definitions of what is asked, apart from any call of a function: this project's own.
-use Rattle.std.specs.Prelude.{◌≡◌, ◌≤◌, ℕ, List, Option, Ok, length}
+use Rattle.std.specs.Prelude.{◌≡◌, ◌≤◌, ℕ, List, Option, length}
 use Rattle.gc_lines.specs.Headers.{IsIdInRange}
 use Rattle.gc_lines.specs.Lines.{IsPlain}
-use Rattle.gc_lines.specs.Readers.{request_at}
 use Rattle.gc_catalogue.specs.declared.asked.Asked.{Asked}
 use Rattle.gc_catalogue.specs.declared.raw.RawCall.{RawCall}
 use Rattle.gc_catalogue.specs.Asked.{asked_line, asked_request, raw_line, IsAsked, IsAskedFitting, IsAskedReading}
 use Rattle.gc_catalogue.specs.Calls.{IsNoProcedure}
-use Rattle.gc_catalogue.specs.Laws.{HasOneReading, OneForALine, ReadsEachReply}
+use Rattle.gc_catalogue.specs.Laws.{EachReadsBack, HasOneReading, OneForALine, ReadsBack, ReadsEachReply}
 
 -- the request line of a procedure that isn't in the table has at most 512 bytes, none of which is CR or LF, and no procedure of
 -- the table has its number
@@ -28,15 +27,13 @@ OneAsked = (rpc : ℕ) (params : List ℕ) (a b : Asked) → IsAsked rpc params 
 abbrev pub OneAskedForALine : Type 0
 OneAskedForALine = OneForALine asked_line IsAskedFitting
 
--- the line of what is asked reads as the request for it, whose number and parameters ask for just that
-pub record ReadsBackAsked (id : Option ℕ) (asked : Asked) : Type 0 where
-  pub line : request_at (asked_line id asked) ≡ Ok (asked_request id asked)
-  pub is_asked : IsAsked (asked_request id asked).rpc (asked_request id asked).params asked
+-- `ReadsBack`, for what is asked
+abbrev pub ReadsBackAsked : Option ℕ → Asked → Type 0
+ReadsBackAsked id asked = ReadsBack asked_request IsAsked id asked
 
--- the request line of whatever is asked and allowed (`IsAskedFitting`), with an id below 8 or without one, reads back as what was
--- asked
+-- `EachReadsBack`, for what is allowed (`IsAskedFitting`)
 abbrev pub AskedReadBack : Type 0
-AskedReadBack = (id : Option ℕ) (asked : Asked) → IsIdInRange id → IsAskedFitting asked → ReadsBackAsked id asked
+AskedReadBack = EachReadsBack asked_request IsAsked IsAskedFitting
 
 -- a reply has at most one reading for what was asked
 abbrev pub OneAskedReading : Type 0

@@ -3,6 +3,7 @@ use Rattle.std.specs.Prelude.{◌≡◌, ◌≢◌, ◌<◌, ℕ, List, Option, 
 use Rattle.std.specs.List.{AllZip}
 use Rattle.gc_lines.specs.Headers.{IsIdInRange}
 use Rattle.gc_lines.specs.Replies.{ReplyFields}
+use Rattle.gc_lines.specs.Requests.{RequestFields, request_text}
 use Rattle.gc_lines.specs.Readers.{reply_at, request_at}
 use Rattle.gc_values.specs.Decimals.{fraction}
 use Rattle.gc_values.specs.Fraction.{IsRounded}
@@ -17,7 +18,7 @@ use Rattle.gc_catalogue.specs.declared.call.Call.{Call}
 use Rattle.gc_catalogue.specs.Answers.{answer_fields, IsAnswerOf, IsFittingAnswer, rounded_answer}
 use Rattle.gc_catalogue.specs.Calls.{call_fields, IsCall, IsFitting, IsRefusal}
 use Rattle.gc_values.specs.Lists.{kinds_of}
-use Rattle.gc_catalogue.specs.Readings.{IsReading}
+use Rattle.gc_catalogue.specs.Readings.{IsReading, ReadingRule}
 use Rattle.gc_catalogue.specs.Texts.{reply_line, reply_of, request_line, request_of}
 
 -- two calls have parameters of the same kinds, and answers of the same shape
@@ -65,11 +66,11 @@ pub record OneCallOrRefusal : Type 0 where
   pub never_both : (rpc : ℕ) (params : List ℕ) (c : Call) (e : CallFault) → IsCall rpc params c → IsRefusal rpc params e → ⊥
 
 -- by `says`, a reply has at most one reading for what was asked
-abbrev pub HasOneReading : {Q : Type 0} → (says : Q → ReplyFields → Reading → Type 0) → Type 0
+abbrev pub HasOneReading : {Q : Type 0} → (says : ReadingRule Q) → Type 0
 HasOneReading {Q = Q} says = (asked : Q) (reply : ReplyFields) (x y : Reading) → says asked reply x → says asked reply y → x ≡ y
 
 -- by `says`, each reply has a reading for whatever is asked
-abbrev pub ReadsEachReply : {Q : Type 0} → (says : Q → ReplyFields → Reading → Type 0) → Type 0
+abbrev pub ReadsEachReply : {Q : Type 0} → (says : ReadingRule Q) → Type 0
 ReadsEachReply {Q = Q} says = (asked : Q) (reply : ReplyFields) → (reading : Reading) × says asked reply reading
 
 -- a reply to a call has at most one reading
@@ -80,14 +81,25 @@ OneReading = HasOneReading IsReading
 abbrev pub EachReplyIsRead : Type 0
 EachReplyIsRead = ReadsEachReply IsReading
 
--- the line of a call reads as its request, whose number and parameters are the call's
-pub record ReadsBackCall (id : Option ℕ) (call : Call) : Type 0 where
-  pub line : request_at (request_line id call) ≡ Ok (request_of id call)
-  pub is_call : IsCall (request_of id call).rpc (request_of id call).params call
+-- the line of the request for `asked`, with this id or without one, reads as that request, and its number and parameters ask for
+-- just that. `request` gives the request for what is asked, and `Asks` says what a number and parameters ask for
+pub record ReadsBack {Q : Type 0} (request : Option ℕ → Q → RequestFields) (Asks : ℕ → List ℕ → Q → Type 0) (id : Option ℕ) (asked : Q)
+    : Type 0 where
+  pub line : request_at (request_text (request id asked)) ≡ Ok (request id asked)
+  pub is_asked : Asks (request id asked).rpc (request id asked).params asked
 
--- the line of each call with values in range, with an id below 8 or without one, reads back as that call
+-- the line of each request of which `Fits` holds, with an id below 8 or without one, reads back as what was asked (`ReadsBack`)
+abbrev pub EachReadsBack : {Q : Type 0} → (request : Option ℕ → Q → RequestFields) → (Asks : ℕ → List ℕ → Q → Type 0)
+    → (Fits : Q → Type 0) → Type 0
+EachReadsBack {Q = Q} request Asks Fits = (id : Option ℕ) (asked : Q) → IsIdInRange id → Fits asked → ReadsBack request Asks id asked
+
+-- `ReadsBack`, for a call
+abbrev pub ReadsBackCall : Option ℕ → Call → Type 0
+ReadsBackCall id call = ReadsBack request_of IsCall id call
+
+-- `EachReadsBack`, for calls with values in range
 abbrev pub CallsReadBack : Type 0
-CallsReadBack = (id : Option ℕ) (call : Call) → IsIdInRange id → IsFitting call → ReadsBackCall id call
+CallsReadBack = EachReadsBack request_of IsCall IsFitting
 
 -- the line of a reply with this id, return code and answer, whose doubles are rounded to the places, reads as that reply, which
 -- has this reading for the call

@@ -8,6 +8,10 @@ use Rattle.gc_catalogue.specs.declared.answer.Reading.TheVariants.{Value, Refuse
 use Rattle.gc_catalogue.specs.declared.call.Call.{Call}
 use Rattle.gc_catalogue.specs.Answers.{IsAnswer, IsUnreadable}
 
+-- which readings a reply has for what was asked
+abbrev pub ReadingRule : Type 0 → Type 1
+ReadingRule Q = Q → ReplyFields → Reading → Type 0
+
 -- a code of the reply isn't 0, and for that the reply has this reading, whatever its parameters are: a communication fault if the
 -- communication code isn't 0, else a refusal
 abbrev pub IsCodeReading : ReplyFields → Reading → Type 0

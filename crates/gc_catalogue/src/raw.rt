@@ -41,10 +41,7 @@ pub(crate) fn items_fault(params: &[u8]) -> Option<ValueFault>
     ensures found { IfSome result (λ e. IsItemsRefusal params.now e) }
     ensures none { IfNone result (AreFewItems params.now) }
 {
-    match split(params) {
-        Ok(_) => None,
-        Err(fault) => Some(fault),
-    }
+    split(params).err()
 }
 
 // The first fault, in the order of `RawFault`, for which this number may not be asked for with these parameters. `None`: it may.

@@ -8,7 +8,7 @@ ghost use Rattle.gc_lines.specs.Requests.{request_text};
 ghost use Rattle.gc_values.specs.Decimals.{rounded};
 ghost use Rattle.gc_values.specs.Lists.{AreValues};
 ghost use Rattle.gc_values.specs.declared.value.Value.{Value};
-ghost use Rattle.gc_catalogue.specs.Lists.{before_commas};
+ghost use Rattle.gc_catalogue.specs.Lists.{TakesValue, before_commas};
 
 use arrayvec::ArrayVec;
 use gc_lines::push_request;
@@ -40,44 +40,44 @@ pub(crate) trait Taker {
     fn double(&mut self, v: &Decimal)
         requires { 1 ≤ room self.old }
         ensures room { room self.old ≤ suc (room self.new) }
-        ensures takes { (vs : List Value) (t : Self) → takes self.new vs t → takes self.old (Value.Double v.now ∷ vs) t };
+        ensures takes { TakesValue takes self.old self.new (Value.Double v.now) };
 
     /// Takes a decimal rounded to the places.
     fn rounded(&mut self, v: &Decimal, places: u8)
         requires places { places ≤ 15 }
         requires room { 1 ≤ room self.old }
         ensures room { room self.old ≤ suc (room self.new) }
-        ensures takes { (vs : List Value) (t : Self) → takes self.new vs t → takes self.old (Value.Double (rounded v.now places) ∷ vs) t };
+        ensures takes { TakesValue takes self.old self.new (Value.Double (rounded v.now places)) };
 
     /// Takes a whole number of 32 bits.
     fn long(&mut self, v: i32)
         requires { 1 ≤ room self.old }
         ensures room { room self.old ≤ suc (room self.new) }
-        ensures takes { (vs : List Value) (t : Self) → takes self.new vs t → takes self.old (Value.Long v ∷ vs) t };
+        ensures takes { TakesValue takes self.old self.new (Value.Long v) };
 
     /// Takes a whole number of 16 bits.
     fn short(&mut self, v: i16)
         requires { 1 ≤ room self.old }
         ensures room { room self.old ≤ suc (room self.new) }
-        ensures takes { (vs : List Value) (t : Self) → takes self.new vs t → takes self.old (Value.Short v ∷ vs) t };
+        ensures takes { TakesValue takes self.old self.new (Value.Short v) };
 
     /// Takes a byte.
     fn byte(&mut self, v: u8)
         requires { 1 ≤ room self.old }
         ensures room { room self.old ≤ suc (room self.new) }
-        ensures takes { (vs : List Value) (t : Self) → takes self.new vs t → takes self.old (Value.Byte v ∷ vs) t };
+        ensures takes { TakesValue takes self.old self.new (Value.Byte v) };
 
     /// Takes a Boolean.
     fn boolean(&mut self, v: bool)
         requires { 1 ≤ room self.old }
         ensures room { room self.old ≤ suc (room self.new) }
-        ensures takes { (vs : List Value) (t : Self) → takes self.new vs t → takes self.old (Value.Bool v ∷ vs) t };
+        ensures takes { TakesValue takes self.old self.new (Value.Bool v) };
 
     /// Takes a string.
     fn text(&mut self, v: &Text)
         requires { 1 ≤ room self.old }
         ensures room { room self.old ≤ suc (room self.new) }
-        ensures takes { (vs : List Value) (t : Self) → takes self.new vs t → takes self.old (Value.Text v.now ∷ vs) t };
+        ensures takes { TakesValue takes self.old self.new (Value.Text v.now) };
 }
 
 /// A taker that stores a call's number, and ignores the id and the values.

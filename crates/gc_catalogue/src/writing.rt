@@ -1,11 +1,10 @@
 //! The rows for writing: the number, the values and the answer's shape of each procedure, and the values of each answer.
 
-ghost use Rattle.std.specs.Prelude.{◌≡◌, ◌<◌, ◌≤◌, ◌++◌, [], List};
+ghost use Rattle.std.specs.Prelude.{◌≡◌, ◌<◌, ◌≤◌, []};
 ghost use Rattle.std.specs.Option.{ForSome};
-ghost use Rattle.gc_values.specs.declared.value.Value.{Value};
 ghost use Rattle.gc_catalogue.specs.Answers.{answer_fields};
 ghost use Rattle.gc_catalogue.specs.Calls.{call_fields};
-ghost use Rattle.gc_catalogue.specs.Lists.{shown_values};
+ghost use Rattle.gc_catalogue.specs.Lists.{TakesValues, shown_values};
 ghost use Rattle.gc_catalogue.specs.Structs.{date_values, station_values};
 
 use crate::answer::{Answer, Shape};
@@ -208,7 +207,7 @@ impl Station {
     // Hands over the station's coordinates and the instrument's height, each with all its places.
     fn hand_over<T: Taker>(&self, to: &mut T)
         requires { 4 ≤ T.room to.old }
-        ensures { (vs : List Value) (t : T) → T.takes to.new vs t → T.takes to.old (station_values self.now ++ vs) t }
+        ensures { TakesValues T.takes to.old to.new (station_values self.now) }
     {
         to.double(&self.e0);
         to.double(&self.n0);
@@ -221,7 +220,7 @@ impl DateTime {
     // Hands over the year and the five bytes from the month to the second.
     fn hand_over<T: Taker>(&self, to: &mut T)
         requires { 6 ≤ T.room to.old }
-        ensures { (vs : List Value) (t : T) → T.takes to.new vs t → T.takes to.old (date_values self.now ++ vs) t }
+        ensures { TakesValues T.takes to.old to.new (date_values self.now) }
     {
         to.short(self.year);
         to.byte(self.month);

@@ -8,7 +8,8 @@ use Rattle.gc_client.specs.declared.settlement.Outcome.{Outcome}
 use Rattle.gc_client.specs.declared.settlement.Outcome.TheVariants.{Answered, Late, Lost}
 use Rattle.gc_client.specs.Rule.{lost, settled_by_line, settle}
 use Rattle.gc_client.specs.Rule
-use Rattle.gc_client.specs.Settlements.{Says, IsAnsweredBy, IsSettledBy}
+use Rattle.gc_catalogue.specs.Readings.{ReadingRule}
+use Rattle.gc_client.specs.Settlements.{IsAnsweredBy, IsSettledBy}
 
 -- the rule's settlement of a request by a reply line: late if the request had timed out (`given_up`), else answered
 abbrev settled_when : {Q : Type 0} → Pending Q → (line : List ℕ) → (given_up : Bool) → Rule.Settlement Q
@@ -16,7 +17,7 @@ settled_when p line given_up = record { target = p.target; call = p.call; outcom
 
 -- where a request hadn't timed out, and an outcome is the answer that this reply line gives it, the request with that
 -- outcome is the settlement that the rule makes of it by that line
-pub answered_is : {Q : Type 0} (says : Says Q) (p : Pending Q) (line : List ℕ) (fields : ReplyFields) (o : Outcome) → p.given_up ≡ false
+pub answered_is : {Q : Type 0} (says : ReadingRule Q) (p : Pending Q) (line : List ℕ) (fields : ReplyFields) (o : Outcome) → p.given_up ≡ false
     → reply_at line ≡ Ok fields
     → IsAnsweredBy says p.call fields line o → IsSettledBy says (record { target = p.target; call = p.call; outcome = o }) (settled_by_line p line)
 answered_is says p line fields (Answered reading copy) given_up reads (same, is_said) =

@@ -42,6 +42,6 @@ left_turn ws k p qs qs' rest first =
     tails ∙ ap (λ m. drop m ws) n
 
 -- an option that is `None` isn't a `Some`
-pub none_there : {A : Type 0} (o : Option A) → o ≡ None → IsSome o → ⊥
-none_there None e is = cc
-none_there (Some x) e is = cc
+pub none_is_no_some : {A : Type 0} (o : Option A) → o ≡ None → IsSome o → ⊥
+none_is_no_some None e is = cc
+none_is_no_some (Some x) e is = cc

@@ -7,16 +7,17 @@ use Rattle.gc_client.specs.declared.pending.Pending.{Pending}
 use Rattle.gc_client.specs.declared.settlement.Settlement.{Settlement}
 use Rattle.gc_client.specs.Rule.{lost}
 use Rattle.gc_client.specs.Rule
-use Rattle.gc_client.specs.Settlements.{Says, settlement_seen, IsReadBy, AreReadBy, IsSettledBy, AreSettledBy}
+use Rattle.gc_catalogue.specs.Readings.{ReadingRule}
+use Rattle.gc_client.specs.Settlements.{settlement_seen, IsReadBy, AreReadBy, IsSettledBy, AreSettledBy}
 use Rattle.gc_client.proofs.Lists.{take_turn, head_of_drop}
 
 -- where the outcome of a settlement is read by `says`, so are the outcomes of the list of this settlement alone
-well_read_one : {Q : Type 0} (says : Says Q) (s : Settlement Q) → IsReadBy says s.call s.outcome → AreReadBy says (s ∷ [])
+well_read_one : {Q : Type 0} (says : ReadingRule Q) (s : Settlement Q) → IsReadBy says s.call s.outcome → AreReadBy says (s ∷ [])
 well_read_one says s read zero d lt = read
 well_read_one says s read (suc k) d lt = absurd (omega arith)
 
 -- where the settlements ss are the rule's settlements rs (`AreSettledBy`), and ts are us, ss and then ts are rs and then us
-pub settled_append : {Q : Type 0} (says : Says Q) (ss ts : List (Settlement Q)) (rs us : List (Rule.Settlement Q))
+pub settled_append : {Q : Type 0} (says : ReadingRule Q) (ss ts : List (Settlement Q)) (rs us : List (Rule.Settlement Q))
     → AreSettledBy says ss rs → AreSettledBy says ts us → AreSettledBy says (ss ++ ts) (rs ++ us)
 settled_append says ss ts rs us first next =
     record {
@@ -26,7 +27,7 @@ settled_append says ss ts rs us first next =
 
 -- where the settlements ss are the rule's settlements rs (`AreSettledBy`), and s is the rule's r (`IsSettledBy`), ss and then s
 -- are rs and then r
-one_more : {Q : Type 0} (says : Says Q) (ss : List (Settlement Q)) (rs : List (Rule.Settlement Q)) (s : Settlement Q) (r : Rule.Settlement Q)
+one_more : {Q : Type 0} (says : ReadingRule Q) (ss : List (Settlement Q)) (rs : List (Rule.Settlement Q)) (s : Settlement Q) (r : Rule.Settlement Q)
     → AreSettledBy says ss rs → IsSettledBy says s r
     → AreSettledBy says (ss ++ s ∷ []) (rs ++ r ∷ [])
 one_more says ss rs s r are is =
@@ -34,7 +35,7 @@ one_more says ss rs s r are is =
 
 -- where the first k settlements of ss, which has more than k, are the rule's rs, and s is the rule's r, the first k + 1, once s
 -- is written over the one at place k, are rs and then r
-pub one_written : {Q : Type 0} (says : Says Q) (ss : List (Settlement Q)) (k : ℕ) (rs : List (Rule.Settlement Q)) (s : Settlement Q) (r : Rule.Settlement Q)
+pub one_written : {Q : Type 0} (says : ReadingRule Q) (ss : List (Settlement Q)) (k : ℕ) (rs : List (Rule.Settlement Q)) (s : Settlement Q) (r : Rule.Settlement Q)
     → k < length ss
     → AreSettledBy says (take k ss) rs → IsSettledBy says s r → AreSettledBy says (take (k + 1) (set ss k s)) (rs ++ r ∷ [])
 one_written says ss k rs s r lt are is =

@@ -13,7 +13,8 @@ use Rattle.gc_client.specs.declared.heard.Hearing.TheVariants as kind
 use Rattle.gc_lines.specs.declared.fault.LineFault.TheVariants.{TooLong}
 use Rattle.gc_client.specs.declared.heard.Heard.TheVariants.{Settled, Stray, Unread}
 use Rattle.gc_client.specs.Rule.{ById, Windowed, heard, fits, hears_line, settles_at, lost}
-use Rattle.gc_client.specs.Settlements.{Says, AreSettledBy}
+use Rattle.gc_catalogue.specs.Readings.{ReadingRule}
+use Rattle.gc_client.specs.Settlements.{AreSettledBy}
 
 -- the settlements in what a client reports of a line
 abbrev pub settlements_in : {Q : Type 0} → Heard Q → List (Settlement Q)
@@ -41,7 +42,7 @@ HearsAs old line report new = HearsInto old line (hearing_of report) (settlement
 
 -- these settlements are those that the rule makes of the line in the client `old`. By the relation `says` an answer's reading is
 -- that of its line
-abbrev pub AreSettledByLine : {Q : Type 0} → Says Q → ById Q → (line : List ℕ) → List (Settlement Q) → Type 0
+abbrev pub AreSettledByLine : {Q : Type 0} → ReadingRule Q → ById Q → (line : List ℕ) → List (Settlement Q) → Type 0
 AreSettledByLine says old line settlements = AreSettledBy says settlements (hears_line old line).settlements
 
 -- the client `new` is what the rule makes of `old` by the line
@@ -69,7 +70,7 @@ ReportsTooLong hearing settlements old new = (hearing ≡ kind.Unread TooLong) �
 
 -- where a request of the client waits at place k: these settlements are those of the requests before it, as lost, and then that
 -- of this request, by the line. By the relation `says` an answer's reading is that of its line
-abbrev pub AreSettledAt : {Q : Type 0} → Says Q → ById Q → (line : List ℕ) → (k : ℕ) → List (Settlement Q) → Type 0
+abbrev pub AreSettledAt : {Q : Type 0} → ReadingRule Q → ById Q → (line : List ℕ) → (k : ℕ) → List (Settlement Q) → Type 0
 AreSettledAt says old line k settlements = AreSettledBy says settlements (settles_at old line k true).settlements
 
 -- the client `new` is what is left of `old` when its request at place k, and those before it, are settled by the line
@@ -78,5 +79,5 @@ IsAfterSettling old line k new = new ≡ record old { ids = (settles_at old.ids 
 
 -- the first `count` settlements are those of the first `count` requests as lost; `says` is the relation of replies and their
 -- readings
-abbrev pub AreFirstLost : {Q : Type 0} → Says Q → (count : ℕ) → List (Pending Q) → List (Settlement Q) → Type 0
+abbrev pub AreFirstLost : {Q : Type 0} → ReadingRule Q → (count : ℕ) → List (Pending Q) → List (Settlement Q) → Type 0
 AreFirstLost says count requests settlements = AreSettledBy says (take count settlements) (map lost (take count requests))

@@ -4,7 +4,7 @@
 ghost use Rattle.std.specs.Prelude.{◌≡◌, ℕ, ◌+◌, ◌<◌, ◌≤◌, ◌↔◌, List, [], ◌∷◌, ◌++◌, length, Option, Some, None, Err, IfSome, IfOk, IfErr, OnOk, IsOk, IsErr, MatchResult};
 ghost use Rattle.gc_lines.specs.Lines.{IsPlain};
 ghost use Rattle.gc_lines.specs.Replies.{reply_seen};
-ghost use Rattle.gc_client.specs.Rule.{fresh, IsAcceptedSend, IsFull, IsRefusedSend, deadlines, IsEarliest, expires, expiring, restarts};
+ghost use Rattle.gc_client.specs.Rule.{fresh, IsAcceptedSend, IsFull, IsRefusedSend, IsWidth, deadlines, IsEarliest, expires, expiring, restarts};
 ghost use Rattle.gc_client.specs.Places.{place_heard};
 ghost use Rattle.gc_client.specs.Settlements.{AreSettledBy};
 ghost use Rattle.gc_client.specs.Hearing.{AreSettledAt, AreSettledByLine, ChangesNothing, FitsAt, HearsAs, HearsInto, IsAfterLine, IsAfterSettling, ReportsTooLong, settlements_in};
@@ -105,8 +105,7 @@ impl<W: Window> Client<W> {
     /// single lost reply fills one of width 1. With an instrument that takes fewer requests at once than the width, send while
     /// fewer are `current` than it takes.
     pub fn with_width(mut window: W, width: u8) -> Client<W>
-        requires least { 1 ≤ width }
-        requires most { width ≤ WINDOW }
+        requires { IsWidth width }
         ensures { result ≡ record { width = width; ids = fresh } }
     {
         window.clear();
@@ -116,8 +115,7 @@ impl<W: Window> Client<W> {
     /// Makes a client again from the parts of another one: the window with the requests that wait, the width, 1 to 7, and the next id,
     /// 0 to 7. At most as many requests may wait in the window as the width says.
     pub fn resume(window: W, width: u8, next: u8) -> Client<W>
-        requires least { 1 ≤ width }
-        requires most { width ≤ WINDOW }
+        requires width { IsWidth width }
         requires digit { next < IDS }
         requires room { length (W.pendings window) ≤ width }
         ensures { result ≡ record { width = width; ids = record { next = next; waiting = W.pendings window } } }
@@ -135,8 +133,7 @@ impl<W: Window> Client<W> {
         ensures waiting { W.pendings result.0 ≡ self.ids.waiting }
         ensures width { result.1 ≡ self.width }
         ensures next { result.2 ≡ self.ids.next }
-        ensures least { 1 ≤ result.1 }
-        ensures most { result.1 ≤ WINDOW }
+        ensures allowed { IsWidth result.1 }
         ensures digit { result.2 < IDS }
         ensures room { length (W.pendings result.0) ≤ result.1 }
     {
@@ -148,8 +145,7 @@ impl<W: Window> Client<W> {
     /// How many requests the client lets wait, 1 to 7.
     pub fn width(&self) -> u8
         ensures width { result ≡ self.now.width }
-        ensures least { 1 ≤ result }
-        ensures most { result ≤ WINDOW }
+        ensures allowed { IsWidth result }
     {
         self.width
     }

@@ -4,16 +4,16 @@ ghost use Rattle.std.specs.Prelude.{◌≡◌, ◌≤◌, false, IfOk};
 ghost use Rattle.std.specs.Process.{exit_status};
 ghost use Rattle.gc_messages.specs.Streams.{are_open, ReportsClosed};
 
+use crate::system::System;
 use gc_lines::{Durable, Source};
 use gc_links::Place;
 use gc_measuring::{Appended, Spot, append_at, check_task_text, measure_at};
-use gc_messages::{Lossy, Noticed, Noting, Standard, Streams};
+use gc_messages::{Lossy, Noticed, Noting, Streams};
 use gc_station::Kept;
 use gc_subcommands::ClientJob;
 use gc_subcommands::ask::ask_place;
 use gc_subcommands::looped::loop_scene;
 use gc_words::{Recording, Settings, Site};
-use std::alloc::Global;
 use std::cell::Cell;
 use std::fs::File;
 use std::io::{self, Write};
@@ -22,175 +22,145 @@ use std::process::ExitCode;
 use std::rt::Files;
 use std::time::Clock;
 
-/// Runs the subcommand `loop`, `ask` or `station`, as `job` says, and reports how that ended; or only reports that a standard
-/// stream is closed. The streams are handed back.
-pub(crate) fn run_asking<
+impl<
+    'a,
+    'b,
     R: Net<Listener = TcpListener, Stream = TcpStream> + Clock + Files<File = File>,
-    S: Source,
-    K: Durable + Drop,
-    E: Write,
->(
-    rt: &Noting<'_, R>,
-    alloc: Global,
-    standard: Standard,
-    job: ClientJob<'_>,
-    mut streams: Streams<S, K, E>,
-) -> (Streams<S, K, E>, io::Result<ExitCode>)
-    // If a stream is closed, that is reported with status 1 (without a line if the messages are closed), and input and output
-    // weren't used.
-    ensures closed { are_open standard ≡ false → IfOk result.1 (λ status. ReportsClosed standard (exit_status status) (E.contents streams.messages) (E.contents result.0.messages)) }
-    ensures untouched { are_open standard ≡ false → (result.0.input ≡ streams.input) × (result.0.output ≡ streams.output) }
-    ensures bound { IfOk result.1 (λ status. exit_status status ≤ 2) }
-{
-    if !standard.are_open() {
-        let ended = standard.refuse(&mut streams.messages);
-        return (streams, ended);
+> System<'a, Noting<'b, R>> {
+    /// Runs the subcommand `loop`, `ask` or `station`, as `job` says, and reports how that ended; or only reports that a standard
+    /// stream is closed. The streams are handed back.
+    pub(crate) fn run_asking<S: Source, K: Durable + Drop, E: Write>(
+        &self,
+        job: ClientJob<'_>,
+        mut streams: Streams<S, K, E>,
+    ) -> (Streams<S, K, E>, io::Result<ExitCode>)
+        // If a stream is closed, that is reported with status 1 (without a line if the messages are closed), and input and output
+        // weren't used.
+        ensures closed { are_open self.entry.now.standard ≡ false → IfOk result.1 (λ status. ReportsClosed self.entry.now.standard (exit_status status) (E.contents streams.messages) (E.contents result.0.messages)) }
+        ensures untouched { are_open self.entry.now.standard ≡ false → (result.0.input ≡ streams.input) × (result.0.output ≡ streams.output) }
+        ensures bound { IfOk result.1 (λ status. exit_status status ≤ 2) }
+    {
+        if !self.standard.are_open() {
+            let ended = self.standard.report_closed(&mut streams.messages);
+            return (streams, ended);
+        }
+        self.run_open(job, streams)
     }
-    run_open(rt, alloc, standard, job, streams)
-}
 
-// Runs the subcommand that `job` says over streams that are open, and reports how that ended. The streams are handed back.
-fn run_open<
-    R: Net<Listener = TcpListener, Stream = TcpStream> + Clock + Files<File = File>,
-    S: Source,
-    K: Durable + Drop,
-    E: Write,
->(
-    rt: &Noting<'_, R>,
-    alloc: Global,
-    standard: Standard,
-    job: ClientJob<'_>,
-    streams: Streams<S, K, E>,
-) -> (Streams<S, K, E>, io::Result<ExitCode>)
-    ensures { IfOk result.1 (λ status. exit_status status ≤ 1) }
-{
-    match job {
-        ClientJob::Loop { scene } => run_loop_job(rt, alloc, scene, streams),
-        ClientJob::Ask { place } => run_ask_job(rt, alloc, place, streams),
-        ClientJob::Outline { choice } => check_task_text(alloc, choice, streams),
-        ClientJob::Station {
+    // Runs the subcommand that `job` says over streams that are open, and reports how that ended. The streams are handed back.
+    fn run_open<S: Source, K: Durable + Drop, E: Write>(
+        &self,
+        job: ClientJob<'_>,
+        streams: Streams<S, K, E>,
+    ) -> (Streams<S, K, E>, io::Result<ExitCode>)
+        ensures { IfOk result.1 (λ status. exit_status status ≤ 1) }
+    {
+        match job {
+            ClientJob::Loop { scene } => self.run_loop_job(scene, streams),
+            ClientJob::Ask { place } => self.run_ask_job(place, streams),
+            ClientJob::Outline { choice } => check_task_text(self.alloc, choice, streams),
+            ClientJob::Station {
+                site,
+                station,
+                recording,
+            } => {
+                let station = station.with_status_line(self.standard.terminal);
+                self.measure_site(site, station, recording, streams)
+            }
+        }
+    }
+
+    // Asks the commands of the input over a connection within this program, of the instrument of the file `scene`, or of the simulator if
+    // none is named, and reports how that ended. The streams are handed back.
+    fn run_loop_job<S: Source, K: Durable + Drop, E: Write>(
+        &self,
+        scene: Option<&str>,
+        mut streams: Streams<S, K, E>,
+    ) -> (Streams<S, K, E>, io::Result<ExitCode>)
+        ensures { IfOk result.1 (λ status. exit_status status ≤ 1) }
+    {
+        let ended = loop_scene(
+            self.rt,
+            self.alloc,
+            scene,
+            &mut streams.input,
+            &mut streams.output,
+            &mut streams.messages,
+        );
+        (streams, ended)
+    }
+
+    // Asks the commands of the input at a place, and reports how that ended. The streams are handed back.
+    fn run_ask_job<S: Source, K: Durable + Drop, E: Write>(
+        &self,
+        place: Place<'_>,
+        mut streams: Streams<S, K, E>,
+    ) -> (Streams<S, K, E>, io::Result<ExitCode>)
+        ensures { IfOk result.1 (λ status. exit_status status ≤ 1) }
+    {
+        let ended = ask_place(
+            self.rt,
+            self.alloc,
+            place,
+            &mut streams.input,
+            &mut streams.output,
+            &mut streams.messages,
+        );
+        (streams, ended)
+    }
+
+    // Measures at a site, and reports how that ended. A message that can't be written is lost, which doesn't change the status. If
+    // the system's last error doesn't explain the fault, `rt` forgets it. The streams are handed back.
+    fn measure_site<S: Source, K: Durable + Drop, E: Write>(
+        &self,
+        site: Site<'_>,
+        station: Settings,
+        recording: Option<Recording<'_>>,
+        streams: Streams<S, K, E>,
+    ) -> (Streams<S, K, E>, io::Result<ExitCode>)
+        ensures { IfOk result.1 (λ status. exit_status status ≤ 1) }
+    {
+        let noticed = Cell::new(Noticed::nothing());
+        let spot = Spot {
             site,
-            station,
-            recording,
-        } => {
-            let station = station.with_status_line(standard.terminal);
-            measure_site(rt, alloc, site, station, recording, streams)
+            noticed: &noticed,
+        };
+        let lossy = lossy_of(streams);
+        let (mut lossy, ended) = self.measure_recorded(spot, station, recording, lossy);
+        let _ = spot.report(&mut lossy.messages);
+        if !spot.has_system_reason() {
+            self.rt.forget();
         }
+        (lossless_of(lossy), ended)
     }
-}
 
-// Asks the commands of the input over a connection within this program, of the instrument of the file `scene`, or of the simulator if
-// none is named, and reports how that ended. The streams are handed back.
-fn run_loop_job<
-    R: Net<Listener = TcpListener, Stream = TcpStream> + Files,
-    S: Source,
-    K: Durable + Drop,
-    E: Write,
->(
-    rt: &Noting<'_, R>,
-    alloc: Global,
-    scene: Option<&str>,
-    mut streams: Streams<S, K, E>,
-) -> (Streams<S, K, E>, io::Result<ExitCode>)
-    ensures { IfOk result.1 (λ status. exit_status status ≤ 1) }
-{
-    let ended = loop_scene(
-        rt,
-        alloc,
-        scene,
-        &mut streams.input,
-        &mut streams.output,
-        &mut streams.messages,
-    );
-    (streams, ended)
-}
-
-// Asks the commands of the input at a place, and reports how that ended. The streams are handed back.
-fn run_ask_job<
-    R: Net<Listener = TcpListener, Stream = TcpStream> + Clock + Files<File = File>,
-    S: Source,
-    K: Durable + Drop,
-    E: Write,
->(
-    rt: &Noting<'_, R>,
-    alloc: Global,
-    place: Place<'_>,
-    mut streams: Streams<S, K, E>,
-) -> (Streams<S, K, E>, io::Result<ExitCode>)
-    ensures { IfOk result.1 (λ status. exit_status status ≤ 1) }
-{
-    let ended = ask_place(
-        rt,
-        alloc,
-        place,
-        &mut streams.input,
-        &mut streams.output,
-        &mut streams.messages,
-    );
-    (streams, ended)
-}
-
-// Measures at a site, and reports how that ended. A message that can't be written is lost, which doesn't change the status. If
-// the system's last error doesn't explain the fault, `rt` forgets it. The streams are handed back.
-fn measure_site<
-    R: Net<Listener = TcpListener, Stream = TcpStream> + Clock + Files<File = File>,
-    S: Source,
-    K: Durable + Drop,
-    E: Write,
->(
-    rt: &Noting<'_, R>,
-    alloc: Global,
-    site: Site<'_>,
-    station: Settings,
-    recording: Option<Recording<'_>>,
-    streams: Streams<S, K, E>,
-) -> (Streams<S, K, E>, io::Result<ExitCode>)
-    ensures { IfOk result.1 (λ status. exit_status status ≤ 1) }
-{
-    let noticed = Cell::new(Noticed::nothing());
-    let spot = Spot {
-        site,
-        noticed: &noticed,
-    };
-    let lossy = lossy_of(streams);
-    let (mut lossy, ended) = measure_recorded(rt, alloc, spot, station, recording, lossy);
-    let _ = spot.report(&mut lossy.messages);
-    if !spot.has_system_reason() {
-        rt.forget();
-    }
-    (lossless_of(lossy), ended)
-}
-
-// Measures at a site, with the records in a file if one is named, and otherwise on the output; and reports how that ended. The streams are
-// handed back.
-fn measure_recorded<
-    R: Net<Listener = TcpListener, Stream = TcpStream> + Clock + Files<File = File>,
-    S: Source,
-    K: Durable + Drop,
-    E: Write,
->(
-    rt: &R,
-    alloc: Global,
-    spot: Spot<'_>,
-    station: Settings,
-    recording: Option<Recording<'_>>,
-    streams: Streams<S, K, E>,
-) -> (Streams<S, K, E>, io::Result<ExitCode>)
-    ensures { IfOk result.1 (λ status. exit_status status ≤ 1) }
-{
-    // What is seen at each act, for proofs alone.
-    let mut kept = Kept::new();
-    match recording {
-        None => {
-            let (streams, ended, _) = measure_at(rt, alloc, spot, station, streams, &mut kept);
-            (streams, ended)
-        }
-        Some(recording) => {
-            let (streams, ended, appended) = append_at(
-                rt, alloc, spot, station, recording, streams, &mut kept,
-            );
-            end_appending(appended);
-            (streams, ended)
+    // Measures at a site, with the records in a file if one is named, and otherwise on the output; and reports how that ended. The streams are
+    // handed back.
+    fn measure_recorded<S: Source, K: Durable + Drop, E: Write>(
+        &self,
+        spot: Spot<'_>,
+        station: Settings,
+        recording: Option<Recording<'_>>,
+        streams: Streams<S, K, E>,
+    ) -> (Streams<S, K, E>, io::Result<ExitCode>)
+        ensures { IfOk result.1 (λ status. exit_status status ≤ 1) }
+    {
+        // What is seen at each act, for proofs alone.
+        let mut kept = Kept::new();
+        match recording {
+            None => {
+                let (streams, ended, _) = measure_at(
+                    self.rt, self.alloc, spot, station, streams, &mut kept,
+                );
+                (streams, ended)
+            }
+            Some(recording) => {
+                let (streams, ended, appended) = append_at(
+                    self.rt, self.alloc, spot, station, recording, streams, &mut kept,
+                );
+                end_appending(appended);
+                (streams, ended)
+            }
         }
     }
 }

@@ -3,6 +3,7 @@
 
 mod asking;
 mod program;
+mod system;
 
 pub use gc_ask::{ask_at, ask_tcp, loop_tcp, run_ask, run_loop, serve_tcp};
 pub use gc_engines::{read_schedule, run_check, run_drill, run_drill_width, run_exec};

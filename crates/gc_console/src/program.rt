@@ -6,7 +6,7 @@ ghost use Rattle.std.specs.Process.{exit_status};
 ghost use Rattle.gc_texts.specs.declared.fault.RunFault.{RunFault};
 ghost use Rattle.gc_texts.specs.Faults.{run_fault_text, fault_line};
 
-use crate::asking::run_asking;
+use crate::system::System;
 use clap::Error;
 use clap::error::ErrorKind;
 use gc_lines::{FromReader, ReadAhead, ToWriter};
@@ -54,61 +54,147 @@ pub fn run_program<
 ) -> io::Result<ExitCode>
     ensures { IfOk result (λ status. exit_status status ≤ 2) }
 {
+    let system = System {
+        rt,
+        alloc,
+        standard,
+    };
     match all_words(alloc, words) {
-        Ok(words) => run_words(rt, alloc, standard, words, streams),
+        Ok(words) => system.run_words(words, streams),
         Err(error) => refuse_unreadable(&error, &mut streams.messages),
     }
 }
 
-// Runs what these words ask for, or answers words that ask for no run of a subcommand.
-fn run_words<
-    R: Net<Listener = TcpListener, Stream = TcpStream> + Clock + Files<File = File>,
-    I: Read + Drop,
-    O: Write + Drop,
-    E: Write + Drop,
->(
-    rt: &R,
-    alloc: Global,
-    standard: Standard,
-    words: Vec<String>,
-    mut streams: Streams<I, O, E>,
-) -> io::Result<ExitCode>
-    ensures { IfOk result (λ status. exit_status status ≤ 2) }
-{
-    match job_of(alloc, words.as_slice()) {
-        Ok(job) => run_job(rt, alloc, standard, job, streams),
-        Err(error) => {
-            let reads = reads_a_text(words.as_slice());
-            answer_words(&error, reads, &mut streams.output, &mut streams.messages)
+impl<'a, R: Net<Listener = TcpListener, Stream = TcpStream> + Clock + Files<File = File>> System<
+    'a,
+    R,
+> {
+    // Runs what these words ask for, or answers words that ask for no run of a subcommand.
+    fn run_words<I: Read + Drop, O: Write + Drop, E: Write + Drop>(
+        &self,
+        words: Vec<String>,
+        mut streams: Streams<I, O, E>,
+    ) -> io::Result<ExitCode>
+        ensures { IfOk result (λ status. exit_status status ≤ 2) }
+    {
+        match job_of(self.alloc, words.as_slice()) {
+            Ok(job) => self.run_job(job, streams),
+            Err(error) => {
+                let reads = reads_a_text(words.as_slice());
+                answer_words(&error, reads, &mut streams.output, &mut streams.messages)
+            }
         }
     }
-}
 
-// Runs the job over the streams, and reports how that ended; or reports, with status 2, why the words name no job that can be run.
-fn run_job<
-    R: Net<Listener = TcpListener, Stream = TcpStream> + Clock + Files<File = File>,
-    I: Read + Drop,
-    O: Write + Drop,
-    E: Write + Drop,
->(
-    rt: &R,
-    alloc: Global,
-    standard: Standard,
-    job: Job<'_>,
-    mut streams: Streams<I, O, E>,
-) -> io::Result<ExitCode>
-    ensures { IfOk result (λ status. exit_status status ≤ 2) }
-{
-    match job {
-        Job::Exec { scene } => run_exec_job(rt, alloc, scene, streams),
-        Job::Check { log } => run_check_job(log, streams),
-        Job::Drill(drilling) => run_drill_job(rt, alloc, drilling, streams),
-        Job::Serve(serving) => run_serve_job(rt, alloc, standard, serving, streams),
-        Job::Rehearse(rehearsal) => run_rehearse_job(rt, alloc, standard, rehearsal, streams),
-        Job::Client(job) => run_client_job(rt, alloc, standard, job, streams),
-        Job::Nowhere { serves } => refuse_place(serves, &mut streams.messages),
-        Job::NumberMissing => refuse_numbers(&mut streams.messages),
-        Job::StaleTooSoon => refuse_stale(&mut streams.messages),
+    // Runs the job over the streams, and reports how that ended; or reports, with status 2, why the words name no job that can be run.
+    fn run_job<I: Read + Drop, O: Write + Drop, E: Write + Drop>(
+        &self,
+        job: Job<'_>,
+        mut streams: Streams<I, O, E>,
+    ) -> io::Result<ExitCode>
+        ensures { IfOk result (λ status. exit_status status ≤ 2) }
+    {
+        match job {
+            Job::Exec { scene } => self.run_exec_job(scene, streams),
+            Job::Check { log } => run_check_job(log, streams),
+            Job::Drill(drilling) => self.run_drill_job(drilling, streams),
+            Job::Serve(serving) => self.run_serve_job(serving, streams),
+            Job::Rehearse(rehearsal) => self.run_rehearse_job(rehearsal, streams),
+            Job::Client(job) => self.run_client_job(job, streams),
+            Job::Nowhere { serves } => refuse_place(serves, &mut streams.messages),
+            Job::NumberMissing => refuse_numbers(&mut streams.messages),
+            Job::StaleTooSoon => refuse_stale(&mut streams.messages),
+        }
+    }
+
+    // Answers requests as the instrument of the file `scene`, or as the simulator if none is named, and reports how that ended.
+    fn run_exec_job<I: Read + Drop, O: Write + Drop, E: Write + Drop>(
+        &self,
+        scene: Option<&str>,
+        streams: Streams<I, O, E>,
+    ) -> io::Result<ExitCode>
+        ensures { IfOk result (λ status. exit_status status ≤ 1) }
+    {
+        let mut ports = as_ports_ahead(streams);
+        exec_scene(
+            self.rt,
+            self.alloc,
+            scene,
+            &mut ports.input,
+            &mut ports.output,
+            &mut ports.messages,
+        )
+    }
+
+    // Plays the schedule on the input, and reports how that ended.
+    fn run_drill_job<I: Read + Drop, O: Write + Drop, E: Write + Drop>(
+        &self,
+        drilling: Drilling<'_>,
+        streams: Streams<I, O, E>,
+    ) -> io::Result<ExitCode>
+        ensures { IfOk result (λ status. exit_status status ≤ 2) }
+    {
+        let mut ports = as_ports(streams);
+        drill_scene(
+            self.rt,
+            self.alloc,
+            drilling,
+            &mut ports.input,
+            &mut ports.output,
+            &mut ports.messages,
+        )
+    }
+
+    // Rehearses the station whose text is on the input, and reports how that ended; after a fault also what the system refused last,
+    // and why, if that is noted.
+    fn run_rehearse_job<I: Read + Drop, O: Write + Drop, E: Write + Drop>(
+        &self,
+        rehearsal: Rehearsal<'_>,
+        streams: Streams<I, O, E>,
+    ) -> io::Result<ExitCode>
+        ensures { IfOk result (λ status. exit_status status ≤ 1) }
+    {
+        let noting = Noting::new(self.rt);
+        let (mut ports, ended) = rehearse(&noting, self.alloc, rehearsal, as_ports(streams));
+        noting.report(self.standard, ended, &mut ports.messages)
+    }
+
+    // Serves a simulator, and reports how that ended; after a fault also what the system refused last, and why, if that is noted.
+    fn run_serve_job<I: Drop, O: Drop, E: Write + Drop>(
+        &self,
+        serving: Serving<'_>,
+        mut streams: Streams<I, O, E>,
+    ) -> io::Result<ExitCode>
+        ensures { IfOk result (λ status. exit_status status ≤ 2) }
+    {
+        let noting = Noting::new(self.rt);
+        let ended = serve_with_places_filled(
+            &noting,
+            self.alloc,
+            self.standard,
+            serving,
+            &mut streams.messages,
+        );
+        noting.report(self.standard, ended, &mut streams.messages)
+    }
+
+    // Runs `loop`, `ask` or `station`, and reports how that ended; after a fault also what the system refused last, and why, if that
+    // is noted.
+    fn run_client_job<I: Read + Drop, O: Write + Drop, E: Write + Drop>(
+        &self,
+        job: ClientJob<'_>,
+        streams: Streams<I, O, E>,
+    ) -> io::Result<ExitCode>
+        ensures { IfOk result (λ status. exit_status status ≤ 2) }
+    {
+        let noting = Noting::new(self.rt);
+        let system = System {
+            rt: &noting,
+            alloc: self.alloc,
+            standard: self.standard,
+        };
+        let (mut ports, ended) = system.run_asking(job, as_ports(streams));
+        noting.report(self.standard, ended, &mut ports.messages)
     }
 }
 
@@ -144,26 +230,6 @@ fn as_ports_ahead<I: Read, O: Write, E>(
     })
 }
 
-// Answers requests as the instrument of the file `scene`, or as the simulator if none is named, and reports how that ended.
-fn run_exec_job<R: Files, I: Read + Drop, O: Write + Drop, E: Write + Drop>(
-    rt: &R,
-    alloc: Global,
-    scene: Option<&str>,
-    streams: Streams<I, O, E>,
-) -> io::Result<ExitCode>
-    ensures { IfOk result (λ status. exit_status status ≤ 1) }
-{
-    let mut ports = as_ports_ahead(streams);
-    exec_scene(
-        rt,
-        alloc,
-        scene,
-        &mut ports.input,
-        &mut ports.output,
-        &mut ports.messages,
-    )
-}
-
 // Checks the log on the input if `log` is set, otherwise the stream on it, and reports how that ended.
 fn run_check_job<I: Read + Drop, O: Write + Drop, E: Write + Drop>(
     log: bool,
@@ -178,83 +244,6 @@ fn run_check_job<I: Read + Drop, O: Write + Drop, E: Write + Drop>(
         &mut ports.output,
         &mut ports.messages,
     )
-}
-
-// Plays the schedule on the input, and reports how that ended.
-fn run_drill_job<R: Files, I: Read + Drop, O: Write + Drop, E: Write + Drop>(
-    rt: &R,
-    alloc: Global,
-    drilling: Drilling<'_>,
-    streams: Streams<I, O, E>,
-) -> io::Result<ExitCode>
-    ensures { IfOk result (λ status. exit_status status ≤ 2) }
-{
-    let mut ports = as_ports(streams);
-    drill_scene(
-        rt,
-        alloc,
-        drilling,
-        &mut ports.input,
-        &mut ports.output,
-        &mut ports.messages,
-    )
-}
-
-// Rehearses the station whose text is on the input, and reports how that ended; after a fault also what the system refused last,
-// and why, if that is noted.
-fn run_rehearse_job<R: Files, I: Read + Drop, O: Write + Drop, E: Write + Drop>(
-    rt: &R,
-    alloc: Global,
-    standard: Standard,
-    rehearsal: Rehearsal<'_>,
-    streams: Streams<I, O, E>,
-) -> io::Result<ExitCode>
-    ensures { IfOk result (λ status. exit_status status ≤ 1) }
-{
-    let noting = Noting::new(rt);
-    let (mut ports, ended) = rehearse(&noting, alloc, rehearsal, as_ports(streams));
-    noting.report(standard, ended, &mut ports.messages)
-}
-
-// Serves a simulator, and reports how that ended; after a fault also what the system refused last, and why, if that is noted.
-fn run_serve_job<
-    R: Net<Listener = TcpListener, Stream = TcpStream> + Clock + Files<File = File>,
-    I: Drop,
-    O: Drop,
-    E: Write + Drop,
->(
-    rt: &R,
-    alloc: Global,
-    standard: Standard,
-    serving: Serving<'_>,
-    mut streams: Streams<I, O, E>,
-) -> io::Result<ExitCode>
-    ensures { IfOk result (λ status. exit_status status ≤ 2) }
-{
-    let noting = Noting::new(rt);
-    let ended = serve_with_places_filled(&noting, alloc, standard, serving, &mut streams.messages);
-    noting.report(standard, ended, &mut streams.messages)
-}
-
-// Runs `loop`, `ask` or `station`, and reports how that ended; after a fault also what the system refused last, and why, if that
-// is noted.
-fn run_client_job<
-    R: Net<Listener = TcpListener, Stream = TcpStream> + Clock + Files<File = File>,
-    I: Read + Drop,
-    O: Write + Drop,
-    E: Write + Drop,
->(
-    rt: &R,
-    alloc: Global,
-    standard: Standard,
-    job: ClientJob<'_>,
-    streams: Streams<I, O, E>,
-) -> io::Result<ExitCode>
-    ensures { IfOk result (λ status. exit_status status ≤ 2) }
-{
-    let noting = Noting::new(rt);
-    let (mut ports, ended) = run_asking(&noting, alloc, standard, job, as_ports(streams));
-    noting.report(standard, ended, &mut ports.messages)
 }
 
 // Answers words that ask for no run of a subcommand: reports that memory ran out (status 1) or why they don't parse (status 2),

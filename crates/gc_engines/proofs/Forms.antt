@@ -1,6 +1,5 @@
 -- Which lines have the forms of a schedule.
 use Rattle.std.proofs.Common.{◌≡◌, ℕ, List, ◌++◌, Option, Some, ap, subst, sym, ◌∙◌, codes}
-use Rattle.std.proofs.lemmas.List.{append_cancel_left}
 use Rattle.gc_catalogue.specs.declared.call.Call.{Call}
 use Rattle.gc_world.specs.declared.event.Event.{Event}
 use Rattle.gc_world.specs.declared.event.Event.TheVariants.{Send}
@@ -8,9 +7,9 @@ use Rattle.gc_texts.specs.Cuts.{Cuts}
 use Rattle.gc_texts.specs.Procedures.{IsNumber, IsProcedureText, IsTarget}
 use Rattle.gc_texts.specs.Troubles.{NoNumber, NoTarget}
 use Rattle.gc_texts.specs.LineForms.{IsReadAs}
-use Rattle.gc_texts.proofs.Cutting.{read_alike}
+use Rattle.gc_texts.proofs.Cutting.{read_alike, same_rest}
 use Rattle.std.proofs.lemmas.Option.{same_Some}
-use Rattle.gc_engines.specs.Schedule.{IsNumbered, IsRequested, IsSend, IsEvent, SendsRequested}
+use Rattle.gc_engines.specs.Schedule.{IsNumbered, IsRequested, IsSend, IsEvent, Requested, SendsRequested}
 use Rattle.gc_engines.proofs.InThree.{first_cut, second_cut}
 
 -- where a line is `word` and `rest`, and r is the number up to `max` that `rest` is, or `None` where it is none, r is the
@@ -18,36 +17,36 @@ use Rattle.gc_engines.proofs.InThree.{first_cut, second_cut}
 pub numbered_is : (word line rest : List ℕ) (max : ℕ) (r : Option ℕ) → line ≡ word ++ rest
     → IsReadAs (λ n. IsNumber rest n max) r → IsReadAs (λ n. IsNumbered word line n max) r
 numbered_is word line rest max r e =
-    read_alike (λ n. IsNumber rest n max) (λ n. IsNumbered word line n max) r (λ n number. record { digits = rest; line_is = e; number = number })
-    (λ n found. subst (λ (ds : List ℕ). IsNumber ds n max) (append_cancel_left word found.digits rest (sym found.line_is ∙ e)) found.number)
+    read_alike (λ n. IsNumber rest n max) (λ n. IsNumbered word line n max) r (λ n number. record { rest = rest; line_is = e; is = number })
+    (λ n found. same_rest word (λ digits. IsNumber digits n max) line rest e found)
 
--- the parts of a text that requests a call, with a target (t), a deadline (d), and a procedure with its parameters
-module _ (text : List ℕ) (t : ℕ) (call : Call) (d : ℕ) (r : IsRequested text t call d) where
+-- the parts of a text that writes a request (q): a target, a deadline, and a procedure with its parameters
+module _ (text : List ℕ) (q : Requested) (r : IsRequested text q) where
   -- what stands before the first space is a target, a number of 32 bits
   pub has_target : (target rest : List ℕ) → Cuts 32 text target (Some rest) → NoTarget target → ⊥
   has_target target rest cut none =
-      none t (subst (λ (ds : List ℕ). IsTarget ds t) (sym (first_cut text r.parts target (Some rest) cut).0) r.target_is)
+      none q.target (subst (λ (ds : List ℕ). IsTarget ds q.target) (sym (first_cut text r.parts target (Some rest) cut).0) r.target_is)
 
   -- what stands between the first two spaces is a deadline, a number of 64 bits
   pub has_deadline : (target rest deadline : List ℕ) (behind : Option (List ℕ)) → Cuts 32 text target (Some rest) → Cuts 32 rest deadline behind
       → NoNumber deadline 18446744073709551615 → ⊥
   has_deadline target rest deadline behind cut next none =
-      none d (subst (λ (ds : List ℕ). IsNumber ds d 18446744073709551615) (sym (second_cut text r.parts target rest deadline behind cut next).0) r.deadline_is)
+      none q.deadline (subst (λ (ds : List ℕ). IsNumber ds q.deadline 18446744073709551615) (sym (second_cut text r.parts target rest deadline behind cut next).0) r.deadline_is)
 
   -- what stands after the second space is a procedure and its parameters
   pub has_procedure : (target rest deadline procedure : List ℕ) → Cuts 32 text target (Some rest) → Cuts 32 rest deadline (Some procedure)
       → ((c : Call) → IsProcedureText procedure c → ⊥) → ⊥
   has_procedure target rest deadline procedure cut next none =
       let same = same_Some procedure r.parts.third (second_cut text r.parts target rest deadline (Some procedure) cut next).1 in
-      none call (subst (λ (p : List ℕ). IsProcedureText p call) (sym same) r.procedure_is)
+      none q.call (subst (λ (p : List ℕ). IsProcedureText p q.call) (sym same) r.procedure_is)
 
 -- where a line is `send ` and `rest`, and `event` is the send that `rest` requests, the line has the form of the event
 pub send_is : (word line rest : List ℕ) (event : Event) → word ≡ codes "send " → line ≡ word ++ rest → SendsRequested rest event → IsEvent line event
-send_is word line rest (Send t call d) same e requested = record { rest = rest; line_is = e ∙ ap (λ w. w ++ rest) same; requested = requested }
+send_is word line rest (Send t call d) same e requested = record { rest = rest; line_is = e ∙ ap (λ w. w ++ rest) same; is = requested }
 send_is word line rest _ same e requested = absurd requested
 
 -- where a line is `send ` and `rest`, and `rest` requests no call, the line has the form of no send
 pub no_send : (word line rest : List ℕ) → word ≡ codes "send " → line ≡ word ++ rest
-    → ((t : ℕ) (call : Call) (d : ℕ) → IsRequested rest t call d → ⊥) → (t : ℕ) (call : Call) (d : ℕ) → IsSend line t call d → ⊥
-no_send word line rest same e none t call d sent =
-    none t call d (subst (λ (x : List ℕ). IsRequested x t call d) (append_cancel_left (codes "send ") sent.rest rest (sym sent.line_is ∙ e ∙ ap (λ w. w ++ rest) same)) sent.requested)
+    → ((q : Requested) → IsRequested rest q → ⊥) → (q : Requested) → IsSend line q → ⊥
+no_send word line rest same e none q sent =
+    none q (same_rest (codes "send ") (λ x. IsRequested x q) line rest (e ∙ ap (λ w. w ++ rest) same) sent)

@@ -28,13 +28,13 @@ module _ (text : List ℕ) (p : InThree text) where
   second_cut front rest middle last cut next =
       cut_found 32 rest middle last p.second p.third next (same_Some rest (p.second ++ 32 ∷ p.third) (first_cut front (Some rest) cut).1) p.second_lacks
 
-  -- the text has a space
-  pub no_first_space : (front : List ℕ) → Cuts 32 text front None → ⊥
-  no_first_space front cut = let bad : None ≡ Some (p.second ++ 32 ∷ p.third) = (first_cut front None cut).1 in cc
+  -- the text has a space, so its cut at the first has a rest
+  pub has_space : (front : List ℕ) → Cuts 32 text front None → ⊥
+  has_space front cut = let bad : None ≡ Some (p.second ++ 32 ∷ p.third) = (first_cut front None cut).1 in cc
 
-  -- the text has a second space
-  pub no_second_space : (front rest middle : List ℕ) → Cuts 32 text front (Some rest) → Cuts 32 rest middle None → ⊥
-  no_second_space front rest middle cut next = let bad : None ≡ Some p.third = (second_cut front rest middle None cut next).1 in cc
+  -- the text has a second space, so the cut of that rest has a rest, too
+  pub has_second_space : (front rest middle : List ℕ) → Cuts 32 text front (Some rest) → Cuts 32 rest middle None → ⊥
+  has_second_space front rest middle cut next = let bad : None ≡ Some p.third = (second_cut front rest middle None cut next).1 in cc
 
 -- a text has three parts in one way at most
 pub one_in_three : (text : List ℕ) (p q : InThree text) → (p.first ≡ q.first) × (p.second ≡ q.second) × (p.third ≡ q.third)

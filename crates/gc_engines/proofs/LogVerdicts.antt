@@ -1,22 +1,21 @@
 -- The verdicts on the lines of a log, written piece by piece. `rest` is the bytes since the last line feed, and `p` and `q` are
 -- pieces that come after it. `WritesVerdicts`: the verdicts on the lines that end in a piece went out. `WritesVerdictsInPart`:
--- only a front of them did. `KeepsLine`: what is kept of the bytes since the last line feed. a, b and c are what the sink had
+-- only a front of them did. `HasChecked`: they did, and the check keeps the bytes since the last line feed. a, b and c are what the sink had
 -- taken at three moments, in order, and n, m and k how many verdicts had gone out by then.
 use Rattle.std.proofs.Common.{◌≡◌, ℕ, ◌+◌, ◌*◌, ◌<◌, ◌≤◌, get_or, true, List, [], ◌∷◌, ◌++◌, length, take, drop, Option, sym, ap, subst, ◌∙◌, arith, append_assoc, append-nil, length-append}
 use Rattle.std.specs.Io.KnownBytes.{Appends, Consumes}
 use Rattle.std.proofs.lemmas.Bool.{cond-true}
 use Rattle.std.proofs.lemmas.List.{take_more, take-append-drop}
 use Rattle.std.proofs.KnownBytes.{Appends-trans, Consumes-trans}
-use Rattle.gc_lines.specs.Answering.{all_of}
+use Rattle.gc_lines.specs.Answering.{GaveInReads, all_of}
 use Rattle.gc_lines.specs.Frames.{is_line_feed, pieces_behind, rest_behind}
 use Rattle.gc_lines.specs.Ports.{TakesFront}
 use Rattle.gc_lines.proofs.Cutting.{pieces-append, rest-append}
 use Rattle.gc_lines.proofs.InOrder.{all_of-append}
 use Rattle.gc_lines.proofs.Known.{Appends-is}
 use Rattle.gc_texts.proofs.TextLines.{AreLinesOf-append}
-use Rattle.gc_engines.specs.LogChecking.{IsLogVerdict, AreLogVerdicts, KeepsLine, TakesPiece, TakesPieceInPart, WritesVerdicts, WritesVerdictsInPart}
+use Rattle.gc_engines.specs.LogChecking.{IsLogVerdict, AreLogVerdicts, HasChecked, KeepsLine, TakesPiece, TakesPieceInPart, WritesVerdicts, WritesVerdictsInPart}
 use Rattle.gc_engines.specs.declared.check_log.LogCheck.{LogCheck}
-use Rattle.gc_engines.specs.declared.check_log.PartialLine.{PartialLine}
 
 -- where `WritesVerdicts` is true of p, and then of q after it, it is true of `p ++ q`
 pub verdicts_then : (rest p q : List ℕ) (a b c : Option (List ℕ)) (n m k : ℕ) → WritesVerdicts rest p a b n m
@@ -30,9 +29,9 @@ verdicts_then rest p q a b c n m k one next = record {
 }
 
 -- where `WritesVerdicts` is true of p, and then `WritesVerdictsInPart` of q after it, `WritesVerdictsInPart` is true of `p ++ q`
-pub part_then : (rest p q : List ℕ) (a b c : Option (List ℕ)) (n m k bytes : ℕ) → WritesVerdicts rest p a b n m
+pub verdicts_part_then : (rest p q : List ℕ) (a b c : Option (List ℕ)) (n m k bytes : ℕ) → WritesVerdicts rest p a b n m
     → WritesVerdictsInPart (rest_behind rest p) q b c m k bytes → WritesVerdictsInPart rest (p ++ q) a c n k bytes
-part_then rest p q a b c n m k bytes one next = record {
+verdicts_part_then rest p q a b c n m k bytes one next = record {
   seen = pieces_behind rest p ++ next.seen;
   later = next.later;
   order = pieces-append rest p q ∙ ap (λ ls. pieces_behind rest p ++ ls) next.order ∙ sym (append_assoc (pieces_behind rest p) next.seen next.later);
@@ -48,9 +47,9 @@ part_then rest p q a b c n m k bytes one next = record {
 }
 
 -- where `WritesVerdictsInPart` is true of p, it is true of `p ++ q`: what comes after a failed write changes nothing
-pub part_before : (rest p q : List ℕ) (a b : Option (List ℕ)) (n k bytes : ℕ) → WritesVerdictsInPart rest p a b n k bytes
+pub verdicts_part_before : (rest p q : List ℕ) (a b : Option (List ℕ)) (n k bytes : ℕ) → WritesVerdictsInPart rest p a b n k bytes
     → WritesVerdictsInPart rest (p ++ q) a b n k bytes
-part_before rest p q a b n k bytes one = record {
+verdicts_part_before rest p q a b n k bytes one = record {
   seen = one.seen;
   later = one.later ++ pieces_behind (rest_behind rest p) q;
   order = pieces-append rest p q ∙ ap (λ ls. ls ++ pieces_behind (rest_behind rest p) q) one.order ∙ append_assoc one.seen one.later _;
@@ -70,11 +69,10 @@ module _
   ends : pieces_behind rest (b ∷ []) ≡ rest ∷ []
   ends = cond-true (is_line_feed b) (rest ∷ []) [] feeds
 
-  -- where the verdict went out, `WritesVerdicts` is true of this one byte, and nothing is kept of the next line
-  pub byte_verdict : (m : ℕ) (kept : PartialLine) → KeepsLine kept [] → Appends a c text → m ≡ n + 1
-      → KeepsLine kept (rest_behind rest (b ∷ [])) × WritesVerdicts rest (b ∷ []) a c n m
-  byte_verdict m kept keeps took more = (
-    subst (KeepsLine kept) (sym (cond-true (is_line_feed b) [] (rest ++ b ∷ []) feeds)) keeps,
+  -- where the verdict went out and was counted, and nothing is kept of the next line, the check is done with this byte
+  pub byte_verdict : (check : LogCheck) → KeepsLine check.kept [] → Appends a c text → check.replies ≡ n + 1 → HasChecked check rest (b ∷ []) a c n
+  byte_verdict check keeps took more = (
+    subst (KeepsLine check.kept) (sym (cond-true (is_line_feed b) [] (rest ++ b ∷ []) feeds)) keeps,
     record {
       texts = text ∷ [];
       are = subst (λ ls. AreLogVerdicts ls (text ∷ [])) (sym ends) (verdict, tt);
@@ -106,11 +104,8 @@ piece_more bs i within =
 
 -- one turn of the loop over the bytes `bs` of a piece, at byte i: the check is `check` before it and `next` after it
 module _ (check next : LogCheck) (rest bs : List ℕ) (i : ℕ) (within : i < length bs) (a b c : Option (List ℕ)) (n : ℕ) where
-  -- where `KeepsLine` and `WritesVerdicts` are true of the first i bytes of a piece, and then of the next byte, they are true of
-  -- the first i + 1
-  pub loop_on : KeepsLine check.kept (rest_behind rest (take i bs)) × WritesVerdicts rest (take i bs) a b n check.replies
-      → TakesPiece check next (get_or bs i 0 ∷ []) b c
-      → KeepsLine next.kept (rest_behind rest (take (i + 1) bs)) × WritesVerdicts rest (take (i + 1) bs) a c n next.replies
+  -- where the check is done with the first i bytes of a piece, and then takes the next byte, it is done with the first i + 1
+  pub loop_on : HasChecked check rest (take i bs) a b n → TakesPiece check next (get_or bs i 0 ∷ []) b c → HasChecked next rest (take (i + 1) bs) a c n
   loop_on so byte =
       let it = byte (rest_behind rest (take i bs)) so.0 in
       let more = (piece_more bs i within).0 in (
@@ -118,14 +113,14 @@ module _ (check next : LogCheck) (rest bs : List ℕ) (i : ℕ) (within : i < le
         subst (λ l. WritesVerdicts rest l a c n next.replies) (sym more) (verdicts_then rest (take i bs) (get_or bs i 0 ∷ []) a b c n check.replies next.replies so.1 it.1),
       )
 
-  -- where `WritesVerdicts` is true of the first i bytes of a piece, and the sink failed at the next byte,
-  -- `WritesVerdictsInPart` is true of the piece
-  pub loop_fails : (bytes : ℕ) → KeepsLine check.kept (rest_behind rest (take i bs)) × WritesVerdicts rest (take i bs) a b n check.replies
+  -- where the check is done with the first i bytes of a piece, and the sink failed at the next byte, `WritesVerdictsInPart` is true of
+  -- the piece
+  pub loop_fails : (bytes : ℕ) → HasChecked check rest (take i bs) a b n
       → TakesPieceInPart check next (get_or bs i 0 ∷ []) b c bytes → WritesVerdictsInPart rest bs a c n next.replies bytes
   loop_fails bytes so byte =
       subst (λ l. WritesVerdictsInPart rest l a c n next.replies bytes) (sym (piece_more bs i within).1)
-      (part_before rest (take i bs ++ get_or bs i 0 ∷ []) (drop (i + 1) bs) a c n next.replies bytes
-      (part_then rest (take i bs) (get_or bs i 0 ∷ []) a b c n check.replies next.replies bytes so.1 (byte (rest_behind rest (take i bs)) so.0)))
+      (verdicts_part_before rest (take i bs ++ get_or bs i 0 ∷ []) (drop (i + 1) bs) a c n next.replies bytes
+      (verdicts_part_then rest (take i bs) (get_or bs i 0 ∷ []) a b c n check.replies next.replies bytes so.1 (byte (rest_behind rest (take i bs)) so.0)))
 
 -- how far a check has come, by the bytes that were given so far, at most 256 at each of `reads` reads: what is kept of the
 -- incomplete line is theirs, and the verdicts on their whole lines went out and were counted
@@ -154,11 +149,11 @@ module _ (a a' a'' b b' b'' : Option (List ℕ)) (check next : LogCheck) (reads 
   -- where one more piece, of at most 256 bytes, was read, and the sink failed in it, the source has given some bytes, at most 256
   -- for each read, and the sink has taken a part of the verdicts on their lines
   pub so_far_part : (bytes : ℕ) → length piece ≤ 256 → TakesPieceInPart check next piece b' b'' bytes
-      → (given : List ℕ) × Consumes a a'' given × (length given ≤ 256 * (reads + 1)) × WritesVerdictsInPart [] given b b'' 0 next.replies bytes
+      → GaveInReads a a'' (reads + 1) (λ given. WritesVerdictsInPart [] given b b'' 0 next.replies bytes)
   so_far_part bytes short piece_written =
       let it = piece_written (rest_behind [] so.given) so.keeps in (
         so.given ++ piece,
         Consumes-trans a a' a'' so.given piece so.gave gave,
         omega (arith, so.few, short, length-append so.given piece),
-        part_then [] so.given piece b b' b'' 0 check.replies next.replies bytes so.written it,
+        verdicts_part_then [] so.given piece b b' b'' 0 check.replies next.replies bytes so.written it,
       )

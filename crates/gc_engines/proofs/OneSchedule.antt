@@ -1,16 +1,15 @@
 -- One line has the form of one event, and one text is the schedule of one list of events.
-use Rattle.std.proofs.Common.{◌≡◌, ◌==◌, ◌+◌, arith, ℕ, List, ◌∷◌, ◌++◌, drop, get_or, Option, Some, None, refl, ap, subst, sym, ◌∙◌, codes, if◌then◌else◌}
-use Rattle.std.proofs.lemmas.List.{append_cancel_left}
+use Rattle.std.proofs.Common.{◌≡◌, ◌==◌, ◌+◌, arith, ℕ, List, drop, get_or, Option, Some, None, refl, ap, subst, sym, ◌∙◌, codes, if◌then◌else◌}
 use Rattle.std.specs.Prelude.{filter}
 use Rattle.gc_values.specs.Digits.{number}
-use Rattle.gc_catalogue.specs.declared.call.Call.{Call}
 use Rattle.gc_world.specs.declared.event.Event.{Event}
 use Rattle.gc_world.specs.declared.event.Event.TheVariants.{Send, UpDeliver, UpBytes, UpLose, UpRepeat, DownDeliver, DownBytes, DownLose, DownRepeat, Expire, RestartClient, RestartInstrument}
 use Rattle.gc_texts.specs.LineForms.{is_kept, text_lines}
 use Rattle.gc_texts.specs.Procedures.{IsNumber, IsProcedureText, IsTarget}
+use Rattle.gc_texts.proofs.Cutting.{same_rest}
 use Rattle.gc_texts.proofs.OneReading.{one_procedure, one_list}
 use Rattle.gc_texts.proofs.Procedures.{one_number}
-use Rattle.gc_engines.specs.Schedule.{IsRequested, IsSend, IsEvent, IsSchedule}
+use Rattle.gc_engines.specs.Schedule.{IsRequested, IsSend, IsEvent, IsSchedule, Requested, request_of}
 use Rattle.gc_engines.proofs.InThree.{one_in_three}
 
 -- the first of the three parts of an event: its kind, a number for each word or pair of words
@@ -28,9 +27,9 @@ kind RestartInstrument = 9
 kind (UpBytes n) = 10
 kind (DownBytes n) = 11
 
--- the second part of an event is what it sends, if it is a send: its target, call and deadline
-abbrev request_in : Event → Option (ℕ × Call × ℕ)
-request_in (Send target call deadline) = Some (target, call, deadline)
+-- the second part of an event is the request that it sends, if it is a send
+abbrev request_in : Event → Option Requested
+request_in (Send target call deadline) = Some (request_of target call deadline)
 request_in _ = None
 
 -- the third part of an event is the number after its words, or 0 if it has none
@@ -45,8 +44,8 @@ count (DownBytes n) = n
 count _ = 0
 
 -- the event of these three parts: a kind, what it sends if it is a send, and the number after its words
-abbrev event_from : ℕ → Option (ℕ × Call × ℕ) → ℕ → Event
-event_from k (Some s) n = Send s.0 s.1 s.2
+abbrev event_from : ℕ → Option Requested → ℕ → Event
+event_from k (Some q) n = Send q.target q.call q.deadline
 event_from k None n =
     if k == 1 then UpDeliver else if k == 2 then UpLose n else if k == 3 then UpRepeat n else if k == 4 then DownDeliver else if k == 5 then DownLose n
     else if k == 6 then DownRepeat n else if k == 7 then Expire n else if k == 8 then RestartClient else if k == 10 then UpBytes n else if k == 11 then DownBytes n else RestartInstrument
@@ -103,40 +102,31 @@ count_in k line =
 count_is : (line : List ℕ) (e : Event) → IsEvent line e → count_in (kind e) line ≡ count e
 count_is line (Send target call deadline) h = refl
 count_is line UpDeliver h = refl
-count_is line (UpLose k) h = ap (count_in 2) h.line_is ∙ sym h.number.names.value
-count_is line (UpRepeat k) h = ap (count_in 3) h.line_is ∙ sym h.number.names.value
+count_is line (UpLose k) h = ap (count_in 2) h.line_is ∙ sym h.is.names.value
+count_is line (UpRepeat k) h = ap (count_in 3) h.line_is ∙ sym h.is.names.value
 count_is line DownDeliver h = refl
-count_is line (DownLose k) h = ap (count_in 5) h.line_is ∙ sym h.number.names.value
-count_is line (DownRepeat k) h = ap (count_in 6) h.line_is ∙ sym h.number.names.value
-count_is line (Expire moment) h = ap (count_in 7) h.line_is ∙ sym h.number.names.value
+count_is line (DownLose k) h = ap (count_in 5) h.line_is ∙ sym h.is.names.value
+count_is line (DownRepeat k) h = ap (count_in 6) h.line_is ∙ sym h.is.names.value
+count_is line (Expire moment) h = ap (count_in 7) h.line_is ∙ sym h.is.names.value
 count_is line RestartClient h = refl
 count_is line RestartInstrument h = refl
-count_is line (UpBytes n) h = ap (count_in 10) h.line_is ∙ sym h.number.names.value
-count_is line (DownBytes n) h = ap (count_in 11) h.line_is ∙ sym h.number.names.value
+count_is line (UpBytes n) h = ap (count_in 10) h.line_is ∙ sym h.is.names.value
+count_is line (DownBytes n) h = ap (count_in 11) h.line_is ∙ sym h.is.names.value
 
--- a text asks for one target, one call and one deadline at most
-one_requested : (text : List ℕ) (t u : ℕ) (c d : Call) (m n : ℕ) → IsRequested text t c m → IsRequested text u d n
-    → (t ≡ u) × (c ≡ d) × (m ≡ n)
-one_requested text t u c d m n r s =
-    let same = one_in_three text r.parts s.parts in (
-      one_number s.parts.first t u 4294967295 (subst (λ (x : List ℕ). IsTarget x t) same.0 r.target_is) s.target_is,
-      one_procedure s.parts.third c d (subst (λ (x : List ℕ). IsProcedureText x c) same.2 r.procedure_is) s.procedure_is,
-      one_number s.parts.second m n 18446744073709551615 (subst (λ (x : List ℕ). IsNumber x m 18446744073709551615) same.1 r.deadline_is) s.deadline_is,
-    )
-
--- what a `send` line with this target, call and deadline sends
-abbrev request : ℕ → Call → ℕ → Option (ℕ × Call × ℕ)
-request t c m = Some (t, c, m)
-
--- requests with one target, one call and one deadline are one
-same_request : (t u : ℕ) (c d : Call) (m n : ℕ) → (t ≡ u) × (c ≡ d) × (m ≡ n) → request t c m ≡ request u d n
-same_request t u c d m n h = rw (h.0, h.1, h.2) refl
+-- a text writes one request at most
+one_requested : (text : List ℕ) (q p : Requested) → IsRequested text q → IsRequested text p → q ≡ p
+one_requested text q p r s =
+    let same = one_in_three text r.parts s.parts in
+    let target = one_number s.parts.first q.target p.target 4294967295 (subst (λ (x : List ℕ). IsTarget x q.target) same.0 r.target_is) s.target_is in
+    let call = one_procedure s.parts.third q.call p.call (subst (λ (x : List ℕ). IsProcedureText x q.call) same.2 r.procedure_is) s.procedure_is in
+    let deadline = one_number s.parts.second q.deadline p.deadline 18446744073709551615
+    (subst (λ (x : List ℕ). IsNumber x q.deadline 18446744073709551615) same.1 r.deadline_is) s.deadline_is in
+    ap (λ x. request_of x q.call q.deadline) target ∙ ap (λ x. request_of p.target x q.deadline) call ∙ ap (λ x. request_of p.target p.call x) deadline
 
 -- a line sends one request at most
-one_send : (line : List ℕ) (t u : ℕ) (c d : Call) (m n : ℕ) → IsSend line t c m → IsSend line u d n → request t c m ≡ request u d n
-one_send line t u c d m n x y =
-    let rests : x.rest ≡ y.rest = append_cancel_left (codes "send ") x.rest y.rest (sym x.line_is ∙ y.line_is) in
-    same_request t u c d m n (one_requested y.rest t u c d m n (subst (λ (r : List ℕ). IsRequested r t c m) rests x.requested) y.requested)
+one_send : (line : List ℕ) (q p : Requested) → IsSend line q → IsSend line p → q ≡ p
+one_send line q p x y =
+    one_requested y.rest q p (same_rest (codes "send ") (λ r. IsRequested r q) line y.rest y.line_is x) y.is
 
 -- an event that isn't a send sends nothing
 sends_nothing : (e : Event) (k : ℕ) → kind e ≡ k + 1 → request_in e ≡ None
@@ -144,13 +134,13 @@ sends_nothing (Send target call deadline) k h = absurd (omega (arith, h))
 sends_nothing e k h = refl
 
 -- an event of a `send` line, if it is a send, sends what the line says
-sends_this : (line : List ℕ) (t : ℕ) (c : Call) (m : ℕ) (e : Event) → IsSend line t c m → IsEvent line e → 0 ≡ kind e → request t c m ≡ request_in e
-sends_this line t c m (Send u d n) x y h = one_send line t u c d m n x y
-sends_this line t c m e x y h = absurd (omega (arith, h))
+sends_this : (line : List ℕ) (q : Requested) (e : Event) → IsSend line q → IsEvent line e → 0 ≡ kind e → Some q ≡ request_in e
+sends_this line q (Send target call deadline) x y h = ap Some (one_send line q (request_of target call deadline) x y)
+sends_this line q e x y h = absurd (omega (arith, h))
 
 -- two events of one line and one kind send the same
 one_sent : (line : List ℕ) (a b : Event) → IsEvent line a → IsEvent line b → kind a ≡ kind b → request_in a ≡ request_in b
-one_sent line (Send t c m) b x y h = sends_this line t c m b x y h
+one_sent line (Send target call deadline) b x y h = sends_this line (request_of target call deadline) b x y h
 one_sent line UpDeliver b x y h = sym (sends_nothing b 0 (sym h))
 one_sent line (UpLose n) b x y h = sym (sends_nothing b 1 (sym h))
 one_sent line (UpRepeat n) b x y h = sym (sends_nothing b 2 (sym h))
@@ -164,7 +154,7 @@ one_sent line (UpBytes n) b x y h = sym (sends_nothing b 9 (sym h))
 one_sent line (DownBytes n) b x y h = sym (sends_nothing b 10 (sym h))
 
 -- events of one kind, one request and one number are one
-same_event : (k l : ℕ) (s r : Option (ℕ × Call × ℕ)) (m n : ℕ) → k ≡ l → s ≡ r → m ≡ n → event_from k s m ≡ event_from l r n
+same_event : (k l : ℕ) (s r : Option Requested) (m n : ℕ) → k ≡ l → s ≡ r → m ≡ n → event_from k s m ≡ event_from l r n
 same_event k l s r m n e f g = ap (λ x. event_from x s m) e ∙ ap (λ x. event_from l x m) f ∙ ap (λ x. event_from l r x) g
 
 -- a line has the form of one event at most

@@ -18,8 +18,8 @@ use Rattle.gc_engines.specs.declared.verdict.Verdict.{Verdict}
 use Rattle.gc_engines.specs.declared.verdict.Verdict.TheVariants as verdict
 
 -- where a result is the error `e` and is the error `f`, these are one fault
-one_fault : {A : Type 0} (r : Result A LineFault) (e f : LineFault) → r ≡ Err e → r ≡ Err f → e ≡ f
-one_fault r e f is other = cc
+same_fault : {A : Type 0} (r : Result A LineFault) (e f : LineFault) → r ≡ Err e → r ≡ Err f → e ≡ f
+same_fault r e f is other = cc
 
 -- a result isn't both a value and a fault
 no_ok_and_fault : {A : Type 0} (r : Result A LineFault) (x : A) (f : LineFault) → r ≡ Ok x → r ≡ Err f → ⊥
@@ -58,13 +58,13 @@ one_of_line line v w (reply r is says) (no_request f none bad tells) = absurd (n
 one_of_line line v w (no_reply e so bad says) (request q other tells) = absurd (no_both line q other so)
 one_of_line line v w (no_reply e so bad says) (reply r other tells) = absurd (no_ok_and_fault (reply_at line) r e (reply_again line r other) (reply_bad line e bad))
 one_of_line line v w (no_reply e so bad says) (no_reply f also worse tells) =
-    says ∙ ap (λ (g : LineFault). verdict.Fault g) (one_fault (reply_at line) e f (reply_bad line e bad) (reply_bad line f worse)) ∙ sym tells
+    says ∙ ap (λ (g : LineFault). verdict.Fault g) (same_fault (reply_at line) e f (reply_bad line e bad) (reply_bad line f worse)) ∙ sym tells
 one_of_line line v w (no_reply e so bad says) (no_request f none worse tells) = absurd (none so)
 one_of_line line v w (no_request e none bad says) (request q other tells) = absurd (no_ok_and_fault (request_at line) q e (request_again line q other) (request_bad line e bad))
 one_of_line line v w (no_request e none bad says) (reply r other tells) = absurd (none (begins line r other))
 one_of_line line v w (no_request e none bad says) (no_reply f so worse tells) = absurd (none so)
 one_of_line line v w (no_request e none bad says) (no_request f nothing worse tells) =
-    says ∙ ap (λ (g : LineFault). verdict.Fault g) (one_fault (request_at line) e f (request_bad line e bad) (request_bad line f worse)) ∙ sym tells
+    says ∙ ap (λ (g : LineFault). verdict.Fault g) (same_fault (request_at line) e f (request_bad line e bad) (request_bad line f worse)) ∙ sym tells
 
 -- a frame has one verdict at most
 one_of_frame : (seen : Frame) (v w : Verdict) → IsVerdict seen v → IsVerdict seen w → v ≡ w

@@ -1,5 +1,5 @@
 -- Lines `answer` of a scene with rules, and the reply that each gives.
-use Rattle.std.proofs.Common.{◌≡◌, ℕ, ◌<◌, ◌≤◌, List, length, Option, Some, None, refl, sym, ◌∙◌, subst, arith, codes}
+use Rattle.std.proofs.Common.{◌≡◌, ℕ, ◌<◌, ◌≤◌, List, length, Option, Some, None, refl, sym, ◌∙◌, subst, arith}
 use Rattle.std.specs.Prelude.{IfSome, IfNone}
 use Rattle.gc_catalogue.specs.RawTexts.{raw_bytes}
 use Rattle.gc_catalogue.specs.declared.raw.RawCall.{RawCall}
@@ -9,7 +9,7 @@ use Rattle.gc_texts.specs.Procedures.{IsNumber, IsRpc}
 use Rattle.gc_texts.specs.Words.{second_word}
 use Rattle.gc_texts.specs.LineForms.{IsReadAs}
 use Rattle.gc_texts.proofs.Procedures.{one_number}
-use Rattle.gc_engines.specs.RuleScenes.{Begins, rc_in_answer, params_in_answer, IsAnswerLine, Scripts}
+use Rattle.gc_engines.specs.RuleScenes.{BeginsAnswer, rc_in_answer, params_in_answer, IsAnswerLine, Scripts}
 
 -- where a request of this procedure has these parameters, and r is the reply made of it with this return code, or `None` if its
 -- parameters have more than 490 bytes, too many for a reply, r is read as `Scripts` says
@@ -23,37 +23,32 @@ scripts rpc rc params call None number bytes made long = λ a is.
 scripts rpc rc params call (Some s) number bytes made long =
     record { rpc_is = made.0 ∙ number; rc_is = made.2; call = call; with_is = made.1; number = number; params_are = bytes }
 
--- the line is `answer` with this procedure's number, this return code and these parameters
-pub record HasAnswer (line params : List ℕ) (rpc rc : ℕ) : Type 0 where
-  pub word : Begins (codes "answer") line
-  pub rpc_is : IsRpc (second_word line) rpc
-  pub rc_is : IsNumber (rc_in_answer line) rc 65535
-  pub params_is : params ≡ params_in_answer line
-
--- where a line is `answer` with this procedure, this return code and these parameters, and r is the reply made of them, r is
+-- where a line is `answer` with this procedure and this return code, and r is the reply made of these and of the line's parameters, r is
 -- what the line is read as
-pub answer_is : (line params : List ℕ) (rpc rc : ℕ) (r : Option Scripted) → HasAnswer line params rpc rc → IsReadAs (Scripts rpc rc params) r
+pub answer_is : (line : List ℕ) (rpc rc : ℕ) (r : Option Scripted) → BeginsAnswer line rpc rc → IsReadAs (Scripts rpc rc (params_in_answer line)) r
     → IsReadAs (IsAnswerLine line) r
-answer_is line params rpc rc None has none = λ a is.
-    let rpc_is : a.rpc ≡ rpc = one_number (second_word line) a.rpc rpc 65535 is.rpc has.rpc_is in
+answer_is line rpc rc None begins none = λ a is.
+    let rpc_is : a.rpc ≡ rpc = one_number (second_word line) a.rpc rpc 65535 is.begins.rpc_is begins.rpc_is in
     none a (record {
       rpc_is = rpc_is;
-      rc_is = one_number (rc_in_answer line) a.rc rc 65535 is.rc has.rc_is;
+      rc_is = one_number (rc_in_answer line) a.rc rc 65535 is.begins.rc_is begins.rc_is;
       call = is.reply.call;
       with_is = is.reply.with_is;
       number = is.reply.number ∙ rpc_is;
-      params_are = is.reply.params_are ∙ sym has.params_is;
+      params_are = is.reply.params_are;
     })
-answer_is line params rpc rc (Some a) has made = record {
-  word = has.word;
-  rpc = subst (λ (n : ℕ). IsRpc (second_word line) n) (sym made.rpc_is) has.rpc_is;
-  rc = subst (λ (n : ℕ). IsNumber (rc_in_answer line) n 65535) (sym made.rc_is) has.rc_is;
+answer_is line rpc rc (Some a) begins made = record {
+  begins = record {
+    word = begins.word;
+    rpc_is = subst (λ (n : ℕ). IsRpc (second_word line) n) (sym made.rpc_is) begins.rpc_is;
+    rc_is = subst (λ (n : ℕ). IsNumber (rc_in_answer line) n 65535) (sym made.rc_is) begins.rc_is;
+  };
   reply = record {
     rpc_is = refl;
     rc_is = refl;
     call = made.call;
     with_is = made.with_is;
     number = made.number ∙ sym made.rpc_is;
-    params_are = made.params_are ∙ has.params_is;
+    params_are = made.params_are;
   };
 }

@@ -1,15 +1,16 @@
 -- Which lines have the forms of a scene, and that a text is one scene.
-use Rattle.std.proofs.Common.{◌≡◌, arith, ℕ, ℤ, List, [], ◌∷◌, ◌++◌, get_or, length, Some, ap, subst, sym, refl, ◌∙◌, codes}
+use Rattle.std.proofs.Common.{◌≡◌, arith, ℕ, ℤ, List, [], ◌∷◌, get_or, length, Some, ap, sym, refl, ◌∙◌, codes}
 use Rattle.std.specs.Prelude.{filter}
 use Rattle.std.specs.List.{filter_map}
 use Rattle.std.proofs.lemmas.List.{append_cancel_left}
-use Rattle.gc_values.specs.Whole.{NamesWhole}
+use Rattle.gc_values.specs.Whole.{NamesWhole, FitsLong}
 use Rattle.gc_values.proofs.DecimalLaws.{spells_unique}
 use Rattle.gc_values.proofs.WholeLemmas.{one_whole}
 use Rattle.gc_instrument.specs.State.{State}
 use Rattle.gc_instrument.specs.declared.target.Target.{Target}
 use Rattle.gc_texts.specs.LineForms.{IsTextOf, is_kept, text_lines}
 use Rattle.gc_texts.specs.Words.{first_word, second_word, after_two_words}
+use Rattle.gc_texts.proofs.Cutting.{same_rest}
 use Rattle.gc_texts.proofs.OneReading.{one_list}
 use Rattle.gc_engines.specs.Scenes.{IsOffset, IsSerial, IsTargetLine, IsSceneLine, IsScene, IsOverfullScene, scene_opening, targets_of}
 use Rattle.gc_engines.specs.declared.scene_line.SceneLine.{SceneLine}
@@ -35,16 +36,14 @@ same_target t u e f g =
 -- a line says one serial number at most
 one_serial : (line : List ℕ) (m n : ℤ) → IsSerial line m → IsSerial line n → m ≡ n
 one_serial line m n x y =
-    let digits : x.digits ≡ y.digits = append_cancel_left (codes "serial ") x.digits y.digits (sym x.line_is ∙ y.line_is) in
-    one_whole y.digits m n (subst (λ (ds : List ℕ). NamesWhole ds m) digits x.number) y.number
+    one_whole y.rest m n (same_rest (codes "serial ") (λ digits. NamesWhole digits m × FitsLong m) line y.rest y.line_is x).0 y.is.0
 
 -- a line says one target at most
 one_target : (line : List ℕ) (t u : Target) → IsTargetLine line t → IsTargetLine line u → t ≡ u
 one_target line t u x y =
-    let words : x.words ≡ y.words = append_cancel_left (codes "target ") x.words y.words (sym x.line_is ∙ y.line_is) in
-    let said = subst (λ (ws : List ℕ). IsOffset ws (record { hz = t.hz; v = t.v; distance = t.distance })) words x.offset in
-    same_target t u (spells_unique (first_word y.words) t.hz u.hz said.hz y.offset.hz) (spells_unique (second_word y.words) t.v u.v said.v y.offset.v)
-    (spells_unique (after_two_words y.words) t.distance u.distance said.distance y.offset.distance)
+    let said = same_rest (codes "target ") (λ words. IsOffset words (record { hz = t.hz; v = t.v; distance = t.distance })) line y.rest y.line_is x in
+    same_target t u (spells_unique (first_word y.rest) t.hz u.hz said.hz y.is.hz) (spells_unique (second_word y.rest) t.v u.v said.v y.is.v)
+    (spells_unique (after_two_words y.rest) t.distance u.distance said.distance y.is.distance)
 
 -- a line says at most one of these: a serial number, a name or a target
 one_line : (line : List ℕ) (a b : SceneLine) → IsSceneLine line a → IsSceneLine line b → a ≡ b

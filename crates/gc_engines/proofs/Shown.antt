@@ -1,22 +1,18 @@
 -- The text of a report is that of the run that it shows. A run of events ends with a wire: the line, the instrument, and the
 -- lists and counts of what has happened.
-use Rattle.std.proofs.Common.{◌≡◌, ℕ, List, Bool, length, refl, sym, ap, ◌∙◌}
+use Rattle.std.proofs.Common.{◌≡◌, Bool, length, refl, sym, ap, ◌∙◌}
 use Rattle.std.proofs.lemmas.List.{length-map}
 use Rattle.gc_client.specs.Settlements.{settlement_seen}
 use Rattle.gc_instrument.specs.State.{State}
-use Rattle.gc_world.specs.declared.event.Event.{Event}
 use Rattle.gc_world.specs.declared.report.Report.{Report}
-use Rattle.gc_world.specs.Clients.{played}
 use Rattle.gc_world.specs.Faithful.{sent_seen}
 use Rattle.gc_world.specs.Reports.{IsReport, made_seen}
 use Rattle.gc_world.specs.World.{Wire}
 use Rattle.gc_scenes.specs.SceneState.{SceneState}
 use Rattle.gc_scene_world.specs.declared.report.SceneReport.{SceneReport}
 use Rattle.gc_scene_world.specs.SceneReports.{IsSceneReport}
-use Rattle.gc_scene_world.specs.SceneRuns.{scene_played}
 use Rattle.gc_engines.specs.Reports.{report_text, scene_report_text}
-use Rattle.gc_engines.specs.SceneDrill.{scene_drill_text}
-use Rattle.gc_engines.specs.Drill.{wire_text, drill_text_on}
+use Rattle.gc_engines.specs.Drill.{wire_text}
 
 -- the text of a report is that of the run whose wire the report shows
 pub text_shown : (r : Report) (w : Wire State) (totals : Bool) → IsReport r w → report_text r totals ≡ wire_text w totals
@@ -26,22 +22,8 @@ text_shown r w totals is =
     let settled : length r.settled ≡ length w.settled = sym (length-map r.settled settlement_seen) ∙ ap length is.settled.seen in
     rw (sent, ap length is.executed, made, settled, is.refused, is.idle, is.settled.seen) refl
 
--- the text of a report of an instrument's run is what a drill on that instrument writes
-pub drill_shown : (opening : State) (width : ℕ) (events : List Event) (totals : Bool) (r : Report) → IsReport r (played width opening events).wire
-    → report_text r totals ≡ drill_text_on opening width events totals
-unfolding drill_text_on
-drill_shown opening width events totals r is = text_shown r (played width opening events).wire totals is
-
--- The same of a run on the instrument of a scene.
-
--- the text of a scene's report is that of the run whose wire the report shows
-scene_text_shown : (r : SceneReport) (w : Wire SceneState) (totals : Bool) → IsSceneReport r w → scene_report_text r totals ≡ wire_text w totals
+-- the text of a report of a run on the instrument of a scene is that of the run whose wire the report shows
+pub scene_text_shown : (r : SceneReport) (w : Wire SceneState) (totals : Bool) → IsSceneReport r w → scene_report_text r totals ≡ wire_text w totals
 scene_text_shown r w totals is =
     let settled : length r.settled.items ≡ length w.settled = sym (length-map r.settled.items settlement_seen) ∙ ap length is.settled.seen in
     rw (is.counts.sent, is.counts.executed, is.counts.made, settled, is.counts.refused, is.counts.idle, is.settled.seen) refl
-
--- the text of a report of a run on a scene's instrument is what a drill on that instrument writes
-pub scene_drill_shown : (opening : SceneState) (width : ℕ) (events : List Event) (totals : Bool) (r : SceneReport)
-    → IsSceneReport r (scene_played width opening events).wire → scene_report_text r totals ≡ scene_drill_text opening width events totals
-unfolding scene_drill_text
-scene_drill_shown opening width events totals r is = scene_text_shown r (scene_played width opening events).wire totals is

@@ -1,9 +1,9 @@
 -- What a check writes, and how it ends: this project's own. `given` are the bytes that the source gave, and `old` and `new` are
 -- what the sink had taken before and has taken after, where that is known. A check writes a text for each piece of its input: of a
 -- stream for each frame, of a log for each line; `Written` says which texts are written of pieces.
-use Rattle.std.specs.Prelude.{◌≡◌, ℕ, ◌+◌, ◌-◌, ◌*◌, ◌<◌, ◌≤◌, min, ◌^◌, List, [], ◌∷◌, ◌++◌, length, take, Option, Some, None, Result, Ok, Err}
-use Rattle.std.specs.Io.KnownBytes.{Appends, Consumes}
-use Rattle.gc_lines.specs.Answering.{Ports, HasEnded, all_of}
+use Rattle.std.specs.Prelude.{◌≡◌, ℕ, ◌+◌, ◌-◌, ◌<◌, min, ◌^◌, List, [], ◌∷◌, ◌++◌, length, take, Option, Some, None, Result, Ok, Err}
+use Rattle.std.specs.Io.KnownBytes.{Appends}
+use Rattle.gc_lines.specs.Answering.{IsRunOverPorts, Ports, all_of}
 use Rattle.gc_lines.specs.Frames.{frames}
 use Rattle.gc_lines.specs.declared.frame.Frame.{Frame}
 use Rattle.gc_lines.specs.declared.frame.Frame.TheVariants.{More}
@@ -48,19 +48,9 @@ WritesBy Written pieces old new (Err (TooManyReads count)) = WritesAll Written p
 abbrev pub Checks : List ℕ → (old new : Option (List ℕ)) → Result Served ServeFault → Type 0
 Checks given old new result = WritesBy AreFrameVerdicts (frames given) old new result
 
--- a check in at most `most` reads took the ports from old to new, and gave this result. `Writes` says what the sink takes for the
--- bytes that the source gives, by the result
-pub record IsCheckWriting (Writes : List ℕ → (old new : Option (List ℕ)) → Result Served ServeFault → Type 0) (old new : Ports) (most : ℕ)
-    (result : Result Served ServeFault) : Type 0 where
-  -- the source gave some bytes, at most 256 at each read, and what the sink took is as `Writes` says of them
-  pub checks : (given : List ℕ) × Consumes old.remaining new.remaining given
-      × (length given ≤ 256 * (new.reads - old.reads)) × Writes given old.taken new.taken result
-  -- why it ended, and what that says of the ports, as `HasEnded` has it
-  pub ended : HasEnded old new most result
-
 -- a check of frames in at most `most` reads took the ports from old to new, and gave this result; what it wrote is as `Checks` says
 abbrev pub IsChecking : (old new : Ports) → (most : ℕ) → Result Served ServeFault → Type 0
-IsChecking old new most result = IsCheckWriting Checks old new most result
+IsChecking old new most result = IsRunOverPorts Checks old new most result
 
 -- the judge counts one frame more than before, as far as 64 bits go, and `text` is the line of the verdict on that frame, which
 -- begins with the new count

@@ -3,7 +3,7 @@
 use Rattle.std.specs.Prelude.{◌≡◌, ℕ, ◌+◌, ◌<◌, ◌≤◌, Bool, true, false, List, length, Option, Result, Ok, Err}
 use Rattle.std.specs.Io.KnownBytes.{Appends}
 use Rattle.gc_lines.specs.Answering.{Ports}
-use Rattle.gc_lines.specs.Ports.{TakesFront}
+use Rattle.gc_lines.specs.Ports.{TakesPart}
 use Rattle.gc_instrument.specs.State.{State}
 use Rattle.gc_world.specs.declared.event.Event.{Event}
 use Rattle.gc_world.specs.Clients.{played}
@@ -36,9 +36,9 @@ wire_text w totals = run_text w.settled (totals_of w) totals
 unfoldable pub drill_text_on : (opening : State) → (width : ℕ) → List Event → (totals : Bool) → List ℕ
 drill_text_on opening width events totals = wire_text (played width opening events).wire totals
 
--- a sink took a front of this text, maybe no byte, and not all of it
-abbrev pub TookPart : (old new : Option (List ℕ)) → (text : List ℕ) → Type 0
-TookPart old new text = (n : ℕ) × TakesFront old new n text
+-- the text is a schedule, and a sink took all that is written of its events (`text_of`), with the line of totals if `totals` is true
+abbrev pub PlaysAll : (text_of : List Event → (totals : Bool) → List ℕ) → (text : List ℕ) → (totals : Bool) → (old new : Option (List ℕ)) → Type 0
+PlaysAll text_of text totals old new = (events : List Event) × IsSchedule text events × Appends old new (text_of events totals)
 
 -- the bytes `given` were read as a schedule, to be played, and by the result a sink took this. `Ok`: they are a schedule, and
 -- the sink took all that is written of its events. `Output`: they are a schedule, and the sink took a part of that. `Read`,
@@ -48,14 +48,13 @@ TookPart old new text = (n : ℕ) × TakesFront old new n text
 -- asked for; `old` and `new` are what the sink had taken before and has taken after
 abbrev pub DrillsAs : (text_of : List Event → (totals : Bool) → List ℕ) → (given : List ℕ) → (totals : Bool) → (old new : Option (List ℕ))
     → Result (Unit {0}) RunFault → Type 0
-DrillsAs text_of given totals old new (Ok _) = (length given ≤ TEXT_LIMIT)
-    × ((events : List Event) × IsSchedule given events × Appends old new (text_of events totals))
+DrillsAs text_of given totals old new (Ok _) = (length given ≤ TEXT_LIMIT) × PlaysAll text_of given totals old new
 DrillsAs text_of given totals old new (Err Read) = (length given ≤ TEXT_LIMIT) × (new ≡ old)
 DrillsAs text_of given totals old new (Err InputTooLong) = (length given ≡ TEXT_LIMIT + 1) × (new ≡ old)
 DrillsAs text_of given totals old new (Err (Schedule n)) = (length given ≤ TEXT_LIMIT) × FirstFaulty IsEvent given n × (new ≡ old)
 DrillsAs text_of given totals old new (Err Memory) = (length given ≤ TEXT_LIMIT) × (new ≡ old)
 DrillsAs text_of given totals old new (Err Output) = (length given ≤ TEXT_LIMIT)
-    × ((events : List Event) × IsSchedule given events × TookPart old new (text_of events totals))
+    × ((events : List Event) × IsSchedule given events × TakesPart old new (text_of events totals))
 DrillsAs text_of given totals old new (Err _) = ⊥
 
 -- whether this result shows that a drill has read its source to the end: it has where the schedule was played, or has a faulty line. With

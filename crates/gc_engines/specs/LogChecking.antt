@@ -2,7 +2,7 @@
 -- of a line that no line feed has ended, and `old` and `new` what the sink had taken before and has taken after, where that is
 -- known.
 use Rattle.std.specs.Prelude.{◌≡◌, ℕ, ◌-◌, ◌<◌, ◌≤◌, ◌==◌, ◌&&◌, Bool, true, false, not, nat_lt, List, [], ◌∷◌, ◌++◌, length, take, get_or, Option, Result, if◌then◌else◌, codes}
-use Rattle.gc_lines.specs.Answering.{Ports}
+use Rattle.gc_lines.specs.Answering.{IsRunOverPorts, Ports}
 use Rattle.gc_lines.specs.Frames.{ends_in_return, pieces_behind, rest_behind}
 use Rattle.gc_lines.specs.declared.served.Served.{Served}
 use Rattle.gc_lines.specs.declared.served.ServeFault.{ServeFault}
@@ -10,7 +10,7 @@ use Rattle.gc_texts.specs.LineForms.{AreLinesOf}
 use Rattle.gc_texts.specs.Logs.{mark_text, escaped, IsLogLine}
 use Rattle.gc_texts.specs.declared.log_line.LogMark.{LogMark}
 use Rattle.gc_texts.specs.declared.log_line.LogMark.TheVariants as mark
-use Rattle.gc_engines.specs.Checking.{IsCheckWriting, WritesAll, WritesBy, WritesPart}
+use Rattle.gc_engines.specs.Checking.{WritesAll, WritesBy, WritesPart}
 use Rattle.gc_engines.specs.Verdicts.{IsLineVerdict, verdict_text}
 use Rattle.gc_engines.specs.declared.check_log.LogCheck.{LogCheck}
 use Rattle.gc_engines.specs.declared.check_log.PartialLine.{PartialLine}
@@ -45,22 +45,26 @@ abbrev pub IsVerdictLine : (moment : List ℕ) → LogMark → (bytes text : Lis
 IsVerdictLine moment mark bytes text =
     (words : List ℕ) × IsMarkedVerdict mark bytes words × (text ≡ moment ++ 32 ∷ (mark_text mark ++ 32 ∷ (words ++ 10 ∷ [])))
 
+-- the most bytes of a line of a log that is read: this project's own
+abbrev pub log_line_most : ℕ
+log_line_most = 2100
+
 -- the text is what is written of a line of the checked log. If the line reads as a log line, that is `IsVerdictLine`; if it doesn't, that
--- it is no log line. A line of more than 2100 bytes, or of more than 514 bytes of the connection, doesn't read
+-- it is no log line. A line of more than `log_line_most` bytes, or of more than 514 bytes of the connection, doesn't read
 pub data IsLogVerdict (line text : List ℕ) : Type 0 where
-  reads : (moment bytes : List ℕ) (mark : LogMark) → length line ≤ 2100 → length bytes ≤ 514 → IsLogLine line moment mark bytes
+  reads : (moment bytes : List ℕ) (mark : LogMark) → length line ≤ log_line_most → length bytes ≤ 514 → IsLogLine line moment mark bytes
       → IsVerdictLine moment mark bytes text → IsLogVerdict line text
-  unread : (length line ≤ 2100 → (moment : List ℕ) (mark : LogMark) (bytes : List ℕ) → length bytes ≤ 514 → IsLogLine line moment mark bytes → ⊥)
+  unread : (length line ≤ log_line_most → (moment : List ℕ) (mark : LogMark) (bytes : List ℕ) → length bytes ≤ 514 → IsLogLine line moment mark bytes → ⊥)
       → text ≡ codes "no log line\n" → IsLogVerdict line text
 
 -- the texts are what is written of the lines of a checked log, one for one
 abbrev pub AreLogVerdicts : (lines texts : List (List ℕ)) → Type 0
 AreLogVerdicts lines texts = AreLinesOf IsLogVerdict lines texts
 
--- the value `kept` holds the bytes since the last line feed, `rest`: all of them, or only that they are more than 2100
+-- the value `kept` holds the bytes since the last line feed, `rest`: all of them, or only that they are more than `log_line_most`
 pub record KeepsLine (kept : PartialLine) (rest : List ℕ) : Type 0 where
   pub whole : kept.is_long ≡ false → rest ≡ kept.bytes.items
-  pub long : kept.is_long ≡ true → 2100 < length rest
+  pub long : kept.is_long ≡ true → log_line_most < length rest
 
 -- a piece came after the bytes `rest`, which no line feed had ended, and the verdict on each line that ends in the piece went out
 abbrev pub WritesVerdicts : (rest piece : List ℕ) → (old new : Option (List ℕ)) → (before count : ℕ) → Type 0
@@ -72,12 +76,16 @@ abbrev pub WritesVerdictsInPart : (rest piece : List ℕ) → (old new : Option 
 WritesVerdictsInPart rest piece old new before count bytes =
     WritesPart AreLogVerdicts (pieces_behind rest piece) old new before count bytes
 
--- a piece was checked, which took the check from `before` to `after`: whatever rest of a line was kept, the verdicts on the lines that
--- end in the piece went out and were counted, and what follows the last line feed is kept
+-- the check is done with a piece that came after the bytes `rest`, which no line feed had ended: it keeps what follows the last line
+-- feed, and the verdicts on the lines that end in the piece went out. `count` is how many had gone out before
+abbrev pub HasChecked : LogCheck → (rest piece : List ℕ) → (old new : Option (List ℕ)) → (count : ℕ) → Type 0
+HasChecked check rest piece old new count =
+    KeepsLine check.kept (rest_behind rest piece) × WritesVerdicts rest piece old new count check.replies
+
+-- a piece was checked, which took the check from `before` to `after`, whatever rest of a line was kept (`HasChecked`)
 abbrev pub TakesPiece : (before after : LogCheck) → (piece : List ℕ) → (old new : Option (List ℕ)) → Type 0
 TakesPiece before after piece old new =
-    (rest : List ℕ) → KeepsLine before.kept rest
-    → KeepsLine after.kept (rest_behind rest piece) × WritesVerdicts rest piece old new before.replies after.replies
+    (rest : List ℕ) → KeepsLine before.kept rest → HasChecked after rest piece old new before.replies
 
 -- a piece was checked until the sink failed, after the first `bytes` bytes of a verdict's line, which took the check from `before` to
 -- `after`: whatever rest of a line was kept, only a front of the verdicts on the lines that end in the piece went out
@@ -91,4 +99,4 @@ ChecksLog given old new result = WritesBy AreLogVerdicts (pieces_behind [] given
 
 -- a check of a log in at most `most` reads took the ports from old to new, and gave this result; what it wrote is as `ChecksLog` says
 abbrev pub IsCheckingLog : (old new : Ports) → (most : ℕ) → Result Served ServeFault → Type 0
-IsCheckingLog old new most result = IsCheckWriting ChecksLog old new most result
+IsCheckingLog old new most result = IsRunOverPorts ChecksLog old new most result

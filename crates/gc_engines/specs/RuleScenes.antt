@@ -20,31 +20,44 @@ use Rattle.gc_texts.specs.LineForms.{ItemForm}
 use Rattle.gc_texts.specs.Procedures.{IsNumber, IsRpc}
 use Rattle.gc_texts.specs.Words.{first_word, second_word, third_word, fourth_word, after_two_words, after_three_words, after_four_words}
 use Rattle.gc_texts.specs.declared.fault.RunFault.{RunFault}
-use Rattle.gc_engines.specs.Scenes.{AreOffsetWords, IsOffset, SceneFaultBy, IsSceneLine, SaysTooMuch, SetsUp, last_value, name_of, serial_of, targets_of}
+use Rattle.gc_engines.specs.Scenes.{AreOffsetWords, HaveFewTargets, HaveManyTargets, IsOffset, SceneFaultBy, IsSceneLine, SaysTooMuch, SetsUp, last_value, name_of, serial_of, targets_of}
 use Rattle.gc_engines.specs.declared.scene_line.SceneLine.{SceneLine}
 use Rattle.gc_engines.specs.declared.rule_line.RuleLine.{RuleLine}
 use Rattle.gc_engines.specs.declared.rule_line.RuleLine.TheVariants as says
 use Rattle.gc_engines.specs.declared.rule_line.Blocked.{Blocked}
 use Rattle.gc_engines.specs.declared.rule_line.Drift.{Drift}
 use Rattle.gc_engines.specs.declared.rule_line.Span.{Span}
+use Rattle.gc_engines.specs.declared.rule_scene.TheConstants.{MOST_FAULTS, MOST_ANSWERS}
 
 -- how many requests a fault meets whose line has no `for`: the greatest number of 32 bits, which stands for "without end". Only a
--- fault whose `after` is 0 ends after so many
+-- fault whose `after` is 0 ends after so many. This project's own
 abbrev pub no_end : ℕ
 no_end = 4294967295
+
+-- the greatest number of a target that a line may name: an instrument has at most 32 targets, counted from 1. This project's own
+abbrev pub scene_target_max : ℕ
+scene_target_max = 32
+
+-- the greatest number of a procedure, and the greatest return code: the greatest number of 16 bits, as the manual has them
+abbrev pub code_max : ℕ
+code_max = 65535
 
 -- the first word of `words`, up to its first space, is `word`
 abbrev pub Begins : (word words : List ℕ) → Type 0
 Begins word words = first_word words ≡ word
 
+-- the text is a number of 32 bits
+abbrev pub IsCount : (text : List ℕ) → (n : ℕ) → Type 0
+IsCount text n = IsNumber text n 4294967295
+
 -- how many requests a fault meets: the words are empty, and it meets requests without end (`no_end`); or they are `for COUNT`
 abbrev pub IsTimes : (words : List ℕ) → (times : ℕ) → Type 0
 IsTimes [] times = times ≡ no_end
-IsTimes (b ∷ bs) times = Begins (codes "for") (b ∷ bs) × IsNumber (behind 32 (b ∷ bs)) times 4294967295
+IsTimes (b ∷ bs) times = Begins (codes "for") (b ∷ bs) × IsCount (behind 32 (b ∷ bs)) times
 
 -- which requests a fault meets, by the words behind `after`: they are `COUNT`, or `COUNT for COUNT`
 abbrev pub IsAfter : (words : List ℕ) → Span → Type 0
-IsAfter words span = IsNumber (first_word words) span.after 4294967295 × IsTimes (behind 32 words) span.times
+IsAfter words span = IsCount (first_word words) span.after × IsTimes (behind 32 words) span.times
 
 -- which requests a fault meets: the words are empty, `after COUNT`, `for COUNT`, or both in this order
 abbrev pub IsSpan : (words : List ℕ) → Span → Type 0
@@ -57,7 +70,7 @@ IsSpan words span =
 pub record IsFault (line : List ℕ) (f : Fault) : Type 0 where
   pub word : Begins (codes "fault") line
   pub rpc : IsRpc (second_word line) f.rpc
-  pub rc : IsNumber (third_word line) f.rc 65535
+  pub rc : IsNumber (third_word line) f.rc code_max
   pub span : IsSpan (after_three_words line) (record { after = f.after; times = f.times })
   pub met : f.met ≡ 0
 
@@ -78,24 +91,28 @@ rc_in_answer line = before 44 (after_two_words line)
 abbrev pub params_in_answer : List ℕ → List ℕ
 params_in_answer line = behind 44 (after_two_words line)
 
+-- the line is `answer` with this procedure and this return code, whatever parameters follow
+pub record BeginsAnswer (line : List ℕ) (rpc rc : ℕ) : Type 0 where
+  pub word : Begins (codes "answer") line
+  pub rpc_is : IsRpc (second_word line) rpc
+  pub rc_is : IsNumber (rc_in_answer line) rc code_max
+
 -- the line is `answer RPC RC[,PARAMS]`: a procedure that isn't in the table, and its reply. The comma may also stand without parameters
 pub record IsAnswerLine (line : List ℕ) (a : Scripted) : Type 0 where
-  pub word : Begins (codes "answer") line
-  pub rpc : IsRpc (second_word line) a.rpc
-  pub rc : IsNumber (rc_in_answer line) a.rc 65535
+  pub begins : BeginsAnswer line a.rpc a.rc
   pub reply : Scripts a.rpc a.rc (params_in_answer line) a
 
 -- the line is `blocked TARGET FROM TO`: a target is hidden from look FROM through look TO, where looks are counted from 1
 pub record IsBlocked (line : List ℕ) (b : Blocked) : Type 0 where
   pub word : Begins (codes "blocked") line
-  pub target : IsNumber (second_word line) b.target 32
-  pub from : IsNumber (third_word line) b.from 4294967295
-  pub to : IsNumber (after_three_words line) b.to 4294967295
+  pub target : IsNumber (second_word line) b.target scene_target_max
+  pub from : IsCount (third_word line) b.from
+  pub to : IsCount (after_three_words line) b.to
 
 -- the line is `drift TARGET HZ V D`: a target moves by an offset with each measurement of it
 pub record IsDrift (line : List ℕ) (d : Drift) : Type 0 where
   pub word : Begins (codes "drift") line
-  pub target : IsNumber (second_word line) d.target 32
+  pub target : IsNumber (second_word line) d.target scene_target_max
   pub by : IsOffset (after_two_words line) d.by
 
 -- the line is `noise HZ V D SEED`: the most by which measurements deviate, in radians and metres, and the seed of the deviations
@@ -103,7 +120,7 @@ pub record IsNoise (line : List ℕ) (n : Noise) : Type 0 where
   pub word : Begins (codes "noise") line
   pub most : AreOffsetWords (second_word line) (third_word line) (fourth_word line)
       (record { hz = n.hz; v = n.v; distance = n.distance })
-  pub seed : IsNumber (after_four_words line) n.seed 4294967295
+  pub seed : IsCount (after_four_words line) n.seed
 
 -- the line that gives the instrument a way of real instruments, or all of them (`Real`)
 abbrev pub way_line : Way → List ℕ
@@ -136,13 +153,13 @@ IsStillLine line rule = IsRuleLine line rule × (GivesClock line → ⊥)
 -- What lines say together.
 
 -- the line as one of a scene without rules; none if it is a rule
-abbrev pub plain_of : RuleLine → Option SceneLine
-plain_of (says.Plain line) = Some line
-plain_of rule = None
+abbrev pub plain_in : RuleLine → Option SceneLine
+plain_in (says.Plain line) = Some line
+plain_in rule = None
 
 -- those of the lines that aren't rules, in order, as the lines of a scene without rules
 abbrev pub plain_lines : List RuleLine → List SceneLine
-plain_lines lines = filter_map plain_of lines
+plain_lines lines = filter_map plain_in lines
 
 -- the fault of a line `fault`; none of any other line
 abbrev pub fault_in : RuleLine → Option Fault
@@ -162,14 +179,14 @@ answer_in other = None
 abbrev pub answers_of : List RuleLine → List Scripted
 answers_of lines = filter_map answer_in lines
 
--- the noise that a line `noise` gives the instrument, which has none (`None`) without such a line; nothing of any other line
-abbrev pub noise_in : RuleLine → Option (Option Noise)
-noise_in (says.Noise n) = Some (Some n)
-noise_in other = None
+-- the noise of the instrument after a line, where it is `n` before it: that of a line `noise`; any other line leaves it as it is
+abbrev pub noise_with : (n : Option Noise) → RuleLine → Option Noise
+noise_with n (says.Noise one) = Some one
+noise_with n other = n
 
 -- the noise of the last line `noise`, or `n` if there is none
 abbrev pub rules_noise : (n : Option Noise) → List RuleLine → Option Noise
-rules_noise n lines = last_value noise_in n lines
+rules_noise n lines = fold noise_with n lines
 
 -- `false` of a line `repeats no`: the instrument doesn't answer a repeated request with the reply that it keeps; nothing of any other line
 abbrev pub repeat_in : RuleLine → Option Bool
@@ -233,23 +250,26 @@ rules_opening lines = record {
 
 -- the lines have no more targets, faults and replies than an instrument has room for
 pub record FitAnInstrument (lines : List RuleLine) : Type 0 where
-  pub targets : length (targets_of (plain_lines lines)) ≤ 32
-  pub faults : length (faults_of lines) ≤ 32
-  pub answers : length (answers_of lines) ≤ 16
+  pub targets : HaveFewTargets (plain_lines lines)
+  pub faults : length (faults_of lines) ≤ MOST_FAULTS
+  pub answers : length (answers_of lines) ≤ MOST_ANSWERS
+
+-- the lines have more faults or more replies than an instrument has room for
+abbrev pub HaveManyRules : List RuleLine → Type 0
+HaveManyRules lines = (MOST_FAULTS < length (faults_of lines)) ⊎ (MOST_ANSWERS < length (answers_of lines))
 
 -- the lines have more targets, more faults or more replies than an instrument has room for
 abbrev pub OverfillAnInstrument : List RuleLine → Type 0
-OverfillAnInstrument lines = (32 < length (targets_of (plain_lines lines))) ⊎ ((32 < length (faults_of lines)) ⊎ (16 < length (answers_of lines)))
+OverfillAnInstrument lines = HaveManyTargets (plain_lines lines) ⊎ HaveManyRules lines
 
--- the text is a scene of lines in this form, of at most 32 targets, 32 faults and 16 replies, and this is the opening state of its
--- instrument
-abbrev pub IsSceneOf : ItemForm RuleLine → List ℕ → SceneState → Type 0
-IsSceneOf form text state = SetsUp form FitAnInstrument rules_opening text state
+-- the text is a scene of lines in this form, which fit an instrument, and this is the opening state of its instrument
+abbrev pub IsRuleScene : ItemForm RuleLine → List ℕ → SceneState → Type 0
+IsRuleScene form text state = SetsUp form FitAnInstrument rules_opening text state
 
 -- the text is a scene of lines in this form, with more targets, faults or replies than an instrument has room for
-abbrev pub IsOverfullOf : ItemForm RuleLine → List ℕ → Type 0
-IsOverfullOf form text = SaysTooMuch form OverfillAnInstrument text
+abbrev pub IsOverfullRuleScene : ItemForm RuleLine → List ℕ → Type 0
+IsOverfullRuleScene form text = SaysTooMuch form OverfillAnInstrument text
 
 -- why a text sets up no instrument, where it should be a scene of lines in this form
-abbrev pub SceneFaultOf : ItemForm RuleLine → List ℕ → RunFault → Type 0
-SceneFaultOf form text fault = SceneFaultBy form (IsOverfullOf form) text fault
+abbrev pub RuleSceneFault : ItemForm RuleLine → List ℕ → RunFault → Type 0
+RuleSceneFault form text fault = SceneFaultBy form (IsOverfullRuleScene form) text fault

@@ -6,21 +6,20 @@ use Rattle.gc_instrument.specs.State.{State, opening, simulator_opening}
 use Rattle.gc_instrument.specs.declared.target.Target.{Target}
 use Rattle.gc_scenes.specs.declared.rules.Offset.{Offset}
 use Rattle.gc_texts.specs.LineForms.{ItemForm, IsTextOf, TextFault}
+use Rattle.gc_texts.specs.TaskLines.{IsWordAnd}
 use Rattle.gc_texts.specs.Words.{first_word, second_word, after_two_words}
 use Rattle.gc_values.specs.Decimals.{SpellsDecimal}
 use Rattle.gc_texts.specs.declared.fault.RunFault.{RunFault}
 use Rattle.gc_texts.specs.declared.fault.RunFault.TheVariants.{SceneFull}
 use Rattle.gc_texts.specs.declared.text.TheConstants.{TEXT_LIMIT}
 use Rattle.gc_engines.specs.declared.scene.Base.{Base}
+use Rattle.gc_engines.specs.declared.scene.TheConstants.{MOST_TARGETS}
 use Rattle.gc_engines.specs.declared.scene_line.SceneLine.{SceneLine}
 use Rattle.gc_engines.specs.declared.scene_line.SceneLine.TheVariants as says
 
 -- the line is `serial N`: a whole number in the range of a Long
-pub record IsSerial (line : List ℕ) (n : ℤ) : Type 0 where
-  pub digits : List ℕ
-  pub line_is : line ≡ codes "serial " ++ digits
-  pub number : NamesWhole digits n
-  pub fits : FitsLong n
+abbrev pub IsSerial : List ℕ → ℤ → Type 0
+IsSerial line n = IsWordAnd (codes "serial ") (λ digits. NamesWhole digits n × FitsLong n) line
 
 -- the line is `name TEXT`: at most 64 bytes, none of them a double quote, CR or LF
 pub record IsName (line bytes : List ℕ) : Type 0 where
@@ -38,10 +37,9 @@ abbrev pub IsOffset : (words : List ℕ) → Offset → Type 0
 IsOffset words o = AreOffsetWords (first_word words) (second_word words) (after_two_words words) o
 
 -- the line is `target HZ V DISTANCE`: a target's angles in radians and its slope distance in metres
-pub record IsTargetLine (line : List ℕ) (target : Target) : Type 0 where
-  pub words : List ℕ
-  pub line_is : line ≡ codes "target " ++ words
-  pub offset : IsOffset words (record { hz = target.hz; v = target.v; distance = target.distance })
+abbrev pub IsTargetLine : List ℕ → Target → Type 0
+IsTargetLine line target =
+    IsWordAnd (codes "target ") (λ words. IsOffset words (record { hz = target.hz; v = target.v; distance = target.distance })) line
 
 -- the line is written in the form of this item of a scene: a serial number, a name or a target
 abbrev pub IsSceneLine : List ℕ → SceneLine → Type 0
@@ -110,17 +108,17 @@ pub record SaysTooMuch {Line : Type 0} (form : ItemForm Line) (Overfill : List L
 
 -- the lines have no more targets than an instrument has room for
 abbrev pub HaveFewTargets : List SceneLine → Type 0
-HaveFewTargets lines = length (targets_of lines) ≤ 32
+HaveFewTargets lines = length (targets_of lines) ≤ MOST_TARGETS
 
 -- the lines have more targets than an instrument has room for
 abbrev pub HaveManyTargets : List SceneLine → Type 0
-HaveManyTargets lines = 32 < length (targets_of lines)
+HaveManyTargets lines = MOST_TARGETS < length (targets_of lines)
 
--- the text is a scene of at most 32 targets, and this is the opening state of its instrument
+-- the text is a scene of no more targets than an instrument has room for, and this is the opening state of its instrument
 abbrev pub IsScene : List ℕ → State → Type 0
 IsScene text state = SetsUp IsSceneLine HaveFewTargets scene_opening text state
 
--- the text is a scene of more than 32 targets
+-- the text is a scene of more targets than an instrument has room for
 abbrev pub IsOverfullScene : List ℕ → Type 0
 IsOverfullScene text = SaysTooMuch IsSceneLine HaveManyTargets text
 

@@ -14,12 +14,17 @@ use Rattle.gc_engines.specs.RuleScenes.{Begins, IsRuleLine, FitAnInstrument, Ove
 use Rattle.gc_engines.specs.declared.rule_line.RuleLine.{RuleLine}
 use Rattle.gc_engines.specs.declared.timed_line.TimedLine.{TimedLine}
 use Rattle.gc_engines.specs.declared.timed_line.TimedLine.TheVariants as says
+use Rattle.gc_engines.specs.declared.timed_scene.TheConstants.{MOST_DELAYS}
+
+-- the longest delay of a reply, in milliseconds: an hour. This project's own
+abbrev pub delay_max : ℕ
+delay_max = 3600000
 
 -- the line is `delay RPC MS`: a procedure, and a delay in milliseconds of at most an hour
 pub record IsDelayLine (line : List ℕ) (d : Delay) : Type 0 where
   pub word : Begins (codes "delay") line
   pub rpc : IsRpc (second_word line) d.rpc
-  pub ms : IsNumber (after_two_words line) d.ms 3600000
+  pub ms : IsNumber (after_two_words line) d.ms delay_max
 
 -- the line is written in the form of this item of a scene for `serve`
 abbrev pub IsTimedLine : List ℕ → TimedLine → Type 0
@@ -71,14 +76,17 @@ timed_opening lines = record {
 -- the lines have no more targets, faults, replies and delays than an instrument has room for
 pub record FitATimedInstrument (lines : List TimedLine) : Type 0 where
   pub rules : FitAnInstrument (rules_of lines)
-  pub delays : length (delays_of lines) ≤ 32
+  pub delays : length (delays_of lines) ≤ MOST_DELAYS
+
+-- the lines have more delays than an instrument has room for
+abbrev pub HaveManyDelays : List TimedLine → Type 0
+HaveManyDelays lines = MOST_DELAYS < length (delays_of lines)
 
 -- the lines have more targets, faults, replies or delays than an instrument has room for
 abbrev pub OverfillATimedInstrument : List TimedLine → Type 0
-OverfillATimedInstrument lines = OverfillAnInstrument (rules_of lines) ⊎ (32 < length (delays_of lines))
+OverfillATimedInstrument lines = OverfillAnInstrument (rules_of lines) ⊎ HaveManyDelays lines
 
--- the text is a scene for `serve`, of at most 32 targets, 32 faults, 16 replies and 32 delays, and this is the opening state of its
--- instrument
+-- the text is a scene for `serve`, whose lines fit an instrument, and this is the opening state of its instrument
 abbrev pub IsTimedScene : List ℕ → SlowState → Type 0
 IsTimedScene text state = SetsUp IsTimedLine FitATimedInstrument timed_opening text state
 

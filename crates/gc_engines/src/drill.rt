@@ -1,6 +1,7 @@
 //! A schedule, read from a source, played on an instrument, and its settlements written into a sink.
 
-ghost use Rattle.std.specs.Prelude.{◌≡◌, ◌≤◌, IfOk};
+ghost use Rattle.std.specs.Prelude.{◌≡◌, IfOk};
+ghost use Rattle.gc_client.specs.Rule.{IsWidth};
 ghost use Rattle.gc_instrument.specs.State.{simulator_opening};
 ghost use Rattle.gc_lines.specs.Answering.{ports_of};
 ghost use Rattle.gc_engines.specs.Drill.{IsDrill, drill_text_on};
@@ -30,8 +31,7 @@ pub trait Playable: Drop {
         totals: bool,
         width: u8,
     ) -> Result<Vec<u8>, AllocError>
-        requires least { 1 ≤ width }
-        requires most { width ≤ WINDOW }
+        requires { IsWidth width }
         ensures { IfOk result (λ written. written.items ≡ text self width events.now totals) };
 }
 
@@ -71,8 +71,7 @@ pub fn run_drill_on<I: Playable, S: Source, K: Sink>(
     totals: bool,
     width: u8,
 ) -> Result<(), RunFault>
-    requires least { 1 ≤ width }
-    requires most { width ≤ WINDOW }
+    requires { IsWidth width }
     ensures drills { IsDrill (I.text instrument width) totals
         (ports_of S.Source source.old K.Sink sink.old)
         (ports_of S.Source source.new K.Sink sink.new)
@@ -97,8 +96,7 @@ pub fn run_drill_width<S: Source, K: Sink>(
     totals: bool,
     width: u8,
 ) -> Result<(), RunFault>
-    requires least { 1 ≤ width }
-    requires most { width ≤ WINDOW }
+    requires { IsWidth width }
     ensures drills { IsDrill (drill_text_on simulator_opening width) totals
         (ports_of S.Source source.old K.Sink sink.old)
         (ports_of S.Source source.new K.Sink sink.new)

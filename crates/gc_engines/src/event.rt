@@ -1,9 +1,8 @@
 //! The reading of one line of a schedule. The words of a schedule's events are known here alone.
 
-ghost use Rattle.std.specs.Prelude.{IsTrue, IsFalse, ℕ};
+ghost use Rattle.std.specs.Prelude.{IsTrue, IsFalse};
 ghost use Rattle.gc_texts.specs.LineForms.{IsReadAs};
-ghost use Rattle.gc_engines.specs.Schedule.{IsNumbered, IsEvent, IsSend, IsRequested, SendsRequested, IsNumberedEvent};
-ghost use Rattle.gc_catalogue.specs.declared.call.Call.{Call};
+ghost use Rattle.gc_engines.specs.Schedule.{IsNumbered, IsEvent, IsSend, IsRequested, Requested, SendsRequested, IsNumberedEvent};
 ghost use Rattle.gc_world.specs.declared.event.Event.{Event};
 
 use gc_catalogue::Call;
@@ -18,10 +17,8 @@ const COUNT_MAX: u64 = 4294967295;
 fn number_behind(word: &[u8], line: &[u8], max: u64) -> Option<u64>
     ensures { IsReadAs (λ n. IsNumbered word.now line.now n max) result }
 {
-    match after_word(word, line) {
-        Some(digits) => number_of(digits, max),
-        None => None,
-    }
+    let digits = after_word(word, line)?;
+    number_of(digits, max)
 }
 
 // Reads `T D RPC` or `T D RPC PARAMS` as the send of that call to the target T with the deadline D, into `event`. Returns whether
@@ -30,7 +27,7 @@ fn number_behind(word: &[u8], line: &[u8], max: u64) -> Option<u64>
 // returned and moved: `event` is made a send of some call first, and then the call is read into its place there.
 fn read_requested(text: &[u8], event: &mut Event) -> bool
     ensures found { IsTrue result → SendsRequested text.now event.new }
-    ensures none { IsFalse result → (t : ℕ) (call : Call) (d : ℕ) → IsRequested text.now t call d → ⊥ }
+    ensures none { IsFalse result → (q : Requested) → IsRequested text.now q → ⊥ }
 {
     let (target, rest) = cut_at(b' ', text);
     let Some(rest) = rest else { return false };
@@ -56,7 +53,7 @@ fn read_requested(text: &[u8], event: &mut Event) -> bool
 // `read_requested` reads. If it isn't, `event` may have been overwritten all the same.
 fn read_send(line: &[u8], event: &mut Event) -> bool
     ensures found { IsTrue result → IsEvent line.now event.new }
-    ensures none { IsFalse result → (t : ℕ) (call : Call) (d : ℕ) → IsSend line.now t call d → ⊥ }
+    ensures none { IsFalse result → (q : Requested) → IsSend line.now q → ⊥ }
 {
     match after_word(b"send ", line) {
         Some(rest) => read_requested(rest, event),

@@ -1,8 +1,9 @@
 //! The reading of one line of a scene with rules. Besides `scene_trouble.rt`, the words of rules are known here alone.
 
-ghost use Rattle.std.specs.Prelude.{◌≡◌, ◌↔◌, IsTrue};
+ghost use Rattle.std.specs.Prelude.{◌≡◌, ◌↔◌, IsTrue, MatchOption};
+ghost use Rattle.gc_texts.specs.Cuts.{behind};
 ghost use Rattle.gc_texts.specs.LineForms.{IsReadAs};
-ghost use Rattle.gc_engines.specs.RuleScenes.{IsRuleLine, IsFault, IsAfter, IsAnswerLine, IsBlocked, IsDrift, IsNoise, IsSpan, IsTimes, IsStillLine, Scripts, GivesClock, way_line};
+ghost use Rattle.gc_engines.specs.RuleScenes.{Begins, IsRuleLine, IsFault, IsAfter, IsAnswerLine, IsBlocked, IsDrift, IsNoise, IsSpan, IsTimes, IsStillLine, Scripts, GivesClock, way_line};
 
 use crate::scene_line::{
     AnySceneLine, SceneLine, offset_of, put_found, read_offset, read_scene_line,
@@ -11,7 +12,8 @@ use gc_catalogue::raw_call;
 use gc_scenes::{Fault, Noise, Offset, Scripted, Way};
 use gc_texts::{LineForm, before, behind, is_word, u16_of, u32_of};
 
-// How many requests a fault meets whose line has no `for`: if its `after` isn't 0, it then never ends (`Span`).
+// How many requests a fault meets whose line has no `for`: the greatest number of 32 bits. If its `after` isn't 0, it then never ends
+// (`Span`).
 const NO_END: u32 = 4294967295;
 
 // The greatest number of a target: an instrument has at most 32 targets.
@@ -64,9 +66,9 @@ pub enum RuleLine {
 }
 
 impl AnySceneLine for RuleLine {
-    ghost use Rattle.gc_engines.specs.RuleScenes.{plain_of};
+    ghost use Rattle.gc_engines.specs.RuleScenes.{plain_in};
 
-    ghost plain = { plain_of };
+    ghost plain = { plain_in };
 
     fn plain(&self) -> Option<&SceneLine> {
         match self {
@@ -151,6 +153,17 @@ pub(crate) fn read_rule_line(line: &[u8]) -> Option<RuleLine>
     None
 }
 
+// What follows the first word of a line and the space behind it, if that word is `word`; empty where nothing follows. `None`: the line
+// begins with another word.
+pub(crate) fn behind_word<'a>(word: &[u8], line: &'a [u8]) -> Option<&'a [u8]>
+    ensures { MatchOption result (Begins word.now line.now → ⊥) (λ rest. Begins word.now line.now × (rest.now ≡ behind 32 line.now)) }
+{
+    if !is_word(word, before(b' ', line)) {
+        return None;
+    }
+    Some(behind(b' ', line))
+}
+
 // How many requests a fault meets: reads `for COUNT`, or nothing, which gives `NO_END`. `None`: the words have no such form.
 fn read_times(words: &[u8]) -> Option<u32>
     ensures { IsReadAs (IsTimes words.now) result }
@@ -158,36 +171,28 @@ fn read_times(words: &[u8]) -> Option<u32>
     if words.is_empty() {
         return Some(NO_END);
     }
-    if !is_word(b"for", before(b' ', words)) {
-        return None;
-    }
-    u32_of(behind(b' ', words), u32::MAX)
+    let count = behind_word(b"for", words)?;
+    u32_of(count, u32::MAX)
 }
 
 // Reads `COUNT [for COUNT]`, the words that follow `after`. `None`: they have no such form.
 fn read_after(words: &[u8]) -> Option<Span>
     ensures { IsReadAs (IsAfter words.now) result }
 {
-    let Some(after) = u32_of(before(b' ', words), u32::MAX) else {
-        return None
-    };
-    match read_times(behind(b' ', words)) {
-        Some(times) => Some(Span { after, times }),
-        None => None,
-    }
+    let after = u32_of(before(b' ', words), u32::MAX)?;
+    let times = read_times(behind(b' ', words))?;
+    Some(Span { after, times })
 }
 
 // Reads nothing, `after COUNT`, `for COUNT`, or both. `None`: the words have no such form.
 fn read_span(words: &[u8]) -> Option<Span>
     ensures { IsReadAs (IsSpan words.now) result }
 {
-    if is_word(b"after", before(b' ', words)) {
-        return read_after(behind(b' ', words));
+    if let Some(rest) = behind_word(b"after", words) {
+        return read_after(rest);
     }
-    match read_times(words) {
-        Some(times) => Some(Span { after: 0, times }),
-        None => None,
-    }
+    let times = read_times(words)?;
+    Some(Span { after: 0, times })
 }
 
 // Reads `fault RPC RC [after COUNT] [for COUNT]`: a procedure, the return code that it is answered with, and which of its
@@ -195,21 +200,12 @@ fn read_span(words: &[u8]) -> Option<Span>
 fn read_fault(line: &[u8]) -> Option<Fault>
     ensures { IsReadAs (IsFault line.now) result }
 {
-    if !is_word(b"fault", before(b' ', line)) {
-        return None;
-    }
-    let rest = behind(b' ', line);
-    let Some(rpc) = u16_of(before(b' ', rest)) else {
-        return None
-    };
-    let rest = behind(b' ', rest);
-    let Some(rc) = u16_of(before(b' ', rest)) else {
-        return None
-    };
-    match read_span(behind(b' ', rest)) {
-        Some(span) => Some(Fault::new(rpc, rc, span.after, span.times)),
-        None => None,
-    }
+    let from_rpc = behind_word(b"fault", line)?;
+    let from_rc = behind(b' ', from_rpc);
+    let rpc = u16_of(before(b' ', from_rpc))?;
+    let rc = u16_of(before(b' ', from_rc))?;
+    let span = read_span(behind(b' ', from_rc))?;
+    Some(Fault::new(rpc, rc, span.after, span.times))
 }
 
 // The reply with this code and these parameters to a procedure that isn't in the table. `None`: the procedure is in the table, or the
@@ -228,39 +224,23 @@ fn scripted(rpc: u16, rc: u16, params: &[u8]) -> Option<Scripted>
 fn read_answer(line: &[u8]) -> Option<Scripted>
     ensures { IsReadAs (IsAnswerLine line.now) result }
 {
-    if !is_word(b"answer", before(b' ', line)) {
-        return None;
-    }
-    let rest = behind(b' ', line);
-    let Some(rpc) = u16_of(before(b' ', rest)) else {
-        return None
-    };
-    let rest = behind(b' ', rest);
-    let Some(rc) = u16_of(before(b',', rest)) else {
-        return None
-    };
-    scripted(rpc, rc, behind(b',', rest))
+    let from_rpc = behind_word(b"answer", line)?;
+    let from_rc = behind(b' ', from_rpc);
+    let rpc = u16_of(before(b' ', from_rpc))?;
+    let rc = u16_of(before(b',', from_rc))?;
+    scripted(rpc, rc, behind(b',', from_rc))
 }
 
 // Reads `blocked TARGET FROM TO`: a target, and the first and the last look in which it is hidden. `None`: the line has no such form.
 fn read_blocked(line: &[u8]) -> Option<Blocked>
     ensures { IsReadAs (IsBlocked line.now) result }
 {
-    if !is_word(b"blocked", before(b' ', line)) {
-        return None;
-    }
-    let rest = behind(b' ', line);
-    let Some(target) = u32_of(before(b' ', rest), SCENE_TARGET_MAX) else {
-        return None
-    };
-    let rest = behind(b' ', rest);
-    let Some(from) = u32_of(before(b' ', rest), u32::MAX) else {
-        return None
-    };
-    match u32_of(behind(b' ', rest), u32::MAX) {
-        Some(to) => Some(Blocked { target, from, to }),
-        None => None,
-    }
+    let from_target = behind_word(b"blocked", line)?;
+    let from_looks = behind(b' ', from_target);
+    let target = u32_of(before(b' ', from_target), SCENE_TARGET_MAX)?;
+    let from = u32_of(before(b' ', from_looks), u32::MAX)?;
+    let to = u32_of(behind(b' ', from_looks), u32::MAX)?;
+    Some(Blocked { target, from, to })
 }
 
 // Reads `drift TARGET HZ V D`: a target, and the offset by which it moves with each measurement of it, in radians and metres.
@@ -268,17 +248,10 @@ fn read_blocked(line: &[u8]) -> Option<Blocked>
 fn read_drift(line: &[u8]) -> Option<Drift>
     ensures { IsReadAs (IsDrift line.now) result }
 {
-    if !is_word(b"drift", before(b' ', line)) {
-        return None;
-    }
-    let rest = behind(b' ', line);
-    let Some(target) = u32_of(before(b' ', rest), SCENE_TARGET_MAX) else {
-        return None
-    };
-    match read_offset(behind(b' ', rest)) {
-        Some(by) => Some(Drift { target, by }),
-        None => None,
-    }
+    let from_target = behind_word(b"drift", line)?;
+    let target = u32_of(before(b' ', from_target), SCENE_TARGET_MAX)?;
+    let by = read_offset(behind(b' ', from_target))?;
+    Some(Drift { target, by })
 }
 
 // Reads `noise HZ V D SEED`: the most by which measurements deviate, in radians and metres, and the seed. `None`: the line has no
@@ -286,28 +259,21 @@ fn read_drift(line: &[u8]) -> Option<Drift>
 fn read_noise(line: &[u8]) -> Option<Noise>
     ensures { IsReadAs (IsNoise line.now) result }
 {
-    if !is_word(b"noise", before(b' ', line)) {
-        return None;
-    }
-    let angles = behind(b' ', line);
-    let others = behind(b' ', angles);
-    let last = behind(b' ', others);
-    let Some(most) = offset_of(
-        before(b' ', angles),
-        before(b' ', others),
-        before(b' ', last),
-    ) else {
-        return None
-    };
-    match u32_of(behind(b' ', last), u32::MAX) {
-        Some(seed) => Some(Noise {
-            hz: most.hz,
-            v: most.v,
-            distance: most.distance,
-            seed,
-        }),
-        None => None,
-    }
+    let from_hz = behind_word(b"noise", line)?;
+    let from_v = behind(b' ', from_hz);
+    let from_distance = behind(b' ', from_v);
+    let most = offset_of(
+        before(b' ', from_hz),
+        before(b' ', from_v),
+        before(b' ', from_distance),
+    )?;
+    let seed = u32_of(behind(b' ', from_distance), u32::MAX)?;
+    Some(Noise {
+        hz: most.hz,
+        v: most.v,
+        distance: most.distance,
+        seed,
+    })
 }
 
 // Reads `behave WORD`: a way of real instruments, or all of them. `None`: the line has no such form.

@@ -1,18 +1,25 @@
 //! The text of a scene with rules, read into the instrument that it sets up.
 
-ghost use Rattle.std.specs.Prelude.{◌≡◌, ◌⊎◌, ◌<◌, ◌≤◌, length, Err, IfErr, IfOk, MatchOption};
+ghost use Rattle.std.specs.Prelude.{◌≡◌, ◌≤◌, length, Err, IfErr, IfOk, MatchOption};
 ghost use Rattle.gc_texts.specs.LineForms.{FirstFaulty, NamesFaulty, RefusesLong};
 ghost use Rattle.gc_texts.specs.declared.fault.RunFault.{RunFault};
 ghost use Rattle.gc_scenes.specs.Laws.{still};
-ghost use Rattle.gc_engines.specs.RuleScenes.{AreRulesOf, FitAnInstrument, OverfillAnInstrument, IsOverfullOf, IsSceneOf, SceneFaultOf, ruled, answers_of, faults_of, rules_opening, rules_prism, rules_prisms};
+ghost use Rattle.gc_engines.specs.RuleScenes.{AreRulesOf, FitAnInstrument, HaveManyRules, OverfillAnInstrument, IsOverfullRuleScene, IsRuleScene, RuleSceneFault, ruled, rules_opening, rules_prism, rules_prisms};
+ghost use Rattle.gc_engines.specs.declared.scene.TheConstants.{MOST_TARGETS};
 
 use crate::rule_line::RuleLine;
-use crate::scene::base_of;
+use crate::scene::{MOST_TARGETS, base_of};
 use arrayvec::ArrayVec;
 use gc_instrument::Target;
-use gc_scenes::{Prism, SceneInstrument, SceneRules, Ways};
+use gc_scenes::{Fault, Prism, SceneInstrument, SceneRules, Scripted, Ways};
 use gc_texts::{LineForm, RunFault, read_items};
 use std::alloc::Global;
+
+// The most faults of an instrument.
+const MOST_FAULTS: usize = 32;
+
+// The most replies of an instrument to procedures that aren't in the table.
+const MOST_ANSWERS: usize = 16;
 
 /// Reads the text of a scene whose lines have the form `F`, and returns the instrument that it sets up, in its opening state.
 /// `RuleForm` is that of a scene with rules, and `StillForm` that of one for an instrument without a clock.
@@ -34,44 +41,36 @@ pub fn read_rule_scene<F: LineForm<Item = RuleLine>>(
     alloc: Global,
     text: &[u8],
 ) -> Result<SceneInstrument, RunFault>
-    ensures found { IfOk result (λ instrument. IsSceneOf F.form text.now instrument) }
+    ensures found { IfOk result (λ instrument. IsRuleScene F.form text.now instrument) }
     ensures too_long { RefusesLong text.now result }
     ensures faulty { NamesFaulty (FirstFaulty F.form text.now) result }
-    ensures full { result ≡ Err RunFault.SceneFull → IsOverfullOf F.form text.now }
-    ensures faults { IfErr result (λ e. SceneFaultOf F.form text.now e) }
+    ensures full { result ≡ Err RunFault.SceneFull → IsOverfullRuleScene F.form text.now }
+    ensures faults { IfErr result (λ e. RuleSceneFault F.form text.now e) }
 {
-    let lines = match read_items::<F>(alloc, text) {
-        Ok(lines) => lines,
-        Err(fault) => return Err(fault),
-    };
+    let lines = read_items::<F>(alloc, text)?;
     match set_up(lines.as_slice()) {
         Some(instrument) => Ok(instrument),
         None => Err(RunFault::SceneFull),
     }
 }
 
-// The instrument that these lines set up. `None`: they have more than 32 targets, 32 faults or 16 replies.
+// The instrument that these lines set up. `None`: they have more than `MOST_TARGETS`, `MOST_FAULTS` or `MOST_ANSWERS`.
 pub(crate) fn set_up(lines: &[RuleLine]) -> Option<SceneInstrument>
     ensures { MatchOption result (OverfillAnInstrument lines.now) (λ instrument. (instrument ≡ rules_opening lines.now) × FitAnInstrument lines.now) }
 {
-    let Some(base) = base_of(lines) else {
-        return None
-    };
+    let base = base_of(lines)?;
     let prisms = prisms_of(lines, base.targets.as_slice());
-    match scene_rules_of(lines, prisms) {
-        Some(rules) => Some(SceneInstrument::new(base.serial, base.name, rules)),
-        None => None,
-    }
+    let rules = scene_rules_of(lines, prisms)?;
+    Some(SceneInstrument::new(base.serial, base.name, rules))
 }
 
 // The rules that these lines set up, with these targets. Of several lines `noise` the last one counts. `None`: they have more
-// than 32 faults or 16 replies.
-fn scene_rules_of(lines: &[RuleLine], prisms: ArrayVec<Prism, 32>) -> Option<SceneRules>
-    ensures { MatchOption result ((32 < length (faults_of lines.now)) ⊎ (16 < length (answers_of lines.now)))
-        (λ rules. AreRulesOf lines.now prisms.items rules) }
+// than `MOST_FAULTS` or `MOST_ANSWERS`.
+fn scene_rules_of(lines: &[RuleLine], prisms: ArrayVec<Prism, MOST_TARGETS>) -> Option<SceneRules>
+    ensures { MatchOption result (HaveManyRules lines.now) (λ rules. AreRulesOf lines.now prisms.items rules) }
 {
-    let mut faults = ArrayVec::new();
-    let mut answers = ArrayVec::new();
+    let mut faults: ArrayVec<Fault, MOST_FAULTS> = ArrayVec::new();
+    let mut answers: ArrayVec<Scripted, MOST_ANSWERS> = ArrayVec::new();
     let mut noise = None;
     let mut repeats = true;
     let mut ways = Ways::none();
@@ -135,14 +134,14 @@ fn prism_of(number: u32, lines: &[RuleLine], target: Target) -> Prism
 }
 
 // The targets as the lines change them; the first target has the number 1.
-fn prisms_of(lines: &[RuleLine], targets: &[Target]) -> ArrayVec<Prism, 32>
-    requires { length targets.now ≤ 32 }
+fn prisms_of(lines: &[RuleLine], targets: &[Target]) -> ArrayVec<Prism, MOST_TARGETS>
+    requires { length targets.now ≤ MOST_TARGETS }
     ensures { result.items ≡ rules_prisms lines.now 1 targets.now }
 {
     let mut prisms = ArrayVec::new();
     let mut number = 1u32;
     for target in targets {
-        // There is room, since there are at most 32 targets.
+        // There is room, since there are at most `MOST_TARGETS` targets.
         let _ = prisms.try_push(prism_of(number, lines, *target));
         number = number.saturating_add(1);
     }

@@ -1,11 +1,11 @@
 //! The text of a scene, read into the instrument that it sets up.
 
-ghost use Rattle.std.specs.Prelude.{◌≡◌, ◌<◌, ◌↔◌, length, Err, IfOk, IfErr, IsErr, MatchOption};
+ghost use Rattle.std.specs.Prelude.{◌≡◌, ◌↔◌, Err, IfOk, IfErr, IsErr, MatchOption};
 ghost use Rattle.std.specs.List.{filter_map};
 ghost use Rattle.gc_instrument.specs.State.{IsFittingState};
 ghost use Rattle.gc_texts.specs.declared.fault.RunFault.{RunFault};
 ghost use Rattle.gc_texts.specs.LineForms.{RefusesLong};
-ghost use Rattle.gc_engines.specs.Scenes.{IsBaseOf, IsScene, IsOverfullScene, SceneFault, scene_opening, targets_of};
+ghost use Rattle.gc_engines.specs.Scenes.{HaveManyTargets, IsBaseOf, IsScene, IsOverfullScene, SceneFault, scene_opening};
 
 use crate::scene_line::{AnySceneLine, SceneForm, SceneLine};
 use arrayvec::ArrayVec;
@@ -15,7 +15,7 @@ use gc_values::Text;
 use std::alloc::Global;
 
 // The most targets of an instrument.
-const MOST_TARGETS: usize = 32;
+pub(crate) const MOST_TARGETS: usize = 32;
 
 /// Reads the text of a scene, and returns the instrument that it sets up, in its opening state.
 ///
@@ -34,21 +34,18 @@ pub fn read_scene(alloc: Global, text: &[u8]) -> Result<Instrument, RunFault>
     ensures full { result ≡ Err RunFault.SceneFull → IsOverfullScene text.now }
     ensures faults { IfErr result (λ e. SceneFault text.now e) }
 {
-    let lines = match read_items::<SceneForm>(alloc, text) {
-        Ok(lines) => lines,
-        Err(fault) => return Err(fault),
-    };
+    let lines = read_items::<SceneForm>(alloc, text)?;
     match set_up(lines.as_slice()) {
         Ok(instrument) => Ok(instrument),
         Err(_) => Err(RunFault::SceneFull),
     }
 }
 
-// The instrument that these lines set up. `Err`: they have more than 32 targets.
+// The instrument that these lines set up. `Err`: they have more than `MOST_TARGETS` targets.
 fn set_up(lines: &[SceneLine]) -> Result<Instrument, SceneFull>
     ensures opens { IfOk result (λ instrument. instrument ≡ scene_opening lines.now) }
     ensures fits { IfOk result (λ instrument. IsFittingState instrument) }
-    ensures full { IsErr result ↔ (32 < length (targets_of lines.now)) }
+    ensures full { IsErr result ↔ HaveManyTargets lines.now }
 {
     match base_of(lines) {
         Some(base) => Instrument::new(base.serial, base.name, base.targets.as_slice()),
@@ -67,7 +64,7 @@ pub(crate) struct Base {
 // The serial number and the name of the last lines that say one, or the simulator's, and the targets, in order. `None`: they
 // are more than `MOST_TARGETS`.
 pub(crate) fn base_of<L: AnySceneLine>(lines: &[L]) -> Option<Base>
-    ensures { MatchOption result (32 < length (targets_of (filter_map L.plain lines.now)))
+    ensures { MatchOption result (HaveManyTargets (filter_map L.plain lines.now))
         (λ base. IsBaseOf (filter_map L.plain lines.now) base) }
 {
     let mut serial = SIMULATOR_SERIAL;

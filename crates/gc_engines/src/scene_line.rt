@@ -96,10 +96,8 @@ pub(crate) fn read_scene_line(line: &[u8]) -> Option<SceneLine>
 fn read_serial(line: &[u8]) -> Option<i32>
     ensures { IsReadAs (IsSerial line.now) result }
 {
-    match after_word(b"serial ", line) {
-        Some(digits) => long_of(digits),
-        None => None,
-    }
+    let digits = after_word(b"serial ", line)?;
+    long_of(digits)
 }
 
 // Reads a Long: a whole number of 32 bits, with or without a sign. `None`: the text writes none.
@@ -113,10 +111,8 @@ fn long_of(digits: &[u8]) -> Option<i32>
 fn read_name(line: &[u8]) -> Option<Text>
     ensures { IsReadAs (IsName line.now) result }
 {
-    match after_word(b"name ", line) {
-        Some(bytes) => name_from(bytes),
-        None => None,
-    }
+    let bytes = after_word(b"name ", line)?;
+    name_from(bytes)
 }
 
 // The name that these bytes are. `None`: they are more than 64, or one of them is a double quote, a carriage return or a line feed.
@@ -131,13 +127,13 @@ fn name_from(bytes: &[u8]) -> Option<Text>
 fn read_target(line: &[u8]) -> Option<Target>
     ensures { IsReadAs (IsTargetLine line.now) result }
 {
-    let Some(words) = after_word(b"target ", line) else {
-        return None
-    };
-    match read_offset(words) {
-        Some(Offset { hz, v, distance }) => Some(Target { hz, v, distance }),
-        None => None,
-    }
+    let words = after_word(b"target ", line)?;
+    let offset = read_offset(words)?;
+    Some(Target {
+        hz: offset.hz,
+        v: offset.v,
+        distance: offset.distance,
+    })
 }
 
 // Reads these three words: two angles in radians and a distance in metres. `None`: `read_double` refuses one of them, as one further
@@ -145,14 +141,10 @@ fn read_target(line: &[u8]) -> Option<Target>
 pub(crate) fn offset_of(hz: &[u8], v: &[u8], distance: &[u8]) -> Option<Offset>
     ensures { IsReadAs (AreOffsetWords hz.now v.now distance.now) result }
 {
-    let Some(hz) = read_double(hz) else {
-        return None
-    };
-    let Some(v) = read_double(v) else { return None };
-    match read_double(distance) {
-        Some(distance) => Some(Offset { hz, v, distance }),
-        None => None,
-    }
+    let hz = read_double(hz)?;
+    let v = read_double(v)?;
+    let distance = read_double(distance)?;
+    Some(Offset { hz, v, distance })
 }
 
 // Reads `HZ V D`: two angles in radians and a distance in metres. `None`: the words have no such form, or `offset_of` refuses

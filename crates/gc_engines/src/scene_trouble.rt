@@ -5,7 +5,7 @@ ghost use Rattle.std.specs.Io.KnownBytes.{Appends};
 ghost use Rattle.gc_texts.specs.Faults.{run_fault_text, fault_line};
 ghost use Rattle.gc_texts.specs.LineForms.{IsReadAs};
 ghost use Rattle.gc_texts.specs.declared.fault.RunFault.{RunFault};
-ghost use Rattle.gc_engines.specs.SceneTroubles.{BeginsWith, IsReplyTrouble, IsSceneTrouble, NeedsClock, NoDecimal, NotNumber, form_text, scene_trouble_text, scene_trouble_line, word_text};
+ghost use Rattle.gc_engines.specs.SceneTroubles.{BeginsWith, IsReplyTrouble, IsSceneTrouble, NeedsClock, NoDecimal, IsNoNumber, form_text, scene_trouble_text, scene_trouble_line, word_text};
 ghost use Rattle.gc_engines.specs.declared.scene_trouble.SceneWord.{SceneWord};
 
 use crate::rule_line::{SCENE_TARGET_MAX, gives_clock};
@@ -264,9 +264,9 @@ fn is_no_double(text: &[u8]) -> bool
 }
 
 // Whether these bytes are no whole number of at most `max`, written in digits alone.
-#[tactic(auto, unfolding(crate::specs::SceneTroubles::NotNumber))]
+#[tactic(auto, unfolding(crate::specs::SceneTroubles::IsNoNumber))]
 fn is_no_number(text: &[u8], max: u32) -> bool
-    ensures { IsTrue result → NotNumber text.now max }
+    ensures { IsTrue result → IsNoNumber text.now max }
 {
     u32_of(text, max).is_none()
 }
@@ -339,7 +339,7 @@ fn fault_trouble(line: &[u8]) -> SceneTrouble
 }
 
 // What is at fault in a line that begins with `answer`: the first of `Rpc` and `Rc` that doesn't read, or else what `reply_trouble` gives.
-#[tactic(auto, unfolding(crate::specs::SceneTroubles::NotNumber))]
+#[tactic(auto, unfolding(crate::specs::SceneTroubles::IsNoNumber))]
 fn answer_trouble(line: &[u8]) -> SceneTrouble
     requires { BeginsWith SceneWord.Answer line.now }
     ensures { IsSceneTrouble line.now result }

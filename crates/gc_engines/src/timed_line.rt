@@ -4,7 +4,7 @@
 ghost use Rattle.gc_texts.specs.LineForms.{IsReadAs};
 ghost use Rattle.gc_engines.specs.TimedScenes.{IsTimedLine, IsDelayLine};
 
-use crate::rule_line::{RuleLine, read_rule_line};
+use crate::rule_line::{RuleLine, behind_word, read_rule_line};
 use crate::scene_line::put_found;
 use gc_scenes::Delay;
 use gc_texts::{LineForm, before, behind, is_word, u16_of, u32_of};
@@ -65,15 +65,8 @@ fn read_timed_line(line: &[u8]) -> Option<TimedLine>
 fn read_delay(line: &[u8]) -> Option<Delay>
     ensures { IsReadAs (IsDelayLine line.now) result }
 {
-    if !is_word(b"delay", before(b' ', line)) {
-        return None;
-    }
-    let rest = behind(b' ', line);
-    let Some(rpc) = u16_of(before(b' ', rest)) else {
-        return None
-    };
-    match u32_of(behind(b' ', rest), DELAY_MAX) {
-        Some(ms) => Some(Delay { rpc, ms }),
-        None => None,
-    }
+    let from_rpc = behind_word(b"delay", line)?;
+    let rpc = u16_of(before(b' ', from_rpc))?;
+    let ms = u32_of(behind(b' ', from_rpc), DELAY_MAX)?;
+    Some(Delay { rpc, ms })
 }

@@ -1,9 +1,9 @@
 //! The text of a scene that `serve` takes, read into the instrument that it sets up, with its delays.
 
-ghost use Rattle.std.specs.Prelude.{◌≡◌, ◌<◌, [], length, Err, IfErr, IfOk, IsOk, MatchOption, false};
+ghost use Rattle.std.specs.Prelude.{◌≡◌, [], Err, IfErr, IfOk, IsOk, MatchOption, false};
 ghost use Rattle.gc_texts.specs.LineForms.{FirstFaulty, NamesFaulty, RefusesLong};
 ghost use Rattle.gc_texts.specs.declared.fault.RunFault.{RunFault};
-ghost use Rattle.gc_engines.specs.TimedScenes.{IsOverfullTimed, IsTimedLine, IsTimedScene, TimedFault, delays_of, drops_from, rules_of};
+ghost use Rattle.gc_engines.specs.TimedScenes.{HaveManyDelays, IsOverfullTimed, IsTimedLine, IsTimedScene, TimedFault, delays_of, drops_from, rules_of};
 
 use crate::rule_line::RuleLine;
 use crate::rule_scene::set_up;
@@ -12,6 +12,9 @@ use arrayvec::ArrayVec;
 use gc_scenes::{Delay, SlowInstrument};
 use gc_texts::{RunFault, read_items};
 use std::alloc::{AllocError, Global};
+
+// The most delays of an instrument.
+const MOST_DELAYS: usize = 32;
 
 /// Reads the text of a scene for `serve`: a scene with rules that may also have lines `delay RPC MS`, `busy queue` and `busy drop`.
 /// Returns the instrument that the text sets up, in its opening state. MS is in milliseconds, at most 3,600,000. Of several delays of one
@@ -26,10 +29,7 @@ pub fn read_timed_scene(alloc: Global, text: &[u8]) -> Result<SlowInstrument, Ru
     ensures full { result ≡ Err RunFault.SceneFull → IsOverfullTimed text.now }
     ensures faults { IfErr result (λ e. TimedFault text.now e) }
 {
-    let lines = match read_items::<TimedForm>(alloc, text) {
-        Ok(lines) => lines,
-        Err(fault) => return Err(fault),
-    };
+    let lines = read_items::<TimedForm>(alloc, text)?;
     let Ok(rules) = rules_of(alloc, lines.as_slice()) else {
         return Err(RunFault::Memory);
     };
@@ -58,9 +58,9 @@ fn rules_of(alloc: Global, lines: &[TimedLine]) -> Result<Vec<RuleLine>, AllocEr
     Ok(rules)
 }
 
-// The delays of these lines, in order. `None`: they are more than 32.
-fn delays_of(lines: &[TimedLine]) -> Option<ArrayVec<Delay, 32>>
-    ensures { MatchOption result (32 < length (delays_of lines.now)) (λ delays. delays.items ≡ delays_of lines.now) }
+// The delays of these lines, in order. `None`: they are more than `MOST_DELAYS`.
+fn delays_of(lines: &[TimedLine]) -> Option<ArrayVec<Delay, MOST_DELAYS>>
+    ensures { MatchOption result (HaveManyDelays lines.now) (λ delays. delays.items ≡ delays_of lines.now) }
 {
     let mut delays = ArrayVec::new();
     for line in lines {

@@ -46,21 +46,19 @@ fn play_without_files(rt: &HostRuntime) -> io::Result<bool> {
 // Plays an example of the folder with its engine, and prints a line; a schedule without a scene goes to `play_schedule`, which
 // prints two. Returns whether no run gave a wrong answer.
 fn play_example(rt: &HostRuntime, name: &str, example: &Example) -> io::Result<bool> {
-    let alloc = rt.alloc();
     match example.setup.engine {
         Engine::Exec => print_outcome(rt, name, "served", serve_requests(example)),
         Engine::Check => print_outcome(rt, name, "checked", check_recording(example)),
-        Engine::Rules => print_outcome(rt, name, "served", answer_on_scene(alloc, example)),
-        Engine::DrillRules => print_outcome(rt, name, "drilled", drill_on_scene(alloc, example)),
+        Engine::Rules => print_outcome(rt, name, "served", answer_on_scene(example)),
+        Engine::DrillRules => print_outcome(rt, name, "drilled", drill_on_scene(example)),
         _ => play_schedule(rt, name, example),
     }
 }
 
 // Drills a schedule, plays it over both windows, and prints a line for each. Returns whether neither gave a wrong answer.
 fn play_schedule(rt: &HostRuntime, name: &str, example: &Example) -> io::Result<bool> {
-    let alloc = rt.alloc();
-    let is_drilled = print_outcome(rt, name, "drilled", drill_schedule(alloc, example))?;
-    let is_same = print_outcome(rt, name, "played", play_over_both(alloc, example))?;
+    let is_drilled = print_outcome(rt, name, "drilled", drill_schedule(example))?;
+    let is_same = print_outcome(rt, name, "played", play_over_both(example))?;
     Ok(is_drilled && is_same)
 }
 
@@ -112,8 +110,8 @@ fn outcome_of_serving(
 
 // Has the instrument of the example's scene answer its requests: `Exact` if it ended well with the expected replies, `NoMemory` if memory
 // ran out for the scene, and else `Other`, also where the scene can't be read.
-fn answer_on_scene(alloc: Global, example: &Example) -> OnceOutcome {
-    match read_rule_scene::<RuleForm>(alloc, example.setup.scene.as_slice()) {
+fn answer_on_scene(example: &Example) -> OnceOutcome {
+    match read_rule_scene::<RuleForm>(example.setup.alloc, example.setup.scene.as_slice()) {
         Ok(mut instrument) => answer_on_instrument(&mut instrument, example),
         Err(fault) => OnceOutcome::of_unread(fault),
     }
@@ -135,7 +133,8 @@ fn holds(taken: &[u8; ROOM], expected: &[u8]) -> bool {
 
 // Drills the example's schedule on the simulator, as `drill --totals` does, into a sink that takes at most 5 bytes of a write.
 // The outcome is that of `OnceOutcome::of`: `Exact` if the drill ended well with the expected output.
-fn drill_schedule(alloc: Global, example: &Example) -> OnceOutcome {
+fn drill_schedule(example: &Example) -> OnceOutcome {
+    let alloc = example.setup.alloc;
     let mut sink = PieceSink::new(alloc, 5, u64::MAX);
     let end = run_drill(alloc, &mut source_of(example), &mut sink, true);
     OnceOutcome::of(end, &sink, example.expected.as_slice())
@@ -143,20 +142,17 @@ fn drill_schedule(alloc: Global, example: &Example) -> OnceOutcome {
 
 // Drills the example's schedule on the instrument of its scene, as `drill --totals` does: `NoMemory` if memory ran out for the scene,
 // `Other` if the scene can't be read, and else the outcome of `drill_on_instrument`.
-fn drill_on_scene(alloc: Global, example: &Example) -> OnceOutcome {
-    match read_rule_scene::<StillForm>(alloc, example.setup.scene.as_slice()) {
-        Ok(instrument) => drill_on_instrument(alloc, instrument, example),
+fn drill_on_scene(example: &Example) -> OnceOutcome {
+    match read_rule_scene::<StillForm>(example.setup.alloc, example.setup.scene.as_slice()) {
+        Ok(instrument) => drill_on_instrument(instrument, example),
         Err(fault) => OnceOutcome::of_unread(fault),
     }
 }
 
 // Drills the example's schedule on this instrument, with totals and a window of 7 requests, into a sink that takes at most 5
 // bytes of a write. The outcome is that of `OnceOutcome::of`: `Exact` if the drill ended well with the expected output.
-fn drill_on_instrument(
-    alloc: Global,
-    instrument: SceneInstrument,
-    example: &Example,
-) -> OnceOutcome {
+fn drill_on_instrument(instrument: SceneInstrument, example: &Example) -> OnceOutcome {
+    let alloc = example.setup.alloc;
     let mut sink = PieceSink::new(alloc, 5, u64::MAX);
     let end = run_drill_on(
         alloc,
@@ -171,7 +167,8 @@ fn drill_on_instrument(
 
 // Plays the example's schedule over a ring and over places: `Exact` if the two reports are the same, `NoMemory` if memory ran out
 // for the schedule, the ring or a report, and `Other` if the reports differ, or the schedule is refused for another reason.
-fn play_over_both(alloc: Global, example: &Example) -> OnceOutcome {
+fn play_over_both(example: &Example) -> OnceOutcome {
+    let alloc = example.setup.alloc;
     match read_schedule(alloc, example.setup.input.as_slice()) {
         Ok(events) => compare_windows(alloc, events.as_slice()),
         Err(fault) => OnceOutcome::of_unread(fault),

@@ -4,9 +4,45 @@ use Rattle.std.specs.Prelude.{ℕ, ◌%◌, Bool, false, not, ◌&&◌, nat_le, 
 use Rattle.gc_fates.specs.Draws.{draw_at, happens, among}
 use Rattle.gc_fates.specs.Rules.{chance_of}
 use Rattle.gc_fates.specs.declared.chance.Chance.{Chance}
-use Rattle.gc_fates.specs.declared.fate.Fate.{Fate}
+use Rattle.gc_fates.specs.declared.fate.LineFate.{LineFate}
 use Rattle.gc_fates.specs.declared.rules.Rules.{Rules}
 use Rattle.gc_fates.specs.declared.rule.Word.TheVariants.{Delay, Lose, Repeat, Hold, Close, Refuse, Restart}
+
+-- Which of a line's draws, counted from 1, is whose: this project's own. The word `kill` is about no line, and has none.
+
+-- the draw that says whether a line is lost
+abbrev pub lose_draw : ℕ
+lose_draw = 1
+
+-- the draw that says whether a line is repeated
+abbrev pub repeat_draw : ℕ
+repeat_draw = 2
+
+-- the draw that says how long a line is on the way at least
+abbrev pub delay_draw : ℕ
+delay_draw = 3
+
+-- the draw that says whether a line is held up, and how long
+abbrev pub hold_draw : ℕ
+hold_draw = 4
+
+-- the draw that says whether the connection ends in place of a line, and whether by a reset
+abbrev pub close_draw : ℕ
+close_draw = 5
+
+-- the draw that says whether connections are refused after that end, and how long
+abbrev pub refuse_draw : ℕ
+refuse_draw = 6
+
+-- the draw that says whether the instrument restarts at a line
+abbrev pub restart_draw : ℕ
+restart_draw = 8
+
+-- the end is a reset if the lower 32 bits of the draw of `close` are at least this, which is half of their range: this project's own
+abbrev pub least_of_reset : ℕ
+least_of_reset = 2147483648
+
+-- What happens.
 
 -- whether what a word names happens by this draw; never, if the text doesn't have the word (`None`)
 abbrev pub hits : Option Chance → ℕ → Bool
@@ -22,25 +58,26 @@ drawn (Some chance) draw = among draw chance.least chance.most
 abbrev pub drawn_if : (hit : Bool) → Option Chance → (draw : ℕ) → ℕ
 drawn_if hit chance draw = if hit then drawn chance draw else 0
 
--- whether a line is lost, by its first draw
+-- whether a line is lost, by its draw for that
 abbrev pub loses : Rules → (start line : ℕ) → Bool
-loses rules start line = hits (chance_of rules Lose) (draw_at start line 1)
+loses rules start line = hits (chance_of rules Lose) (draw_at start line lose_draw)
 
--- whether the connection ends in place of a line, by the line's fifth draw; never in place of a lost line
+-- whether the connection ends in place of a line, by the line's draw for that; never in place of a lost line
 abbrev pub ends : Rules → (start line : ℕ) → Bool
-ends rules start line = not (loses rules start line) && hits (chance_of rules Close) (draw_at start line 5)
+ends rules start line = not (loses rules start line) && hits (chance_of rules Close) (draw_at start line close_draw)
 
 -- what happens to a line: each word has its own draw. A line that is lost, or in whose place the connection ends, isn't repeated,
 -- and only after such an end are connections refused. The end is a reset if the lower 32 bits of its draw are in the upper half
 -- of their range
-abbrev pub fate_of : Rules → (start line : ℕ) → Fate
+abbrev pub fate_of : Rules → (start line : ℕ) → LineFate
 fate_of rules start line = record {
-  wait = drawn (chance_of rules Delay) (draw_at start line 3);
+  wait = drawn (chance_of rules Delay) (draw_at start line delay_draw);
   is_lost = loses rules start line;
-  is_repeated = (not (loses rules start line) && not (ends rules start line)) && hits (chance_of rules Repeat) (draw_at start line 2);
-  hold = drawn_if (hits (chance_of rules Hold) (draw_at start line 4)) (chance_of rules Hold) (draw_at start line 4);
+  is_repeated = (not (loses rules start line) && not (ends rules start line)) && hits (chance_of rules Repeat) (draw_at start line repeat_draw);
+  hold = drawn_if (hits (chance_of rules Hold) (draw_at start line hold_draw)) (chance_of rules Hold) (draw_at start line hold_draw);
   closes = ends rules start line;
-  is_reset = ends rules start line && nat_le 2147483648 (draw_at start line 5 % 4294967296);
-  refuse = drawn_if (ends rules start line && hits (chance_of rules Refuse) (draw_at start line 6)) (chance_of rules Refuse) (draw_at start line 6);
-  restarts = hits (chance_of rules Restart) (draw_at start line 8);
+  is_reset = ends rules start line && nat_le least_of_reset (draw_at start line close_draw % 4294967296);
+  refuse = drawn_if (ends rules start line && hits (chance_of rules Refuse) (draw_at start line refuse_draw)) (chance_of rules Refuse)
+      (draw_at start line refuse_draw);
+  restarts = hits (chance_of rules Restart) (draw_at start line restart_draw);
 }

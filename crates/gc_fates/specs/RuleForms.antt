@@ -1,7 +1,7 @@
 -- The rule that a line of a text says: this project's own.
 use Rattle.std.specs.Prelude.{◌≡◌, ℕ, ◌≤◌, List, codes}
 use Rattle.gc_texts.specs.Procedures.{IsNumber}
-use Rattle.gc_fates.specs.Shares.{IsShare}
+use Rattle.gc_fates.specs.Shares.{IsShare, whole_share}
 use Rattle.gc_fates.specs.Spaced.{front_word, other_words, IsBlank}
 use Rattle.gc_fates.specs.declared.chance.Chance.{Chance}
 use Rattle.gc_fates.specs.declared.rule.RuleFault.{RuleFault}
@@ -11,6 +11,14 @@ use Rattle.gc_fates.specs.declared.rule.Shape.{Shape}
 use Rattle.gc_fates.specs.declared.rule.Shape.TheVariants.{Share, Lasting, Span, Times}
 use Rattle.gc_fates.specs.declared.rule.Word.{Word}
 use Rattle.gc_fates.specs.declared.rule.Word.TheVariants.{Delay, Lose, Repeat, Hold, Close, Refuse, Restart, Kill}
+
+-- the longest time that a rule may say, in milliseconds: a day. This project's own
+abbrev pub millis_max : ℕ
+millis_max = 86400000
+
+-- the greatest number of times that a rule may say: this project's own
+abbrev pub times_max : ℕ
+times_max = 1000
 
 -- a word as it is written
 abbrev pub name_of : Word → List ℕ
@@ -52,25 +60,25 @@ pub record IsPercentage (text : List ℕ) (chance : Chance) : Type 0 where
   pub most : chance.most ≡ 0
   pub nothing_more : IsBlank (other_words text)
 
--- `P MS`: a percentage, and a time of at most a day, which is the only number to draw
+-- `P MS`: a percentage, and a time of at most a day (`millis_max`), which is the only number to draw
 pub record IsLasting (text : List ℕ) (chance : Chance) : Type 0 where
   pub share : IsShare (front_word text) chance.share
-  pub millis : IsNumber (front_word (other_words text)) chance.least 86400000
+  pub millis : IsNumber (front_word (other_words text)) chance.least millis_max
   pub same : chance.most ≡ chance.least
   pub nothing_more : IsBlank (other_words (other_words text))
 
 -- `FROM TO`: the range of times to draw from, each at most a day, the first at most the second; it applies to each line
 pub record IsSpan (text : List ℕ) (chance : Chance) : Type 0 where
-  pub always : chance.share ≡ 100000
-  pub least : IsNumber (front_word text) chance.least 86400000
-  pub most : IsNumber (front_word (other_words text)) chance.most 86400000
+  pub always : chance.share ≡ whole_share
+  pub least : IsNumber (front_word text) chance.least millis_max
+  pub most : IsNumber (front_word (other_words text)) chance.most millis_max
   pub ordered : chance.least ≤ chance.most
   pub nothing_more : IsBlank (other_words (other_words text))
 
--- `N`: how many times, at most 1000, which is the only number to draw
+-- `N`: how many times, at most `times_max`, which is the only number to draw
 pub record AreTimes (text : List ℕ) (chance : Chance) : Type 0 where
-  pub always : chance.share ≡ 100000
-  pub times : IsNumber (front_word text) chance.least 1000
+  pub always : chance.share ≡ whole_share
+  pub times : IsNumber (front_word text) chance.least times_max
   pub same : chance.most ≡ chance.least
   pub nothing_more : IsBlank (other_words text)
 

@@ -3,6 +3,10 @@ use Rattle.std.specs.Prelude.{◌≡◌, ℕ, ◌+◌, ◌*◌, ◌≤◌, ◌�
 use Rattle.gc_texts.specs.Cuts.{Cuts}
 use Rattle.gc_texts.specs.Procedures.{IsNumber}
 
+-- the share that is all: 100 percent, in thousandths of a percent. This project's own
+abbrev pub whole_share : ℕ
+whole_share = 100000
+
 -- `count` digits after a point, which write `number`, are `n` thousandths: one digit is tenths, two are hundredths, and three
 -- thousandths
 abbrev pub AreThousandths : (count number n : ℕ) → Type 0
@@ -18,7 +22,7 @@ abbrev pub IsParts : (whole : List ℕ) → (places : Option (List ℕ)) → (n 
 IsParts whole None n = (number : ℕ) × IsNumber whole number 100 × (n ≡ number * 1000)
 IsParts whole (Some places) n =
     (number : ℕ) × (thousandths : ℕ) × IsNumber whole number 100 × IsPlaces places thousandths
-    × (n ≡ number * 1000 + thousandths) × (n ≤ 100000)
+    × (n ≡ number * 1000 + thousandths) × (n ≤ whole_share)
 
 -- the word is a percentage of at most 100, which is `n` thousandths of a percent. A point is byte 46
 abbrev pub IsShare : List ℕ → ℕ → Type 0

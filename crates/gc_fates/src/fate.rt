@@ -29,7 +29,7 @@ const LEAST_OF_RESET: u64 = 2_147_483_648;
 
 /// What happens to a line. Times are in milliseconds.
 #[derive(Clone, Copy)]
-pub struct Fate {
+pub struct LineFate {
     /// How long it is on the way at least. A hold or a line before it may keep it longer.
     pub wait: u64,
     /// Whether it is lost on the way. A line in whose place the connection ends (`closes`) isn't lost.
@@ -90,7 +90,7 @@ pub fn restarts_at(rules: &Rules, draws: Draws, line: u64) -> bool
 /// The connection doesn't end in place of a lost line. Neither a lost line nor one in whose place the connection ends is
 /// repeated, but either may hold up what follows it, and the instrument may restart at either. Connections may be refused only
 /// after such an end. The end is a reset if the lower 32 bits of the draw of `close` are in the upper half of their range.
-pub fn fate_of(rules: &Rules, draws: Draws, line: u64) -> Fate
+pub fn fate_of(rules: &Rules, draws: Draws, line: u64) -> LineFate
     ensures { result ≡ fate_of rules.now draws.start line }
 {
     let is_lost = hits(rules.chance(Word::Lose), draws.draw(line, LOSE_DRAW));
@@ -99,7 +99,7 @@ pub fn fate_of(rules: &Rules, draws: Draws, line: u64) -> Fate
     let repeats = hits(rules.chance(Word::Repeat), draws.draw(line, REPEAT_DRAW));
     let hold = draws.draw(line, HOLD_DRAW);
     let refuse = draws.draw(line, REFUSE_DRAW);
-    Fate {
+    LineFate {
         wait: drawn(rules.chance(Word::Delay), draws.draw(line, DELAY_DRAW)),
         is_lost,
         is_repeated: !is_lost && !closes && repeats,

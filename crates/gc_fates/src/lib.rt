@@ -14,7 +14,7 @@ mod spaced;
 
 pub use chance::Chance;
 pub use draw::{Draws, among};
-pub use fate::{Fate, fate_of, restarts_at};
+pub use fate::{LineFate, fate_of, restarts_at};
 pub use reading::{Refusal, read_rules};
 pub use rule::{RuleFault, Word};
 pub use rules::Rules;

@@ -160,9 +160,7 @@ pub enum RuleFault {
 fn read_percentage(text: &[u8]) -> Option<Chance>
     ensures { IsReadAs (IsPercentage text.now) result }
 {
-    let Some(share) = read_share(front_word(text)) else {
-        return None
-    };
+    let share = read_share(front_word(text))?;
     if !is_blank(other_words(text)) {
         return None;
     }
@@ -178,13 +176,9 @@ fn read_percentage(text: &[u8]) -> Option<Chance>
 fn read_lasting(text: &[u8]) -> Option<Chance>
     ensures { IsReadAs (IsLasting text.now) result }
 {
-    let Some(share) = read_share(front_word(text)) else {
-        return None
-    };
+    let share = read_share(front_word(text))?;
     let others = other_words(text);
-    let Some(millis) = u32_of(front_word(others), MILLIS_MAX) else {
-        return None
-    };
+    let millis = u32_of(front_word(others), MILLIS_MAX)?;
     if !is_blank(other_words(others)) {
         return None;
     }
@@ -200,13 +194,9 @@ fn read_lasting(text: &[u8]) -> Option<Chance>
 fn read_span(text: &[u8]) -> Option<Chance>
     ensures { IsReadAs (IsSpan text.now) result }
 {
-    let Some(least) = u32_of(front_word(text), MILLIS_MAX) else {
-        return None
-    };
+    let least = u32_of(front_word(text), MILLIS_MAX)?;
     let others = other_words(text);
-    let Some(most) = u32_of(front_word(others), MILLIS_MAX) else {
-        return None
-    };
+    let most = u32_of(front_word(others), MILLIS_MAX)?;
     if least > most {
         return None;
     }
@@ -224,9 +214,7 @@ fn read_span(text: &[u8]) -> Option<Chance>
 fn read_times(text: &[u8]) -> Option<Chance>
     ensures { IsReadAs (AreTimes text.now) result }
 {
-    let Some(times) = u32_of(front_word(text), TIMES_MAX) else {
-        return None
-    };
+    let times = u32_of(front_word(text), TIMES_MAX)?;
     if !is_blank(other_words(text)) {
         return None;
     }

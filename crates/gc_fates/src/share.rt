@@ -12,9 +12,7 @@ pub(crate) const WHOLE: u64 = 100_000;
 fn read_places(digits: &[u8]) -> Option<u64>
     ensures { IsReadAs (IsPlaces digits.now) result }
 {
-    let Some(number) = number_of(digits, 999) else {
-        return None
-    };
+    let number = number_of(digits, 999)?;
     match digits.len() {
         1 => Some(number * 100),
         2 => Some(number * 10),
@@ -28,15 +26,11 @@ pub(crate) fn read_share(word: &[u8]) -> Option<u32>
     ensures { IsReadAs (IsShare word.now) result }
 {
     let (whole, places) = cut_at(b'.', word);
-    let Some(whole) = number_of(whole, 100) else {
-        return None
-    };
+    let whole = number_of(whole, 100)?;
     let Some(places) = places else {
         return Some((whole * 1000) as u32);
     };
-    let Some(thousandths) = read_places(places) else {
-        return None
-    };
+    let thousandths = read_places(places)?;
     let share = whole * 1000 + thousandths;
     if share > WHOLE {
         return None;

@@ -15,7 +15,7 @@ use Rattle.gc_values.proofs.Every.{every_behind as all_behind, every_weaker as a
 use Rattle.gc_field.proofs.BeginLists.{each_all, each_both, each_map, each_to_map, pairs_front, pairs_back}
 use Rattle.gc_field.proofs.BeginWords.{HasNoMoreWords, subword_front, subword_each, word_differs}
 use Rattle.gc_field.proofs.BeginMoves.{Lasts, holds_moved}
-use Rattle.gc_field.proofs.BeginLines.{IsLine, IsOld, IsOwn, KeepsOwn, HasNone, KeepsTheId, OwnIdsFit, old_if, olds, olds_all, olds_push, has_without, has_doubled, line_without, line_doubled, line_asked, line_came}
+use Rattle.gc_field.proofs.BeginLines.{FrontAnswers, IsLine, IsOld, IsOwn, KeepsOwn, HasNone, KeepsTheId, OwnIdsFit, old_if, olds, olds_all, olds_push, has_without, has_doubled, line_without, line_doubled, line_asked, line_came}
 use Rattle.gc_field.proofs.BeginSound.{sound_at_start}
 use Rattle.gc_world.proofs.Rows.{each_without, each_doubled}
 use Rattle.gc_station.proofs.Lists.{fronts}
@@ -112,19 +112,18 @@ module _ (z : ℕ) (word first : List ℕ) where
             (h.heard (id ∷ v) (subst AllDiffer (append_assoc done (id ∷ []) v) d) (old_contains x.old x.id id (olds rest) v o e s));
       }
 
-  -- where `IsLine` holds, and the front line, x, is own and has the first id that is left, `IsOver` holds of the ids that are
-  -- left after that one, and the lines after x
-  own_answers : (id : ℕ) (later : List ℕ) (x : IdSent) (rest : List IdSent) → IsLine z (id ∷ later) (x ∷ rest) → IsOwn x → x.id ≡ id → IsOver later rest
-  own_answers id later x rest h o e =
-      (id, each_both (KeepsOwn x) (KeepsTheId id x) (λ y. IsOwn y × IsOneOfTwo id later y.id) (λ y f g. (f o, inl (g o e))) rest h.ordered.0 h.own.1.0)
+  -- where the front line, x, is own and answers (`FrontAnswers`), `IsOver` holds of the ids that are left after that one, and the
+  -- lines after x
+  own_answers : (id : ℕ) (later : List ℕ) (x : IdSent) (rest : List IdSent) → FrontAnswers z id later x rest → IsOwn x → IsOver later rest
+  own_answers id later x rest h o =
+      (id, each_both (KeepsOwn x) (KeepsTheId id x) (λ y. IsOwn y × IsOneOfTwo id later y.id) (λ y f g. (f o, inl (g o h.same))) rest h.line.ordered.0 h.line.own.1.0)
 
-  -- where `IsLine` holds, and the front line, x, has the first id that is left, `IsHearing` or `IsOver` still holds once x was
-  -- heard, be x old (`b` is true) or own
-  phase_answered : (id : ℕ) (later done : List ℕ) (x : IdSent) (rest : List IdSent) (b : Bool) → x.old ≡ b → IsLine z (id ∷ later) (x ∷ rest) → x.id ≡ id
+  -- where the front line, x, answers, `IsHearing` or `IsOver` still holds once x was heard, be x old (`b` is true) or own
+  phase_answered : (id : ℕ) (later done : List ℕ) (x : IdSent) (rest : List IdSent) (b : Bool) → x.old ≡ b → FrontAnswers z id later x rest
       → IsHearing first done (x ∷ rest) ⊎ IsOver (id ∷ later) (x ∷ rest) → IsHearing first (done ++ id ∷ []) rest ⊎ IsOver later rest
-  phase_answered id later done x rest false o h e p = inr (own_answers id later x rest h o e)
-  phase_answered id later done x rest true o h e (inl g) = inl (old_answers id done x rest o e g)
-  phase_answered id later done x rest true o h e (inr g) = absurd (false≢true (sym g.1.0.0 ∙ o))
+  phase_answered id later done x rest false o h p = inr (own_answers id later x rest h o)
+  phase_answered id later done x rest true o h (inl g) = inl (old_answers id done x rest o h.same g)
+  phase_answered id later done x rest true o h (inr g) = absurd (false≢true (sym g.1.0.0 ∙ o))
 
   -- `IsTrying` is preserved if a reply comes
   trying_came : (left : List ℕ) (x : IdSent) (rest : List IdSent) → IsTrying z word first left (x ∷ rest) → IsTrying z word first (left_by left (Some x.id)) rest
@@ -137,7 +136,7 @@ module _ (z : ℕ) (word first : List ℕ) where
           sound = subst (λ b. IsLine z (left_by_one b id later) rest) e line;
           done = h.done ++ id ∷ [];
           split = h.split ∙ sym (append_assoc h.done (id ∷ []) later);
-          phase = phase_answered id later h.done x rest x.old refl h.sound (eqb-true x.id id e) h.phase;
+          phase = phase_answered id later h.done x rest x.old refl (record { line = h.sound; same = eqb-true x.id id e }) h.phase;
         }
     chosen false e line = trying_lost (id ∷ later) zero (x ∷ rest) h
 

@@ -186,12 +186,17 @@ no_old : (b : Bool) (i asked : ℕ) (ids word : List ℕ) → b ≡ true → i �
 no_old true i asked ids word o e f s = cons_not_nil i ids (f (inl (sym e, s)))
 no_old false i asked ids word o e f s = false≢true o
 
--- where `IsLine` holds, one id is left, and the front line, x, has that id, x is own
-pub is_own : (z asked : ℕ) (x : IdSent) (rest : List IdSent) → IsLine z (asked ∷ []) (x ∷ rest) → x.id ≡ asked → IsOwn x
-is_own z asked x rest h e = chosen x.old refl where
+-- `IsLine` holds, and the front line, x, has the first id that is left, `asked`, and so answers it
+pub record FrontAnswers (z asked : ℕ) (later : List ℕ) (x : IdSent) (rest : List IdSent) : Type 0 where
+  pub line : IsLine z (asked ∷ later) (x ∷ rest)
+  pub same : x.id ≡ asked
+
+-- where the front line, x, answers the only id that is left, x is own
+pub is_own : (z asked : ℕ) (x : IdSent) (rest : List IdSent) → FrontAnswers z asked [] x rest → IsOwn x
+is_own z asked x rest h = chosen x.old refl where
   -- the lemma above, by whether the reply is old (`b`)
   chosen : (b : Bool) → x.old ≡ b → x.old ≡ false
-  chosen true o = absurd (no_old x.old x.id asked (olds rest) [] o e h.clear tt)
+  chosen true o = absurd (no_old x.old x.id asked (olds rest) [] o h.same h.line.clear tt)
   chosen false o = o
 
 -- where the last id of `asked` and the ids after it, `later`, is z, the last id of `later` is z, too, if `later` isn't empty
@@ -199,32 +204,31 @@ ends_behind : (z asked : ℕ) (later : List ℕ) → last asked later ≡ z → 
 ends_behind z asked [] e = refl
 ends_behind z asked (i ∷ later) e = e
 
--- where `IsLine` holds, and the front line, x, has the first id that is left, `OwnIdsFit` holds of the ids left after that one,
--- and the lines after x
-own_answered : (z asked : ℕ) (later : List ℕ) (x : IdSent) (rest : List IdSent) → IsLine z (asked ∷ later) (x ∷ rest) → x.id ≡ asked → OwnIdsFit z later rest
-own_answered z asked [] x rest h e =
-    all_on (KeepsTheId asked x) (λ y. IsOwn y → y.id ≡ z) rest (λ y f o. f (is_own z asked x rest h e) e ∙ h.ends) h.own.1.0
-own_answered z asked (i ∷ later) x rest h e = (
-  all_on (HasNone (i ∷ later)) (HasNone later) rest (λ y f o. (f o).1) h.own.0.1,
-  pairs_of_each (HasNone (i ∷ later)) (KeepsTheId i) (λ y w f o g. absurd ((f o).0 (sym g))) rest h.own.0.1,
+-- where the front line, x, answers, `OwnIdsFit` holds of the ids left after that one, and the lines after x
+own_answered : (z asked : ℕ) (later : List ℕ) (x : IdSent) (rest : List IdSent) → FrontAnswers z asked later x rest → OwnIdsFit z later rest
+own_answered z asked [] x rest h =
+    all_on (KeepsTheId asked x) (λ y. IsOwn y → y.id ≡ z) rest (λ y f o. f (is_own z asked x rest h) h.same ∙ h.line.ends) h.line.own.1.0
+own_answered z asked (i ∷ later) x rest h = (
+  all_on (HasNone (i ∷ later)) (HasNone later) rest (λ y f o. (f o).1) h.line.own.0.1,
+  pairs_of_each (HasNone (i ∷ later)) (KeepsTheId i) (λ y w f o g. absurd ((f o).0 (sym g))) rest h.line.own.0.1,
 )
 
--- `IsLine` is preserved if a reply answers
-line_answered : (z asked : ℕ) (later : List ℕ) (x : IdSent) (rest : List IdSent) → IsLine z (asked ∷ later) (x ∷ rest) → x.id ≡ asked → IsLine z later rest
-line_answered z asked later x rest h e =
+-- `IsLine` is preserved if the front line comes and answers
+line_answered : (z asked : ℕ) (later : List ℕ) (x : IdSent) (rest : List IdSent) → FrontAnswers z asked later x rest → IsLine z later rest
+line_answered z asked later x rest h =
     record {
-      differ = h.differ.1;
-      ends = ends_behind z asked later h.ends;
-      ordered = h.ordered.1;
+      differ = h.line.differ.1;
+      ends = ends_behind z asked later h.line.ends;
+      ordered = h.line.ordered.1;
       clear = clear x.old refl;
-      own = own_answered z asked later x rest h e;
+      own = own_answered z asked later x rest h;
     }
   where
     -- whether the front line, x, is old (`b`) or not: the old ids after x contain the ids of `later` only if there is no old line
     -- after x
     clear : (b : Bool) → x.old ≡ b → IsSubsequence later (olds rest) → olds rest ≡ []
-    clear true o s = absurd (no_old x.old x.id asked (olds rest) later o e h.clear s)
-    clear false o s = olds_none rest (all_on (KeepsOwn x) IsOwn rest (λ y f. f o) h.ordered.0)
+    clear true o s = absurd (no_old x.old x.id asked (olds rest) later o h.same h.line.clear s)
+    clear false o s = olds_none rest (all_on (KeepsOwn x) IsOwn rest (λ y f. f o) h.line.ordered.0)
 
 -- `IsLine` is preserved if a reply comes
 pub line_came : (z : ℕ) (left : List ℕ) (x : IdSent) (rest : List IdSent) → IsLine z left (x ∷ rest) → IsLine z (left_by left (Some x.id)) rest
@@ -232,5 +236,5 @@ line_came z [] x rest h = line_without z [] zero (x ∷ rest) h
 line_came z (asked ∷ later) x rest h = chosen (nat_eq x.id asked) refl where
   -- the lemma above, by whether the reply has the id that is asked for (`b`)
   chosen : (b : Bool) → nat_eq x.id asked ≡ b → IsLine z (left_by_one b asked later) rest
-  chosen true e = line_answered z asked later x rest h (eqb-true x.id asked e)
+  chosen true e = line_answered z asked later x rest (record { line = h; same = eqb-true x.id asked e })
   chosen false e = line_without z (asked ∷ later) zero (x ∷ rest) h

@@ -11,7 +11,7 @@ use Rattle.gc_lines.proofs.Lists.{all_append}
 use Rattle.gc_values.proofs.Every.{every_front as all_front, every_behind as all_behind, every_weaker as all_on}
 use Rattle.gc_field.proofs.BeginMoves.{Lasts, holds_moves}
 use Rattle.gc_field.proofs.BeginWords.{word_differs}
-use Rattle.gc_field.proofs.BeginLines.{IsLine, IsOld, IsOwn, KeepsOwn, HasNone, KeepsTheId, OwnIdsFit, olds_all, each_own, line_without, line_doubled, line_asked, line_came, is_own}
+use Rattle.gc_field.proofs.BeginLines.{FrontAnswers, IsLine, IsOld, IsOwn, KeepsOwn, HasNone, KeepsTheId, OwnIdsFit, olds_all, each_own, line_without, line_doubled, line_asked, line_came, is_own}
 use Rattle.gc_world.proofs.Rows.{each_without, each_doubled}
 
 -- The invariant.
@@ -66,12 +66,12 @@ keeps_replied : (z : ℕ) (left : List ℕ) (down : List IdSent) (x : IdSent) �
 keeps_replied z [] down x h = h
 keeps_replied z (asked ∷ later) down x h = all_append (KeepsIf asked (Some x.id)) down (x ∷ []) h ((λ o e. e), tt)
 
--- where `IsLine` holds, `KeptIdFits` is preserved if the front reply, x, comes and answers
-keeps_answered : (z asked : ℕ) (later : List ℕ) (x : IdSent) (rest up : List IdSent) (kept : Option ℕ) → IsLine z (asked ∷ later) (x ∷ (rest ++ up))
-    → x.id ≡ asked → KeptIdFits z (asked ∷ later) (x ∷ rest) kept → KeptIdFits z later rest kept
-keeps_answered z asked [] x rest up kept h e k = subst (λ id. IfSome kept (λ i. i ≡ id)) h.ends (k.0 (is_own z asked x (rest ++ up) h e) e)
-keeps_answered z asked (i ∷ later) x rest up kept h e k =
-    all_on (HasNone (i ∷ later)) (KeepsIf i kept) rest (λ y f o g. absurd ((f o).0 (sym g))) (all_front (HasNone (i ∷ later)) rest up h.own.0.1)
+-- `KeptIdFits` is preserved if the front reply, x, comes and answers (`FrontAnswers`)
+keeps_answered : (z asked : ℕ) (later : List ℕ) (x : IdSent) (rest up : List IdSent) (kept : Option ℕ) → FrontAnswers z asked later x (rest ++ up)
+    → KeptIdFits z (asked ∷ later) (x ∷ rest) kept → KeptIdFits z later rest kept
+keeps_answered z asked [] x rest up kept h k = subst (λ id. IfSome kept (λ i. i ≡ id)) h.line.ends (k.0 (is_own z asked x (rest ++ up) h) h.same)
+keeps_answered z asked (i ∷ later) x rest up kept h k =
+    all_on (HasNone (i ∷ later)) (KeepsIf i kept) rest (λ y f o g. absurd ((f o).0 (sym g))) (all_front (HasNone (i ∷ later)) rest up h.line.own.0.1)
 
 -- where `IsLine` holds, `KeptIdFits` is preserved if the front reply, x, is heard: it holds of the ids that are left then, and of
 -- the replies after x
@@ -81,7 +81,7 @@ keeps_heard z [] x rest up kept h k = k
 keeps_heard z (asked ∷ later) x rest up kept h k = chosen (nat_eq x.id asked) refl where
   -- the lemma above, by whether the reply has the id that is asked for (`b`)
   chosen : (b : Bool) → nat_eq x.id asked ≡ b → KeptIdFits z (left_by_one b asked later) rest kept
-  chosen true e = keeps_answered z asked later x rest up kept h (eqb-true x.id asked e) k
+  chosen true e = keeps_answered z asked later x rest up kept (record { line = h; same = eqb-true x.id asked e }) k
   chosen false e = k.1
 
 -- Each move.

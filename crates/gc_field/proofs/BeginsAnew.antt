@@ -14,7 +14,7 @@ use Rattle.gc_station.proofs.Going.{runs-append}
 use Rattle.gc_station.specs.Model.{Runs, after_all, opening}
 use Rattle.gc_links.specs.Acts.{Told}
 use Rattle.gc_field.specs.Begin.{begins}
-use Rattle.gc_field.specs.BeginsAnew.{IsAnsweredAnew, acts, acts_anew, answer, commands, from, given_up, left_by_first, moves, moves_anew, plan, later_replies, runs, scope, seven_unanswered, seventh_reply, turns}
+use Rattle.gc_field.specs.BeginsAnew.{IsAnsweredAnew, acts, acts_anew, answer, commands, from, given_up, left_by_first, moves, moves_anew, plan, later_replies, program, scope, seven_unanswered, seventh_reply, turns}
 use Rattle.gc_field.specs.Begun.{WasMadeOn}
 use Rattle.gc_field.specs.CountingChain.{at_start, null_replies, counting, first_reply}
 use Rattle.gc_field.specs.Field.{seen}
@@ -80,7 +80,7 @@ answered_anew =
             runs = runs-append plan commands (opening plan scope) given_up acts_anew runs_until_given_up runs_anew;
             lines = record { ids = tt; good = tt };
             none = λ h. h;
-            shown = subst (AreShownAs counting at_start runs) (sym parts_are) (shown_are, refl, (shown_anew, refl, (refl, refl, tt)));
+            shown = subst (AreShownAs counting at_start program.runs) (sym parts_are) (shown_are, refl, (shown_anew, refl, (refl, refl, tt)));
             possible = ((units 24, units 23), ((units 27, (tt, (tt, (tt, (tt, ((8, [], refl), tt)))))), ((tt, refl), tt)));
           };
       over = refl;

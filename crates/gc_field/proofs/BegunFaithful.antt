@@ -88,20 +88,21 @@ begun_prefixed = record { sent = refl; settled = refl; client = refl }
 
 module _ {Line : Type 0} where
   -- these lines, each with the number of the eighth null procedure, 7
-  abbrev pub of_last : List Line → List (Numbered Line)
-  of_last xs = map (λ x. record { number = 7; line = x }) xs
+  abbrev pub of_eighth : List Line → List (Numbered Line)
+  of_eighth xs = map (λ x. record { number = 7; line = x }) xs
 
   -- the numbers of lines that all have number 7 never fall, from 7 on
-  rising_up : (xs : List Line) → Rising 8 (numbers (of_last xs))
+  rising_up : (xs : List Line) → Rising 8 (numbers (of_eighth xs))
   rising_up [] = tt
   rising_up (x ∷ xs) = (omega arith, rising_up xs)
 
   -- where Q of a line implies P of the line with the number 7, and each line has Q, each has P with that number
-  pub each_last : (P : Numbered Line → Type 0) (Q : Line → Type 0) → ((x : Line) → Q x → P (record { number = 7; line = x })) → (xs : List Line) → AllByRecursion Q xs → AllByRecursion P (of_last xs)
-  each_last P Q f xs h = each_map Q P (λ x. record { number = 7; line = x }) f xs h
+  pub each_of_eighth : (P : Numbered Line → Type 0) (Q : Line → Type 0) → ((x : Line) → Q x → P (record { number = 7; line = x })) → (xs : List Line)
+      → AllByRecursion Q xs → AllByRecursion P (of_eighth xs)
+  each_of_eighth P Q f xs h = each_map Q P (λ x. record { number = 7; line = x }) f xs h
 
 -- where the lines of two lists all have number 7, the numbers of one list followed by those of the other never fall, from 7 on
-rising_both : {A B : Type 0} (xs : List A) (ys : List B) → Rising 8 (numbers (of_last xs) ++ numbers (of_last ys))
+rising_both : {A B : Type 0} (xs : List A) (ys : List B) → Rising 8 (numbers (of_eighth xs) ++ numbers (of_eighth ys))
 rising_both [] ys = rising_up ys
 rising_both (x ∷ xs) ys = (omega arith, rising_both xs ys)
 
@@ -132,8 +133,8 @@ module _ {State : Type 0} (ends : Ends State) (Good : State → Type 0) (kept : 
           within = within;
           few = few;
           order = rising_both u.down u.up;
-          going = each_last (IsGoing 0 8) (λ x. x ≡ eighth) (λ x e. record { recent = omega arith; sent = omega arith; id = ap (λ (r : Request). r.id) e }) u.up clean.up;
-          coming = each_last (IsComing width ends Good 0 8) (λ line. heard line ≡ Some 7) (λ x e. record { recent = omega arith; sent = omega arith; id = keeper.hears x ∙ e }) u.down clean.down;
+          going = each_of_eighth (IsGoing 0 8) (λ x. x ≡ eighth) (λ x e. record { recent = omega arith; sent = omega arith; id = ap (λ (r : Request). r.id) e }) u.up clean.up;
+          coming = each_of_eighth (IsComing width ends Good 0 8) (λ line. heard line ≡ Some 7) (λ x e. record { recent = omega arith; sent = omega arith; id = keeper.hears x ∙ e }) u.down clean.down;
         }
 
     -- after a clean synchronization the world of the client that knows ids and that of the client that is given numbers agree
@@ -176,12 +177,12 @@ module _ {State : Type 0} (ends : Ends State) (Good : State → Type 0) (kept : 
             within = within;
             lower = omega arith;
             least = within;
-            above = each_last (λ x. 8 ≤ x.number + 1) (λ x. x ≡ eighth) (λ x e. omega arith) u.up clean.up;
-            below = each_last (λ x. x.number < 8) (λ line. heard line ≡ Some 7) (λ x e. omega arith) u.down clean.down;
+            above = each_of_eighth (λ x. 8 ≤ x.number + 1) (λ x. x ≡ eighth) (λ x e. omega arith) u.up clean.up;
+            below = each_of_eighth (λ x. x.number < 8) (λ line. heard line ≡ Some 7) (λ x e. omega arith) u.down clean.down;
             holds = kept_begun (kept u.state) refl;
-            lines = each_last (IsAsSent written nulls) (λ x. x ≡ eighth) line_is u.up clean.up;
+            lines = each_of_eighth (IsAsSent written nulls) (λ x. x ≡ eighth) line_is u.up clean.up;
             near = near;
-            coming = each_last (λ x. IsVouchedAtStart x.number x.line) (λ line. heard line ≡ Some 7) (λ x e. last_null_vouched x) u.down clean.down;
+            coming = each_of_eighth (λ x. IsVouchedAtStart x.number x.line) (λ line. heard line ≡ Some 7) (λ x e. last_null_vouched x) u.down clean.down;
             answers = (tt, (tt, (tt, (tt, (tt, (tt, (tt, (tt, tt))))))));
             order = record { order = λ i j m n lt a b. absurd (none-some n b); below = tt };
             once = λ keeps k. record {
@@ -280,8 +281,8 @@ module _ {State : Type 0} (ends : Ends State) (Good : State → Type 0) (kept : 
               let v = (own m s sure.0 sure.1 e).answered bytes answered in
               let right = (pairs.same m s v.request e v.found).1 in
               (has_at _ a.wire.made v.among, subst (λ call. IsReplyTo ends Good call bytes) (sym right) v.reply);
-          executed = λ m s bytes sure e answered. has_at m a.wire.executed ((own m s sure.0 sure.1 e).answered bytes answered).acted;
-          made_on = λ m s bytes sure e answered.
+          executed = λ m s sure e bytes answered. has_at m a.wire.executed ((own m s sure.0 sure.1 e).answered bytes answered).acted;
+          made_on = λ m s sure e bytes answered.
               let v = (own m s sure.0 sure.1 e).answered bytes answered in
               subst (λ call. M m call bytes) (sym (pairs.same m s v.request e v.found).1) v.on;
           in_order = subst (λ (w : Wire State). IsInOrder w.executed) (sym same) all.order;

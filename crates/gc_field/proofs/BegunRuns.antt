@@ -13,77 +13,74 @@ use Rattle.gc_field.proofs.BeginWords.{subword_front}
 use Rattle.gc_field.proofs.BegunFaithful.{faithful}
 use Rattle.gc_field.proofs.BegunRising.{rising_lack_three, runs_leave_rising_ids, runs_leave_good}
 
--- what is in flight after n runs in a row that were killed while they synchronized: its ids don't contain the first n + 3 ids
--- of the word, which are 6, 5 and `more`
-pub record IsShort {State : Type 0} (n : ℕ) (u : UnderWay State) : Type 0 where
+-- what is in flight after n runs in a row that were killed while they synchronized: it is well formed, and its ids don't contain
+-- the first n + 3 ids of the word, which are 6, 5 and `more`
+pub record IsShortOfTheWord {State : Type 0} (Good : State → Type 0) (n : ℕ) (u : UnderWay State) : Type 0 where
+  pub lines : IsWellFormed Good u
   pub more : List ℕ
   pub tail : List ℕ
   pub split : the_word ≡ 6 ∷ 5 ∷ (more ++ tail)
   pub few : length tail + n ≡ 5
   pub none : IsSubsequence (6 ∷ 5 ∷ more) (ids_under_way u) → ⊥
 
--- where `HasRisingIds` holds, `IsShort` holds with no run killed before
-pub short_rising : {State : Type 0} (u : UnderWay State) → HasRisingIds u → IsShort 0 u
-short_rising u h = record { more = 4 ∷ []; tail = 3 ∷ 2 ∷ 1 ∷ 0 ∷ 7 ∷ []; split = refl; few = refl; none = rising_lack_three u h }
+-- where what is in flight is well formed, and `HasRisingIds` holds of it, `IsShortOfTheWord` holds with no run killed before
+pub short_rising : {State : Type 0} (Good : State → Type 0) (u : UnderWay State) → IsWellFormed Good u → HasRisingIds u → IsShortOfTheWord Good 0 u
+short_rising Good u lines h = record { lines = lines; more = 4 ∷ []; tail = 3 ∷ 2 ∷ 1 ∷ 0 ∷ 7 ∷ []; split = refl; few = refl; none = rising_lack_three u h }
 
--- the ids of what is `IsShort` don't contain the word
-pub short_word : {State : Type 0} (n : ℕ) (u : UnderWay State) → IsShort n u → LacksTheWord u
-short_word n u h s = h.none (subword_front (6 ∷ 5 ∷ h.more) h.tail (ids_under_way u) (subst (λ w. IsSubsequence w (ids_under_way u)) h.split s))
+-- the ids of what is `IsShortOfTheWord` don't contain the word
+pub short_word : {State : Type 0} (Good : State → Type 0) (n : ℕ) (u : UnderWay State) → IsShortOfTheWord Good n u → LacksTheWord u
+short_word Good n u h s = h.none (subword_front (6 ∷ 5 ∷ h.more) h.tail (ids_under_way u) (subst (λ w. IsSubsequence w (ids_under_way u)) h.split s))
 
 module _ {State : Type 0} (ends : Ends State) (Good : State → Type 0) (kept : State → Option KeptReply) (is : IsAnInstrument ends Good kept) (width : ℕ) (narrow : width ≤ 7) where
-  -- where what is in flight is `IsShort` for n killed runs, fewer than five, and one more run is killed while it synchronizes,
-  -- what that run leaves is `IsShort` for n + 1
-  short_killed : (n : ℕ) (u : UnderWay State) (r : Run State) → IsWellFormed Good u → AreTurns ends Good kept r.turns (begins u) → n + 1 ≤ 5 → (tail : List ℕ)
-      → (h : IsShort n u) → h.tail ≡ tail → IsShort (n + 1) (leaves (after_turns ends u r))
-  short_killed n u r lines turns few [] h e = absurd (let size = h.few in let none : length h.tail ≡ 0 = ap length e in omega (arith, size, none, few))
-  short_killed n u r lines turns few (c ∷ tail) h e =
+  -- where what is in flight is `IsShortOfTheWord` for n killed runs, fewer than five, and one more run is killed while it
+  -- synchronizes, so is what that run leaves, for n + 1
+  short_killed : (n : ℕ) (u : UnderWay State) (r : Run State) → AreTurns ends Good kept r.turns (begins u) → n + 1 ≤ 5 → (tail : List ℕ)
+      → (h : IsShortOfTheWord Good n u) → h.tail ≡ tail → IsShortOfTheWord Good (n + 1) (leaves (after_turns ends u r))
+  short_killed n u r turns few [] h e = absurd (let size = h.few in let none : length h.tail ≡ 0 = ap length e in omega (arith, size, none, few))
+  short_killed n u r turns few (c ∷ tail) h e =
       let split : the_word ≡ 6 ∷ 5 ∷ (h.more ++ c ∷ tail) = h.split ∙ ap (λ l. 6 ∷ 5 ∷ (h.more ++ l)) e in
       record {
+        lines = left_lines ends Good kept is u r.turns h.lines turns;
         more = h.more ++ c ∷ [];
         tail = tail;
         split = split ∙ sym (ap (λ l. 6 ∷ 5 ∷ l) (append_assoc h.more (c ∷ []) tail));
         few = (let size = h.few in let one : length h.tail ≡ suc (length tail) = ap length e in omega (arith, size, one));
-        none = left_absent ends Good kept is u r.turns (record { a = 6; b = 5; more = h.more; c = c; tail = tail; is = split }) lines turns h.none;
+        none = left_absent ends Good kept is u r.turns (record { a = 6; b = 5; more = h.more; c = c; tail = tail; is = split }) h.lines turns h.none;
       }
 
   -- what a run comes to, by the ids that are left of its word. If no id is left, it has synchronized cleanly, is faithful, and
   -- the count n of runs killed in a row starts again at 0. If ids are left, it was killed while it synchronized, and n is one
-  -- more. What it leaves in flight is `IsWellFormed`, and `IsShort` for the new count
+  -- more. What it leaves in flight is `IsShortOfTheWord` for the new count
   pub record RunResult (n : ℕ) (u : UnderWay State) (r : Run State) (left : List ℕ) : Type 0 where
     pub own : IsOwnIf width ends Good kept left (after_turns ends u r) r.moves
-    pub lines : IsWellFormed Good (left_if width ends left (after_turns ends u r) r.moves)
-    pub short : IsShort (killed_if left n) (left_if width ends left (after_turns ends u r) r.moves)
+    pub short : IsShortOfTheWord Good (killed_if left n) (left_if width ends left (after_turns ends u r) r.moves)
 
-  -- each possible run over what is `IsWellFormed`, and `IsShort` for the `n` runs killed in a row before, has its `RunResult`, as
-  -- long as at most five in a row are killed
-  pub run_result : (n : ℕ) (u : UnderWay State) (r : Run State) (left : List ℕ) → (after_turns ends u r).left ≡ left → IsWellFormed Good u → IsShort n u → AreTurns ends Good kept r.turns (begins u)
+  -- each possible run over what is `IsShortOfTheWord` for the `n` runs killed in a row before has its `RunResult`, as long as at
+  -- most five in a row are killed
+  pub run_result : (n : ℕ) (u : UnderWay State) (r : Run State) (left : List ℕ) → (after_turns ends u r).left ≡ left → IsShortOfTheWord Good n u → AreTurns ends Good kept r.turns (begins u)
       → ArePossibleIf width ends Good kept left (after_turns ends u r) r.moves → killed_if left n ≤ 5 → RunResult n u r left
-  run_result n u r [] e lines short turns p few =
+  run_result n u r [] e short turns p few =
       let s = after_turns ends u r in
-      let ended = begins_cleanly ends Good kept is u r.turns lines turns (short_word n u short) e in
+      let ended = begins_cleanly ends Good kept is u r.turns short.lines turns (short_word Good n u short) e in
       let after = runs_leave_good ends Good kept is width narrow (leaves s) ended.clean r.moves p in
       record {
         own = (ended, faithful ends Good kept is width narrow (leaves s) ended.clean r.moves p);
-        lines = record { ids = after.1; good = after.0 };
-        short = short_rising (on_line (behind width ends (leaves s) r.moves).wire) (runs_leave_rising_ids ends Good kept is width narrow (leaves s) ended.clean r.moves p);
+        short = short_rising Good (on_line (behind width ends (leaves s) r.moves).wire) (record { ids = after.1; good = after.0 })
+            (runs_leave_rising_ids ends Good kept is width narrow (leaves s) ended.clean r.moves p);
       }
-  run_result n u r (asked ∷ rest) e lines short turns p few = record {
-    own = tt;
-    lines = left_lines ends Good kept is u r.turns lines turns;
-    short = short_killed n u r lines turns few short.tail short refl;
-  }
+  run_result n u r (asked ∷ rest) e short turns p few = record { own = tt; short = short_killed n u r turns few short.tail short refl }
 
-  -- where what is in flight is `IsWellFormed`, and `IsShort` for the `n` runs killed in a row before, and few in a row are killed
+  -- where what is in flight is `IsShortOfTheWord` for the `n` runs killed in a row before, and few in a row are killed
   -- (`AreFewKilled`): each of these possible runs that has synchronized has done so cleanly, and is faithful
-  all_own : (rs : List (Run State)) (n : ℕ) (u : UnderWay State) → IsWellFormed Good u → IsShort n u → AreRuns width ends Good kept u rs
+  all_own : (rs : List (Run State)) (n : ℕ) (u : UnderWay State) → IsShortOfTheWord Good n u → AreRuns width ends Good kept u rs
       → AreFewKilled width ends n u rs → AreOwn width ends Good kept u rs
-  all_own [] n u lines short runs few = tt
-  all_own (r ∷ rs) n u lines short runs few =
-      let one = run_result n u r (after_turns ends u r).left refl lines short runs.0.0 runs.0.1 few.0 in
-      (one.own, all_own rs (killed_if (after_turns ends u r).left n) (left_by_run width ends u r) one.lines one.short runs.1 few.1)
+  all_own [] n u short runs few = tt
+  all_own (r ∷ rs) n u short runs few =
+      let one = run_result n u r (after_turns ends u r).left refl short runs.0.0 runs.0.1 few.0 in
+      (one.own, all_own rs (killed_if (after_turns ends u r).left n) (left_by_run width ends u r) one.short runs.1 few.1)
 
   -- where what is in flight before the first of these possible runs is `IsWellFormed`, `HasRisingIds` holds of it, and few runs
   -- in a row are killed while they synchronize (`AreFewKilled`): the runs are their own (`AreOwn`)
   pub runs_are_their_own : (u : UnderWay State) → IsWellFormed Good u → HasRisingIds u → (rs : List (Run State)) → AreRuns width ends Good kept u rs
       → AreFewKilled width ends 0 u rs → AreOwn width ends Good kept u rs
-  runs_are_their_own u lines row rs runs few = all_own rs 0 u lines (short_rising u row) runs few
+  runs_are_their_own u lines row rs runs few = all_own rs 0 u (short_rising Good u lines row) runs few

@@ -23,7 +23,7 @@ use Rattle.gc_field.specs.Begin.{UnderWay}
 use Rattle.gc_field.specs.Begun.{IsClean, eighth, ids_begun, nulls, ArePossibleOnceBegun}
 use Rattle.gc_field.specs.Field.{Move, Sends, Tells, Comes, Foreign, OnLine, Anew, Changes, Joins, IsLineStep, moves, moved, ArePossible}
 use Rattle.gc_field.specs.Chains.{HasNoStartAmong, IsUndisturbed, HasEffect, AreCalls}
-use Rattle.gc_field.proofs.BegunFaithful.{each_last}
+use Rattle.gc_field.proofs.BegunFaithful.{each_of_eighth}
 
 -- What the instrument becomes.
 
@@ -313,7 +313,7 @@ module _ {State : Type 0} (ends : Ends State) where
 
     -- after a clean synchronization the wire is `IsConsistent`
     consistent_begun : (u : UnderWay State) → IsClean Good kept u → IsConsistent (ids_begun u).wire
-    consistent_begun u clean = record { known = each_last (WasSent nulls) (λ x. x ≡ eighth) last_was_sent u.up clean.up; begun = tt }
+    consistent_begun u clean = record { known = each_of_eighth (WasSent nulls) (λ x. x ≡ eighth) last_was_sent u.up clean.up; begun = tt }
 
     -- after a clean synchronization, and possible moves, the wire is `IsConsistent`
     pub consistent_all : (ms : List (Move State)) (u : UnderWay State) → IsClean Good kept u → ArePossibleOnceBegun 7 ends u Good kept ms

@@ -11,7 +11,7 @@ use Rattle.gc_texts.specs.declared.tasks.Task.{Task}
 use Rattle.gc_station.specs.Links.{AreChained}
 use Rattle.std.proofs.lemmas.Option.{same_Some}
 use Rattle.gc_field.specs.Plain.{plain_task}
-use Rattle.gc_field.specs.ChainWitness.{IsPointedInField, acts, at_start, commands, measures, moves, runs, scope}
+use Rattle.gc_field.specs.ChainWitness.{IsPointedInField, acts, at_start, commands, measures, moves, program, scope}
 use Rattle.gc_field.specs.Pointing.{AreStill, turns_telescope}
 use Rattle.gc_field.proofs.Witness.{asked_each, fits, one_part, opens, units}
 use Rattle.gc_station.specs.Parts.{parts_of}
@@ -61,7 +61,7 @@ chain =
                 (tt, (refl, (tt, (tt, (refl, (tt, (tt, (refl, (tt, (tt, (refl, tt)))))))))));
             lines = record { ids = tt; good = fits };
             none = λ h. h;
-            shown = subst (AreShownAs simulator_ends at_start runs) (sym parts_are) (shown_are, refl, (refl, refl, tt));
+            shown = subst (AreShownAs simulator_ends at_start program.runs) (sym parts_are) (shown_are, refl, (refl, refl, tt));
             possible = ((units 24, (tt, (tt, (tt, (tt, (tt, ((8, [], refl), (tt, (tt, (tt, (tt, ((9, [], refl), (tt, (tt, (tt, (tt, ((10, [], refl), tt))))))))))))))))), ((tt, refl), tt));
           };
       records = refl;

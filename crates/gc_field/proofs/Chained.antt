@@ -2,7 +2,7 @@
 -- whole run's stretch at that place. So when a chained command is sent, the answer of each one before it in its chain is settled
 -- there. A *part* is what happens in a run from one synchronization to the next, as the station sees it; a *stretch* is what
 -- happens then on the line. The *marks* of a part say for which command each of its requests is, in order.
-use Rattle.std.proofs.Common.{◌≡◌, inl, inr, ℕ, zero, suc, ◌+◌, ◌-◌, ◌<◌, ◌≤◌, drop, length-drop, List, [], ◌∷◌, ◌++◌, length, map, Option, Some, refl, sym, ◌∙◌, ap, subst, arith}
+use Rattle.std.proofs.Common.{◌≡◌, ◌⊎◌, inl, inr, ℕ, zero, suc, ◌+◌, ◌-◌, ◌<◌, ◌≤◌, drop, length-drop, List, [], ◌∷◌, ◌++◌, length, map, Option, Some, refl, sym, ◌∙◌, ap, subst, arith}
 use Rattle.std.specs.Prelude.{slice_get}
 use Rattle.std.proofs.lemmas.List.{length-map}
 use Rattle.gc_catalogue.specs.declared.asked.Asked.{Asked}
@@ -133,15 +133,26 @@ module _ {State : Type 0} (ends : Ends State) (Good : State → Type 0) (kept : 
   later_cut p next ps u r rs c zero t v size a b = absurd (omega (arith, size))
   later_cut p next ps u r rs c (suc i) t v size a b = c.last i t v (omega (arith, size)) a b
 
-  -- `CutRuns` of one part that is a front of the parts that possible runs show (`IsFront`, `AreWhole`), if it has a request
-  cut_last : (p : Part) (qs : List Part) (u : UnderWay State) (rs : List (Run State)) → IsFront (p ∷ []) qs → AreWhole (p ∷ []) qs → (p.marks ≡ [] → ⊥)
-      → AreShownAs ends u rs qs → AreRuns 7 ends Good kept u rs → CutRuns (p ∷ []) u rs
-  cut_last p [] u rs h w marked e good = absurd h
-  cut_last p (q ∷ qs) u [] h w marked e good = absurd e
-  cut_last p (q ∷ qs) u (r ∷ rs) h (inl none) marked e good = absurd (marked none)
-  cut_last p (q ∷ qs) u (r ∷ rs) h (inr same) marked e good =
-      let here : seen r.moves ≡ p.steps ++ h.0.steps = e.1 ∙ ap (λ (x : Part). x.steps) h.1 in
-      cut_one p u r rs (e.0 ∙ same) (split_seen r.moves p.steps h.0.steps here) good.0.0 good.0.1
+  -- the parts `ps` are the first ones of the parts `qs`, with the same steps of a synchronization in the last of them
+  -- (`AreWhole`); and these possible runs show the parts `qs`
+  record AreFirstShown (ps qs : List Part) (u : UnderWay State) (rs : List (Run State)) : Type 0 where
+    front : IsFront ps qs
+    whole : AreWhole ps qs
+    shown : AreShownAs ends u rs qs
+    possible : AreRuns 7 ends Good kept u rs
+
+  -- `CutRuns` of one part that is the first one shown (`AreFirstShown`), if it has a request
+  cut_last : (p : Part) (qs : List Part) (u : UnderWay State) (rs : List (Run State)) → AreFirstShown (p ∷ []) qs u rs → (p.marks ≡ [] → ⊥) → CutRuns (p ∷ []) u rs
+  cut_last p [] u rs h marked = absurd h.front
+  cut_last p (q ∷ qs) u [] h marked = absurd h.shown
+  cut_last p (q ∷ qs) u (r ∷ rs) h marked = by_whole h.whole where
+    -- the lemma above, by what `AreWhole` says of one part: that it has no request, or the steps of a synchronization of the
+    -- first one
+    by_whole : (p.marks ≡ []) ⊎ (q.sync_steps ≡ p.sync_steps) → CutRuns (p ∷ []) u (r ∷ rs)
+    by_whole (inl none) = absurd (marked none)
+    by_whole (inr same) =
+        let here : seen r.moves ≡ p.steps ++ h.front.0.steps = h.shown.1 ∙ ap (λ (x : Part). x.steps) h.front.1 in
+        cut_one p u r rs (h.shown.0 ∙ same) (split_seen r.moves p.steps h.front.0.steps here) h.possible.0.0 h.possible.0.1
 
   -- `CutRuns` is preserved if a part and the possible run that shows it are put before the parts and the runs
   cut_more : (p next : Part) (ps : List Part) (u : UnderWay State) (r : Run State) (rs : List (Run State)) → shown ends r.turns (begins u) ≡ p.sync_steps → seen r.moves ≡ p.steps
@@ -154,24 +165,21 @@ module _ {State : Type 0} (ends : Ends State) (Good : State → Type 0) (kept : 
     last = λ i t v size a b. later_cut p next ps u r rs c i t v size a b;
   }
 
-  -- `CutRuns` of at least two parts that are a front of those that possible runs show (`IsFront`, `AreWhole`), if any such front
-  -- `next ∷ ps` has a `CutRuns`
-  cut_on : (p next : Part) (ps qs : List Part) (u : UnderWay State) (rs : List (Run State)) → IsFront (p ∷ next ∷ ps) qs → AreWhole (p ∷ next ∷ ps) qs
-      → AreShownAs ends u rs qs → AreRuns 7 ends Good kept u rs
-      → ((xs : List Part) (v : UnderWay State) (ts : List (Run State)) → IsFront (next ∷ ps) xs → AreWhole (next ∷ ps) xs → AreShownAs ends v ts xs
-      → AreRuns 7 ends Good kept v ts → CutRuns (next ∷ ps) v ts) → CutRuns (p ∷ next ∷ ps) u rs
-  cut_on p next ps [] u rs h w e good again = absurd h
-  cut_on p next ps (q ∷ qs) u [] h w e good again = absurd e
-  cut_on p next ps (q ∷ qs) u (r ∷ rs) h w e good again =
-      cut_more p next ps u r rs (e.0 ∙ ap (λ (x : Part). x.sync_steps) h.0) (e.1 ∙ ap (λ (x : Part). x.steps) h.0) good.0 (again qs (left_by_run 7 ends u r) rs h.1 w e.2 good.1)
+  -- `CutRuns` of at least two parts that are the first ones shown (`AreFirstShown`), if those after the first have a `CutRuns`
+  -- wherever they are the first ones shown
+  cut_on : (p next : Part) (ps qs : List Part) (u : UnderWay State) (rs : List (Run State)) → AreFirstShown (p ∷ next ∷ ps) qs u rs
+      → ((xs : List Part) (v : UnderWay State) (ts : List (Run State)) → AreFirstShown (next ∷ ps) xs v ts → CutRuns (next ∷ ps) v ts) → CutRuns (p ∷ next ∷ ps) u rs
+  cut_on p next ps [] u rs h again = absurd h.front
+  cut_on p next ps (q ∷ qs) u [] h again = absurd h.shown
+  cut_on p next ps (q ∷ qs) u (r ∷ rs) h again =
+      cut_more p next ps u r rs (h.shown.0 ∙ ap (λ (x : Part). x.sync_steps) h.front.0) (h.shown.1 ∙ ap (λ (x : Part). x.steps) h.front.0) h.possible.0
+      (again qs (left_by_run 7 ends u r) rs (record { front = h.front.1; whole = h.whole; shown = h.shown.2; possible = h.possible.1 }))
 
-  -- `CutRuns` of any parts that are a front of those that possible runs show (`IsFront`, `AreWhole`), if the last of them has a
-  -- request
-  cut_field : (ps qs : List Part) (u : UnderWay State) (rs : List (Run State)) → IsFront ps qs → AreWhole ps qs → LastIsMarked ps → AreShownAs ends u rs qs
-      → AreRuns 7 ends Good kept u rs → CutRuns ps u rs
-  cut_field [] qs u rs h w marked e good = absurd h
-  cut_field (p ∷ []) qs u rs h w marked e good = cut_last p qs u rs h w marked e good
-  cut_field (p ∷ next ∷ ps) qs u rs h w marked e good = cut_on p next ps qs u rs h w e good (λ xs v ts g x f well. cut_field (next ∷ ps) xs v ts g x marked f well)
+  -- `CutRuns` of any parts that are the first ones shown (`AreFirstShown`), if the last of them has a request
+  cut_field : (ps qs : List Part) (u : UnderWay State) (rs : List (Run State)) → AreFirstShown ps qs u rs → LastIsMarked ps → CutRuns ps u rs
+  cut_field [] qs u rs h marked = absurd h.front
+  cut_field (p ∷ []) qs u rs h marked = cut_last p qs u rs h marked
+  cut_field (p ∷ next ∷ ps) qs u rs h marked = cut_on p next ps qs u rs h (λ xs v ts g. cut_field (next ∷ ps) xs v ts g marked)
 
 -- Pairs of numbers: a cycle and a place in it, or a part of the run and a request in it.
 
@@ -236,7 +244,8 @@ module _ {State : Type 0} (ends : Ends State) (Good : State → Type 0) (kept : 
       let runs : Runs plan commands (opening plan scope) before = runs_front plan commands (opening plan scope) before rest (subst (λ l. Runs plan commands (opening plan scope) l) e h.runs) in
       let whole : AreWhole (parts plan commands scope before) (parts plan commands scope acts) =
       subst (λ l. AreWhole (parts plan commands scope before) (parts plan commands scope l)) (sym e) (whole_parts plan commands (opening plan scope) before rest) in
-      let c = cut_field ends Good kept (parts plan commands scope before) (parts plan commands scope acts) u rs front whole marked h.shown h.possible in
+      let c = cut_field ends Good kept (parts plan commands scope before) (parts plan commands scope acts) u rs
+      (record { front = front; whole = whole; shown = h.shown; possible = h.possible }) marked in
       (c, record { runs = runs; lines = h.lines; none = h.none; shown = c.shown; possible = c.possible })
 
   -- when the client is about to send request n of stretch i, a command of a cycle, the command at place a, which was answered
@@ -277,7 +286,7 @@ module _ {State : Type 0} (ends : Ends State) (Good : State → Type 0) (kept : 
   chained_to : (acts : List Act) (v : UnderWay State) (rs : List (Run State)) → IsInField ends Good kept v (run_of acts rs)
       → (b : Record) (line : List ℕ) (u : IsItsOwn ends Good kept commands (parts plan commands scope acts) (stretches ends v rs) b line) (a : ℕ)
       → 0 < b.cycle → plan.setup ≤ a → a < b.place → AreChained commands a b.place
-      → IsChainedTo ends Good kept scope.reads commands (parts plan commands scope acts) (stretches ends v rs) (state_after plan commands scope acts).records a b line
+      → IsChainedTo ends Good kept v (run_of acts rs) a b line
   chained_to acts v rs h b line u a many low less chained =
       let q = u.of in
       let ss = stretches ends v rs in

@@ -10,7 +10,7 @@ use Rattle.gc_client.specs.declared.window.TheConstants.{WINDOW}
 use Rattle.gc_field.specs.Instrument.{IsAnInstrument, AnyState, never_kept}
 use Rattle.gc_field.specs.Begin.{begins, left_by_turns, none_under_way}
 use Rattle.gc_field.specs.Begun.{WasMadeOn}
-use Rattle.gc_field.specs.Drifting.{IsAnsweredByDrifting, acts, answer, null_replies, commands, drifting, moves, plan, runs, scope, turns}
+use Rattle.gc_field.specs.Drifting.{IsAnsweredByDrifting, acts, answer, null_replies, commands, drifting, moves, plan, program, scope, turns}
 use Rattle.gc_texts.specs.Nears.{is_elsewhere}
 use Rattle.gc_station.specs.Parts.{parts_of}
 use Rattle.gc_station.proofs.Going.{runs-append}
@@ -58,7 +58,7 @@ module _ (raw : RawCall) where
                   (tt, (refl, (tt, (tt, (refl, (tt, (tt, (refl, (tt, (tt, (tt, (refl, (tt, (tt, (tt, (refl, tt)))))))))))))))));
               lines = record { ids = tt; good = tt };
               none = λ h. h;
-              shown = subst (AreShownAs drifting (none_under_way 5) (runs raw)) (sym parts_are) (shown_are, refl, (refl, refl, tt));
+              shown = subst (AreShownAs drifting (none_under_way 5) (program raw).runs) (sym parts_are) (shown_are, refl, (refl, refl, tt));
               possible = (
                 (
                   (tt, (tt, (tt, (tt, (tt, ((tt, refl), units 24)))))),

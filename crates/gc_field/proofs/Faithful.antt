@@ -53,8 +53,8 @@ module _ {State : Type 0} (ends : Ends State) (Good : State → Type 0) (kept : 
             let v = (own m s gt e).answered bytes answered in
             let right = (pairs.same m s v.request e v.found).1 in
             (has_at _ a.wire.made v.among, subst (λ call. IsReplyTo ends Good call bytes) (sym right) v.reply);
-        executed = λ m s bytes gt e answered. has_at m a.wire.executed ((own m s gt e).answered bytes answered).acted;
-        made_on = λ m s bytes gt e answered.
+        executed = λ m s gt e bytes answered. has_at m a.wire.executed ((own m s gt e).answered bytes answered).acted;
+        made_on = λ m s gt e bytes answered.
             let v = (own m s gt e).answered bytes answered in
             subst (λ call. M m call bytes) (sym (pairs.same m s v.request e v.found).1) v.on;
         late = λ m s gt e late.

@@ -179,18 +179,19 @@ framed P Overlong fs h g = g
 framed P More fs h g = g
 
 -- a line without the sign with which each request begins (37) is no request
-unsigned : (line : List ℕ) → AllByRecursion (λ b. b ≢ 37) line → IsNoRequest line
-unsigned line h q r = (subst (λ l. AllByRecursion (λ b. b ≢ 37) l) r.whole h).0 refl
+no_request_unsigned : (line : List ℕ) → AllByRecursion (λ b. b ≢ 37) line → IsNoRequest line
+no_request_unsigned line h q r = (subst (λ l. AllByRecursion (λ b. b ≢ 37) l) r.whole h).0 refl
 
 -- no line of bytes without the sign 37 is a request
-unsigned_lines : (before bytes : List ℕ) → AllByRecursion (λ b. b ≢ 37) before → AllByRecursion (λ b. b ≢ 37) bytes → AllByRecursion IsNoRequest (lines_of (map frame_of (pieces_behind before bytes)))
-unsigned_lines before [] h g = tt
-unsigned_lines before (b ∷ bytes) h g =
+no_requests_unsigned : (before bytes : List ℕ) → AllByRecursion (λ b. b ≢ 37) before → AllByRecursion (λ b. b ≢ 37) bytes
+    → AllByRecursion IsNoRequest (lines_of (map frame_of (pieces_behind before bytes)))
+no_requests_unsigned before [] h g = tt
+no_requests_unsigned before (b ∷ bytes) h g =
     chosen (is_line_feed b)
     (framed IsNoRequest (frame_of before) (map frame_of (pieces_behind [] bytes))
-    (λ line e. unsigned line (subst (λ l. AllByRecursion (λ b. b ≢ 37) l) (sym (frame_line before line e))
-    (every_take (λ b. b ≢ 37) before (length before - 1) h))) (unsigned_lines [] bytes tt g.1))
-    (unsigned_lines (before ++ b ∷ []) bytes (all_append (λ b. b ≢ 37) before (b ∷ []) h (g.0, tt)) g.1)
+    (λ line e. no_request_unsigned line (subst (λ l. AllByRecursion (λ b. b ≢ 37) l) (sym (frame_line before line e))
+    (every_take (λ b. b ≢ 37) before (length before - 1) h))) (no_requests_unsigned [] bytes tt g.1))
+    (no_requests_unsigned (before ++ b ∷ []) bytes (all_append (λ b. b ≢ 37) before (b ∷ []) h (g.0, tt)) g.1)
   where
     -- the lemma above, by whether the next byte ends a frame (`t`)
     chosen : (t : Bool) → AllByRecursion IsNoRequest (lines_of (map frame_of (before ∷ pieces_behind [] bytes)))
@@ -246,6 +247,6 @@ whole_or_nothing id call fits =
     tail_of : AreAbove (body id call) → (count : ℕ) → 0 < count → HasNoRequest (drop count (request_bytes id call))
     tail_of above zero some = absurd (omega (arith, some))
     tail_of above (suc k) some =
-        unsigned_lines [] (drop k (body id call ++ 13 ∷ 10 ∷ [])) tt
+        no_requests_unsigned [] (drop k (body id call ++ 13 ∷ 10 ∷ [])) tt
         (every_drop (λ b. b ≢ 37) (body id call ++ 13 ∷ 10 ∷ []) k (all_append (λ b. b ≢ 37) (body id call) (13 ∷ 10 ∷ [])
         (all_on (λ b. 37 < b) (λ b. b ≢ 37) (body id call) (λ b l e. omega (arith, l, e)) above) ((λ e. omega (arith, e)), ((λ e. omega (arith, e)), tt))))

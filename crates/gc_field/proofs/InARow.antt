@@ -1,6 +1,6 @@
 -- Stations one after the other: no synchronization finds the word in flight, as long as few runs in a row are killed while they
--- synchronize. The *word* is the list of the ids of a synchronization's null procedures; `IsShort` says that what is in flight
--- doesn't contain a certain front of it, which is one id longer for each run in a row that was killed.
+-- synchronize. The *word* is the list of the ids of a synchronization's null procedures; `IsShortOfTheWord` says that what is in
+-- flight doesn't contain a certain front of it, which is one id longer for each run in a row that was killed.
 use Rattle.std.proofs.Common.{◌≡◌, ℕ, ◌≤◌, true, List, [], ◌∷◌, ◌++◌, map, map-id, Option, refl, ◌∙◌, ap₂, subst, arith}
 use mathlib.Core.List.{map-map}
 use Rattle.std.specs.List.{filter_map}
@@ -9,14 +9,14 @@ use Rattle.gc_client.specs.Rule.{heard}
 use Rattle.gc_client.specs.declared.window.TheConstants.{WINDOW}
 use Rattle.gc_instrument.specs.State.{KeptReply}
 use Rattle.gc_field.specs.World.{Ends, Request}
-use Rattle.gc_field.specs.Begin.{InFlight, IsWellFormed, AreTurns, SyncTurn, UnderWay, begins, ids_under_way, leaves}
+use Rattle.gc_field.specs.Begin.{InFlight, AreTurns, SyncTurn, UnderWay, begins, ids_under_way, leaves}
 use Rattle.gc_field.specs.Beginnings.{ArePossibleIf, AreRuns, Run, left_by_run, left_by_runs, after_turns}
 use Rattle.gc_field.specs.Field.{Move}
 use Rattle.gc_field.specs.Runs.{Program}
 use Rattle.gc_field.specs.InARow.{AreFaithful, AreFewKilledWithTurns, AreInARow, ProgramsInARowAreFaithful, killed_by, killed_over}
 use Rattle.gc_field.specs.Instrument.{IsAnInstrument}
 use Rattle.gc_field.proofs.BeginJoin.{left_lines}
-use Rattle.gc_field.proofs.BegunRuns.{IsShort, run_result, short_rising, short_word}
+use Rattle.gc_field.proofs.BegunRuns.{IsShortOfTheWord, run_result, short_rising, short_word}
 use Rattle.gc_field.proofs.Joining.{run_faithful}
 
 -- lines that are marked as old, without the marks, are the same lines
@@ -32,40 +32,41 @@ abbrev pub run : {State : Type 0} → List (SyncTurn State) → List (Move State
 run ts ms = record { turns = ts; moves = ms }
 
 module _ {State : Type 0} (ends : Ends State) (Good : State → Type 0) (kept : State → Option KeptReply) (is : IsAnInstrument ends Good kept) where
-  -- if what is in flight is `IsWellFormed`, and `IsShort` by the number of runs in a row that were killed while they
-  -- synchronized, so is what one possible run of a station leaves, as long as that number is at most five
-  after_run : (ts : List (SyncTurn State)) (ms : List (Move State)) (n : ℕ) (u : UnderWay State) → IsWellFormed Good u → IsShort n u → AreTurns ends Good kept ts (begins u)
-      → ArePossibleIf 7 ends Good kept (after_turns ends u (run ts ms)).left (after_turns ends u (run ts ms)) ms → killed_by ends n u (run ts ms) ts ≤ 5
-      → IsWellFormed Good (left_by_run 7 ends u (run ts ms)) × IsShort (killed_by ends n u (run ts ms) ts) (left_by_run 7 ends u (run ts ms))
-  after_run [] ms n u lines short turns p few = (
-    left_lines ends Good kept is u [] lines tt,
-    record { more = short.more; tail = short.tail; split = short.split; few = short.few; none = λ s. short.none (subst (λ ids. IsSubsequence (6 ∷ 5 ∷ short.more) ids) (same_ids u) s) },
-  )
-  after_run (t ∷ ts) ms n u lines short turns p few =
+  -- if what is in flight is `IsShortOfTheWord` for the runs in a row that were killed while they synchronized, so is what one
+  -- possible run of a station leaves, as long as these runs are at most five
+  after_run : (ts : List (SyncTurn State)) (ms : List (Move State)) (n : ℕ) (u : UnderWay State) → IsShortOfTheWord Good n u → AreTurns ends Good kept ts (begins u)
+      → ArePossibleIf WINDOW ends Good kept (after_turns ends u (run ts ms)).left (after_turns ends u (run ts ms)) ms → killed_by ends n u (run ts ms) ts ≤ 5
+      → IsShortOfTheWord Good (killed_by ends n u (run ts ms) ts) (left_by_run WINDOW ends u (run ts ms))
+  after_run [] ms n u short turns p few = record {
+    lines = left_lines ends Good kept is u [] short.lines tt;
+    more = short.more;
+    tail = short.tail;
+    split = short.split;
+    few = short.few;
+    none = λ s. short.none (subst (λ ids. IsSubsequence (6 ∷ 5 ∷ short.more) ids) (same_ids u) s);
+  }
+  after_run (t ∷ ts) ms n u short turns p few =
       let r = run (t ∷ ts) ms in
-      let one = run_result ends Good kept is 7 (omega arith) n u r (after_turns ends u r).left refl lines short turns p few in
-      (one.lines, one.short)
+      (run_result ends Good kept is 7 (omega arith) n u r (after_turns ends u r).left refl short turns p few).short
 
-  -- if what is in flight is `IsWellFormed`, and `IsShort` by the number of runs in a row that were killed while they
-  -- synchronized, so is what possible runs of a station leave, as long as that number is at most five
-  after_runs : (rs : List (Run State)) (n : ℕ) (u : UnderWay State) → IsWellFormed Good u → IsShort n u → AreRuns 7 ends Good kept u rs → AreFewKilledWithTurns ends n u rs
-      → IsWellFormed Good (left_by_runs WINDOW ends u rs) × IsShort (killed_over ends n u rs) (left_by_runs WINDOW ends u rs)
-  after_runs [] n u lines short runs few = (lines, short)
-  after_runs (r ∷ rs) n u lines short runs few =
-      let one = after_run r.turns r.moves n u lines short runs.0.0 runs.0.1 few.0 in
-      after_runs rs (killed_by ends n u r r.turns) (left_by_run 7 ends u r) one.0 one.1 runs.1 few.1
+  -- if what is in flight is `IsShortOfTheWord` for the runs in a row that were killed while they synchronized, so is what
+  -- possible runs of a station leave, as long as the runs killed in a row are at most five
+  after_runs : (rs : List (Run State)) (n : ℕ) (u : UnderWay State) → IsShortOfTheWord Good n u → AreRuns WINDOW ends Good kept u rs → AreFewKilledWithTurns ends n u rs
+      → IsShortOfTheWord Good (killed_over ends n u rs) (left_by_runs WINDOW ends u rs)
+  after_runs [] n u short runs few = short
+  after_runs (r ∷ rs) n u short runs few =
+      after_runs rs (killed_by ends n u r r.turns) (left_by_run WINDOW ends u r) (after_run r.turns r.moves n u short runs.0.0 runs.0.1 few.0) runs.1 few.1
 
-  -- where what is in flight before the first of stations one after the other (`AreInARow`) is `IsWellFormed`, and `IsShort` for
-  -- the `n` runs in a row that were killed before, the stations are faithful
-  all_faithful : (xs : List (Program State)) (n : ℕ) (u : UnderWay State) → IsWellFormed Good u → IsShort n u → AreInARow ends Good kept n u xs → AreFaithful ends Good kept u xs
-  all_faithful [] n u lines short h = tt
-  all_faithful (x ∷ xs) n u lines short h =
-      let next = after_runs x.runs n u lines short h.0.possible h.0.few in (
-        run_faithful ends Good kept is u x (record { runs = h.0.runs; lines = lines; none = short_word n u short; shown = h.0.shown; possible = h.0.possible }),
-        all_faithful xs (killed_over ends n u x.runs) (left_by_runs WINDOW ends u x.runs) next.0 next.1 h.1,
-      )
+  -- where what is in flight before the first of stations one after the other (`AreInARow`) is `IsShortOfTheWord` for the `n` runs
+  -- in a row that were killed before, the stations are faithful
+  all_faithful : (xs : List (Program State)) (n : ℕ) (u : UnderWay State) → IsShortOfTheWord Good n u → AreInARow ends Good kept n u xs → AreFaithful ends Good kept u xs
+  all_faithful [] n u short h = tt
+  all_faithful (x ∷ xs) n u short h = (
+    run_faithful ends Good kept is u x (record { runs = h.0.runs; lines = short.lines; none = short_word Good n u short; shown = h.0.shown; possible = h.0.possible }),
+    all_faithful xs (killed_over ends n u x.runs) (left_by_runs WINDOW ends u x.runs) (after_runs x.runs n u short h.0.possible h.0.few) h.1,
+  )
 
   -- where what is in flight before the first of stations one after the other is `IsWellFormed`, and `HasRisingIds` holds of it,
   -- the stations are faithful, as long as few in a row are killed while they synchronize (`AreInARow`)
   pub in_a_row : ProgramsInARowAreFaithful ends Good kept
-  in_a_row u lines row xs h = all_faithful xs 0 u lines (short_rising u row) h
+  in_a_row u lines row xs h = all_faithful xs 0 u (short_rising Good u lines row) h

@@ -19,7 +19,7 @@ use Rattle.gc_station.specs.Behind.{IsNearTheTable}
 use Rattle.gc_station.specs.Beginnings.{unanswered_after}
 use Rattle.gc_station.specs.Begun.{AreBegun, heard_in}
 use Rattle.gc_station.specs.Marks.{record_of, records_of}
-use Rattle.gc_station.specs.Parts.{Part, joined, MarksAsk, parts_of, went_out, sent_of, timeless, client_after}
+use Rattle.gc_station.specs.Parts.{Part, parts_joined, MarksAsk, parts_of, went_out, sent_of, timeless, client_after}
 use Rattle.gc_station.specs.Records.{Record}
 use Rattle.gc_station.specs.Runs.{state_after}
 use Rattle.gc_station.specs.Model.{Model, opening}
@@ -28,7 +28,7 @@ use Rattle.gc_station.proofs.GoesBehind.{behind_the_table}
 use Rattle.gc_station.proofs.Booking.{Books, settled_by, sent_by, settled_append, sent_append, course_settled, course_sent, course_client, marks_ask_at, all_records, restarting}
 use Rattle.gc_station.proofs.EachRun.{invariant_opening, each_once}
 use Rattle.gc_station.proofs.Following.{BooksInParts, follows}
-use Rattle.gc_station.proofs.Meets.{was_answered, was_late}
+use Rattle.gc_station.proofs.Meets.{is_record_of, was_answered, was_late}
 use Rattle.gc_station.proofs.Lists.{all_append, all_on}
 use Rattle.gc_world.specs.Record.{IsReplyTo}
 use Rattle.std.proofs.lemmas.Option.{slice_get_within}
@@ -58,6 +58,11 @@ use Rattle.std.proofs.lemmas.Bool.{true≢false}
 module _ {State : Type 0} (ends : Ends State) (Good : State → Type 0) (kept : State → Option KeptReply) (is : IsAnInstrument ends Good kept) where
   -- One part.
 
+  -- a run may begin over what is in flight: that is well formed, and the word isn't in its ids
+  record MayBegin (u : UnderWay State) : Type 0 where
+    lines : IsWellFormed Good u
+    none : LacksTheWord u
+
   -- what holds of a run, by the ids that are left of its word: if none is, it has synchronized cleanly; and its stretch is sound
   -- and faithful
   record IsSoundRun (u : UnderWay State) (r : Run State) (left : List ℕ) : Type 0 where
@@ -65,16 +70,15 @@ module _ {State : Type 0} (ends : Ends State) (Good : State → Type 0) (kept : 
     sound : IsSoundStretch ends Good kept is (record { from = left_by_turns ends r.turns u; moves = r.moves })
     faithful : IsFaithful 7 ends (left_by_turns ends r.turns u) r.moves Good kept
 
-  -- each possible run over what is well formed, without the word in its ids, is `IsSoundRun`
-  sound_run : (u : UnderWay State) (r : Run State) (left : List ℕ) → (after_turns ends u r).left ≡ left → IsWellFormed Good u
-      → LacksTheWord u → AreTurns ends Good kept r.turns (begins u)
+  -- each possible run that may begin is `IsSoundRun`
+  sound_run : (u : UnderWay State) (r : Run State) (left : List ℕ) → (after_turns ends u r).left ≡ left → MayBegin u → AreTurns ends Good kept r.turns (begins u)
       → ArePossibleIf 7 ends Good kept left (after_turns ends u r) r.moves → IsSoundRun u r left
-  sound_run u r [] e lines none turns p =
+  sound_run u r [] e may turns p =
       let from = leaves (after_turns ends u r) in
-      let ended = begins_cleanly ends Good kept is u r.turns lines turns none e in
+      let ended = begins_cleanly ends Good kept is u r.turns may.lines turns may.none e in
       let f = clean_faithful ends Good kept is from ended.clean r.moves p in
       record { own = (ended, f); sound = record { possible = p; clean = inl ended.clean }; faithful = f }
-  sound_run u r (asked ∷ rest) e lines none turns p =
+  sound_run u r (asked ∷ rest) e may turns p =
       let from = leaves (after_turns ends u r) in
       record {
         own = tt;
@@ -82,19 +86,18 @@ module _ {State : Type 0} (ends : Ends State) (Good : State → Type 0) (kept : 
         faithful = subst (λ ms. IsFaithful 7 ends from ms Good kept) (sym p) (faithful_none ends Good kept from);
       }
 
-  -- where a possible run over what is `IsWellFormed`, without the word in its ids, has synchronized, what it leaves in flight is
-  -- `IsWellFormed`, too, without the word in its ids
-  leaves_next : (u : UnderWay State) (r : Run State) → IsWellFormed Good u → LacksTheWord u
+  -- where a possible run that may begin has synchronized, the next one may begin over what it leaves in flight
+  leaves_next : (u : UnderWay State) (r : Run State) → MayBegin u
       → AreTurns ends Good kept r.turns (begins u) → ArePossibleIf 7 ends Good kept (after_turns ends u r).left (after_turns ends u r) r.moves
-      → (after_turns ends u r).left ≡ [] → IsWellFormed Good (left_by_run 7 ends u r) × LacksTheWord (left_by_run 7 ends u r)
-  leaves_next u r lines none turns p e =
+      → (after_turns ends u r).left ≡ [] → MayBegin (left_by_run 7 ends u r)
+  leaves_next u r may turns p e =
       let s = after_turns ends u r in
-      let clean = (begins_cleanly ends Good kept is u r.turns lines turns none e).clean in
+      let clean = (begins_cleanly ends Good kept is u r.turns may.lines turns may.none e).clean in
       let possible = subst (λ w. ArePossibleIf 7 ends Good kept w s r.moves) e p in
       let good = runs_leave_good ends Good kept is 7 (omega arith) (leaves s) clean r.moves possible in
       let row = runs_leave_rising_ids ends Good kept is 7 (omega arith) (leaves s) clean r.moves possible in
-      subst (λ w. IsWellFormed Good (left_if 7 ends w s r.moves) × LacksTheWord (left_if 7 ends w s r.moves)) (sym e)
-      (record { ids = good.1; good = good.0 }, rising_lack_the_word (on_line (behind 7 ends (leaves s) r.moves).wire) row)
+      subst (λ w. MayBegin (left_if 7 ends w s r.moves)) (sym e)
+      (record { lines = record { ids = good.1; good = good.0 }; none = rising_lack_the_word (on_line (behind 7 ends (leaves s) r.moves).wire) row })
 
   -- A stretch with its part.
 
@@ -110,24 +113,23 @@ module _ {State : Type 0} (ends : Ends State) (Good : State → Type 0) (kept : 
   AllFit ps ss = AllZip Fits ps ss
 
   -- if the turns of a run show those of the part p, the ids that are left of the run's word are those that the steps of p leave
-  left_so : (u : UnderWay State) (r : Run State) (p : Part) → shown ends r.turns (begins u) ≡ p.sync_steps → (after_turns ends u r).left ≡ unanswered_after the_word (heard_in p.sync_steps)
-  left_so u r p e = left_is ends r.turns (begins u) ∙ ap (λ l. unanswered_after the_word (heard_in l)) e
+  left_by_part : (u : UnderWay State) (r : Run State) (p : Part) → shown ends r.turns (begins u) ≡ p.sync_steps → (after_turns ends u r).left ≡ unanswered_after the_word (heard_in p.sync_steps)
+  left_by_part u r p e = left_is ends r.turns (begins u) ∙ ap (λ l. unanswered_after the_word (heard_in l)) e
 
-  -- where possible runs over what is well formed, without the word in its ids, show these parts, and `AreBegun` holds of the
-  -- parts: the parts fit the stretches, and the runs are `AreOwn`
-  pub all_fit : (ps : List Part) (rs : List (Run State)) (u : UnderWay State) → IsWellFormed Good u → LacksTheWord u
+  -- where possible runs, of which the first may begin, show these parts, and `AreBegun` holds of the parts: the parts fit the
+  -- stretches, and the runs are `AreOwn`
+  all_fit : (ps : List Part) (rs : List (Run State)) (u : UnderWay State) → MayBegin u
       → AreShownAs ends u rs ps → AreRuns 7 ends Good kept u rs → AreBegun the_word ps
       → AllFit ps (stretches ends u rs) × AreOwn 7 ends Good kept u rs
-  all_fit [] [] u lines none s p b = (tt, tt)
-  all_fit [] (r ∷ rs) u lines none s p b = absurd s
-  all_fit (x ∷ ps) [] u lines none s p b = absurd s
-  all_fit (x ∷ []) (r ∷ []) u lines none s p b =
-      let o = sound_run u r (after_turns ends u r).left refl lines none p.0.0 p.0.1 in ((record { steps = s.1; sound = o.sound; faithful = o.faithful }, tt), (o.own, tt))
-  all_fit (x ∷ []) (r ∷ t ∷ rs) u lines none s p b = absurd s.2
-  all_fit (x ∷ y ∷ ps) (r ∷ rs) u lines none s p b =
-      let o = sound_run u r (after_turns ends u r).left refl lines none p.0.0 p.0.1 in
-      let next = leaves_next u r lines none p.0.0 p.0.1 (left_so u r x s.0 ∙ b.0) in
-      let others = all_fit (y ∷ ps) rs (left_by_run 7 ends u r) next.0 next.1 s.2 p.1 b.1 in
+  all_fit [] [] u may s p b = (tt, tt)
+  all_fit [] (r ∷ rs) u may s p b = absurd s
+  all_fit (x ∷ ps) [] u may s p b = absurd s
+  all_fit (x ∷ []) (r ∷ []) u may s p b =
+      let o = sound_run u r (after_turns ends u r).left refl may p.0.0 p.0.1 in ((record { steps = s.1; sound = o.sound; faithful = o.faithful }, tt), (o.own, tt))
+  all_fit (x ∷ []) (r ∷ t ∷ rs) u may s p b = absurd s.2
+  all_fit (x ∷ y ∷ ps) (r ∷ rs) u may s p b =
+      let o = sound_run u r (after_turns ends u r).left refl may p.0.0 p.0.1 in
+      let others = all_fit (y ∷ ps) rs (left_by_run 7 ends u r) (leaves_next u r may p.0.0 p.0.1 (left_by_part u r x s.0 ∙ b.0)) s.2 p.1 b.1 in
       ((record { steps = s.1; sound = o.sound; faithful = o.faithful }, others.0), (o.own, others.1))
 
   -- each request of a stretch that is a command, by its part's marks, is safe
@@ -194,14 +196,14 @@ module _ {State : Type 0} (ends : Ends State) (Good : State → Type 0) (kept : 
 
   module _ (reads : Asked → List ℕ → Reading) (commands : List Task) where
     -- where `Books` holds of the last part, its marks are of the requests of its stretch
-    of_last : (rs : List Record) (p : Part) (s : Stretch State) (end : Model) → Fits p s
+    marks_of_last : (rs : List Record) (p : Part) (s : Stretch State) (end : Model) → Fits p s
         → Books reads commands fresh [] rs p end.client end.marks (sent_of end.records) → MarksAsk commands p.marks (map asked (own_sent ends s))
-    of_last rs p s end f h = subst (MarksAsk commands p.marks) (fit_sent p s f) h.wrote.sent
+    marks_of_last rs p s end f h = subst (MarksAsk commands p.marks) (fit_sent p s f) h.wrote.sent
 
     -- where `Books` holds of a part after which the client restarts, the part's marks are of the requests of its stretch
-    of_ended : (rs mid : List Record) (p : Part) (s : Stretch State) → Fits p s → Books reads commands fresh [] rs (joined p restarting) fresh [] mid
+    marks_of_ended : (rs mid : List Record) (p : Part) (s : Stretch State) → Fits p s → Books reads commands fresh [] rs (parts_joined p restarting) fresh [] mid
         → MarksAsk commands p.marks (map asked (own_sent ends s))
-    of_ended rs mid p s f h =
+    marks_of_ended rs mid p s f h =
         let asks : sent_by fresh (p.steps ++ Restart ∷ []) ≡ map asked (own_sent ends s) = sent_append fresh p.steps (Restart ∷ []) ∙ append-nil (sent_by fresh p.steps) ∙ fit_sent p s f in
         subst (λ marks. MarksAsk commands marks (map asked (own_sent ends s))) (append-nil p.marks) (subst (MarksAsk commands (p.marks ++ [])) asks h.wrote.sent)
 
@@ -213,7 +215,7 @@ module _ {State : Type 0} (ends : Ends State) (Good : State → Type 0) (kept : 
 
     -- where `Books` holds of a part at whose end the client restarts, from the records `rs` on: the records afterwards, without
     -- their moments, are `rs`, and then those of what the stretch settled, and of what is outstanding, as lost
-    written_ended : (rs mid : List Record) (p : Part) (s : Stretch State) → Fits p s → Books reads commands fresh [] rs (joined p restarting) fresh [] mid
+    written_ended : (rs mid : List Record) (p : Part) (s : Stretch State) → Fits p s → Books reads commands fresh [] rs (parts_joined p restarting) fresh [] mid
         → map timeless mid ≡ map timeless rs ++ records_of reads 0 p.marks (own_settled ends s ++ map lost (world ends s).client.waiting)
     written_ended rs mid p s f h =
         h.wrote.records ∙ ap (λ marks. map timeless rs ++ records_of reads 0 marks (settled_by fresh (p.steps ++ Restart ∷ []))) (append-nil p.marks)
@@ -224,10 +226,10 @@ module _ {State : Type 0} (ends : Ends State) (Good : State → Type 0) (kept : 
     sent_all [] [] rs end f h = tt
     sent_all [] (s ∷ ss) rs end f h = absurd f
     sent_all (p ∷ ps) [] rs end f h = absurd f
-    sent_all (p ∷ []) (s ∷ []) rs end f h = (of_last rs p s end f.0 h, tt)
+    sent_all (p ∷ []) (s ∷ []) rs end f h = (marks_of_last rs p s end f.0 h, tt)
     sent_all (p ∷ []) (s ∷ t ∷ ss) rs end f h = absurd f.1
     sent_all (p ∷ q ∷ ps) (s ∷ []) rs end f h = absurd f.1
-    sent_all (p ∷ q ∷ ps) (s ∷ t ∷ ss) rs end f h = (of_ended rs h.0 p s f.0 h.1, sent_all (q ∷ ps) (t ∷ ss) h.0 end f.1 h.2)
+    sent_all (p ∷ q ∷ ps) (s ∷ t ∷ ss) rs end f h = (marks_of_ended rs h.0 p s f.0 h.1, sent_all (q ∷ ps) (t ∷ ss) h.0 end f.1 h.2)
 
     -- where `BooksInParts` holds of the parts, from the records `rs` on: the records of commands that were sent, without their
     -- moments, are `rs`, and then those that the stretches record
@@ -258,7 +260,7 @@ module _ {State : Type 0} (ends : Ends State) (Good : State → Type 0) (kept : 
   own_first reads commands p s ps ss waiting xs e f safe sent =
       all_records reads 0 (IsOwnAnswer ends Good kept commands (p ∷ ps) (s ∷ ss)) p.marks xs
       (λ n mark x at got line says.
-      let answered : x.outcome ≡ Answered line = was_answered (record_of reads 0 mark x) x (record { reads = reads; expected = mark.expected; command = refl; ended = refl }) line says in
+      let answered : x.outcome ≡ Answered line = was_answered (record_of reads 0 mark x) mark x (is_record_of reads 0 mark x) line says in
       let other : x.outcome ≡ Lost → ⊥ = λ is_lost. let both : Lost ≡ Answered line = sym is_lost ∙ answered in cc in
       let here = among_first (own_settled ends s) waiting n x other (sym (ap (λ l. slice_get l n) e) ∙ got) in
       let beyond : 8 ≤ 8 + n = omega arith in
@@ -276,8 +278,8 @@ module _ {State : Type 0} (ends : Ends State) (Good : State → Type 0) (kept : 
         settled = here ∙ ap (λ (o : Outcome). Some (record { target = x.target; call = x.call; outcome = o })) answered;
         made = b.0;
         reply = subst (λ call. IsReplyTo ends Good call line) right b.1;
-        executed = f.faithful.executed (8 + n) x line (beyond, safe n mark at) there answered;
-        made_on = subst (λ call. WasMadeOn 7 ends s.from s.moves (8 + n) call line) right (f.faithful.made_on (8 + n) x line (beyond, safe n mark at) there answered);
+        executed = f.faithful.executed (8 + n) x (beyond, safe n mark at) there line answered;
+        made_on = subst (λ call. WasMadeOn 7 ends s.from s.moves (8 + n) call line) right (f.faithful.made_on (8 + n) x (beyond, safe n mark at) there line answered);
       })
 
   -- A command that wasn't sent has no answer.
@@ -302,7 +304,7 @@ module _ {State : Type 0} (ends : Ends State) (Good : State → Type 0) (kept : 
   late_first reads commands p s ps ss waiting xs e f safe sent =
       all_records reads 0 (LateHasExecution ends Good kept commands (p ∷ ps) (s ∷ ss)) p.marks xs
       (λ n mark x at got says.
-      let late : x.outcome ≡ Late = was_late (record_of reads 0 mark x) x (record { reads = reads; expected = mark.expected; command = refl; ended = refl }) says in
+      let late : x.outcome ≡ Late = was_late (record_of reads 0 mark x) mark x (is_record_of reads 0 mark x) says in
       let other : x.outcome ≡ Lost → ⊥ = λ is_lost. let both : Lost ≡ Late = sym is_lost ∙ late in cc in
       let here = among_first (own_settled ends s) waiting n x other (sym (ap (λ l. slice_get l n) e) ∙ got) in
       let beyond : 8 ≤ 8 + n = omega arith in
@@ -324,22 +326,28 @@ module _ {State : Type 0} (ends : Ends State) (Good : State → Type 0) (kept : 
 
   -- All that is recorded.
 
-  -- if P lasts (`IsLasting`), and holds at first, and the parts and the stretches fit, are safe and have the same requests
-  -- (`AreSentAs`), P holds of all that the stretches record
+  -- parts and stretches match: they fit, their commands are safe, and they have the same requests (`AreSentAs`)
+  record AreMatched (commands : List Task) (ps : List Part) (ss : List (Stretch State)) : Type 0 where
+    fits : AllFit ps ss
+    safe : AllSafe ps ss
+    sent : AreSentAs ends commands ps ss
+
+  -- if P lasts (`IsLasting`), and holds at first, and the parts and the stretches match, P holds of all that the stretches record
   all_over : (P : List Part → List (Stretch State) → Record → Type 0) → IsLasting P → (reads : Asked → List ℕ → Reading) (commands : List Task) → HoldsAtFirst P reads commands
-      → (ps : List Part) (ss : List (Stretch State)) → AllFit ps ss → AllSafe ps ss → AreSentAs ends commands ps ss → AllByRecursion (P ps ss) (written_over ends reads ps ss)
-  all_over P lasts reads commands first [] [] f g h = tt
-  all_over P lasts reads commands first [] (s ∷ ss) f g h = tt
-  all_over P lasts reads commands first (p ∷ ps) [] f g h = absurd f
-  all_over P lasts reads commands first (p ∷ []) (s ∷ []) f g h = first p s [] [] [] (own_settled ends s) (sym (append-nil (own_settled ends s))) f.0 g.0 h.0
-  all_over P lasts reads commands first (p ∷ []) (s ∷ t ∷ ss) f g h = absurd f.1
-  all_over P lasts reads commands first (p ∷ q ∷ ps) (s ∷ []) f g h = absurd f.1
-  all_over P lasts reads commands first (p ∷ q ∷ ps) (s ∷ t ∷ ss) f g h =
+      → (ps : List Part) (ss : List (Stretch State)) → AreMatched commands ps ss → AllByRecursion (P ps ss) (written_over ends reads ps ss)
+  all_over P lasts reads commands first [] [] h = tt
+  all_over P lasts reads commands first [] (s ∷ ss) h = tt
+  all_over P lasts reads commands first (p ∷ ps) [] h = absurd h.fits
+  all_over P lasts reads commands first (p ∷ []) (s ∷ []) h =
+      first p s [] [] [] (own_settled ends s) (sym (append-nil (own_settled ends s))) h.fits.0 h.safe.0 h.sent.0
+  all_over P lasts reads commands first (p ∷ []) (s ∷ t ∷ ss) h = absurd h.fits.1
+  all_over P lasts reads commands first (p ∷ q ∷ ps) (s ∷ []) h = absurd h.fits.1
+  all_over P lasts reads commands first (p ∷ q ∷ ps) (s ∷ t ∷ ss) h =
       let xs = own_settled ends s ++ map lost (world ends s).client.waiting in
       all_append (P (p ∷ q ∷ ps) (s ∷ t ∷ ss)) (records_of reads 0 p.marks xs) (written_over ends reads (q ∷ ps) (t ∷ ss))
-      (first p s (q ∷ ps) (t ∷ ss) (world ends s).client.waiting xs refl f.0 g.0 h.0)
+      (first p s (q ∷ ps) (t ∷ ss) (world ends s).client.waiting xs refl h.fits.0 h.safe.0 h.sent.0)
       (all_on (P (q ∷ ps) (t ∷ ss)) (P (p ∷ q ∷ ps) (s ∷ t ∷ ss)) (written_over ends reads (q ∷ ps) (t ∷ ss)) (λ r held. lasts.later p s (q ∷ ps) (t ∷ ss) r held)
-      (all_over P lasts reads commands first (q ∷ ps) (t ∷ ss) f.1 g.1 h.1))
+      (all_over P lasts reads commands first (q ∷ ps) (t ∷ ss) (record { fits = h.fits.1; safe = h.safe.1; sent = h.sent.1 })))
 
   -- what holds of the records of commands that were sent, and of any record of a command that wasn't, holds of all records
   all_if_sent : (P : Record → Type 0) → ((r : Record) → went_out r.end ≡ false → P r) → (rs : List Record) → AllByRecursion P (sent_of rs) → AllByRecursion P rs
@@ -351,20 +359,19 @@ module _ {State : Type 0} (ends : Ends State) (Good : State → Type 0) (kept : 
     by_case false out others g = (unsent r out, others g)
 
   -- if P lasts (`IsLasting`), holds at first, and holds of any record of a command that wasn't sent, and the parts and the
-  -- stretches fit, are safe and have the same requests (`AreSentAs`): P holds of all records, if those of commands that were sent
-  -- are what the stretches record
+  -- stretches match: P holds of all records, if those of commands that were sent are what the stretches record
   all_recorded : (P : List Part → List (Stretch State) → Record → Type 0) → IsLasting P → (reads : Asked → List ℕ → Reading) (commands : List Task)
       → HoldsAtFirst P reads commands → (ps : List Part) (ss : List (Stretch State)) → ((r : Record) → went_out r.end ≡ false → P ps ss r) → (rs : List Record)
-      → AllFit ps ss → AllSafe ps ss → AreSentAs ends commands ps ss → map timeless (sent_of rs) ≡ written_over ends reads ps ss → AllByRecursion (P ps ss) rs
-  all_recorded P lasts reads commands first ps ss unsent rs fit safe sent written =
+      → AreMatched commands ps ss → map timeless (sent_of rs) ≡ written_over ends reads ps ss → AllByRecursion (P ps ss) rs
+  all_recorded P lasts reads commands first ps ss unsent rs matched written =
       all_if_sent (P ps ss) unsent rs
-      (all_timeless P lasts ps ss (sent_of rs) (subst (AllByRecursion (P ps ss)) (sym written) (all_over P lasts reads commands first ps ss fit safe sent)))
+      (all_timeless P lasts ps ss (sent_of rs) (subst (AllByRecursion (P ps ss)) (sym written) (all_over P lasts reads commands first ps ss matched)))
 
   -- The whole.
 
   -- the parts and the stretches of a run in the field fit, and what happens on the line is `AreOwn`
   pub all_fitting : (u : UnderWay State) (x : Program State) → IsInField ends Good kept u x → AllFit (program_parts x) (stretches ends u x.runs) × AreOwn 7 ends Good kept u x.runs
-  all_fitting u x h = all_fit (program_parts x) x.runs u h.lines h.none h.shown h.possible (parts_begun x.plan x.commands (opening x.plan x.scope) x.acts h.runs)
+  all_fitting u x h = all_fit (program_parts x) x.runs u (record { lines = h.lines; none = h.none }) h.shown h.possible (parts_begun x.plan x.commands (opening x.plan x.scope) x.acts h.runs)
 
   -- each request of a run in the field that is a command is safe in its stretch
   pub safe_in : (u : UnderWay State) (x : Program State) → IsInField ends Good kept u x → AllSafe (program_parts x) (stretches ends u x.runs)
@@ -390,14 +397,14 @@ module _ {State : Type 0} (ends : Ends State) (Good : State → Type 0) (kept : 
       let on = follows x.plan x.commands x.scope.reads start x.acts refl fine h.runs in
       let sent = sent_all x.scope.reads x.commands ps ss [] end fit.0 on in
       let written = written_all x.scope.reads x.commands ps ss [] end fit.0 on in
-      let safe = safe_in u x h in
+      let matched : AreMatched x.commands ps ss = record { fits = fit.0; safe = safe_in u x h; sent = sent } in
       record {
         begun = parts_begun x.plan x.commands start x.acts h.runs;
         clean = fit.1;
         own = all_recorded (IsOwnAnswer ends Good kept x.commands) (own_lasts ends Good kept x.commands) x.scope.reads x.commands (own_first x.scope.reads x.commands) ps ss
-            (unsent_own x.commands ps ss) end.records fit.0 safe sent written;
+            (unsent_own x.commands ps ss) end.records matched written;
         late = all_recorded (LateHasExecution ends Good kept x.commands) (late_lasts ends Good kept x.commands) x.scope.reads x.commands (late_first x.scope.reads x.commands) ps ss
-            (unsent_late x.commands ps ss) end.records fit.0 safe sent written;
+            (unsent_late x.commands ps ss) end.records matched written;
         one_for_one = each_once x.plan x.commands x.scope x.acts;
         sent = sent;
         written = written;

@@ -10,7 +10,7 @@ use Rattle.gc_instrument.specs.Execution.{exec}
 use Rattle.gc_instrument.specs.Replying.{handed}
 use Rattle.gc_field.specs.Simulator.{simulator_ends}
 use Rattle.gc_field.specs.ChainWitness.{at_start}
-use Rattle.gc_field.specs.LateAnswer.{IsLateInField, acts, answer, commands, from, late, moves, runs}
+use Rattle.gc_field.specs.LateAnswer.{IsLateInField, acts, answer, commands, from, late, moves, program}
 use Rattle.gc_field.specs.Begun.{WasMadeOn}
 use Rattle.gc_field.proofs.ChainWitness.{shown_are}
 use Rattle.gc_field.proofs.Witness.{asked_each, fits, one_part, opens, units}
@@ -50,7 +50,7 @@ come_late =
                 (tt, (refl, (tt, (tt, (refl, (tt, (tt, (tt, (refl, tt)))))))));
             lines = record { ids = tt; good = fits };
             none = λ h. h;
-            shown = subst (AreShownAs simulator_ends at_start runs) (sym parts_are) (shown_are, refl, (refl, refl, tt));
+            shown = subst (AreShownAs simulator_ends at_start program.runs) (sym parts_are) (shown_are, refl, (refl, refl, tt));
             possible = ((units 24, (tt, (tt, (tt, (tt, (tt, (tt, (tt, (tt, ((8, [], refl), (tt, (tt, ((9, [], refl), tt))))))))))))), ((tt, refl), tt));
           };
       over = refl;

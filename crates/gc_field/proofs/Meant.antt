@@ -1,6 +1,6 @@
--- Each act of a run means what its part says: steps of the synchronization until the station has synchronized, and then steps of the client
--- synchronized.
-use Rattle.std.proofs.Common.{◌≡◌, ◌⊎◌, inl, inr, ℕ, Bool, true, false, if◌then◌else◌, List, [], ◌∷◌, map, refl, sym, ◌∙◌, ap, subst}
+-- Each act of a run means what its part says: steps of the synchronization until the station has synchronized, and then steps of
+-- the client.
+use Rattle.std.proofs.Common.{◌≡◌, inl, inr, ℕ, Bool, true, false, if◌then◌else◌, List, [], ◌∷◌, map, refl, sym, ◌∙◌, ap, subst}
 use Rattle.gc_catalogue.specs.declared.asked.Asked.{Asked}
 use Rattle.gc_client.specs.Rule.{ById}
 use Rattle.gc_texts.specs.declared.tasks.Task.{Task}
@@ -9,21 +9,20 @@ use Rattle.gc_links.specs.declared.link.Moment.{Moment}
 use Rattle.gc_station.specs.declared.plan.Plan.{Plan}
 use Rattle.gc_links.specs.Acts.{Act, Told, Untold, Put, Cut, Gave, Silent, Ended, Broke, Closed, Opened, Unopened}
 use Rattle.gc_station.specs.Deciding.{has_begun}
-use Rattle.gc_station.specs.Parts.{Part, Asks, Hears, sync_part, client_part, heard_steps, nothing, only_sync_steps, put_part}
-use Rattle.gc_station.specs.Model.{Model, action_at, is_heard, lines_completed, null_text, Performs, after, Runs}
+use Rattle.gc_station.specs.Parts.{Part, Hears, sync_part, client_part, heard_steps, put_part}
+use Rattle.gc_station.specs.Model.{Model, action_at, is_heard, lines_completed, Performs, after, Runs}
 use Rattle.gc_station.proofs.Asked.{none_doing, steps_none, sync_steps_gave, sync_steps_none, word_after_sync_steps}
 use Rattle.gc_station.proofs.Booking.{sending_of, sends_with_room}
 use Rattle.gc_station.proofs.EachRun.{invariant_after}
 use Rattle.gc_station.proofs.Givens.{after_rest, rest_with}
 use Rattle.gc_station.proofs.Invariant.{Invariant}
-use Rattle.gc_station.proofs.Meant as meant
-use Rattle.gc_station.proofs.Meant.{asked_is, put_is}
+use Rattle.gc_station.proofs.Meant.{IsPutByClient, IsPutBySync, asked_is, put_is}
 use Rattle.gc_field.specs.Asking.{IsAskedFor, IsHeardOrDiscarded, MeansSyncSteps}
 use Rattle.gc_field.specs.Meaning.{IsPut, Means}
 use Rattle.gc_field.specs.Runs.{AreMeant, IsMeant}
 
 -- where bytes that are sent mean the part p to the station, they mean the part's steps to its client
-put_means : (s : Model) (bytes : List ℕ) (p : Part) → meant.IsPut s bytes p → IsPut s.client bytes p.steps
+put_means : (s : Model) (bytes : List ℕ) (p : Part) → IsPutByClient s bytes p → IsPut s.client bytes p.steps
 put_means s bytes p (inl e) = inl (e.0, ap (λ (x : Part). x.steps) e.1)
 put_means s bytes p (inr x) =
     inr (record {
@@ -45,16 +44,15 @@ gave_means client false rest behind piece m e = inr (record { lines = refl; rest
 
 -- what a piece of bytes that came means while a station synchronizes: its lines if it is heard (`h`); nothing if it is
 -- discarded. `rest` and `behind` are as in `gave_means`
-taken : (h : Bool) (rest behind piece : List ℕ) (m : Moment) → behind ≡ rest_with h (Gave piece m) rest → IsHeardOrDiscarded rest piece (if h then map Hears (lines_completed rest piece) else []) behind
-taken true rest behind piece m e = inl (refl, e)
-taken false rest behind piece m e = inr (refl, e)
+gave_means_sync_steps : (h : Bool) (rest behind piece : List ℕ) (m : Moment) → behind ≡ rest_with h (Gave piece m) rest
+    → IsHeardOrDiscarded rest piece (if h then map Hears (lines_completed rest piece) else []) behind
+gave_means_sync_steps true rest behind piece m e = inl (refl, e)
+gave_means_sync_steps false rest behind piece m e = inr (refl, e)
 
--- where bytes are a line feed and p is the part in which nothing happens, or they are the line of the next null procedure and p
--- is the step `Asks`, the bytes mean p's steps of the synchronization (`IsAskedFor`)
-asked_for : (s : Model) (bytes : List ℕ) (p : Part) → ((bytes ≡ 10 ∷ []) × (p ≡ nothing))
-    ⊎ ((bytes ≡ null_text s.progress.word) × (p ≡ only_sync_steps (Asks ∷ []))) → IsAskedFor s.progress.word bytes p.sync_steps
-asked_for s bytes p (inl e) = inl (e.0, ap (λ (x : Part). x.sync_steps) e.1)
-asked_for s bytes p (inr e) = inr (e.0, ap (λ (x : Part). x.sync_steps) e.1)
+-- where bytes that are sent while the station synchronizes mean the part p to it, they mean p's steps of the synchronization
+put_means_sync_steps : (s : Model) (bytes : List ℕ) (p : Part) → IsPutBySync s bytes p → IsAskedFor s.progress.word bytes p.sync_steps
+put_means_sync_steps s bytes p (inl e) = inl (e.0, ap (λ (x : Part). x.sync_steps) e.1)
+put_means_sync_steps s bytes p (inr e) = inr (e.0, ap (λ (x : Part). x.sync_steps) e.1)
 
 -- an act brings no bytes, and does not close the connection
 abbrev LeavesRest : Act → Type 0
@@ -113,14 +111,14 @@ module _ (plan : Plan) (commands : List Task) where
       → MeansSyncSteps s.progress.word s.rest act (sync_part s (action_at plan s) act).sync_steps (after plan commands s act).rest
   sync_steps_mean s (Gave piece m) begins obeys =
       subst (λ steps. IsHeardOrDiscarded s.rest piece steps (after plan commands s (Gave piece m)).rest) (sym (sync_steps_gave commands s (action_at plan s) piece m obeys))
-      (taken (is_heard s.progress.phase) s.rest (after plan commands s (Gave piece m)).rest piece m (after_rest plan commands s (Gave piece m) obeys))
+      (gave_means_sync_steps (is_heard s.progress.phase) s.rest (after plan commands s (Gave piece m)).rest piece m (after_rest plan commands s (Gave piece m) obeys))
   sync_steps_mean s (Put bytes) begins obeys = (
-    asked_for s bytes (sync_part s (action_at plan s) (Put bytes))
+    put_means_sync_steps s bytes (sync_part s (action_at plan s) (Put bytes))
         (asked_is plan commands s (Put bytes) bytes obeys refl begins),
     same_rest s (Put bytes) obeys tt,
   )
   sync_steps_mean s (Cut bytes count) begins obeys = (
-    asked_for s bytes (sync_part s (action_at plan s) (Cut bytes count))
+    put_means_sync_steps s bytes (sync_part s (action_at plan s) (Cut bytes count))
         (asked_is plan commands s (Cut bytes count) bytes obeys refl begins),
     same_rest s (Cut bytes count) obeys tt,
   )

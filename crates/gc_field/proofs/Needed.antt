@@ -52,7 +52,8 @@ module _ {State : Type 0} (next : State) (new id : ℕ) where
     else_repeats s (Some n) e not = kept_own (keeps s) id n e
     else_repeats s None e not = absurd (true≢false not)
 
-    -- after a request `repeats_or_executes` keeps its reply to that request, if the state `next` keeps the number `new` for its id
+    -- after a request `repeats_or_executes` keeps its reply to that request, if the state `next` keeps the number `new` for its
+    -- id
     pub else_keeps : (s : State) (o : Option ℕ) → held (keeps s) id ≡ o → keeps next ≡ Some (id, new)
         → keeper_kept (keeps (repeats_or_executes next new id s o).state) ≡ Some (own_reply id (repeats_or_executes next new id s o))
     else_keeps s (Some n) e own = kept_own (keeps s) id n e

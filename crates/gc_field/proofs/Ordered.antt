@@ -223,7 +223,7 @@ module _ {State : Type 0} (ends : Ends State) (Good : State → Type 0) (kept : 
       → IsExecutedAfter ends Good kept s (record { number = m; call = x.call; line = line_m }) (record { number = n; call = call; line = line_n })
   executed_behind before later e m n x line_m beyond safe settled answered unsent call line_n h =
       let possible = front_possible 7 ends Good kept s.moves before later (ids_begun s.from) e field in
-      let f = (clean_faithful ends Good kept is s.from clean before possible).made_on m x line_m (beyond, safe) settled answered in
+      let f = (clean_faithful ends Good kept is s.from clean before possible).made_on m x (beyond, safe) settled line_m answered in
       let more = behind_front before later e n unsent call line_n h in
       let first : WasMadeOn 7 ends s.from s.moves m x.call line_m = record {
         front = f.front;

@@ -6,7 +6,7 @@ use Rattle.gc_texts.specs.declared.tasks.Task.{Task}
 use Rattle.gc_station.specs.declared.plan.Plan.{Plan}
 use Rattle.gc_links.specs.Acts.{Act}
 use Rattle.gc_station.specs.Deciding.{has_begun}
-use Rattle.gc_station.specs.Parts.{Part, joined, nothing, in_front, part_of_act, sync_part, client_part, ends_part, parts_of}
+use Rattle.gc_station.specs.Parts.{Part, parts_joined, idle_part, in_front, part_of_act, sync_part, client_part, ends_part, parts_of}
 use Rattle.gc_station.specs.Progressing.{loses_all}
 use Rattle.gc_station.specs.Model.{Model, action_at, after}
 use Rattle.gc_station.proofs.Asked.{FirstHasNoSyncSteps, goes_begun, marks_none, nil_both, no_sync_steps}
@@ -21,13 +21,13 @@ AreWhole (p ∷ []) (q ∷ qs) = (p.marks ≡ []) ⊎ (q.sync_steps ≡ p.sync_s
 AreWhole (p ∷ next ∷ ps) (q ∷ qs) = AreWhole (next ∷ ps) qs
 
 -- `AreWhole` holds of the one part in which nothing happens, and of parts of which there is at least one (`in_front`)
-whole_none : (p : Part) (b : Bool) (ps : List Part) → AreWhole (nothing ∷ []) (in_front p b ps)
+whole_none : (p : Part) (b : Bool) (ps : List Part) → AreWhole (idle_part ∷ []) (in_front p b ps)
 whole_none p true ps = inl refl
 whole_none p false [] = inl refl
 whole_none p false (q ∷ ps) = inl refl
 
 -- two parts without steps of a synchronization, joined to the same one, give parts with the same ones
-sync_steps_alike : (p x y : Part) → x.sync_steps ≡ [] → y.sync_steps ≡ [] → (joined p y).sync_steps ≡ (joined p x).sync_steps
+sync_steps_alike : (p x y : Part) → x.sync_steps ≡ [] → y.sync_steps ≡ [] → (parts_joined p y).sync_steps ≡ (parts_joined p x).sync_steps
 sync_steps_alike p x y e f = ap (λ l. p.sync_steps ++ l) (f ∙ sym e)
 
 -- `AreWhole` is preserved by part p put before both lists (`b`), or joined to the first part of each (`b` is false), if p has no

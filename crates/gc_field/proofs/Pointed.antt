@@ -33,7 +33,7 @@ use Rattle.gc_field.specs.Begin.{UnderWay}
 use Rattle.gc_field.specs.Chains.{AreCalls, HasNoStartAmong, IsUndisturbed, IsChainedTo, IsExecutedInChain, stretch_wire}
 use Rattle.gc_field.specs.Field.{Move, Sends, Tells, Comes, Foreign, OnLine, Anew, Changes, Joins}
 use Rattle.gc_field.specs.Laws.{asked, kept_of}
-use Rattle.gc_field.specs.Pointing.{AreStill, IsMeasuredWhereItPointed, IsPointedInChain, SimulatorHasItsEffect, state_after_call, turns_telescope, PointsAs}
+use Rattle.gc_field.specs.Pointing.{AreStill, IsPointedInChain, PointsAsLeft, SimulatorHasItsEffect, state_after_call, turns_telescope, PointsAs}
 use Rattle.gc_field.specs.Runs.{IsInField, Program, own_sent, program_parts, program_records, world}
 use Rattle.gc_field.specs.Shown.{Stretch, stretches}
 use Rattle.gc_field.proofs.Among.{zip_at}
@@ -180,7 +180,7 @@ module _ (u : UnderWay State) (run : Program State) (field : IsInField simulator
   abbrev ss : List (Stretch State)
   ss = stretches simulator_ends u run.runs
 
-  module _ (b : Record) (line : List ℕ) (a : ℕ) (h : IsChainedTo simulator_ends IsFittingState kept_of run.scope.reads run.commands (program_parts run) ss (program_records run) a b line)
+  module _ (b : Record) (line : List ℕ) (a : ℕ) (h : IsChainedTo simulator_ends IsFittingState kept_of u run a b line)
       (still : AreStill run.commands a b.place) where
     -- a request between those of the chain's two commands turns no telescope, by its mark: it is a null procedure, or for a
     -- command between them
@@ -209,12 +209,17 @@ module _ (u : UnderWay State) (run : Program State) (field : IsInField simulator
     still_number k r above under got =
         still_at (k - 8) r (omega (arith, above)) (omega (arith, above, under)) (get_dropped 8 (k - 8) k (world simulator_ends h.stretch).wire.sent r (omega (arith, above)) got)
 
+    -- the simulator's state at the earlier of the two executions
+    abbrev earlier_state : State
+    earlier_state = (stretch_wire simulator_ends h.stretch h.executed.first.front).state
+
     -- if nothing disturbs the simulator between the two executions, the telescope points at the later one as the earlier one left
-    -- it, by `IsMeasuredWhereItPointed`
-    pointed_there : IsUndisturbed h.executed.between → IsMeasuredWhereItPointed h
+    -- it (`PointsAsLeft`)
+    pointed_there : IsUndisturbed h.executed.between
+        → PointsAsLeft h.earlier.answer.command.call earlier_state (stretch_wire simulator_ends h.stretch h.executed.second.front).state
     pointed_there quiet =
         let x = h.executed in
-        let s = (stretch_wire simulator_ends h.stretch x.first.front).state in
+        let s = earlier_state in
         let calls = all_still (world simulator_ends h.stretch).wire.sent (8 + h.m) (8 + h.n) x.numbers x.calls x.asked
         (x.strictly is_of_table simulator.keeps (no_start x.between quiet)) (λ k r above under got. still_number k r above under got) in
         let there = x.state without_kept state_after_call has_effect quiet in

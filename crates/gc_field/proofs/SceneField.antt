@@ -102,7 +102,7 @@ calls : (s : SceneState) (id : ℕ) (call : Call) → id < 8 → IsFitting call
 calls s id call small fits =
     let q = request_of (Some id) call in
     let back = call_again (Some id) call small fits in
-    answers q (request_found (request_line (Some id) call) q back.line) (scene_handed s id (Table call)).reply (names_call call back.is_call (record { state = refl; line = refl })) refl
+    answers q (request_found (request_line (Some id) call) q back.line) (scene_handed s id (Table call)).reply (names_call call back.is_asked (record { state = refl; line = refl })) refl
 
 -- what `scene_handed` says of another procedure, with an id below 8, is what the instrument does with its line
 raws : (s : SceneState) (id : ℕ) (raw : RawCall) → id < 8

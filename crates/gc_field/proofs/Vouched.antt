@@ -28,7 +28,7 @@ use Rattle.gc_field.specs.Instrument.{IsAnInstrumentFor, KeepsItsReply, MayBeKep
 use Rattle.gc_field.proofs.Answered.{HoldsOfAll, holds_more, holds_append, holds_settled}
 use Rattle.gc_field.proofs.Once.{IsClimbing, IsIdle, IsOrdered, IsUnknown, climbing_started, climbing_acted, climbing_handed, climbing_sent, known_not, ordered_acted, ordered_handed, unknown_more, why_acted}
 use Rattle.gc_field.proofs.KeptReplies.{VouchedFields, fields_of, log_of, unknown_or_retained, KeptIs, kept_more, kept_still, newest, newest_up, newest_low, IsDealt, newest_dealt, kept_handed, IsVouched, ReplyHas}
-use Rattle.gc_field.proofs.NearTable.{IsNear, near_same, near_on, near_of}
+use Rattle.gc_field.proofs.NearTable.{IsNear, near_kept, near_handed, near_if_below}
 
 module _ {State : Type 0} (width : ℕ) (narrow : width ≤ 7) (knows : Asked → Bool) (ends : Ends State) (Good : State → Type 0)
     (kept : State → Option KeptReply) (keeper : IsAnInstrumentFor ends Good kept knows) (low : ℕ) (E : ℕ → Type 0) (MustKnow : Type 0) (M : ℕ → Asked → List ℕ → Type 0) where
@@ -167,7 +167,7 @@ module _ {State : Type 0} (width : ℕ) (narrow : width ≤ 7) (knows : Asked �
         small = o.small;
         top = a;
         least = omega (arith, a, h.lower);
-        near = near_of knows E MustKnow w.wire.sent h.top h.table x.number (omega (arith, g.sent, s.few, h.counted, narrow)) h.near;
+        near = near_if_below knows E MustKnow w.wire.sent h.top h.table x.number (omega (arith, g.sent, s.few, h.counted, narrow)) h.near;
         of = o;
         unknown = λ not. (o.request, o.found, ap knows o.call ∙ is ∙ not);
         all = λ every. sym is ∙ sym (ap knows o.call) ∙ all_at (λ (r : Sent). knows r.call ≡ true) w.wire.sent x.number o.request every o.found;
@@ -224,7 +224,7 @@ module _ {State : Type 0} (width : ℕ) (narrow : width ≤ 7) (knows : Asked �
             (record { number = n; recent = front.recent; before = omega arith; behind = low; id = front.id; line = own }) was.now
             (kept_more P Q f c.since h.top h.table (kept v.state) h.holds);
         lines = o.1;
-        near = near_on knows E MustKnow v.sent h.top h.table n known front.least front.all h.near;
+        near = near_handed knows E MustKnow v.sent h.top h.table n known front.least front.all h.near;
         coming = all_append _ v.down _ (all_on (λ (y : Numbered (List ℕ)). P y.number y.line) (λ y. Q y.number y.line) v.down (λ y. f y.number y.line) h.coming) (own, tt);
         answers = holds_more P Q f 0 v.settled h.answers;
         order = was.order;
@@ -240,7 +240,7 @@ module _ {State : Type 0} (width : ℕ) (narrow : width ≤ 7) (knows : Asked �
       let v = w.wire in
       let m : Numbered (List ℕ) = record { number = x.number; line = line } in
       let held = subst (λ k. KeptIs (Vouched v.sent v.executed v.made h.table) w.client.since h.top h.table k) (ke ∙ e) h.holds in
-      elim (near_same knows E MustKnow w.client.since h.top h.table x.number (record { id = x.line.id; line = line })
+      elim (near_kept knows E MustKnow w.client.since h.top h.table x.number (record { id = x.line.id; line = line })
       (Vouched v.sent v.executed v.made h.table) held front.recent front.top front.id front.near) [
         | inl e ↦ inl e
         | inr p ↦ (stays_on v.sent v.executed v.executed v.made (m ∷ []) h.table h.table x.number line (λ i has. has) (omega arith) p).1

@@ -18,7 +18,7 @@ use Rattle.gc_instrument.specs.State.{IsFittingState, simulator_opening}
 use Rattle.gc_texts.specs.Nears.{is_elsewhere}
 use Rattle.gc_texts.specs.declared.tasks.Task.{Task}
 use Rattle.gc_station.specs.Parts as part
-use Rattle.gc_station.specs.Parts.{Part, nothing, parts_of}
+use Rattle.gc_station.specs.Parts.{Part, idle_part, parts_of}
 use Rattle.gc_station.proofs.Going.{runs-append}
 use Rattle.gc_station.specs.Model.{Runs, opening}
 use Rattle.gc_field.specs.Plain.{plain_expected}
@@ -27,7 +27,7 @@ use Rattle.gc_field.specs.Begin.{begins, left_by_turns}
 use Rattle.gc_field.specs.Begun.{WasMadeOn}
 use Rattle.gc_field.specs.Field.{seen}
 use Rattle.gc_field.specs.Shown.{AreShownAs, shown}
-use Rattle.gc_field.specs.Witness.{SomeRunIsInField, acts, answer, at_start, begun_with, commands, moves, plan, plan_of_width, replies, runs, scope, turns}
+use Rattle.gc_field.specs.Witness.{SomeRunIsInField, acts, answer, at_start, begun_with, commands, moves, plan, plan_of_width, replies, program, scope, turns}
 
 -- What the runs share.
 
@@ -61,7 +61,7 @@ part_of sync_steps steps sent = record { sync_steps = sync_steps; steps = steps;
 
 -- the parts of a run that never resynchronizes: the part with these steps and requests, and the empty one after the end
 abbrev pub one_part : List part.SyncStep → List (Step Asked) → List (ℕ × ℕ) → List Part
-one_part sync_steps steps sent = part_of sync_steps steps sent ∷ nothing ∷ []
+one_part sync_steps steps sent = part_of sync_steps steps sent ∷ idle_part ∷ []
 
 -- The run of one command.
 
@@ -151,7 +151,7 @@ answered =
                 (refl, (tt, (tt, (refl, (tt, (tt, (refl, (tt, (tt, (tt, (refl, (tt, (tt, (refl, tt))))))))))))));
             lines = record { ids = (lit< tt, tt); good = fits };
             none = none_here;
-            shown = subst (AreShownAs simulator_ends at_start runs) (sym parts_are) (shown_are, refl, (refl, refl, tt));
+            shown = subst (AreShownAs simulator_ends at_start program.runs) (sym parts_are) (shown_are, refl, (refl, refl, tt));
             possible = ((units 27, (tt, (tt, (tt, (tt, (tt, ((8, [], refl), tt))))))), ((tt, refl), tt));
           };
       over = refl;

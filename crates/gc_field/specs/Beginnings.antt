@@ -10,7 +10,7 @@ use Rattle.gc_field.specs.Simulator.{simulator_ends}
 use Rattle.gc_world.specs.Order.{Rising}
 use Rattle.gc_field.specs.World.{Ends, Wire}
 use Rattle.gc_field.specs.Begin.{IsWellFormed, LacksTheWord, AreTurns, SyncModel, SyncTurn, UnderWay, begins, ids_under_way, leaves, turned}
-use Rattle.gc_field.specs.Begun.{HasSynchronizedCleanly, IsClean, IsFaithful, behind, ArePossibleOnceBegun}
+use Rattle.gc_field.specs.Begun.{HasSynchronizedCleanly, IsFaithful, OfMovesOnceBegun, behind, ArePossibleOnceBegun}
 use Rattle.gc_field.specs.Field.{Move}
 use Rattle.gc_field.specs.Instrument.{OfAnyInstrument}
 use Rattle.gc_field.specs.Laws.{kept_of}
@@ -33,12 +33,11 @@ pub record HasRisingIds {State : Type 0} (u : UnderWay State) : Type 0 where
 abbrev pub RisingIdsLackTheWord : Type 0 → Type 0
 RisingIdsLackTheWord State = (u : UnderWay State) → HasRisingIds u → LacksTheWord u
 
--- for any instrument, and a client with a window of at most `WINDOW` requests: once a run has synchronized cleanly (`IsClean`),
--- `HasRisingIds` holds of what is in flight after any moves that are possible
+-- for any instrument: once a run has synchronized cleanly, `HasRisingIds` holds of what is in flight after any possible moves
+-- (`OfMovesOnceBegun`)
 abbrev pub RunsLeaveRisingIds : Type 0 → Type 0
 RunsLeaveRisingIds State = OfAnyInstrument {State = State} (λ ends Good kept.
-    (width : ℕ) → width ≤ WINDOW → (u : UnderWay State) → IsClean Good kept u →
-    (ms : List (Move State)) → ArePossibleOnceBegun width ends u Good kept ms → HasRisingIds (on_line (behind width ends u ms).wire))
+    OfMovesOnceBegun ends Good kept (λ width u ms. HasRisingIds (on_line (behind width ends u ms).wire)))
 
 -- Runs.
 
@@ -73,11 +72,16 @@ module _ {State : Type 0} (width : ℕ) (ends : Ends State) where
   left_by_runs u [] = u
   left_by_runs u (r ∷ rs) = left_by_runs (left_by_run u r) rs
 
+  -- at the end of each of these runs the count is at most five, where it is `n` before the first, and `counted` gives it at the
+  -- end of a run
+  abbrev pub CountsFew : (counted : ℕ → UnderWay State → Run State → ℕ) → (n : ℕ) → UnderWay State → List (Run State) → Type 0
+  CountsFew counted n u [] = Unit {0}
+  CountsFew counted n u (r ∷ rs) = (counted n u r ≤ 5) × CountsFew counted (counted n u r) (left_by_run u r) rs
+
   -- at the end of each of these runs, at most five in a row have been killed while they synchronized, counted with the `n`
   -- before the first
   abbrev pub AreFewKilled : ℕ → UnderWay State → List (Run State) → Type 0
-  AreFewKilled n u [] = Unit {0}
-  AreFewKilled n u (r ∷ rs) = (killed_if (after_turns ends u r).left n ≤ 5) × AreFewKilled (killed_if (after_turns ends u r).left n) (left_by_run u r) rs
+  AreFewKilled n u rs = CountsFew (λ before v r. killed_if (after_turns ends v r).left before) n u rs
 
   module _ (Good : State → Type 0) (kept : State → Option KeptReply) where
     -- the moves of a run are possible, by the ids of its word that are left. If none is left, they are possible moves of a client
@@ -102,14 +106,20 @@ module _ {State : Type 0} (width : ℕ) (ends : Ends State) where
     AreOwn u [] = Unit {0}
     AreOwn u (r ∷ rs) = IsOwnIf (after_turns ends u r).left (after_turns ends u r) r.moves × AreOwn (left_by_run u r) rs
 
--- for clients with a window of at most `WINDOW` requests, after a run that had synchronized, or over a line with nothing in
--- flight (`HasRisingIds`, `IsWellFormed`): as long as fewer than six runs in a row end while they synchronize, each run that has
--- synchronized has done so cleanly, and `IsFaithful` holds of its moves: each of its answers to a request that is `IsSafe` is its
--- own. `Good` says which states of the instrument are good, and `kept` what reply each of them keeps
-abbrev pub RunsInARowAreOwn : {State : Type 0} → (ends : Ends State) → (Good : State → Type 0) → (kept : State → Option KeptReply) → Type 0
-RunsInARowAreOwn {State = State} ends Good kept =
+-- `Holds` is true of any possible runs one after the other, as long as fewer than six in a row end while they synchronize, for
+-- clients with a window of at most `WINDOW` requests. What is in flight before the first is as a run that had synchronized leaves
+-- it, or nothing (`HasRisingIds`, `IsWellFormed`). `Good` says which states of the instrument are good, and `kept` what reply
+-- each of them keeps
+abbrev pub OfRunsInARow : {State : Type 0} → (ends : Ends State) → (Good : State → Type 0) → (kept : State → Option KeptReply)
+    → (Holds : (width : ℕ) → UnderWay State → List (Run State) → Type 0) → Type 0
+OfRunsInARow {State = State} ends Good kept Holds =
     (width : ℕ) → width ≤ WINDOW → (u : UnderWay State) → IsWellFormed Good u → HasRisingIds u →
-    (rs : List (Run State)) → AreRuns width ends Good kept u rs → AreFewKilled width ends 0 u rs → AreOwn width ends Good kept u rs
+    (rs : List (Run State)) → AreRuns width ends Good kept u rs → AreFewKilled width ends 0 u rs → Holds width u rs
+
+-- of runs in a row (`OfRunsInARow`), each that has synchronized has done so cleanly, and `IsFaithful` holds of its moves: each of
+-- its answers to a request that is `IsSafe` is its own
+abbrev pub RunsInARowAreOwn : {State : Type 0} → (ends : Ends State) → (Good : State → Type 0) → (kept : State → Option KeptReply) → Type 0
+RunsInARowAreOwn ends Good kept = OfRunsInARow ends Good kept (λ width u rs. AreOwn width ends Good kept u rs)
 
 -- `RunsInARowAreOwn`, for any instrument, in any state
 abbrev pub RunsAreTheirOwn : Type 0 → Type 0

@@ -1,7 +1,7 @@
 -- Some run resynchronizes within itself, this project's own. Seven requests are sent at once, and have timed out. The reply to
 -- the first is in flight then, and the seventh request: both come while the station synchronizes again, on the same connection.
 -- The eighth command is sent after that, with the first one's id, and has the answer that was made for it.
-use Rattle.std.specs.Prelude.{◌≡◌, ℕ, true, false, List, [], ◌∷◌, ◌++◌, codes, drop, map, pos, Some}
+use Rattle.std.specs.Prelude.{◌≡◌, ℕ, false, List, [], ◌∷◌, ◌++◌, codes, drop, map, pos, Some}
 use Rattle.gc_lines.specs.Lines.{with_end}
 use Rattle.gc_catalogue.specs.declared.answer.Answer.TheVariants.{Long}
 use Rattle.gc_catalogue.specs.declared.asked.Asked.TheVariants.{Table}
@@ -14,9 +14,7 @@ use Rattle.gc_texts.specs.declared.quality.Quality.TheVariants.{Fine}
 use Rattle.gc_station.specs.declared.plan.Plan.{Plan}
 use Rattle.gc_links.specs.Acts.{Act, Told, Put, Gave, Silent, Closed}
 use Rattle.gc_station.specs.Beginnings.{IsResynchronizing}
-use Rattle.gc_station.specs.Progressing.{is_over}
 use Rattle.gc_station.specs.Records.{Record}
-use Rattle.gc_station.specs.Runs.{state_after}
 use Rattle.gc_station.specs.Scopes.{Scope}
 use Rattle.gc_field.specs.Plain.{plain_task, plain_turn}
 use Rattle.gc_field.specs.World.{Up_deliver, Up_lose}
@@ -27,7 +25,7 @@ use Rattle.gc_field.specs.Begun.{WasMadeOn}
 use Rattle.gc_field.specs.CountingChain.{Counter, at_start, null_replies, counting, first_reply, kept_by}
 use Rattle.gc_field.specs.Field.{Move, Sends, Tells, Comes, OnLine}
 use Rattle.gc_field.specs.Instrument.{IsAnInstrument, AnyState}
-use Rattle.gc_field.specs.Runs.{IsInField}
+use Rattle.gc_field.specs.Runs.{IsInField, NoActFollows, Program, program_records}
 use Rattle.gc_field.specs.Witness.{null_lines, at, begun_with, eight_answered, exchanged, plan_of_width, run_and_end, scope_saying}
 
 -- the plan of this run: seven requests at a time
@@ -143,9 +141,10 @@ moves_anew = Sends 8 (Table InstrumentNo) 220 ∷ Tells 120 ∷ OnLine Up_delive
 abbrev pub run : Run Counter
 run = record { turns = eight_answered; moves = moves }
 
--- the whole run: until it resynchronizes, and from there on; after the end nothing happens
-abbrev pub runs : List (Run Counter)
-runs = run ∷ run_and_end turns moves_anew
+-- the run as a program: until it resynchronizes, and from there on; after its end is one more run on the line, in which nothing
+-- happens
+abbrev pub program : Program Counter
+program = record { plan = plan; commands = commands; scope = scope; acts = acts; runs = run ∷ run_and_end turns moves_anew }
 
 -- what is in flight when the run resynchronizes
 abbrev pub left_by_first : UnderWay Counter
@@ -177,10 +176,10 @@ records =
 -- its request
 pub record IsAnsweredAnew : Type 0 where
   pub instrument : IsAnInstrument counting AnyState kept_by
-  pub field : IsInField counting AnyState kept_by at_start (record { plan = plan; commands = commands; scope = scope; acts = acts; runs = runs })
-  pub over : is_over (state_after plan commands scope acts).progress ≡ true
+  pub field : IsInField counting AnyState kept_by at_start program
+  pub over : NoActFollows program
   pub begins_anew : IsResynchronizing plan commands scope given_up (Told (at 115))
   pub up : left_by_first.up ≡ record { id = 6; call = Table InstrumentNo } ∷ []
   pub down : left_by_first.down ≡ first_reply ∷ []
-  pub written : (state_after plan commands scope acts).records ≡ records
+  pub written : program_records program ≡ records
   pub made_on : WasMadeOn WINDOW counting from moves_anew 8 (Table InstrumentNo) answer

@@ -159,13 +159,18 @@ module _ {State : Type 0} (width : ℕ) (ends : Ends State) (u : UnderWay State)
 abbrev pub wire_over_empty_line : {State : Type 0} → Ends State → State → List (Move State) → Wire State
 wire_over_empty_line ends state ms = (behind WINDOW ends (none_under_way state) ms).wire
 
--- possible moves after a clean synchronization (`IsClean`) are faithful, for a client with a window of at most `WINDOW` requests,
--- whenever it sends; no request has to be sent alone. `Good` says which states of the instrument are good, and `kept` what reply
--- each of them keeps
-abbrev pub MovesOnceBegunAreFaithful : {State : Type 0} → (ends : Ends State) → (Good : State → Type 0) → (kept : State → Option KeptReply) → Type 0
-MovesOnceBegunAreFaithful {State = State} ends Good kept =
+-- `Holds` is true of any possible moves after a clean synchronization (`IsClean`), for a client with a window of at most `WINDOW`
+-- requests. `Good` says which states of the instrument are good, and `kept` what reply each of them keeps
+abbrev pub OfMovesOnceBegun : {State : Type 0} → (ends : Ends State) → (Good : State → Type 0) → (kept : State → Option KeptReply)
+    → (Holds : (width : ℕ) → UnderWay State → List (Move State) → Type 0) → Type 0
+OfMovesOnceBegun {State = State} ends Good kept Holds =
     (width : ℕ) → width ≤ WINDOW → (u : UnderWay State) → IsClean Good kept u →
-    (ms : List (Move State)) → ArePossibleOnceBegun width ends u Good kept ms → IsFaithful width ends u ms Good kept
+    (ms : List (Move State)) → ArePossibleOnceBegun width ends u Good kept ms → Holds width u ms
+
+-- possible moves after a clean synchronization are faithful (`OfMovesOnceBegun`), whenever the client sends; no request has to be
+-- sent alone
+abbrev pub MovesOnceBegunAreFaithful : {State : Type 0} → (ends : Ends State) → (Good : State → Type 0) → (kept : State → Option KeptReply) → Type 0
+MovesOnceBegunAreFaithful ends Good kept = OfMovesOnceBegun ends Good kept (λ width u ms. IsFaithful width ends u ms Good kept)
 
 -- `MovesOnceBegunAreFaithful`, for any instrument, in any state
 abbrev pub AnswersAreTheirOwnOnceBegun : Type 0 → Type 0

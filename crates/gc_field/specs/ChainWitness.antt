@@ -15,18 +15,16 @@ use Rattle.gc_texts.specs.declared.quality.Quality.TheVariants.{Fine}
 use Rattle.gc_links.specs.Acts.{Act, Told, Put, Gave, Closed}
 use Rattle.gc_station.specs.Links.{AreChained}
 use Rattle.gc_station.specs.Records.{Record}
-use Rattle.gc_station.specs.Runs.{state_after}
 use Rattle.gc_station.specs.Scopes.{Scope}
 use Rattle.gc_field.specs.Plain.{plain_task, plain_turn}
 use Rattle.gc_field.specs.Simulator.{simulator_ends}
 use Rattle.gc_field.specs.World.{Up_deliver}
 use Rattle.gc_field.specs.Begin.{UnderWay, left_by_turns, none_under_way}
-use Rattle.gc_field.specs.Beginnings.{Run}
 use Rattle.gc_field.specs.Chains.{IsUndisturbed, stretch_wire}
 use Rattle.gc_field.specs.Field.{Move, Sends, Tells, Comes, OnLine}
 use Rattle.gc_field.specs.Laws.{kept_of}
 use Rattle.gc_field.specs.Pointing.{AreStill}
-use Rattle.gc_field.specs.Runs.{IsInField}
+use Rattle.gc_field.specs.Runs.{IsInField, Program, program_records}
 use Rattle.gc_field.specs.Shown.{Stretch}
 use Rattle.gc_field.specs.Witness.{plan, scope_saying, at, begun_with, eight_answered, replies, run_and_end}
 
@@ -140,16 +138,16 @@ at_start = none_under_way simulator_opening
 abbrev pub stretch : Stretch State
 stretch = record { from = left_by_turns simulator_ends eight_answered at_start; moves = moves }
 
--- what happens on the line: in this run, and after its end in one more, in which nothing happens
-abbrev pub runs : List (Run State)
-runs = run_and_end eight_answered moves
+-- the run as a program; after its end is one more run on the line, in which nothing happens
+abbrev pub program : Program State
+program = record { plan = plan; commands = commands; scope = scope; acts = acts; runs = run_and_end eight_answered moves }
 
 -- this is a run in the field that recorded all three answers; the third command is of the first one's chain, no command between
 -- the two turns the telescope, and nothing disturbs the instrument. So when the third is executed, after both others, the
 -- telescope points where the first pointed it
 pub record IsPointedInField : Type 0 where
-  pub field : IsInField simulator_ends IsFittingState kept_of at_start (record { plan = plan; commands = commands; scope = scope; acts = acts; runs = runs })
-  pub records : (state_after plan commands scope acts).records ≡ records_with first_reply second_reply third_reply
+  pub field : IsInField simulator_ends IsFittingState kept_of at_start program
+  pub records : program_records program ≡ records_with first_reply second_reply third_reply
   pub chained : AreChained commands 0 2
   pub still : AreStill commands 0 2
   pub undisturbed : IsUndisturbed moves

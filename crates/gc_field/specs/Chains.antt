@@ -5,17 +5,14 @@
 -- once it has synchronized.
 use Rattle.std.specs.Prelude.{◌≡◌, ℕ, Bool, ◌+◌, ◌<◌, ◌≤◌, true, false, List, [], ◌∷◌, ◌++◌, Option, Some, fold, slice_get}
 use Rattle.std.specs.List.{AllByRecursion, AllZip}
-use Rattle.gc_catalogue.specs.declared.answer.Reading.{Reading}
 use Rattle.gc_catalogue.specs.declared.asked.Asked.{Asked}
 use Rattle.gc_client.specs.declared.window.TheConstants.{WINDOW}
 use Rattle.gc_instrument.specs.State.{KeptReply}
 use Rattle.gc_texts.specs.Endings.{line_of}
 use Rattle.gc_texts.specs.declared.near.Expected.{Expected}
-use Rattle.gc_texts.specs.declared.tasks.Task.{Task}
 use Rattle.gc_station.specs.Links.{AreChained, WasAnsweredWell}
 use Rattle.gc_station.specs.Parts.{Part, mark_of}
 use Rattle.gc_station.specs.Records.{Record}
-use Rattle.gc_station.specs.declared.plan.Plan.{Plan}
 use Rattle.gc_field.specs.World.{Ends, Sent, Up_deliver, Wire}
 use Rattle.gc_field.specs.Begin.{UnderWay}
 use Rattle.gc_field.specs.Begun.{WasMadeOn}
@@ -63,11 +60,11 @@ pub record ExecutedRequest : Type 0 where
 abbrev pub stretch_wire : {State : Type 0} → Ends State → Stretch State → List (Move State) → Wire State
 stretch_wire ends s ms = (world_at ends s ms).wire
 
--- if a reply in time ended the command of record b (`line_of`), which is of a cycle and not of the setup, P holds of its line and
--- of the place of each command of that cycle before it in its chain
-abbrev pub OfEachBeforeInChain : Plan → List Task → (b : Record) → (P : List ℕ → ℕ → Type 0) → Type 0
-OfEachBeforeInChain plan commands b P =
-    (line : List ℕ) (a : ℕ) → line_of b.end ≡ Some line → 0 < b.cycle → plan.setup ≤ a → a < b.place → AreChained commands a b.place → P line a
+-- if a reply in time ended the command of record b of this run (`line_of`), which is of a cycle and not of the setup, P holds of
+-- its line and of the place of each command of that cycle before it in its chain
+abbrev pub OfEachBeforeInChain : {State : Type 0} → Program State → (b : Record) → (P : List ℕ → ℕ → Type 0) → Type 0
+OfEachBeforeInChain x b P =
+    (line : List ℕ) (a : ℕ) → line_of b.end ≡ Some line → 0 < b.cycle → x.plan.setup ≤ a → a < b.place → AreChained x.commands a b.place → P line a
 
 module _ {State : Type 0} (ends : Ends State) (Good : State → Type 0) (kept : State → Option KeptReply) where
   -- Two executions of a stretch.
@@ -99,21 +96,20 @@ module _ {State : Type 0} (ends : Ends State) (Good : State → Type 0) (kept : 
 
   -- A chain of a run.
 
-  module _ (reads : Asked → List ℕ → Reading) (commands : List Task) (ps : List Part) (ss : List (Stretch State)) (records : List Record) where
-    -- in a run with the parts `ps` and the stretches `ss`, the command of record b was executed after the command at place a of
-    -- the same cycle. `records` are the run's records, `reads` gives what a reply says of its call, and `line_b` is the reply of
-    -- record b
+  module _ (u : UnderWay State) (x : Program State) where
+    -- in the run `x`, with `u` in flight at its start, the command of record b was executed after the command at place a of the
+    -- same cycle. `line_b` is the reply of record b
     pub record IsChainedTo (a : ℕ) (b : Record) (line_b : List ℕ) : Type 0 where
       -- the command at place a has a record, too, which is an answer of a good quality: with both codes 0 and values that read,
       -- or with a return code that is accepted of that command (`IsGoodAnswer`)
-      pub earlier : WasAnsweredWell reads commands records b.cycle a
+      pub earlier : WasAnsweredWell x.scope.reads x.commands (program_records x) b.cycle a
       -- both are requests of the client in one part of the run, number i, and so in one stretch: request m for place a, and
       -- request n, which was sent later, for record b
       pub i : ℕ
       pub part : Part
       pub stretch : Stretch State
-      pub of_parts : slice_get ps i ≡ Some part
-      pub of_stretches : slice_get ss i ≡ Some stretch
+      pub of_parts : slice_get (program_parts x) i ≡ Some part
+      pub of_stretches : slice_get (stretches ends u x.runs) i ≡ Some stretch
       pub m : ℕ
       pub n : ℕ
       pub goes_on : m < n
@@ -122,21 +118,20 @@ module _ {State : Type 0} (ends : Ends State) (Good : State → Type 0) (kept : 
       pub mark_a : slice_get part.marks m ≡ Some (Some (mark_of expected_a earlier.answer))
       pub mark_b : slice_get part.marks n ≡ Some (Some (mark_of expected_b b))
       -- the commands that were sent between them are those of the places between them, of the same cycle
-      pub between : (x : ℕ) (mark : _) → m < x → x < n → slice_get part.marks x ≡ Some (Some mark) → (mark.cycle ≡ b.cycle) × (a < mark.place) × (mark.place < b.place)
+      pub between : (k : ℕ) (mark : _) → m < k → k < n → slice_get part.marks k ≡ Some (Some mark) → (mark.cycle ≡ b.cycle) × (a < mark.place) × (mark.place < b.place)
       -- and they were executed in this order, with these replies
       pub executed :
           IsExecutedAfter stretch (record { number = 8 + m; call = earlier.answer.command.call; line = earlier.good.line })
           (record { number = 8 + n; call = b.command.call; line = line_b })
 
-  -- if a reply in time ended the command of record b, each command before it in its chain was executed before it (`IsChainedTo`)
-  abbrev pub IsExecutedInChain : UnderWay State → Program State → Record → Type 0
-  IsExecutedInChain u x b =
-      OfEachBeforeInChain x.plan x.commands b (λ line a.
-      IsChainedTo x.scope.reads x.commands (program_parts x) (stretches ends u x.runs) (program_records x) a b line)
+    -- if a reply in time ended the command of record b, each command before it in its chain was executed before it
+    -- (`IsChainedTo`)
+    abbrev pub IsExecutedInChain : Record → Type 0
+    IsExecutedInChain b = OfEachBeforeInChain x b (λ line a. IsChainedTo a b line)
 
-  -- each record of a run is `IsExecutedInChain`
-  abbrev pub AreExecutedInChain : UnderWay State → Program State → Type 0
-  AreExecutedInChain u x = AllByRecursion (IsExecutedInChain u x) (program_records x)
+    -- each record of the run is `IsExecutedInChain`
+    abbrev pub AreExecutedInChain : Type 0
+    AreExecutedInChain = AllByRecursion IsExecutedInChain (program_records x)
 
 -- each record is `IsExecutedInChain`: for any instrument, every plan, all commands, every run of the station in the field
 -- (`IsInField`), and all that the line and the instrument may do meanwhile

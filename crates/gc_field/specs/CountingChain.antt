@@ -7,17 +7,15 @@ use Rattle.gc_instrument.specs.Replying.{Handed}
 use Rattle.gc_instrument.specs.State.{KeptReply}
 use Rattle.gc_links.specs.Acts.{Act}
 use Rattle.gc_station.specs.Links.{AreChained}
-use Rattle.gc_station.specs.Runs.{state_after}
 use Rattle.gc_field.specs.World.{Ends, ends_of}
 use Rattle.gc_field.specs.ChainWitness.{points, reads_all, commands, scope, acts_with, moves_with, records_with}
 use Rattle.gc_field.specs.Begin.{UnderWay, left_by_turns, none_under_way}
-use Rattle.gc_field.specs.Beginnings.{Run}
 use Rattle.gc_field.specs.Begun.{WasMadeOn}
 use Rattle.gc_field.specs.Chains.{HasEffect, IsUndisturbed, stretch_wire}
 use Rattle.gc_field.specs.Field.{Move}
 use Rattle.gc_field.specs.Instrument.{IsAnInstrument, KeepsItsReply, AnyState, all_known}
 use Rattle.gc_field.specs.Needed.{Keeper, repeats_or_executes, held, keeper_kept}
-use Rattle.gc_field.specs.Runs.{IsInField}
+use Rattle.gc_field.specs.Runs.{IsInField, Program, program_records}
 use Rattle.gc_field.specs.Shown.{Stretch}
 use Rattle.gc_field.specs.Witness.{plan, eight_answered, run_and_end}
 
@@ -86,9 +84,9 @@ at_start = none_under_way (record { count = 27; keeps = None })
 abbrev pub stretch : Stretch Counter
 stretch = record { from = left_by_turns counting eight_answered at_start; moves = moves }
 
--- what happens on the line: in this run, and after its end in one more, in which nothing happens
-abbrev pub runs : List (Run Counter)
-runs = run_and_end eight_answered moves
+-- the run as a program; after its end is one more run on the line, in which nothing happens
+abbrev pub program : Program Counter
+program = record { plan = plan; commands = commands; scope = scope; acts = acts; runs = run_and_end eight_answered moves }
 
 -- this run meets all premises of the law of chains: `counting` is an instrument in each of its states, keeps its reply, and a
 -- call has the effect `counts` on its state. The run is in the field, its third command is of the first one's chain, and
@@ -98,8 +96,8 @@ pub record IsCountedInField : Type 0 where
   pub instrument : IsAnInstrument counting AnyState kept_by
   pub keeps : KeepsItsReply counting AnyState kept_by all_known
   pub effect : HasEffect counting bare counts
-  pub field : IsInField counting AnyState kept_by at_start (record { plan = plan; commands = commands; scope = scope; acts = acts; runs = runs })
-  pub records : (state_after plan commands scope acts).records ≡ records_with first_reply second_reply third_reply
+  pub field : IsInField counting AnyState kept_by at_start program
+  pub records : program_records program ≡ records_with first_reply second_reply third_reply
   pub chained : AreChained commands 0 2
   pub undisturbed : IsUndisturbed moves
   pub first_made_on : WasMadeOn WINDOW counting stretch.from moves 8 points first_reply

@@ -17,18 +17,15 @@ use Rattle.gc_texts.specs.Endings as end
 use Rattle.gc_texts.specs.declared.quality.Quality.TheVariants.{Fine}
 use Rattle.gc_station.specs.declared.plan.Plan.{Plan}
 use Rattle.gc_links.specs.Acts.{Act, Told, Put, Gave, Silent, Broke, Closed, Opened}
-use Rattle.gc_station.specs.Progressing.{is_over}
-use Rattle.gc_station.specs.Runs.{state_after}
 use Rattle.gc_station.specs.Scopes.{Scope}
 use Rattle.gc_field.specs.Plain.{plain_task, plain_turn}
 use Rattle.gc_field.specs.World.{Ends, Up_deliver, Down_lose, ends_of}
 use Rattle.gc_field.specs.Begin.{SyncTurn, Asks, Reaches, left_by_turns, none_under_way}
 use Rattle.gc_field.specs.Begin as turn
-use Rattle.gc_field.specs.Beginnings.{Run}
 use Rattle.gc_field.specs.Begun.{WasMadeOn}
 use Rattle.gc_field.specs.Field.{Move, Sends, Tells, Comes, OnLine, Anew, Changes}
 use Rattle.gc_field.specs.Instrument.{IsAnInstrument, AnyState, never_kept}
-use Rattle.gc_field.specs.Runs.{IsInField}
+use Rattle.gc_field.specs.Runs.{IsInField, NoActFollows, Program, program_records}
 use Rattle.gc_field.specs.Witness.{plan_of_width, scope_saying, null_lines, at, eight_answered, exchanged, replies, run_and_end}
 
 -- an instrument that keeps no reply, and answers every request with its state: `text` gives the parameters of the reply in a
@@ -133,18 +130,18 @@ moves raw =
     ∷ Comes answer
     ∷ []
 
--- what happens on the line: in this run, and after its end in one more, in which nothing happens
-abbrev pub runs : RawCall → List (Run ℕ)
-runs raw = run_and_end turns (moves raw)
+-- the run as a program; after its end is one more run on the line, in which nothing happens
+abbrev pub program : RawCall → Program ℕ
+program raw = record { plan = plan; commands = commands raw; scope = scope; acts = acts raw; runs = run_and_end turns (moves raw) }
 
 -- `drifting` is an instrument, and this is a run in the field, after which no act follows. The run recorded the first command
 -- as lost, and the second one's answer, which was made on executing the second command's request
 pub record IsAnsweredByDrifting (raw : RawCall) : Type 0 where
   pub instrument : IsAnInstrument drifting AnyState never_kept
-  pub field : IsInField drifting AnyState never_kept (none_under_way 5) (record { plan = plan; commands = commands raw; scope = scope; acts = acts raw; runs = runs raw })
-  pub over : is_over (state_after plan (commands raw) scope (acts raw)).progress ≡ true
+  pub field : IsInField drifting AnyState never_kept (none_under_way 5) (program raw)
+  pub over : NoActFollows (program raw)
   pub records :
-      (state_after plan (commands raw) scope (acts raw)).records
+      program_records (program raw)
       ≡ record { sent = Some 220; utc = 360; cycle = 1; place = 0; turn = plain_turn; command = record { target = 7; call = Table InstrumentNo }; end = end.Lost }
       ∷ record { sent = Some 320; utc = 360; cycle = 1; place = 1; turn = plain_turn; command = record { target = 8; call = Raw raw }; end = end.Answered Fine (Some Nothing) answer }
       ∷ []

@@ -1,6 +1,6 @@
--- Requests for calls of the table that are cut, this project's own. If only the front of one got through, with a line feed after it,
--- or only its tail, as after a start of the instrument, no request got through. So a request that was cut reaches the instrument
--- whole or not at all.
+-- Requests for calls of the table that are cut, this project's own. If only the front of one got through, with a line feed after
+-- it, or only its tail, as after a start of the instrument, no request got through. So a request that was cut reaches the
+-- instrument whole or not at all.
 use Rattle.std.specs.Prelude.{◌≡◌, ℕ, ◌+◌, ◌<◌, ◌≤◌, List, [], ◌∷◌, ◌++◌, length, take, drop, Some}
 use Rattle.gc_lines.specs.Frames.{lines}
 use Rattle.gc_lines.specs.Lines.{with_end}
@@ -29,8 +29,8 @@ CutRequestsAreWholeOrNothing = (id : ℕ) (call : Call) → IsFitting call → I
 
 -- if the line feed after the front of a request is lost, the front and the next request are one line. If that line is a request
 -- at all, it has the id and the procedure of the request that was cut: for a front of at least one byte, without the CR, of a
--- request with an id from 0 to 7 and a call that fits; the next request (`next`, `behind`) may have any id and call
+-- request with an id from 0 to 7 and a call that fits; the next request may have any id and call
 abbrev pub JoinedRequestsHaveTheFrontsId : Type 0
 JoinedRequestsHaveTheFrontsId =
-    (id : ℕ) (call : Call) (next : ℕ) (behind : Call) (count : ℕ) → id < 8 → IsFitting call → 0 < count → (q : RequestFields) →
-    IsRequest (take count (request_line (Some id) call) ++ request_line (Some next) behind) q → (q.id ≡ Some id) × (q.rpc ≡ (call_fields call).number)
+    (id : ℕ) (call : Call) (next_id : ℕ) (next_call : Call) (count : ℕ) → id < 8 → IsFitting call → 0 < count → (q : RequestFields) →
+    IsRequest (take count (request_line (Some id) call) ++ request_line (Some next_id) next_call) q → (q.id ≡ Some id) × (q.rpc ≡ (call_fields call).number)

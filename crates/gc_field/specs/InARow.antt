@@ -1,13 +1,13 @@
 -- Stations one after the other over a line that outlives them, this project's own: each is a run of a station, with its own
 -- plan and commands, and is killed at any moment, also while it synchronizes. Nothing here depends on a clock.
-use Rattle.std.specs.Prelude.{ℕ, ◌≤◌, List, [], ◌∷◌, Option}
+use Rattle.std.specs.Prelude.{ℕ, List, [], ◌∷◌, Option}
 use Rattle.gc_client.specs.declared.window.TheConstants.{WINDOW}
 use Rattle.gc_instrument.specs.State.{KeptReply, IsFittingState}
 use Rattle.gc_station.specs.Model.{Runs, opening}
 use Rattle.gc_field.specs.Simulator.{simulator_ends}
 use Rattle.gc_field.specs.World.{Ends}
 use Rattle.gc_field.specs.Begin.{IsWellFormed, SyncTurn, UnderWay}
-use Rattle.gc_field.specs.Beginnings.{AreRuns, HasRisingIds, Run, killed_if, left_by_run, left_by_runs, after_turns}
+use Rattle.gc_field.specs.Beginnings.{AreRuns, CountsFew, HasRisingIds, Run, killed_if, left_by_run, left_by_runs, after_turns}
 use Rattle.gc_field.specs.Instrument.{OfAnyInstrument}
 use Rattle.gc_field.specs.Laws.{kept_of}
 use Rattle.gc_field.specs.Runs.{IsRunFaithful, Program, program_parts}
@@ -29,8 +29,7 @@ module _ {State : Type 0} (ends : Ends State) where
   -- at the end of each of these runs, at most five in a row have been killed while they synchronized, counted with the `n`
   -- before the first. Unlike in `AreFewKilled`, a run in which nothing happened doesn't count
   abbrev pub AreFewKilledWithTurns : ℕ → UnderWay State → List (Run State) → Type 0
-  AreFewKilledWithTurns n u [] = Unit {0}
-  AreFewKilledWithTurns n u (r ∷ rs) = (killed_by n u r r.turns ≤ 5) × AreFewKilledWithTurns (killed_by n u r r.turns) (left_by_run WINDOW ends u r) rs
+  AreFewKilledWithTurns n u rs = CountsFew WINDOW ends (λ before v r. killed_by before v r r.turns) n u rs
 
   module _ (Good : State → Type 0) (kept : State → Option KeptReply) where
     -- a program is a run of its station over what is in flight (`u`): what happens on the line is possible (`AreRuns`), and shows

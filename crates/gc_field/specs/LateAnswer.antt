@@ -1,5 +1,5 @@
 -- Some run in the field has a late record, this project's own: a command has timed out, and its reply comes after that.
-use Rattle.std.specs.Prelude.{◌≡◌, ℕ, true, false, List, [], ◌∷◌, codes, pos, Some}
+use Rattle.std.specs.Prelude.{◌≡◌, ℕ, false, List, [], ◌∷◌, codes, pos, Some}
 use Rattle.gc_lines.specs.Lines.{with_end}
 use Rattle.gc_catalogue.specs.declared.answer.Answer.TheVariants.{Long}
 use Rattle.gc_catalogue.specs.declared.asked.Asked.TheVariants.{Table}
@@ -10,18 +10,15 @@ use Rattle.gc_texts.specs.declared.tasks.Task.{Task}
 use Rattle.gc_texts.specs.Endings as end
 use Rattle.gc_texts.specs.declared.quality.Quality.TheVariants.{Fine}
 use Rattle.gc_links.specs.Acts.{Act, Told, Put, Gave, Silent, Closed}
-use Rattle.gc_station.specs.Progressing.{is_over}
-use Rattle.gc_station.specs.Runs.{state_after}
 use Rattle.gc_field.specs.Plain.{plain_task, plain_turn}
 use Rattle.gc_field.specs.Simulator.{simulator_ends}
 use Rattle.gc_field.specs.World.{Up_deliver}
 use Rattle.gc_field.specs.Begin.{UnderWay, left_by_turns}
-use Rattle.gc_field.specs.Beginnings.{Run}
 use Rattle.gc_field.specs.Begun.{WasMadeOn}
 use Rattle.gc_field.specs.ChainWitness.{at_start}
 use Rattle.gc_field.specs.Field.{Move, Sends, Tells, Comes, OnLine}
 use Rattle.gc_field.specs.Laws.{kept_of}
-use Rattle.gc_field.specs.Runs.{IsInField}
+use Rattle.gc_field.specs.Runs.{IsInField, NoActFollows, Program, program_records}
 use Rattle.gc_field.specs.Witness as one
 use Rattle.gc_field.specs.Witness.{plan, scope, at, begun_with, eight_answered, replies, run_and_end}
 
@@ -75,9 +72,9 @@ moves =
     ∷ Comes answer
     ∷ []
 
--- what happens on the line: in this run, and after its end in one more, in which nothing happens
-abbrev pub runs : List (Run State)
-runs = run_and_end eight_answered moves
+-- the run as a program; after its end is one more run on the line, in which nothing happens
+abbrev pub program : Program State
+program = record { plan = plan; commands = commands; scope = scope; acts = acts; runs = run_and_end eight_answered moves }
 
 -- what is in flight once the run has synchronized
 abbrev pub from : UnderWay State
@@ -86,10 +83,10 @@ from = left_by_turns simulator_ends eight_answered at_start
 -- this is a run in the field over a line with nothing in flight, after which no act follows. It recorded the first command as
 -- late, and the second one's answer; and each of these lines was made on executing its own request
 pub record IsLateInField : Type 0 where
-  pub field : IsInField simulator_ends IsFittingState kept_of at_start (record { plan = plan; commands = commands; scope = scope; acts = acts; runs = runs })
-  pub over : is_over (state_after plan commands scope acts).progress ≡ true
+  pub field : IsInField simulator_ends IsFittingState kept_of at_start program
+  pub over : NoActFollows program
   pub records :
-      (state_after plan commands scope acts).records
+      program_records program
       ≡ record { sent = Some 15; utc = 120; cycle = 1; place = 0; turn = plain_turn; command = record { target = 7; call = Table InstrumentNo }; end = end.Late }
       ∷ record {
         sent = Some 115;

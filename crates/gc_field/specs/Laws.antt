@@ -1,6 +1,6 @@
--- What holds in the field of a client, this project's own, and in particular of one that doesn't synchronize; and the simulator as
--- an instrument. Requests are numbered from 0 on, in the order of sending. The client that knows ids finds a reply's request by
--- the reply's id; the one that is given numbers is given the request's number, and serves for comparison alone.
+-- What holds in the field of a client, this project's own, and in particular of one that doesn't synchronize; and the simulator
+-- as an instrument. Requests are numbered from 0 on, in the order of sending. The client that knows ids finds a reply's request
+-- by the reply's id; the one that is given numbers is given the request's number, and serves for comparison alone.
 use Rattle.std.specs.Prelude.{◌≡◌, ℕ, Bool, ◌-◌, ◌<◌, ◌≤◌, List, [], ◌∷◌, ◌++◌, length, map, Option, Some, slice_get}
 use Rattle.gc_catalogue.specs.declared.asked.Asked.{Asked}
 use Rattle.gc_catalogue.specs.declared.asked.Asked.TheVariants.{Raw}
@@ -33,8 +33,12 @@ module _ {State : Type 0} (width : ℕ) (ends : Ends State) (start : World (ById
   abbrev pub world_then : World (ById Asked) State
   world_then = moved ends (by_ids width ends) ms start
 
-  -- what holds after the moves, for an instrument whose states are good ones (`Good`). `old` are the settlements at the start, and
-  -- `IsSure` names the requests whose answers are their own
+  -- `Holds` is true of each request that `IsSure` names, by its number, and of its settlement after the moves
+  abbrev pub OfEachSure : (IsSure : ℕ → Type 0) → (Holds : ℕ → Settlement Asked → Type 0) → Type 0
+  OfEachSure IsSure Holds = (m : ℕ) (s : Settlement Asked) → IsSure m → slice_get world_then.wire.settled m ≡ Some s → Holds m s
+
+  -- what holds after the moves, for an instrument whose states are good ones (`Good`). `old` are the settlements at the start,
+  -- and `IsSure` names the requests whose answers are their own
   pub record IsFaithfulFrom (old : List (Settlement Asked)) (IsSure : ℕ → Type 0) (Good : State → Type 0) (kept : State → Option KeptReply) : Type 0 where
     -- a new client that takes the steps of the moves settles what the world's client settled after `old`, and ends in the same
     -- state
@@ -46,19 +50,15 @@ module _ {State : Type 0} (width : ℕ) (ends : Ends State) (start : World (ById
     pub one_for_one : IsOneForOne world_then.wire.sent world_then.wire.settled
     -- its own: an answer at place m is among the lines that the instrument made for request m, and is its reply to that very
     -- call
-    pub booked : (m : ℕ) (s : Settlement Asked) → IsSure m → slice_get world_then.wire.settled m ≡ Some s → IsBooked ends Good world_then.wire.made m s
+    pub booked : OfEachSure IsSure (λ m s. IsBooked ends Good world_then.wire.made m s)
     -- and the instrument executed request m at one of these moves
-    pub executed :
-        (m : ℕ) (s : Settlement Asked) (line : List ℕ) → IsSure m → slice_get world_then.wire.settled m ≡ Some s → s.outcome ≡ Answered line → WasExecuted world_then.wire.executed m
+    pub executed : OfEachSure IsSure (λ m s. (line : List ℕ) → s.outcome ≡ Answered line → WasExecuted world_then.wire.executed m)
     -- made on it: its line was made on executing request m, by `WasMadeFrom`
-    pub made_on :
-        (m : ℕ) (s : Settlement Asked) (line : List ℕ) → IsSure m → slice_get world_then.wire.settled m ≡ Some s → s.outcome ≡ Answered line
-        → WasMadeFrom width ends start ms m s.call line
+    pub made_on : OfEachSure IsSure (λ m s. (line : List ℕ) → s.outcome ≡ Answered line → WasMadeFrom width ends start ms m s.call line)
     -- in order: requests are executed in the order of sending, over starts too
     pub in_order : IsInOrder world_then.wire.executed
     -- late: the instrument executed the request, though its reply came too late
-    pub late :
-        (m : ℕ) (s : Settlement Asked) → IsSure m → slice_get world_then.wire.settled m ≡ Some s → s.outcome ≡ Late → (line : List ℕ) × WasMadeFrom width ends start ms m s.call line
+    pub late : OfEachSure IsSure (λ m s. s.outcome ≡ Late → (line : List ℕ) × WasMadeFrom width ends start ms m s.call line)
     -- acts once: if the instrument keeps its reply to each request that it knows, between two of its starts each of these is
     -- executed at most once
     pub once : (knows : Asked → Bool) → KeepsItsReply ends Good kept knows → ExecutesOnce knows world_then.wire.sent world_then.wire.executed world_then.wire.starts
@@ -75,8 +75,8 @@ module _ {State : Type 0} (width : ℕ) (ends : Ends State) (state : State) (ms 
   abbrev pub world_after : World (ById Asked) State
   world_after = moved ends (by_ids width ends) ms (ids_open state)
 
-  -- what holds after the moves of a new client that hasn't synchronized: `IsFaithfulFrom`, where the answers but that of the first
-  -- request are their own. The first is excepted because an instrument that kept an older reply with its id may have sent
+  -- what holds after the moves of a new client that hasn't synchronized: `IsFaithfulFrom`, where the answers but that of the
+  -- first request are their own. The first is excepted because an instrument that kept an older reply with its id may have sent
   -- that reply again
   abbrev pub IsFaithfulUnsynchronized : (Good : State → Type 0) (kept : State → Option KeptReply) → Type 0
   IsFaithfulUnsynchronized Good kept = IsFaithfulFrom width ends (ids_open state) (numbers_open state) ms [] (λ m. 0 < m) Good kept

@@ -72,6 +72,10 @@ refusal id = refusal_line id Unknown
 abbrev pub one_answered : {State : Type 0} → Asked → List ℕ → List (Move State) → List (Move State)
 one_answered call line ms = Sends 7 call 9 ∷ OnLine Up_deliver ∷ Comes line ∷ ms
 
+-- the moves by which a null procedure is sent, reaches the instrument, and is answered with the number 0; and then the moves `ms`
+abbrev pub null_answered : {State : Type 0} → List (Move State) → List (Move State)
+null_answered ms = one_answered (Table NullProc) (giving 0 0) ms
+
 -- the moves by which two requests are sent, and the first of them reaches the instrument and is answered with this line
 abbrev pub two_asked : {State : Type 0} → List ℕ → List (Move State)
 two_asked line = Sends 7 (Table NullProc) 9 ∷ Sends 7 (Table InstrumentNo) 9 ∷ OnLine Up_deliver ∷ Comes line ∷ []
@@ -98,8 +102,8 @@ abbrev pub repeats_or_executes : {State : Type 0} → (next : State) → (new id
 repeats_or_executes next new id s (Some n) = record { state = s; reply = giving id n; executed = false }
 repeats_or_executes next new id s None = record { state = next; reply = giving id new; executed = true }
 
--- what an instrument that keeps a reply does with a request (`repeats_or_executes`): if it executes the request, it answers 0, and
--- keeps that reply
+-- what an instrument that keeps a reply does with a request (`repeats_or_executes`): if it executes the request, it answers 0,
+-- and keeps that reply
 abbrev pub keeper_handed : (id : ℕ) → Keeper → Option ℕ → Handed Keeper
 keeper_handed id k o = repeats_or_executes (Some (id, 0)) 0 id k o
 
@@ -127,8 +131,8 @@ refuses_raws = record keeper { handed = λ k id call. handed_if_known (is_of_tab
 -- procedures, and the seven between are this one, which is refused
 abbrev pub nine_requests : Asked → List (Move Keeper)
 nine_requests call =
-    one_answered (Table NullProc) (giving 0 0) (one_answered call (refusal 1) (one_answered call (refusal 2) (one_answered call (refusal 3) (one_answered call (refusal 4)
-    (one_answered call (refusal 5) (one_answered call (refusal 6) (one_answered call (refusal 7) (one_answered (Table NullProc) (giving 0 0) []))))))))
+    null_answered (one_answered call (refusal 1) (one_answered call (refusal 2) (one_answered call (refusal 3) (one_answered call (refusal 4)
+    (one_answered call (refusal 5) (one_answered call (refusal 6) (one_answered call (refusal 7) (null_answered []))))))))
 
 -- an instrument that keeps an old reply, with id 1, after each start
 abbrev pub remembers : Ends Keeper
@@ -137,7 +141,7 @@ remembers = record keeper { restarted = λ k. Some (1, 27) }
 -- the moves of two requests, each answered before the next one is sent, with this move between them; the answer to the second one
 -- is the reply that `remembers` keeps after a start
 abbrev pub two_answered_around : Move Keeper → List (Move Keeper)
-two_answered_around between = one_answered (Table NullProc) (giving 0 0) (between ∷ one_answered (Table InstrumentNo) (giving 1 27) [])
+two_answered_around between = null_answered (between ∷ one_answered (Table InstrumentNo) (giving 1 27) [])
 
 -- Instruments that keep no reply: their state says whether they are out of order.
 
@@ -190,7 +194,7 @@ sound = record mistaken { handed = λ b id call. breakable_handed b id b }
 -- the moves by which a null procedure is sent and answered, and then one request is sent, is repeated by the line, and reaches
 -- the instrument twice
 abbrev pub repeated_request : {State : Type 0} → List (Move State)
-repeated_request = one_answered (Table NullProc) (giving 0 0) (Sends 7 (Table InstrumentNo) 9 ∷ OnLine (Up_repeat 0) ∷ OnLine Up_deliver ∷ OnLine Up_deliver ∷ [])
+repeated_request = null_answered (Sends 7 (Table InstrumentNo) 9 ∷ OnLine (Up_repeat 0) ∷ OnLine Up_deliver ∷ OnLine Up_deliver ∷ [])
 
 -- an instrument that keeps its reply, but executes also a request that comes again
 abbrev pub executes_again : Ends Keeper
@@ -215,13 +219,13 @@ pub record IsExecutedTwice {State : Type 0} (ends : Ends State) (Good : State �
 -- each clause of what is asked of an instrument (`IsAnInstrumentFor`) is needed; and so are the rule when a client sends, the
 -- limits of what may change by itself, and both clauses of `KeepsItsReply`
 pub record IsAllNeeded : Type 0 where
-  pub hears : IsNeeded misheard AnyState never_kept false Hears (one_answered (Table NullProc) (giving 0 0) (two_asked (giving 1 0))) 10 (Table InstrumentNo) (giving 1 0)
-  pub replies : IsNeeded mistaken AnyState never_kept false Replies (one_answered (Table NullProc) (giving 0 0) (two_asked (giving 2 0))) 10 (Table InstrumentNo) (giving 2 0)
-  pub repeats : IsNeeded pretends AnyState never_kept false Repeats (one_answered (Table NullProc) (giving 0 0) (one_answered (Table InstrumentNo) (giving 1 0) [])) 9 (Table InstrumentNo) (giving 1 0)
+  pub hears : IsNeeded misheard AnyState never_kept false Hears (null_answered (two_asked (giving 1 0))) 10 (Table InstrumentNo) (giving 1 0)
+  pub replies : IsNeeded mistaken AnyState never_kept false Replies (null_answered (two_asked (giving 2 0))) 10 (Table InstrumentNo) (giving 2 0)
+  pub repeats : IsNeeded pretends AnyState never_kept false Repeats (null_answered (one_answered (Table InstrumentNo) (giving 1 0) [])) 9 (Table InstrumentNo) (giving 1 0)
   pub keeps : IsNeeded keeps_older AnyState keeper_kept None Keeps (nine_requests (Table InstrumentNo)) 16 (Table NullProc) (giving 0 0)
   pub starts : IsNeeded remembers AnyState keeper_kept None Starts (two_answered_around Anew) 9 (Table InstrumentNo) (giving 1 27)
-  pub stays_good : IsNeeded wears_out IsUnbroken never_kept false StaysGood (one_answered (Table NullProc) (giving 0 0) (two_asked (giving 2 0))) 10 (Table InstrumentNo) (giving 2 0)
-  pub starts_good : IsNeeded starts_broken IsUnbroken never_kept false StartsGood (one_answered (Table NullProc) (giving 0 0) (Anew ∷ two_asked (giving 2 0))) 10 (Table InstrumentNo) (giving 2 0)
+  pub stays_good : IsNeeded wears_out IsUnbroken never_kept false StaysGood (null_answered (two_asked (giving 2 0))) 10 (Table InstrumentNo) (giving 2 0)
+  pub starts_good : IsNeeded starts_broken IsUnbroken never_kept false StartsGood (null_answered (Anew ∷ two_asked (giving 2 0))) 10 (Table InstrumentNo) (giving 2 0)
   -- when a client sends is needed, too: an instrument meets every clause, and the last request, which wasn't sent after the
   -- table (`IsBehindTheTable`), has an answer booked though it was never executed
   pub refuses_raws_is : IsAnInstrument refuses_raws AnyState keeper_kept
@@ -232,7 +236,7 @@ pub record IsAllNeeded : Type 0 where
   pub keeper_is : IsAnInstrument keeper AnyState keeper_kept
   pub changes_kept : IsBookedUnexecuted keeper AnyState never_kept None (two_answered_around (Changes (Some (1, 27)))) 9 (Table InstrumentNo) (giving 1 27)
   pub sound_is : IsAnInstrument sound IsUnbroken never_kept
-  pub changes_good : IsBookedUnexecuted sound AnyState never_kept false (one_answered (Table NullProc) (giving 0 0) (Changes true ∷ two_asked (giving 2 0))) 10 (Table InstrumentNo) (giving 2 0)
+  pub changes_good : IsBookedUnexecuted sound AnyState never_kept false (null_answered (Changes true ∷ two_asked (giving 2 0))) 10 (Table InstrumentNo) (giving 2 0)
   -- an instrument that keeps its reply executes a request that comes twice only once (`ExecutesOnce`), and both clauses on that
   -- are needed: here are an instrument that lacks the first clause and has the second, and one that lacks the second and has
   -- the first

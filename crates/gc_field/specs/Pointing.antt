@@ -4,7 +4,6 @@
 use Rattle.std.specs.Prelude.{◌≡◌, ℕ, ◌<◌, Bool, true, false, List, Some, slice_get}
 use Rattle.std.specs.List.{AllByRecursion}
 use Rattle.gc_values.specs.declared.decimal.Decimal.{Decimal}
-use Rattle.gc_catalogue.specs.declared.answer.Reading.{Reading}
 use Rattle.gc_catalogue.specs.declared.asked.Asked.{Asked}
 use Rattle.gc_catalogue.specs.declared.asked.Asked.TheVariants.{Table, Raw}
 use Rattle.gc_catalogue.specs.declared.call.Call.TheVariants.{Position, ChangeFace, FineAdjust}
@@ -12,14 +11,12 @@ use Rattle.gc_instrument.specs.Execution.{exec}
 use Rattle.gc_instrument.specs.Replying.{without_kept}
 use Rattle.gc_instrument.specs.State.{State, IsFittingState}
 use Rattle.gc_texts.specs.declared.tasks.Task.{Task}
-use Rattle.gc_station.specs.Parts.{Part}
 use Rattle.gc_station.specs.Records.{Record}
 use Rattle.gc_field.specs.Simulator.{simulator_ends}
 use Rattle.gc_field.specs.Begin.{UnderWay}
 use Rattle.gc_field.specs.Chains.{HasEffect, IsChainedTo, IsUndisturbed, OfEachBeforeInChain, stretch_wire}
 use Rattle.gc_field.specs.Laws.{kept_of}
-use Rattle.gc_field.specs.Runs.{IsInField, Program, program_parts, program_records}
-use Rattle.gc_field.specs.Shown.{Stretch, stretches}
+use Rattle.gc_field.specs.Runs.{IsInField, Program, program_records}
 
 -- the simulator's state once it has executed a request: a procedure that isn't in the table changes nothing
 abbrev pub state_after_call : State → Asked → State
@@ -42,26 +39,25 @@ pub record PointsAs (s t : State) : Type 0 where
   pub pointing : s.pointing ≡ t.pointing
   pub face : s.face ≡ t.face
 
--- when the command of record b was executed, after the command at place a (by `h`), the telescope pointed where executing the
--- latter had left it; and if the latter was a positioning, in the direction that it commanded, in the face in which the telescope
--- was before
-pub record IsMeasuredWhereItPointed {reads : Asked → List ℕ → Reading} {commands : List Task} {ps : List Part} {ss : List (Stretch State)}
-    {records : List Record} {a : ℕ} {b : Record} {line : List ℕ} (h : IsChainedTo simulator_ends IsFittingState kept_of reads commands ps ss records a b line) : Type 0 where
-  pub as_left : PointsAs (stretch_wire simulator_ends h.stretch h.executed.second.front).state (state_after_call (stretch_wire simulator_ends h.stretch h.executed.first.front).state h.earlier.answer.command.call)
+-- when a command was executed, in the state `now`, the telescope pointed where executing an earlier command (`call`) in the state
+-- `before` had left it; and if the earlier one was a positioning, in the direction that it commanded, in the face in which the
+-- telescope was before
+pub record PointsAsLeft (call : Asked) (before now : State) : Type 0 where
+  pub as_left : PointsAs now (state_after_call before call)
   pub as_commanded :
-      (hz v : Decimal) (pos_mode atr_mode dummy : _) → h.earlier.answer.command.call ≡ Table (Position hz v pos_mode atr_mode dummy)
-      → ((stretch_wire simulator_ends h.stretch h.executed.second.front).state.pointing ≡ record { hz = hz; v = v })
-      × ((stretch_wire simulator_ends h.stretch h.executed.second.front).state.face ≡ (stretch_wire simulator_ends h.stretch h.executed.first.front).state.face)
+      (hz v : Decimal) (pos_mode atr_mode dummy : _) → call ≡ Table (Position hz v pos_mode atr_mode dummy)
+      → (now.pointing ≡ record { hz = hz; v = v }) × (now.face ≡ before.face)
 
 -- if a reply in time ended the command of record b, it was executed after each command before it in its chain (`h`, for the one
 -- at place a). If no command of the places between turns the telescope, and the instrument neither started again nor changed by
--- itself between the two executions, it was executed with the telescope as the earlier one had left it
--- (`IsMeasuredWhereItPointed`)
+-- itself between the two executions, it was executed with the telescope as the earlier one had left it (`PointsAsLeft`)
 abbrev pub IsPointedInChain : UnderWay State → Program State → Record → Type 0
 IsPointedInChain u x b =
-    OfEachBeforeInChain x.plan x.commands b (λ line a.
-    (h : IsChainedTo simulator_ends IsFittingState kept_of x.scope.reads x.commands (program_parts x) (stretches simulator_ends u x.runs) (program_records x) a b line)
-    × (AreStill x.commands a b.place → IsUndisturbed h.executed.between → IsMeasuredWhereItPointed h))
+    OfEachBeforeInChain x b (λ line a.
+    (h : IsChainedTo simulator_ends IsFittingState kept_of u x a b line)
+    × (AreStill x.commands a b.place → IsUndisturbed h.executed.between
+    → PointsAsLeft h.earlier.answer.command.call (stretch_wire simulator_ends h.stretch h.executed.first.front).state
+    (stretch_wire simulator_ends h.stretch h.executed.second.front).state))
 
 -- each record is `IsPointedInChain`: for every plan, all commands, every run of the station in the field (`IsInField`) over the
 -- simulator, and all that the line and the simulator may do meanwhile

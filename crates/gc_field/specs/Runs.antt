@@ -24,6 +24,7 @@ use Rattle.gc_station.specs.EachOnce.{EachOnce}
 use Rattle.gc_station.specs.Links.{parts}
 use Rattle.gc_station.specs.Marks.{records_of}
 use Rattle.gc_station.specs.Parts.{Part, MarksAsk, part_of_act, mark_of, sent_at, sent_of, timeless}
+use Rattle.gc_station.specs.Progressing.{is_over}
 use Rattle.gc_station.specs.Records.{Record}
 use Rattle.gc_station.specs.Requests.{asked_at}
 use Rattle.gc_station.specs.Runs.{state_after}
@@ -58,6 +59,10 @@ program_parts x = parts x.plan x.commands x.scope x.acts
 -- the records of a program's run
 abbrev pub program_records : {State : Type 0} → Program State → List Record
 program_records x = (state_after x.plan x.commands x.scope x.acts).records
+
+-- no act follows those of a program's run: it is over
+abbrev pub NoActFollows : {State : Type 0} → Program State → Type 0
+NoActFollows x = is_over (state_after x.plan x.commands x.scope x.acts).progress ≡ true
 
 -- whether a moment at or past this deadline is read among these moves
 abbrev pub times_out : {State : Type 0} → ℕ → List (Move State) → Bool

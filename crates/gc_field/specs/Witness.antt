@@ -1,6 +1,6 @@
 -- There is a run in the field, this project's own: the station synchronizes over a line with an older request and an older
 -- reply in flight, and a command is asked and answered. So what is said of all such runs is said of some.
-use Rattle.std.specs.Prelude.{◌≡◌, ℕ, true, false, List, [], ◌∷◌, codes, drop, pos, Some}
+use Rattle.std.specs.Prelude.{◌≡◌, ℕ, false, List, [], ◌∷◌, codes, drop, pos, Some}
 use Rattle.gc_lines.specs.Lines.{with_end}
 use Rattle.gc_catalogue.specs.declared.answer.Answer.{Answer}
 use Rattle.gc_catalogue.specs.declared.answer.Answer.TheVariants.{Long}
@@ -15,8 +15,6 @@ use Rattle.gc_texts.specs.declared.quality.Quality.TheVariants.{Fine}
 use Rattle.gc_links.specs.declared.link.Moment.{Moment}
 use Rattle.gc_station.specs.declared.plan.Plan.{Plan}
 use Rattle.gc_links.specs.Acts.{Act, Told, Put, Gave, Closed, Opened}
-use Rattle.gc_station.specs.Progressing.{is_over}
-use Rattle.gc_station.specs.Runs.{state_after}
 use Rattle.gc_station.specs.Scopes.{Scope, scoped}
 use Rattle.gc_field.specs.Plain.{plain_task, plain_turn}
 use Rattle.gc_field.specs.Simulator.{simulator_ends}
@@ -27,7 +25,7 @@ use Rattle.gc_field.specs.Beginnings.{Run}
 use Rattle.gc_field.specs.Begun.{WasMadeOn}
 use Rattle.gc_field.specs.Field.{Move, Sends, Tells, Comes, OnLine}
 use Rattle.gc_field.specs.Laws.{kept_of}
-use Rattle.gc_field.specs.Runs.{IsInField}
+use Rattle.gc_field.specs.Runs.{IsInField, NoActFollows, Program, program_records}
 
 -- a plan with requests in flight up to this width, deadlines of 100 ms, one cycle, a quiet time of 10 ms, and one retry
 abbrev pub plan_of_width : ℕ → Plan
@@ -120,18 +118,17 @@ turns = Asks ∷ turn.Comes ∷ Reaches ∷ turn.Comes ∷ Reaches ∷ turn.Come
 abbrev pub moves : List (Move State)
 moves = Tells 15 ∷ Sends 7 (Table InstrumentNo) 115 ∷ Tells 15 ∷ OnLine Up_deliver ∷ Tells 20 ∷ Comes answer ∷ []
 
--- what happens on the line: in this run, and after its end in one more, in which nothing happens
-abbrev pub runs : List (Run State)
-runs = run_and_end turns moves
+-- the run as a program; after its end is one more run on the line, in which nothing happens
+abbrev pub program : Program State
+program = record { plan = plan; commands = commands; scope = scope; acts = acts; runs = run_and_end turns moves }
 
 -- this is a run in the field, after which no act follows; it recorded the command's answer, which was made on executing the
 -- command's request
 pub record SomeRunIsInField : Type 0 where
-  pub field : IsInField simulator_ends IsFittingState kept_of at_start (record { plan = plan; commands = commands; scope = scope; acts = acts; runs = runs })
-  pub over : is_over (state_after plan commands scope acts).progress ≡ true
+  pub field : IsInField simulator_ends IsFittingState kept_of at_start program
+  pub over : NoActFollows program
   pub records :
-      (state_after plan commands scope acts).records
-      ≡ record {
+      program_records program ≡ record {
         sent = Some 15;
         utc = 20;
         cycle = 1;

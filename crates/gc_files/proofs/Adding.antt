@@ -6,7 +6,7 @@ use Rattle.std.proofs.lemmas.Bool.{cases_Bool, eqb-true}
 use Rattle.std.proofs.lemmas.List.{append-nil}
 use Rattle.std.specs.Io.KnownBytes.{Appends, Keeps}
 use Rattle.gc_files.specs.Sinks.{known_content}
-use Rattle.gc_files.proofs.Moments.{behind_two}
+use Rattle.gc_files.proofs.Moments.{held_after_two}
 use Rattle.gc_files.specs.Files.{Step, Append, Cut, Sync, Life, has_sync, content, later_by, Adds}
 use Rattle.gc_files.specs.Runs.{synced}
 use Rattle.gc_files.specs.Rows.{whole, is_empty, mended, cuts_none, appended, MendedAndPut, IsFront, Did, Opens, OpensInPart, PutsAll, IsEndOfRows, IsMended, IsMendedInPart}
@@ -89,9 +89,9 @@ opens_whole head old new end more ends adds life is = (
 )
 
 -- where a file was mended, and these bytes were then appended to it, all that was done to it is as `MendedAndPut` has it
-pub ran_more : (old mid new : Option Life) (bytes : List ℕ) → IsMended old mid → PutsAll mid new bytes
+pub put_after_mending : (old mid new : Option Life) (bytes : List ℕ) → IsMended old mid → PutsAll mid new bytes
     → Did old new (λ held steps. MendedAndPut held steps bytes)
-ran_more old mid new bytes adds puts life is =
+put_after_mending old mid new bytes adds puts life is =
     let second = puts (later_by (mended (content life)) life) (adds life is life is) in (
       mended (content life) ++ second.0,
       second.1 ∙ ap (λ (l : Life). Some l) (later_two (mended (content life)) second.0 life),
@@ -102,7 +102,7 @@ ran_more old mid new bytes adds puts life is =
 pub opens_head : (head : List ℕ) (old mid new : Option Life) (end : ℕ)
     → end ≤ 0 → IsEndOfRows old end → IsMended old mid → PutsAll mid new head → Opens head old new
 opens_head head old mid new end none ends adds puts life is =
-    let ran = ran_more old mid new head adds puts life is in
+    let ran = put_after_mending old mid new head adds puts life is in
     (ran.0, ran.1, subst (λ (bytes : List ℕ). MendedAndPut (content life) ran.0 bytes) (sym (head_without_rows head (whole (content life)) (omega (arith, none, ends life is)))) ran.2)
 
 -- a file that was mended, in part or whole, was opened as far as the opening came (`OpensInPart`)
@@ -116,7 +116,7 @@ opens_part head old new part life is =
 pub opens_head_part : (head : List ℕ) (old mid new : Option Life) (end : ℕ) → end ≤ 0 → IsEndOfRows old end → IsMended old mid
     → (front : List ℕ) × IsFront front head × PutsAll mid new front → OpensInPart head old new
 opens_head_part head old mid new end none ends adds part life is =
-    let ran = ran_more old mid new part.0 adds part.2 life is in
+    let ran = put_after_mending old mid new part.0 adds part.2 life is in
     (ran.0, ran.1, inr (part.0, ran.2, subst (λ (all : List ℕ). IsFront part.0 all) (sym (head_without_rows head (whole (content life)) (omega (arith, none, ends life is)))) part.1))
 
 -- where a file's content was known, it is what it was and then what was appended
@@ -124,13 +124,13 @@ pub content_more : (old new : Option Life) (bytes : List ℕ)
     → Adds old new (Append bytes ∷ []) → Appends (known_content old) (known_content new) bytes
 content_more None new bytes adds = tt
 content_more (Some life) new bytes adds =
-    subst (λ (now : Option Life). Appends (Some (content life)) (known_content now) bytes) (sym (adds life refl)) (behind_two life.start life.steps (Append bytes ∷ []))
+    subst (λ (now : Option Life). Appends (Some (content life)) (known_content now) bytes) (sym (adds life refl)) (held_after_two life.start life.steps (Append bytes ∷ []))
 
 -- a sync leaves the known content of a file as it was
 pub content_same : (old new : Option Life) → Adds old new (Sync ∷ []) → Keeps (known_content old) (known_content new)
 content_same None new adds = tt
 content_same (Some life) new adds =
-    subst (λ (now : Option Life). Keeps (Some (content life)) (known_content now)) (sym (adds life refl)) (behind_two life.start life.steps (Sync ∷ []))
+    subst (λ (now : Option Life). Keeps (Some (content life)) (known_content now)) (sym (adds life refl)) (held_after_two life.start life.steps (Sync ∷ []))
 
 -- steps with one more append after them append what they did, and then the bytes of that append
 pub appended_more : (steps : List Step) (bytes : List ℕ) → appended (steps ++ Append bytes ∷ []) ≡ appended steps ++ bytes

@@ -19,8 +19,8 @@ record HasRowsOnBothSides (head before : List ℕ) (runs : List Run) (sides : Si
   same : doubted ≡ false → sides.read ≡ sides.disk
 
 -- bytes at the end that end no row are no part of the table
-hole_is_none : (head front hole : List ℕ) → has_feed hole ≡ false → opened_table head (front ++ hole) ≡ opened_table head front
-hole_is_none head front hole none = same_table head (front ++ hole) front (whole_front front hole none)
+hole_has_no_row : (head front hole : List ℕ) → has_feed hole ≡ false → opened_table head (front ++ hole) ≡ opened_table head front
+hole_has_no_row head front hole none = same_table head (front ++ hole) front (whole_front front hole none)
 
 -- where a file that holds `held` has the rows of these runs, a file that holds `left` and has the same table has these rows,
 -- too
@@ -34,10 +34,10 @@ settled_lasts : (head before : List ℕ) (runs : List Run) (held : List ℕ)
 settled_lasts head before runs held has left may = subst (HasRows head before runs) (sym may) has
 
 -- where whatever a crash leaves of a side has the rows of these runs, what a failed sync makes of that side has them, too
-lost_has : (head before : List ℕ) (runs : List Run) (life : Life) (now : List ℕ)
+lost_side_has_rows : (head before : List ℕ) (runs : List Run) (life : Life) (now : List ℕ)
     → Lasts head before runs life → Loses life now → HasRows head before runs now
-lost_has head before runs life now lasts lost =
-    same_rows head before runs lost.front now (lasts lost.front lost.may) (ap (opened_table head) lost.is ∙ hole_is_none head lost.front lost.hole lost.none)
+lost_side_has_rows head before runs life now lasts lost =
+    same_rows head before runs lost.front now (lasts lost.front lost.may) (ap (opened_table head) lost.is ∙ hole_has_no_row head lost.front lost.hole lost.none)
 
 -- for a file with this head, and `before` as its table before all runs
 module _ (head before : List ℕ) (heads : IsHead head) where
@@ -73,8 +73,8 @@ module _ (head before : List ℕ) (heads : IsHead head) where
       let more = run_lasts runs sides run has is in
       let there = subst (λ (life : Life). Loses life read) (ap (later_by run.steps) (has.same refl)) loses_read in
       record {
-        read = lost_has head before all (later_by run.steps sides.disk) read more there;
-        disk = settled_lasts head before all disk (lost_has head before all (later_by run.steps sides.disk) disk more loses_disk);
+        read = lost_side_has_rows head before all (later_by run.steps sides.disk) read more there;
+        disk = settled_lasts head before all disk (lost_side_has_rows head before all (later_by run.steps sides.disk) disk more loses_disk);
         same = λ wrong. let clash : true ≡ false = wrong in cc;
       }
 

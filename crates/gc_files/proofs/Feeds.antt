@@ -1,6 +1,6 @@
 -- A file that is copied block by block: `at` is how many of its bytes were copied so far, and each line feed among them is
 -- counted.
-use Rattle.std.proofs.Common.{◌≡◌, ℕ, ◌+◌, ◌≤◌, ◌==◌, List, [], ◌∷◌, ◌++◌, length, take, drop, refl, sym, ◌∙◌, ap, subst, arith, length-append, Option}
+use Rattle.std.proofs.Common.{◌≡◌, ℕ, ◌+◌, ◌≤◌, ◌==◌, List, [], ◌∷◌, ◌++◌, length, take, refl, sym, ◌∙◌, ap, subst, arith, length-append, Option}
 use Rattle.std.specs.Prelude.{filter}
 use Rattle.std.proofs.Math.Seq.{take-add}
 use Rattle.std.proofs.lemmas.List.{append-nil, take_all}
@@ -9,6 +9,7 @@ use Rattle.gc_files.specs.Failing.{feeds}
 use Rattle.gc_files.specs.Files.{Sync, Life, Adds}
 use Rattle.gc_files.specs.Rows.{PutsAll}
 use Rattle.gc_files.proofs.Adding.{puts_two}
+use Rattle.gc_files.proofs.Looking.{IsBlock}
 
 -- two texts together have the line feeds of both
 pub feeds_two : (xs ys : List ℕ) → feeds (xs ++ ys) ≡ feeds xs + feeds ys
@@ -19,23 +20,22 @@ pub puts_synced : (old mid new : Option Life) (xs : List ℕ) → PutsAll old mi
 puts_synced old mid new xs puts sync =
     subst (PutsAll old new) (append-nil xs) (puts_two old mid new xs [] puts (λ life is. (Sync ∷ [], sync life is, record { none_cut = refl; all = refl })))
 
--- where a block is the `size` bytes after the first `at`, the first `at + size` bytes are the first `at` and then the block
-taken_block : (held block : List ℕ) (at size : ℕ) → block ≡ take (length block) (drop at held) → length block ≡ size
-    → take (at + size) held ≡ take at held ++ block
-taken_block held block at size is long = take-add at size held ∙ ap (λ (l : List ℕ). take at held ++ l) (sym (is ∙ ap (λ n. take n (drop at held)) long))
+-- the first `at + size` bytes are the first `at`, and then the block of the `size` bytes after them
+taken_block : (at size : ℕ) (held block : List ℕ) → IsBlock at size held block → take (at + size) held ≡ take at held ++ block
+taken_block at size held block is = take-add at size held ∙ ap (λ (l : List ℕ). take at held ++ l) (sym is)
 
 -- where the first `at` bytes were appended, and then the block of the `size` bytes after them, the first `at + size` bytes were
-pub puts_block : (old mid new : Option Life) (held block : List ℕ) (at size : ℕ) → block ≡ take (length block) (drop at held) → length block ≡ size
+pub puts_block : (old mid new : Option Life) (at size : ℕ) (held block : List ℕ) → IsBlock at size held block
     → PutsAll old mid (take at held) → PutsAll mid new block → PutsAll old new (take (at + size) held)
-puts_block old mid new held block at size is long first second =
-    subst (PutsAll old new) (sym (taken_block held block at size is long)) (puts_two old mid new (take at held) block first second)
+puts_block old mid new at size held block is first second =
+    subst (PutsAll old new) (sym (taken_block at size held block is)) (puts_two old mid new (take at held) block first second)
 
 -- where `lines` is the number of line feeds in the first `at` bytes, and `more` that of the block of the `size` bytes after them,
 -- their sum is that of the first `at + size`
-pub counts_block : (held block : List ℕ) (at size lines more : ℕ) → block ≡ take (length block) (drop at held) → length block ≡ size
+pub counts_block : (at size : ℕ) (held block : List ℕ) (lines more : ℕ) → IsBlock at size held block
     → lines ≡ feeds (take at held) → more ≡ feeds block → lines + more ≡ feeds (take (at + size) held)
-counts_block held block at size lines more is long first second =
-    omega (arith, first, second, ap feeds (taken_block held block at size is long), feeds_two (take at held) block)
+counts_block at size held block lines more is first second =
+    omega (arith, first, second, ap feeds (taken_block at size held block is), feeds_two (take at held) block)
 
 -- where the first `at` bytes of a file, which are all that it holds, were appended to a copy, and the copy was synced, all that
 -- the file holds was appended to the copy

@@ -5,8 +5,8 @@ use Rattle.gc_files.specs.Files.{Step, Sync, Life, held_after, content, later_by
 use Rattle.gc_files.specs.Rows.{opened_table, head_written, mended, appended, MendedAndPut, IsFront, ComesTo}
 use Rattle.gc_files.specs.Runs.{synced, Run, row_lines, IsHead, IsRun, life_after, life_once_ended, HasRows, IsKilled, AreKilled, KillsLoseNothing, OpeningsAreRuns, FailedOpeningsAreRuns}
 use Rattle.gc_files.proofs.Adding.{cuts_two, appended_two, synced_all}
-use Rattle.gc_files.proofs.Lasting.{RunHas, run_moments, has_more}
-use Rattle.gc_files.proofs.Moments.{may_stay, behind_two, two_steps, mend_synced}
+use Rattle.gc_files.proofs.Lasting.{RunHas, run_moments, has_rows_more}
+use Rattle.gc_files.proofs.Moments.{may_stay, held_after_two, two_steps, mend_synced}
 
 -- where steps mended a file, and then appended `bytes`, what they and a sync after them have synced is `bytes`
 pub ran_synced : (held : List ℕ) (steps : List Step) (bytes : List ℕ) → MendedAndPut held steps bytes → synced (steps ++ Sync ∷ []) ≡ bytes
@@ -57,8 +57,8 @@ abbrev synced_run : Run → Run
 synced_run run = record run { steps = run.steps ++ Sync ∷ [] }
 
 -- a file after a run that ended by itself or by a kill has first rows of the run, at least those that count as kept (`RunHas`)
-killed_has : (head held : List ℕ) (run : Run) → IsHead head → IsKilled head held run → RunHas head held run (held_after held run.steps)
-killed_has head held run heads one = elim one.is.kept [
+killed_has_rows : (head held : List ℕ) (run : Run) → IsHead head → IsKilled head held run → RunHas head held run (held_after held run.steps)
+killed_has_rows head held run heads one = elim one.is.kept [
   | inl none ↦ run_moments head held run (held_after held run.steps) heads (record { rows = one.is.rows; steps = one.is.steps; few = one.is.few; kept = inl none }) (may_stay held run.steps)
   | inr whole ↦
       let bytes = whole.0 in
@@ -81,7 +81,7 @@ killed_has head held run heads one = elim one.is.kept [
         few = one.is.few;
         kept = inr (subst (λ (all : List ℕ). IsFront (head_written head held ++ row_lines (take run.kept run.rows)) all) (sym (ran_synced held run.steps bytes ran)) whole.3);
       } in
-      let same : held_after held with.steps ≡ held_after held run.steps = behind_two held run.steps (Sync ∷ []) in
+      let same : held_after held with.steps ≡ held_after held run.steps = held_after_two held run.steps (Sync ∷ []) in
       let has = run_moments head held with (held_after held with.steps) heads is (may_stay held with.steps) in
       record {
         count = has.count;
@@ -98,9 +98,9 @@ killed_runs_add_rows : (head before : List ℕ) → IsHead head → (done runs :
     → HasRows head before (done ++ runs) (content (life_after life runs))
 killed_runs_add_rows head before heads done [] life has killed = subst (λ (rs : List Run). HasRows head before rs (content life)) (sym (append-nil done)) has
 killed_runs_add_rows head before heads done (run ∷ runs) life has killed =
-    let one = killed_has head (content life) run heads killed.0 in
-    let left = subst (λ (held : List ℕ). RunHas head (content life) run held) (sym (behind_two life.start life.steps run.steps)) one in
-    let more = has_more head before done run (content life) (content (later_by run.steps life)) has left in
+    let one = killed_has_rows head (content life) run heads killed.0 in
+    let left = subst (λ (held : List ℕ). RunHas head (content life) run held) (sym (held_after_two life.start life.steps run.steps)) one in
+    let more = has_rows_more head before done run (content life) (content (later_by run.steps life)) has left in
     let all = killed_runs_add_rows head before heads (done ++ run ∷ []) runs (later_by run.steps life) more killed.1 in
     subst (λ (rs : List Run). HasRows head before rs (content (life_after life (run ∷ runs)))) (append_assoc done (run ∷ []) runs)
     (subst (λ (o : Option (List ℕ)). HasRows head before ((done ++ run ∷ []) ++ runs) (content (life_after (life_once_ended life run o) runs))) (sym killed.0.killed) all)

@@ -4,9 +4,9 @@ use Rattle.std.proofs.Common.{◌≡◌, ◌⊎◌, inl, inr, ℕ, zero, suc, �
 use Rattle.std.proofs.lemmas.Bool.{cases_Bool}
 use Rattle.std.proofs.lemmas.List.{append-nil}
 use Rattle.std.proofs.lemmas.List.Prefix.{front_fits}
-use Rattle.gc_files.specs.Files.{Step, Append, Cut, Sync, Life, settled, has_sync, content, later_by, MayLeave}
+use Rattle.gc_files.specs.Files.{Step, Append, Cut, Sync, Life, settled, has_sync, content, later_by, MayBeLeft, MayLeave}
 use Rattle.gc_files.specs.Rows.{whole, row_line, is_empty, head_written, opened_table, mended, appended, MendedAndPut, IsFront}
-use Rattle.gc_files.specs.Runs.{synced, Run, row_lines, AreRows, IsHead, IsRun, life_once_ended, CrashMayLeave, Happen, life_after, rows_of, AreRowCounts, HasRows, TablesLast}
+use Rattle.gc_files.specs.Runs.{synced, Run, row_lines, run_bytes, AreRows, IsHead, IsRun, life_once_ended, CrashMayLeave, Happen, life_after, rows_of, AreRowCounts, HasRows, TablesLast}
 use Rattle.gc_files.proofs.Whole.{whole_whole, whole_more, Within, within}
 use Rattle.gc_files.proofs.Moments.{may_stay, leaves_two, no_sync, mended_leaves_whole, mend_moments, two_steps, mend_synced, front_take, put_moments}
 
@@ -16,16 +16,16 @@ pub record HasRowsWithin (head held : List ℕ) (rows : List (List ℕ)) (k : �
   pub count : ℕ
   pub few : count ≤ length rows
   pub is : opened_table head left ≡ opened_table head held ++ row_lines (take count rows)
-  pub least : (m : ℕ) → m ≤ length rows → length (head_written head held ++ row_lines (take m rows)) ≤ k → m ≤ count
+  pub least : (m : ℕ) → m ≤ length rows → length (run_bytes head held (take m rows)) ≤ k → m ≤ count
 
 -- where `rows` are the whole rows of a file that holds `left`, the file's table is `rows`, or the head where `rows` is empty
-table_by : (head left : List ℕ) (rows : List ℕ) → whole left ≡ rows → opened_table head left ≡ rows ++ (if is_empty rows then head else [])
-table_by head left rows is = ap (λ (l : List ℕ). l ++ (if is_empty l then head else [])) is
+table_by_whole_rows : (head left : List ℕ) (rows : List ℕ) → whole left ≡ rows → opened_table head left ≡ rows ++ (if is_empty rows then head else [])
+table_by_whole_rows head left rows is = ap (λ (l : List ℕ). l ++ (if is_empty l then head else [])) is
 
 -- where what is found, `left`, has the same table as what was there before a run, `held`, `HasRowsWithin` is true for 0 bytes:
 -- none of the run's rows was added, and none ends within 0 bytes
-pub none_more : (head held : List ℕ) (rows : List (List ℕ)) (left : List ℕ) → AreRows rows → opened_table head left ≡ opened_table head held → HasRowsWithin head held rows 0 left
-none_more head held rows left are same =
+pub no_rows_within : (head held : List ℕ) (rows : List (List ℕ)) (left : List ℕ) → AreRows rows → opened_table head left ≡ opened_table head held → HasRowsWithin head held rows 0 left
+no_rows_within head held rows left are same =
     let w = within rows 0 are in
     record {
       count = w.count;
@@ -36,7 +36,7 @@ none_more head held rows left are same =
 
 -- the table of a file with a whole row is its whole rows
 table_of_rows : (head : List ℕ) (b : ℕ) (bs : List ℕ) (left : List ℕ) → whole left ≡ b ∷ bs → opened_table head left ≡ b ∷ bs
-table_of_rows head b bs left is = table_by head left (b ∷ bs) is ∙ append-nil (b ∷ bs)
+table_of_rows head b bs left is = table_by_whole_rows head left (b ∷ bs) is ∙ append-nil (b ∷ bs)
 
 -- the line of a row has a first byte
 line_first : (row : List ℕ) → (b : ℕ) × (bs : List ℕ) × (row_line row ≡ b ∷ bs)
@@ -45,9 +45,9 @@ line_first (b ∷ row) = (b, row ++ 10 ∷ [], refl)
 
 -- where a file held a whole row before a run, and `left` is its whole rows and then the first k bytes that the run appends,
 -- `left` has the rows that end within these k bytes (`HasRowsWithin`)
-behind_rows : (head held : List ℕ) (b : ℕ) (bs : List ℕ) (rows : List (List ℕ)) (k : ℕ) (left : List ℕ) → AreRows rows → whole held ≡ b ∷ bs
-    → left ≡ whole held ++ take k (head_written head held ++ row_lines rows) → HasRowsWithin head held rows k left
-behind_rows head held b bs rows k left are some is =
+rows_within_after_rows : (head held : List ℕ) (b : ℕ) (bs : List ℕ) (rows : List (List ℕ)) (k : ℕ) (left : List ℕ) → AreRows rows → whole held ≡ b ∷ bs
+    → left ≡ whole held ++ take k (run_bytes head held rows) → HasRowsWithin head held rows k left
+rows_within_after_rows head held b bs rows k left are some is =
     let w = within rows k are in
     let start : head_written head held ≡ [] = ap (λ (l : List ℕ). if is_empty l then head else []) some in
     let at : left ≡ whole held ++ take k (row_lines rows) = is ∙ ap (λ (l : List ℕ). whole held ++ take k (l ++ row_lines rows)) start in
@@ -63,9 +63,9 @@ behind_rows head held b bs rows k left are some is =
 
 -- where a file held no whole row before a run, there is no head, and `left` is the first k bytes that the run appends, `left` has
 -- the rows that end within these k bytes (`HasRowsWithin`)
-behind_nothing : (held : List ℕ) (rows : List (List ℕ)) (k : ℕ) (left : List ℕ) → AreRows rows → whole held ≡ []
-    → left ≡ whole held ++ take k (head_written [] held ++ row_lines rows) → HasRowsWithin [] held rows k left
-behind_nothing held rows k left are none is =
+rows_within_without_head : (held : List ℕ) (rows : List (List ℕ)) (k : ℕ) (left : List ℕ) → AreRows rows → whole held ≡ []
+    → left ≡ whole held ++ take k (run_bytes [] held rows) → HasRowsWithin [] held rows k left
+rows_within_without_head held rows k left are none is =
     let w = within rows k are in
     let start : head_written [] held ≡ [] = ap (λ (l : List ℕ). if is_empty l then [] else []) none in
     let at : left ≡ take k (row_lines rows) = is ∙ ap (λ (l : List ℕ). l ++ take k (head_written [] held ++ row_lines rows)) none ∙ ap (λ (l : List ℕ). take k (l ++ row_lines rows)) start in
@@ -88,9 +88,9 @@ behind_nothing held rows k left are none is =
 -- where a file held no whole row before a run, the head is the line of `row`, and the whole rows of `left` are those of the first
 -- k bytes of the lines of `row` and of the run's rows (`Within`), `left` has the run's rows that end within the first k bytes
 -- that the run appends (`HasRowsWithin`)
-head_first : (row held : List ℕ) (rows : List (List ℕ)) (k : ℕ) (left : List ℕ) → whole held ≡ [] → (w : Within (row ∷ rows) k)
+rows_within_after_head : (row held : List ℕ) (rows : List (List ℕ)) (k : ℕ) (left : List ℕ) → whole held ≡ [] → (w : Within (row ∷ rows) k)
     → whole left ≡ row_lines (take w.count (row ∷ rows)) → HasRowsWithin (row_line row) held rows k left
-head_first row held rows k left none w is = by w.count refl where
+rows_within_after_head row held rows k left none w is = by w.count refl where
   -- by how many of these lines are whole: none, or the head and some rows
   by : (count : ℕ) → w.count ≡ count → HasRowsWithin (row_line row) held rows k left
   by zero e =
@@ -99,7 +99,7 @@ head_first row held rows k left none w is = by w.count refl where
       record {
         count = 0;
         few = omega arith;
-        is = table_by (row_line row) left [] nothing ∙ sym (append-nil (opened_table (row_line row) held) ∙ table_by (row_line row) held [] none);
+        is = table_by_whole_rows (row_line row) left [] nothing ∙ sym (append-nil (opened_table (row_line row) held) ∙ table_by_whole_rows (row_line row) held [] none);
         least = λ m few le. absurd (omega (arith, e, w.least (suc m) (omega (arith, few)) (subst (λ (l : List ℕ). length (l ++ row_lines (take m rows)) ≤ k) start le)));
       }
   by (suc n) e =
@@ -110,7 +110,7 @@ head_first row held rows k left none w is = by w.count refl where
       record {
         count = n;
         few = omega (arith, e, w.few);
-        is = table_of_rows (row_line row) f.0 (f.1 ++ row_lines (take n rows)) left first ∙ ap (λ (l : List ℕ). l ++ row_lines (take n rows)) (sym f.2 ∙ sym (table_by (row_line row) held [] none));
+        is = table_of_rows (row_line row) f.0 (f.1 ++ row_lines (take n rows)) left first ∙ ap (λ (l : List ℕ). l ++ row_lines (take n rows)) (sym f.2 ∙ sym (table_by_whole_rows (row_line row) held [] none));
         least = λ m few le. omega (arith, e, w.least (suc m) (omega (arith, few)) (subst (λ (l : List ℕ). length (l ++ row_lines (take m rows)) ≤ k) start le));
       }
 
@@ -121,19 +121,19 @@ list_cases (b ∷ bs) = inr (b, bs, refl)
 
 -- where `left` is the whole rows that a file held before a run, and then the first k bytes that the run appends, `left` has the
 -- rows that end within these k bytes (`HasRowsWithin`)
-pub reached : (head held : List ℕ) (rows : List (List ℕ)) (k : ℕ) (left : List ℕ) → IsHead head → AreRows rows
-    → left ≡ whole held ++ take k (head_written head held ++ row_lines rows) → HasRowsWithin head held rows k left
-reached head held rows k left heads are is = elim (list_cases (whole held)) [
-  | inr some ↦ behind_rows head held some.0 some.1 rows k left are some.2 is
+pub rows_within : (head held : List ℕ) (rows : List (List ℕ)) (k : ℕ) (left : List ℕ) → IsHead head → AreRows rows
+    → left ≡ whole held ++ take k (run_bytes head held rows) → HasRowsWithin head held rows k left
+rows_within head held rows k left heads are is = elim (list_cases (whole held)) [
+  | inr some ↦ rows_within_after_rows head held some.0 some.1 rows k left are some.2 is
   | inl none ↦ elim heads [
     | inl empty ↦ subst (λ (h : List ℕ). HasRowsWithin h held rows k left) (sym empty)
-        (behind_nothing held rows k left are none (subst (λ (h : List ℕ). left ≡ whole held ++ take k (head_written h held ++ row_lines rows)) empty is))
+        (rows_within_without_head held rows k left are none (subst (λ (h : List ℕ). left ≡ whole held ++ take k (head_written h held ++ row_lines rows)) empty is))
     | inr one ↦
         let row = one.0 in
         let w = within (row ∷ rows) k (one.1, are) in
         let start : head_written head held ≡ row_line row = ap (λ (l : List ℕ). if is_empty l then head else []) none ∙ one.2 in
         let at : left ≡ take k (row_lines (row ∷ rows)) = is ∙ ap (λ (l : List ℕ). l ++ take k (head_written head held ++ row_lines rows)) none ∙ ap (λ (l : List ℕ). take k (l ++ row_lines rows)) start in
-        subst (λ (h : List ℕ). HasRowsWithin h held rows k left) (sym one.2) (head_first row held rows k left none w (ap whole at ∙ w.is))
+        subst (λ (h : List ℕ). HasRowsWithin h held rows k left) (sym one.2) (rows_within_after_head row held rows k left none w (ap whole at ∙ w.is))
   ]
 ]
 
@@ -178,7 +178,7 @@ no_row_kept head held run left one nothing =
 
 -- files with the same whole rows have the same table
 pub same_table : (head left held : List ℕ) → whole left ≡ whole held → opened_table head left ≡ opened_table head held
-same_table head left held same = table_by head left (whole held) same
+same_table head left held same = table_by_whole_rows head left (whole held) same
 
 -- no more bytes were synced than were appended
 pub synced_length : (steps : List Step) → length (synced steps) ≤ length (appended steps)
@@ -198,14 +198,14 @@ run_moments head held run left heads one may = elim one.steps [
   | inl mending ↦
       let here = subst (λ (steps : List Step). MayLeave held steps left) mending.is may in
       let nothing : synced run.steps ≡ [] = ap synced mending.is ∙ ap synced (sym (append-nil (take mending.count (mended held)))) ∙ mend_synced held mending.count [] in
-      kept_within head held run left 0 one (omega (arith, ap length nothing)) (none_more head held run.rows left one.rows (same_table head left held (mend_moments held mending.count left here)))
+      kept_within head held run left 0 one (omega (arith, ap length nothing)) (no_rows_within head held run.rows left one.rows (same_table head left held (mend_moments held mending.count left here)))
   | inr all ↦ ran_moments all.0 all.1 all.2
 ]
   where
     -- where the run mended the file whole, and then appended `bytes`, a front of the head (where no whole row was there) and,
     -- after it, the lines of the run's rows, then what a crash left, `left`, has the table from before and first rows of the run,
     -- at least the kept ones (`RunHas`)
-    ran_moments : (bytes : List ℕ) → MendedAndPut held run.steps bytes → IsFront bytes (head_written head held ++ row_lines run.rows) → RunHas head held run left
+    ran_moments : (bytes : List ℕ) → MendedAndPut held run.steps bytes → IsFront bytes (run_bytes head held run.rows) → RunHas head held run left
     ran_moments bytes ran front =
         let steps = mended held ++ ran.later in
         let here = subst (λ (steps : List Step). MayLeave held steps left) ran.split may in
@@ -214,7 +214,7 @@ run_moments head held run left heads one may = elim one.steps [
           | inl before ↦
               let nothing : synced run.steps ≡ [] = is_synced ∙ no_sync ran.later before.0 in
               let same = mend_moments held 2 left (subst (λ (steps : List Step). MayLeave held steps left) (sym (two_steps held)) before.1) in
-              kept_within head held run left 0 one (omega (arith, ap length nothing)) (none_more head held run.rows left one.rows (same_table head left held same))
+              kept_within head held run left 0 one (omega (arith, ap length nothing)) (no_rows_within head held run.rows left one.rows (same_table head left held same))
           | inr behind_it ↦
               let there = subst (λ (h : List ℕ). MayLeave h ran.later left) (mended_leaves_whole held) behind_it in
               let moment = put_moments ran.later (whole held) left ran.puts.none_cut there in
@@ -224,7 +224,7 @@ run_moments head held run left heads one may = elim one.steps [
                 | inl more ↦ omega (arith, more, moment.enough, ap length is_synced)
                 | inr more ↦ omega (arith, more, synced_length ran.later, ap length ran.puts.all, ap length is_synced)
               ] in
-              kept_within head held run left t.0 one enough (reached head held run.rows t.0 left heads one.rows (at_bytes ∙ t.2))
+              kept_within head held run left t.0 one enough (rows_within head held run.rows t.0 left heads one.rows (at_bytes ∙ t.2))
         ]
       where
         -- of the steps that mend a file, and of the steps `later` after them, the same is synced as of `later` alone
@@ -252,9 +252,9 @@ rows_more (r ∷ runs) (m ∷ counts) run n cs = ap (λ (l : List ℕ). row_line
 
 -- where a file has the rows of some runs, and what is found of it after one more run, `left`, has first rows of that run, at
 -- least the kept ones (`RunHas`), `left` has the rows of all these runs
-pub has_more : (head before : List ℕ) (runs : List Run) (run : Run) (held left : List ℕ)
+pub has_rows_more : (head before : List ℕ) (runs : List Run) (run : Run) (held left : List ℕ)
     → HasRows head before runs held → RunHas head held run left → HasRows head before (runs ++ run ∷ []) left
-has_more head before runs run held left has more = (
+has_rows_more head before runs run held left has more = (
   has.0 ++ more.count ∷ [],
   counts_more runs has.0 run more.count has.1 more.least more.few,
   more.is ∙ ap (λ (l : List ℕ). l ++ row_lines (take more.count run.rows)) has.2 ∙ append_assoc before (rows_of runs has.0) (row_lines (take more.count run.rows))
@@ -263,7 +263,7 @@ has_more head before runs run held left has more = (
 
 -- whatever a crash leaves of a file with this life has the rows of the runs after the table `before`
 abbrev pub Lasts : (head before : List ℕ) → List Run → Life → Type 0
-Lasts head before runs life = (left : List ℕ) → MayLeave life.start life.steps left → HasRows head before runs left
+Lasts head before runs life = (left : List ℕ) → MayBeLeft life left → HasRows head before runs left
 
 -- for a file with this head, and `before` as its table before all runs
 module _ (head before : List ℕ) (heads : IsHead head) where
@@ -275,8 +275,8 @@ module _ (head before : List ℕ) (heads : IsHead head) where
     | inl old ↦
         let nothing = no_sync run.steps old.0 in
         let more = no_row_kept head (content life) run left one nothing in
-        has_more head before runs run left left (lasts left old.1) more
-    | inr new ↦ has_more head before runs run (content life) left (lasts (content life) (may_stay life.start life.steps)) (run_moments head (content life) run left heads one new)
+        has_rows_more head before runs run left left (lasts left old.1) more
+    | inr new ↦ has_rows_more head before runs run (content life) left (lasts (content life) (may_stay life.start life.steps)) (run_moments head (content life) run left heads one new)
   ]
 
   -- where `Lasts` is true of a life and some runs, and one more run is over what the file then holds, and ended in a crash that

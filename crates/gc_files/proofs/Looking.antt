@@ -127,8 +127,12 @@ last_some block last h = omega (arith, last_feed block last h.0.high h.1 (λ j a
 pub last_none : (block : List ℕ) → IsLastByte (is_byte 10) block None → 0 ≡ length (whole block)
 last_none block h = sym (ap length (whole_none block (none_feed block (λ j below. h j (omega arith) below))))
 
--- what a file holds from place `at` on is the block of `size` bytes there, or of those that there are, and what follows the block
-block_and_rest : (at size : ℕ) (held block : List ℕ) → block ≡ take size (drop at held) → drop at held ≡ block ++ drop (at + size) held
+-- the block is the `size` bytes of a file after the first `at`, or those of them that there are
+abbrev pub IsBlock : (at size : ℕ) (held block : List ℕ) → Type 0
+IsBlock at size held block = block ≡ take size (drop at held)
+
+-- what a file holds from place `at` on is the block there, and what follows the block
+block_and_rest : (at size : ℕ) (held block : List ℕ) → IsBlock at size held block → drop at held ≡ block ++ drop (at + size) held
 block_and_rest at size held block is =
     sym (take-append-drop size (drop at held)) ∙ ap (λ (l : List ℕ). l ++ drop size (drop at held)) (sym is) ∙ ap (λ (l : List ℕ). block ++ l) (drop-drop size at held)
 
@@ -151,25 +155,25 @@ some_whole xs some = elim (cases_Bool (has_feed xs)) [
   | inr isnt ↦ absurd (omega (arith, some, ap length (whole_none xs isnt)))
 ]
 
--- where a block of a file has no whole row, and no line feed follows the block, there is none from the block's beginning on
-pub block_none : (at size end : ℕ) (held block : List ℕ) → block ≡ take size (drop at held) → at + size ≡ end → has_feed (drop end held) ≡ false
-    → length (whole block) ≤ 0 → has_feed (drop at held) ≡ false
-block_none at size end held block is ends none no_rows =
-    ap has_feed (block_and_rest at size held block is) ∙ feed_front block (drop (at + size) held) (ap (λ n. has_feed (drop n held)) ends ∙ none) ∙ none_whole block (omega (arith, no_rows))
+-- a block of a file that ends at place `end`, where no line feed follows it
+module _ (at size end : ℕ) (held block : List ℕ) (is : IsBlock at size held block) (ends : at + size ≡ end) (none : has_feed (drop end held) ≡ false) where
+  -- no line feed follows the block, by its size
+  behind : has_feed (drop (at + size) held) ≡ false
+  behind = ap (λ n. has_feed (drop n held)) ends ∙ none
 
--- where a block of a file has a whole row, and no line feed follows the block, the file's whole rows end where the block's
--- do
-pub block_some : (at size end : ℕ) (held block : List ℕ)
-    (is : block ≡ take size (drop at held)) (ends : at + size ≡ end) (within : at ≤ length held)
-    (none : has_feed (drop end held) ≡ false) (rows : 0 < length (whole block)) → at + length (whole block) ≡ length (whole held)
-block_some at size end held block is ends within none rows =
-    let behind : has_feed (drop (at + size) held) ≡ false = ap (λ n. has_feed (drop n held)) ends ∙ none in
-    let split : held ≡ take at held ++ (block ++ drop (at + size) held) =
-    sym (take-append-drop at held) ∙ ap (λ (l : List ℕ). take at held ++ l) (block_and_rest at size held block is) in
-    let whole_is : whole held ≡ take at held ++ whole block =
-    ap whole (split ∙ sym (append_assoc (take at held) block (drop (at + size) held)))
-    ∙ whole_front (take at held ++ block) (drop (at + size) held) behind ∙ whole_behind (take at held) block (some_whole block rows) in
-    omega (arith, ap length whole_is, length-append (take at held) (whole block), length-take-le at held within)
+  -- where the block has no whole row, no line feed comes from the block's beginning on
+  pub block_none : length (whole block) ≤ 0 → has_feed (drop at held) ≡ false
+  block_none no_rows = ap has_feed (block_and_rest at size held block is) ∙ feed_front block (drop (at + size) held) behind ∙ none_whole block (omega (arith, no_rows))
+
+  -- where the block has a whole row, the file's whole rows end where the block's do
+  pub block_some : at ≤ length held → 0 < length (whole block) → at + length (whole block) ≡ length (whole held)
+  block_some within rows =
+      let split : held ≡ take at held ++ (block ++ drop (at + size) held) =
+      sym (take-append-drop at held) ∙ ap (λ (l : List ℕ). take at held ++ l) (block_and_rest at size held block is) in
+      let whole_is : whole held ≡ take at held ++ whole block =
+      ap whole (split ∙ sym (append_assoc (take at held) block (drop (at + size) held)))
+      ∙ whole_front (take at held ++ block) (drop (at + size) held) behind ∙ whole_behind (take at held) block (some_whole block rows) in
+      omega (arith, ap length whole_is, length-append (take at held) (whole block), length-take-le at held within)
 
 -- where the first `done` bytes were appended, and then the next n, the first `done + n` were appended
 pub put_more : (old mid new : Option Life) (bytes piece : List ℕ) (done n : ℕ) → piece ≡ drop done bytes → PutsAll old mid (take done bytes)

@@ -6,7 +6,7 @@ use Rattle.std.proofs.lemmas.List.{append-nil, take_all, take_at, take-append-le
 use Rattle.gc_files.specs.Files.{Step, Append, Cut, Sync, stepped, held_after, has_sync, MayLeave}
 use Rattle.gc_files.specs.Rows.{whole, mended, cuts_none, appended, IsFront}
 use Rattle.gc_files.specs.Runs.{synced}
-use Rattle.gc_files.proofs.Whole.{Torn, torn_of, whole_take}
+use Rattle.gc_files.proofs.Whole.{Torn, whole_and_torn, whole_take}
 
 -- what a file holds after these steps is among what a crash after them may leave
 pub may_stay : (held : List ℕ) (steps : List Step) → MayLeave held steps (held_after held steps)
@@ -14,16 +14,16 @@ may_stay held [] = refl
 may_stay held (step ∷ steps) = inr (may_stay (stepped held step) steps)
 
 -- after the steps `xs ++ ys`, a file holds what `ys` make of what it holds after `xs`
-pub behind_two : (held : List ℕ) (xs ys : List Step) → held_after held (xs ++ ys) ≡ held_after (held_after held xs) ys
-behind_two held [] ys = refl
-behind_two held (step ∷ xs) ys = behind_two (stepped held step) xs ys
+pub held_after_two : (held : List ℕ) (xs ys : List Step) → held_after held (xs ++ ys) ≡ held_after (held_after held xs) ys
+held_after_two held [] ys = refl
+held_after_two held (step ∷ xs) ys = held_after_two (stepped held step) xs ys
 
 -- where there is no sync in `xs ++ ys`, there is none in `xs`, and none in `ys`
-sync_two : (xs ys : List Step) → has_sync (xs ++ ys) ≡ false → (has_sync xs ≡ false) × (has_sync ys ≡ false)
-sync_two [] ys none = (refl, none)
-sync_two (Append bytes ∷ xs) ys none = sync_two xs ys none
-sync_two (Cut size ∷ xs) ys none = sync_two xs ys none
-sync_two (Sync ∷ xs) ys none = absurd (true≢false none)
+no_sync_two : (xs ys : List Step) → has_sync (xs ++ ys) ≡ false → (has_sync xs ≡ false) × (has_sync ys ≡ false)
+no_sync_two [] ys none = (refl, none)
+no_sync_two (Append bytes ∷ xs) ys none = no_sync_two xs ys none
+no_sync_two (Cut size ∷ xs) ys none = no_sync_two xs ys none
+no_sync_two (Sync ∷ xs) ys none = absurd (true≢false none)
 
 -- what a crash may leave after the steps `xs ++ ys` is what it may leave after `xs` alone, where `ys` have no sync, or what it
 -- may leave after `ys` of the file that `xs` made
@@ -31,7 +31,7 @@ pub leaves_two : (held : List ℕ) (xs ys : List Step) (left : List ℕ) → May
     → ((has_sync ys ≡ false) × MayLeave held xs left) ⊎ MayLeave (held_after held xs) ys left
 leaves_two held [] ys left may = inr may
 leaves_two held (step ∷ xs) ys left (inl now) =
-    let two = sync_two (step ∷ xs) ys now.0 in
+    let two = no_sync_two (step ∷ xs) ys now.0 in
     inl (two.1, inl (two.0, now.1))
 leaves_two held (step ∷ xs) ys left (inr next) = elim (leaves_two (stepped held step) xs ys left next) [
   | inl first ↦ inl (first.0, inr first.1)
@@ -49,12 +49,12 @@ no_sync (Sync ∷ steps) none = absurd (true≢false none)
 pub mended_leaves_whole : (held : List ℕ) → held_after held (mended held) ≡ whole held
 mended_leaves_whole held = elim (cases_Bool (length (whole held) == length held)) [
   | inl same ↦
-      let t = torn_of held in
+      let t = whole_and_torn held in
       let none : mended held ≡ [] = rw (same) refl in
       ap (held_after held) none ∙ all held t (eqb-true (length (whole held)) (length held) same)
   | inr less ↦
       let two : mended held ≡ Cut (length (whole held)) ∷ Sync ∷ [] = rw (less) refl in
-      let t = torn_of held in
+      let t = whole_and_torn held in
       ap (held_after held) two ∙ ap (take (length (whole held))) t.split ∙ take_at (whole held) t.torn (length (whole held)) refl
 ]
   where

@@ -7,7 +7,7 @@ use Rattle.std.proofs.lemmas.Option.{same_Some}
 use Rattle.gc_files.specs.declared.memory_file.Call.{Call}
 use Rattle.gc_files.specs.Calls.{step_of, life_by}
 use Rattle.gc_files.specs.Files.{Step, Sync, Life, stepped, held_after, content, MayLeave, IsKept, later_by, Adds}
-use Rattle.gc_files.proofs.Moments.{behind_two, leaves_two}
+use Rattle.gc_files.proofs.Moments.{held_after_two, leaves_two}
 
 -- where `new` are `calls` and then c, the life after `new` is the life after `calls` with the step of c at its end
 pub life_more : (start : List ℕ) (calls new : List Call) (c : Call)
@@ -16,7 +16,7 @@ life_more start calls new c is = ap (life_by start) is ∙ ap (λ (steps : List 
 
 -- after one more step a file holds what that step makes of what it held
 pub content_step : (life : Life) (step : Step) → content (later_by (step ∷ []) life) ≡ stepped (content life) step
-content_step life step = behind_two life.start life.steps (step ∷ [])
+content_step life step = held_after_two life.start life.steps (step ∷ [])
 
 -- where a file held `old`, which is what `calls` make of `start`, where `new` are `calls` and then c, and where the file now
 -- holds what c makes of `old`, it holds what `new` make of `start`
@@ -47,8 +47,8 @@ kept_behind old left may = elim (leaves_two old.start old.steps (Sync ∷ []) le
     -- what a crash leaves after the last sync is what the file holds
     last : MayLeave (held_after old.start old.steps) (Sync ∷ []) left → left ≡ held_after old.start (old.steps ++ Sync ∷ [])
     last (inl now) = absurd (true≢false now.0)
-    last (inr rest) = rest ∙ sym (behind_two old.start old.steps (Sync ∷ []))
+    last (inr rest) = rest ∙ sym (held_after_two old.start old.steps (Sync ∷ []))
 
 -- where a sync was added to the life `old` of a file, and its life is now `known`, the file is kept
-pub kept_of : (old known : Life) (now : Option Life) → Adds (Some old) now (Sync ∷ []) → now ≡ Some known → IsKept known
-kept_of old known now adds is = subst IsKept (same_Some (later_by (Sync ∷ []) old) known (sym (adds old refl) ∙ is)) (kept_behind old)
+pub kept_once_synced : (old known : Life) (now : Option Life) → Adds (Some old) now (Sync ∷ []) → now ≡ Some known → IsKept known
+kept_once_synced old known now adds is = subst IsKept (same_Some (later_by (Sync ∷ []) old) known (sym (adds old refl) ∙ is)) (kept_behind old)

@@ -53,11 +53,11 @@ pub record Torn (xs : List ℕ) : Type 0 where
   pub split : xs ≡ whole xs ++ torn
 
 -- bytes are their whole rows and, after these, bytes without a line feed (`Torn`)
-pub torn_of : (xs : List ℕ) → Torn xs
-torn_of [] = record { torn = []; none = refl; split = refl }
-torn_of (b ∷ xs) = elim (cases_Bool (has_feed (b ∷ xs))) [
+pub whole_and_torn : (xs : List ℕ) → Torn xs
+whole_and_torn [] = record { torn = []; none = refl; split = refl }
+whole_and_torn (b ∷ xs) = elim (cases_Bool (has_feed (b ∷ xs))) [
   | inl e ↦
-      let rest = torn_of xs in
+      let rest = whole_and_torn xs in
       let is : whole (b ∷ xs) ≡ b ∷ whole xs = rw (e) refl in
       record { torn = rest.torn; none = rest.none; split = ap (λ (l : List ℕ). b ∷ l) rest.split ∙ ap (λ (l : List ℕ). l ++ rest.torn) (sym is) }
   | inr e ↦
@@ -68,7 +68,7 @@ torn_of (b ∷ xs) = elim (cases_Bool (has_feed (b ∷ xs))) [
 -- whole rows have nothing after their last line feed: their whole rows are all of them
 pub whole_whole : (xs : List ℕ) → whole (whole xs) ≡ whole xs
 whole_whole xs =
-    let t = torn_of xs in
+    let t = whole_and_torn xs in
     sym (ap whole t.split ∙ whole_front (whole xs) t.torn t.none)
 
 -- where `xs` are whole rows and nothing else, the whole rows of `xs ++ ys` are `xs` and then the whole rows of `ys`
@@ -85,7 +85,7 @@ whole_line row = whole_behind row (10 ∷ []) refl
 -- where the whole rows have no more than k bytes, the first k bytes have the same whole rows as all bytes
 pub whole_take : (xs : List ℕ) (k : ℕ) → length (whole xs) ≤ k → whole (take k xs) ≡ whole xs
 whole_take xs k far =
-    let t = torn_of xs in
+    let t = whole_and_torn xs in
     let more : k ≡ length (whole xs) + (k - length (whole xs)) = omega (arith, far) in
     let at : take k xs ≡ whole xs ++ take (k - length (whole xs)) t.torn =
     ap (take k) t.split ∙ ap (λ n. take n (whole xs ++ t.torn)) more ∙ take-append-add (whole xs) t.torn (k - length (whole xs)) in

@@ -1,6 +1,6 @@
 -- Files in which a sync failed: what the system may have lost of them, and what becomes of their rows. This project's own.
 use Rattle.std.specs.Prelude.{◌≡◌, ◌⊎◌, ℕ, Bool, true, false, not, List, [], ◌∷◌, ◌++◌, ◌==◌, length, filter, Option}
-use Rattle.gc_files.specs.Files.{Step, Life, IfKnown, content, later_by, MayLeave}
+use Rattle.gc_files.specs.Files.{Step, Life, IfKnown, content, later_by, MayBeLeft}
 pub use Rattle.gc_files.specs.Files.{settled}
 use Rattle.gc_files.specs.Rows.{has_feed, opened_table}
 use Rattle.gc_files.specs.Runs.{Run, IsHead, IsRun, HasRows}
@@ -32,7 +32,7 @@ done_by steps sides = record { read = later_by steps sides.read; disk = later_by
 -- without a line feed (`hole`), such as zeros, or none
 pub record Loses (life : Life) (now : List ℕ) : Type 0 where
   pub front : List ℕ
-  pub may : MayLeave life.start life.steps front
+  pub may : MayBeLeft life front
   pub hole : List ℕ
   pub none : has_feed hole ≡ false
   pub is : now ≡ front ++ hole
@@ -65,7 +65,7 @@ sides_after sides (event ∷ events) = sides_after (sides_by event sides) events
 -- these events can happen to a file with these sides; `head` is what a new file gets first. `doubted` is whether the file is in
 -- doubt, so that its sides may differ. A run is one over what a read returns (`IsRun`), and goes on only where `goes` allows it
 -- for a file that is in doubt (true) or isn't (false). A failed sync makes of each side, after the run's steps, what `Loses`
--- allows, and a crash leaves what `MayLeave` allows of the disk's side. A failed sync puts the file in doubt, and so does a
+-- allows, and a crash leaves what `MayBeLeft` allows of the disk's side. A failed sync puts the file in doubt, and so does a
 -- copy whose name isn't on the disk; a copy whose name is on the disk, and a crash, end the doubt
 abbrev pub Occur : (goes : Bool → Type 0) (head : List ℕ) → Sides → (doubted : Bool) → List Event → Type 0
 Occur goes head sides doubted [] = Unit {0}
@@ -77,7 +77,7 @@ Occur goes head sides doubted (Failed run read disk ∷ events) =
     × Occur goes head (sides_by (Failed run read disk) sides) true events
 Occur goes head sides doubted (Copied named ∷ events) = Occur goes head (sides_by (Copied named) sides) (not named) events
 Occur goes head sides doubted (Crashed left ∷ events) =
-    MayLeave sides.disk.start sides.disk.steps left × Occur goes head (sides_by (Crashed left) sides) false events
+    MayBeLeft sides.disk left × Occur goes head (sides_by (Crashed left) sides) false events
 
 -- the runs among these events, in order
 abbrev pub runs_of : List Event → List Run
@@ -89,7 +89,7 @@ runs_of (Crashed left ∷ events) = runs_of events
 
 -- `left` is what a read of the file returns, or what a crash may leave of the file
 abbrev pub IsFound : Sides → (left : List ℕ) → Type 0
-IsFound sides left = (left ≡ content sides.read) ⊎ MayLeave sides.disk.start sides.disk.steps left
+IsFound sides left = (left ≡ content sides.read) ⊎ MayBeLeft sides.disk left
 
 -- a file is not in doubt at first, and all of it is on the disk. After any events among which runs go on only where `goes` allows
 -- it: whatever is then found of the file, the next opening makes of it the table that was there before the events, and after that

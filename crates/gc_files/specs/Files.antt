@@ -54,9 +54,13 @@ MayLeave held (step ∷ steps) left = ((has_sync (step ∷ steps) ≡ false) × 
 abbrev pub content : Life → List ℕ
 content life = held_after life.start life.steps
 
+-- a crash may leave this of a file with this life
+abbrev pub MayBeLeft : Life → (left : List ℕ) → Type 0
+MayBeLeft life left = MayLeave life.start life.steps left
+
 -- a crash leaves what a read returns, and nothing else
 abbrev pub IsKept : Life → Type 0
-IsKept life = (left : List ℕ) → MayLeave life.start life.steps left → left ≡ content life
+IsKept life = (left : List ℕ) → MayBeLeft life left → left ≡ content life
 
 -- if the life of a file is known, `claim` holds of it
 abbrev pub IfKnown : Option Life → (claim : Life → Type 0) → Type 0

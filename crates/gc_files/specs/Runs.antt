@@ -1,7 +1,7 @@
 -- The runs of programs over one file, each ended by itself, by a kill or by a crash of the machine. This project's own.
 use Rattle.std.specs.Prelude.{◌≡◌, ◌⊎◌, ℕ, ◌≤◌, false, List, [], ◌∷◌, ◌++◌, length, take, Option, Some, None, if◌then◌else◌}
 use Rattle.std.specs.List.{AllByRecursion, flat_map}
-use Rattle.gc_files.specs.Files.{Step, Append, Cut, Sync, Life, settled, has_sync, content, later_by, MayLeave}
+use Rattle.gc_files.specs.Files.{Step, Append, Cut, Sync, Life, settled, has_sync, content, later_by, MayBeLeft}
 use Rattle.gc_files.specs.Rows.{has_feed, row_line, opened_table, head_written, Puts, MendedAndPut, IsFront, ComesTo}
 
 -- what these steps appended before their last sync
@@ -31,17 +31,21 @@ AreRows rows = AllByRecursion (λ row. has_feed row ≡ false) rows
 abbrev pub IsHead : List ℕ → Type 0
 IsHead head = (head ≡ []) ⊎ ((row : List ℕ) × (has_feed row ≡ false) × (head ≡ row_line row))
 
+-- all that a run of these rows appends to a file that held `held`: the head, where no whole row was there, and the rows
+abbrev pub run_bytes : (head held : List ℕ) (rows : List (List ℕ)) → List ℕ
+run_bytes head held rows = head_written head held ++ row_lines rows
+
 -- the first `kept` rows of a run are kept: they were appended before the last sync, and before them the head where the run
 -- wrote it; or `kept` is 0
 abbrev pub WereKept : (head held : List ℕ) (rows : List (List ℕ)) (kept : ℕ) → List Step → Type 0
-WereKept head held rows kept steps = (kept ≡ 0) ⊎ IsFront (head_written head held ++ row_lines (take kept rows)) (synced steps)
+WereKept head held rows kept steps = (kept ≡ 0) ⊎ IsFront (run_bytes head held (take kept rows)) (synced steps)
 
 -- a run over a file that held `held`: it mended the file, and then wrote the head where no whole row was there, and its rows,
 -- none of which has a line feed in it, as far as it came; and `Counts` says what its steps did with those of its first rows that
 -- it counts as kept
 pub record IsRunBy (Counts : (head held : List ℕ) (rows : List (List ℕ)) (kept : ℕ) → List Step → Type 0) (head held : List ℕ) (run : Run) : Type 0 where
   pub rows : AreRows run.rows
-  pub steps : ComesTo held (head_written head held ++ row_lines run.rows) run.steps
+  pub steps : ComesTo held (run_bytes head held run.rows) run.steps
   pub few : run.kept ≤ length run.rows
   pub kept : Counts head held run.rows run.kept run.steps
 
@@ -59,7 +63,7 @@ life_once_ended life run (Some left) = settled left
 -- of a run that no crash ended (`None`) nothing is claimed
 abbrev pub CrashMayLeave : Life → Run → Option (List ℕ) → Type 0
 CrashMayLeave life run None = Unit {0}
-CrashMayLeave life run (Some left) = MayLeave life.start (life.steps ++ run.steps) left
+CrashMayLeave life run (Some left) = MayBeLeft (later_by run.steps life) left
 
 -- these runs can happen, one after the other, to a file with this head, which had this life before them
 abbrev pub Happen : (head : List ℕ) → Life → List Run → Type 0
@@ -93,7 +97,7 @@ HasRows head before runs held = (counts : List ℕ) × AreRowCounts runs counts 
 -- the table that was there before the runs, and after that table the first rows of each run, at least the kept ones.
 abbrev pub TablesLast : Type 0
 TablesLast = (head held : List ℕ) → IsHead head → (runs : List Run) → Happen head (settled held) runs
-    → (left : List ℕ) → MayLeave (life_after (settled held) runs).start (life_after (settled held) runs).steps left
+    → (left : List ℕ) → MayBeLeft (life_after (settled held) runs) left
     → HasRows head (opened_table head held) runs left
 
 -- the first `count` rows of a run went out whole: what was appended after the mending (`bytes`) is a front of all that the run
@@ -101,8 +105,8 @@ TablesLast = (head held : List ℕ) → IsHead head → (runs : List Run) → Ha
 abbrev pub WereWritten : (head held : List ℕ) (rows : List (List ℕ)) (count : ℕ) → List Step → Type 0
 WereWritten head held rows count steps =
     (count ≡ 0)
-    ⊎ ((bytes : List ℕ) × MendedAndPut held steps bytes × IsFront bytes (head_written head held ++ row_lines rows)
-    × IsFront (head_written head held ++ row_lines (take count rows)) bytes)
+    ⊎ ((bytes : List ℕ) × MendedAndPut held steps bytes × IsFront bytes (run_bytes head held rows)
+    × IsFront (run_bytes head held (take count rows)) bytes)
 
 -- a run that ended by itself or by a kill, with the machine going on; only rows that went out whole count as kept
 pub record IsKilled (head held : List ℕ) (run : Run) : Type 0 where

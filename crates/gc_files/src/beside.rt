@@ -9,7 +9,7 @@ use crate::appending::Appending;
 use crate::copying::copy_lines;
 use crate::opening::{extent_of, open_rows};
 use crate::rows_file::{RowsFile, RowsOptions};
-use crate::system::{SystemFile, Unfit, open_file};
+use crate::system::{SystemFile, Unfit, open_file, or_failed};
 use std::alloc::Global;
 use std::fs::{self, File, OpenFile, OpenOptions};
 use std::io::ErrorKind;
@@ -30,17 +30,10 @@ struct Beside {
 impl Beside {
     // The three paths of the file that `path` leads to. `Failed`: the path can't be followed, or memory ran out.
     fn of<R: Files<File = File>>(rt: &R, alloc: Global, path: &str) -> Result<Beside, Unfit> {
-        let Ok(file) = rt.canonicalize(alloc, path) else {
-            return Err(Unfit::Failed);
-        };
-        let file = file.into_string();
-        let Ok(mark) = format!(in alloc; "{file}.open") else {
-            return Err(Unfit::Failed);
-        };
-        match format!(in alloc; "{file}.copy") {
-            Ok(copy) => Ok(Beside { file, mark, copy }),
-            Err(_) => Err(Unfit::Failed),
-        }
+        let file = or_failed(rt.canonicalize(alloc, path))?.into_string();
+        let mark = or_failed(format!(in alloc; "{file}.open"))?;
+        let copy = or_failed(format!(in alloc; "{file}.copy"))?;
+        Ok(Beside { file, mark, copy })
     }
 
     // Whether the mark is there. `Failed`: the system doesn't say.
@@ -59,13 +52,8 @@ impl Beside {
             .write(true)
             .create(true)
             .open(rt, self.mark.as_str());
-        let Ok(mark) = opened else {
-            return Err(Unfit::Failed);
-        };
-        match mark.sync_all() {
-            Ok(()) => sync_folder(rt, self.file.as_str()),
-            Err(_) => Err(Unfit::Failed),
-        }
+        or_failed(or_failed(opened)?.sync_all())?;
+        sync_folder(rt, self.file.as_str())
     }
 
     // Removes the mark. Where that fails, or a crash brings the mark back, the next start makes a copy that isn't needed.
@@ -124,17 +112,17 @@ impl Beside {
         ensures { IfOk result (λ found. is_in_doubt found.0 ≡ false) }
     {
         fresh.hold()?;
-        let Ok(lines) = copy_lines(&old, &mut fresh) else {
+        let lines = or_failed(copy_lines(&old, &mut fresh))?;
+        // Never in practice: a copy that was synced isn't in doubt. No clause of `copy_lines` says so.
+        if fresh.is_doubted() {
             return Err(Unfit::Failed);
-        };
+        }
         // A file that was moved to this path meanwhile isn't replaced.
         if !old.is_at(rt, self.file.as_str()) {
             return Err(Unfit::Failed);
         }
-        match fs::rename(rt, self.copy.as_str(), self.file.as_str()) {
-            Ok(()) if !fresh.is_doubted() => Ok((fresh, lines)),
-            Ok(()) | Err(_) => Err(Unfit::Failed),
-        }
+        or_failed(fs::rename(rt, self.copy.as_str(), self.file.as_str()))?;
+        Ok((fresh, lines))
     }
 }
 
@@ -144,22 +132,15 @@ fn sync_folder<R: Files<File = File>>(rt: &R, path: &str) -> Result<(), Unfit> {
         Some(parent) if !parent.as_os_str().is_empty() => parent,
         _ => Path::new("."),
     };
-    let Ok(folder) = File::open(rt, folder) else {
-        return Err(Unfit::Failed);
-    };
-    match folder.sync_all() {
-        Ok(()) => Ok(()),
-        Err(_) => Err(Unfit::Failed),
-    }
+    or_failed(or_failed(File::open(rt, folder))?.sync_all())
 }
 
 // Syncs the folder that a symbolic link is in, where the path is one; else does nothing. `Failed`: a call of the system failed.
 fn sync_link<R: Files<File = File>>(rt: &R, path: &str) -> Result<(), Unfit> {
-    match fs::symlink_metadata(rt, path) {
-        Ok(found) if found.is_symlink() => sync_folder(rt, path),
-        Ok(_) => Ok(()),
-        Err(_) => Err(Unfit::Failed),
+    if or_failed(fs::symlink_metadata(rt, path))?.is_symlink() {
+        return sync_folder(rt, path);
     }
+    Ok(())
 }
 
 // How many of a file's lines are rows: all but the head's, where the head isn't empty.

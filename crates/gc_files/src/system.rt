@@ -82,17 +82,14 @@ impl SystemFile {
             .append(true)
             .create_new(true)
             .open(rt, path);
-        let (Ok(own), Ok(file)) = (self.file.metadata(), opened) else {
-            return Err(Unfit::Failed);
-        };
+        let own = or_failed(self.file.metadata())?;
+        let file = or_failed(opened)?;
         let _ = rt.chown(path, Some(own.uid()), Some(own.gid()));
-        match file.set_permissions(own.permissions()) {
-            Ok(()) => Ok(SystemFile {
-                file,
-                doubted: false,
-            }),
-            Err(_) => Err(Unfit::Failed),
-        }
+        or_failed(file.set_permissions(own.permissions()))?;
+        Ok(SystemFile {
+            file,
+            doubted: false,
+        })
     }
 
     /// Whether a path leads to this file now, and not to another one or to none. `false` where the system doesn't say.
@@ -102,6 +99,11 @@ impl SystemFile {
             _ => false,
         }
     }
+}
+
+/// The result of a call, with an error of any kind as `Failed`.
+pub(crate) fn or_failed<T, E: Drop>(answer: Result<T, E>) -> Result<T, Unfit> {
+    answer.map_err(|_| Unfit::Failed)
 }
 
 // The result of a call of the system, with an error of any kind as `PortFailed`.

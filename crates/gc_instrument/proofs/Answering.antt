@@ -95,7 +95,7 @@ handed_does before after id call text (executes e state line) =
 -- holds of the call and that text
 pub exchanged : (before after : State) (id : ℕ) (call : Call) (text : List ℕ) → id < 8 → IsFitting call
     → IsReplyToRequest before (request_of (Some id) call) after text → IsExchanged before id call after (Some text)
-exchanged before after id call text small fits is_reply = by_answer (call_again (Some id) call small fits).is_call is_reply.answers where
+exchanged before after id call text small fits is_reply = by_answer (call_again (Some id) call small fits).is_asked is_reply.answers where
   -- the request names the call, so the instrument answered that one
   by_answer : IsCall (request_of (Some id) call).rpc (request_of (Some id) call).params call → AnswersRequest before (request_of (Some id) call) after text
       → IsExchanged before id call after (Some text)
@@ -136,7 +136,8 @@ module _ (before after : State) (line : List ℕ) where
   is_replied reply (silent none same quiet) = silent none same quiet
   is_replied reply (answers q is text does told) = answers q is text does.answers told
 
-  -- and `IsExchanged` holds, if the line is the request line of a call with values in range and an id below 8
+  -- where the line is the request line of a call with values in range and an id below 8, and `IsReplyToRequest` holds of its reply,
+  -- `IsExchanged` holds of the call and the reply
   is_exchanged : (id : ℕ) (call : Call) (reply : Option (List ℕ)) → id < 8 → IsFitting call → line ≡ request_line (Some id) call
       → RepliesTo IsReplyToRequest before line after reply → IsExchanged before id call after reply
   is_exchanged id call reply small fits own (silent none same quiet) =
@@ -146,13 +147,13 @@ module _ (before after : State) (line : List ℕ) where
       subst (λ (o : Option (List ℕ)). IsExchanged before id call after o) (sym told)
       (exchanged before after id call text small fits (subst (λ (r : RequestFields). IsReplyToRequest before r after text) (read_of line q id call small fits own is) does))
 
-  -- `IsReplied` holds of the reply that was appended, if there is one
+  -- where `IsReplyToRequest` holds of the reply that was appended, or none was, `IsReplied` holds of it
   pub line_replied : (old new : List ℕ) (has_reply : Bool) → AppendsAnswer (RepliesTo IsReplyToRequest before line after) old new has_reply
       → AppendsAnswer (IsReplied before line after) old new has_reply
   line_replied old new true h = (h.0, is_replied (Some h.0) h.1, h.2)
   line_replied old new false h = (is_replied None h.0, h.1)
 
-  -- and `AppendsExchange` of that reply
+  -- where `IsReplyToRequest` holds of the reply that was appended, or none was, `AppendsExchange` holds of it
   pub line_exchanged : (old new : List ℕ) (has_reply : Bool) → AppendsAnswer (RepliesTo IsReplyToRequest before line after) old new has_reply
       → AppendsExchange before line after old new has_reply
   line_exchanged old new true h id call small fits own = (h.0, is_exchanged id call (Some h.0) small fits own h.1, h.2)
@@ -175,7 +176,7 @@ handed_answers s id call = elim (some_line_or_none (kept_line s.kept (Some id)))
 pub handed_replied : (s : State) (id : ℕ) (call : Call) → id < 8 → IsFitting call
     → IsReplied s (request_line (Some id) call) (handed s id call).state (Some (handed s id call).reply)
 handed_replied s id call small fits =
-    answers (request_of (Some id) call) (own_request id call small fits) (handed s id call).reply (answers_call call (call_again (Some id) call small fits).is_call (handed_answers s id call)) refl
+    answers (request_of (Some id) call) (own_request id call small fits) (handed s id call).reply (answers_call call (call_again (Some id) call small fits).is_asked (handed_answers s id call)) refl
 
 -- where `new` is the empty text with a reply to a line (`IsReplied`) appended, `new` is this reply. This lemma and the next are
 -- `appended_alone` with the predicate filled in, since the search doesn't find the predicate by itself

@@ -1,10 +1,11 @@
 -- The outcome of every call is sound (`IsSoundOutcome`): the serial number, the name and the scene stay, the values are in range,
 -- and a code other than 0 has no answer. Below, a state *fits* if `IsFittingState` holds of it.
-use Rattle.std.proofs.Common.{◌≡◌, ℕ, ℤ, pos, negsuc, ◌<◌, ◌≤◌, ◌&&◌, ◌||◌, Bool, true, false, cond, Option, Some, None, refl, subst, arith}
+use Rattle.std.proofs.Common.{◌≡◌, ℕ, ℤ, pos, negsuc, ◌<◌, ◌≤◌, ◌&&◌, ◌||◌, Bool, true, false, cond, List, Option, Some, None, refl, sym, ap, subst, arith}
 use Rattle.std.proofs.lemmas.Bool.{and_parts, leb-true}
 use Rattle.std.specs.Prelude.{int_lt, int_le, nat_le, unsigned_abs}
 use Rattle.std.specs.Ordering.{int_eq}
 use Rattle.std.proofs.lemmas.Int.{ints}
+use Rattle.gc_values.specs.Text.{IsText}
 use Rattle.gc_values.specs.Whole.{FitsLong, FitsShort}
 use Rattle.gc_values.specs.declared.decimal.Decimal.{Decimal}
 use Rattle.gc_catalogue.specs.Answers.{IsAnswerOf, IsFittingAnswer}
@@ -26,26 +27,48 @@ use Rattle.gc_instrument.specs.declared.face.Face.TheVariants.{Normal, Turned}
 use Rattle.gc_instrument.specs.declared.target.Target.{Target}
 use Rattle.gc_instrument.proofs.Keeping.{commanded_by_tests}
 
--- an outcome with code 0 is sound if serial number, name and scene stay, the state after it, t, fits where s does, and the answer
--- is one of the call, and has its values in range where s fits and the call's values are in range
-done_outcome : (s t : State) (call : Call) (a : Answer) → opening_of t ≡ opening_of s → (IsFittingState s → IsFittingState t) → IsAnswerOf call a
-    → (IsFittingState s → IsFitting call → IsFittingAnswer a) → IsSoundOutcome s call (done t a)
-done_outcome s t call a same fits of_call answer_fits = record {
+-- a call may lead from the state s to t: the serial number, the name and the scene stay, and t fits where s does
+record MayLeadTo (s t : State) : Type 0 where
+  same : opening_of t ≡ opening_of s
+  fits : IsFittingState s → IsFittingState t
+
+-- a call may leave the state as it is
+may_stay : (s : State) → MayLeadTo s s
+may_stay s = record { same = refl; fits = λ f. f }
+
+-- a call may lead to a state with the same serial number, name, scene, precision, date, prism type and stored reply
+leads_likewise : (s t : State) → opening_of t ≡ opening_of s → s.precision ≡ t.precision → s.date ≡ t.date → s.prism ≡ t.prism → s.kept ≡ t.kept
+    → MayLeadTo s t
+leads_likewise s t same p d r k = record {
   same = same;
-  fits = fits;
+  fits = λ f. record {
+    precision = subst (λ (x : ℕ). x ≤ 15) p f.precision;
+    serial = subst FitsLong (sym (ap (λ (x : State). x.serial) same)) f.serial;
+    name = subst (λ (x : List ℕ). IsText x) (sym (ap (λ (x : State). x.name) same)) f.name;
+    date = subst (λ (x : DateTime). AreValues (date_values x)) d f.date;
+    prism = subst FitsLong r f.prism;
+    kept = subst IsFittingKept k f.kept;
+  };
+}
+
+-- an outcome with code 0 is sound if the call may lead to its state (`MayLeadTo`), and the answer is one of the call, and has its
+-- values in range where s fits and the call's values are in range
+done_outcome : (s t : State) (call : Call) (a : Answer) → MayLeadTo s t → IsAnswerOf call a → (IsFittingState s → IsFitting call → IsFittingAnswer a)
+    → IsSoundOutcome s call (done t a)
+done_outcome s t call a leads of_call answer_fits = record {
+  same = leads.same;
+  fits = leads.fits;
   code = omega arith;
   answers = λ _. of_call;
   refuses = λ h. absurd (h refl);
   answer_fits = answer_fits;
 }
 
--- an outcome with a code from 1 to 65535, and no answer, is sound if serial number, name and scene stay, and the state after it,
--- t, fits where s does
-refused_outcome : (s t : State) (call : Call) (code : ℕ) → opening_of t ≡ opening_of s → (IsFittingState s → IsFittingState t) → 0 < code
-    → code < 65536 → IsSoundOutcome s call (refused t code)
-refused_outcome s t call code same fits some small = record {
-  same = same;
-  fits = fits;
+-- an outcome with a code from 1 to 65535, and no answer, is sound if the call may lead to its state (`MayLeadTo`)
+refused_outcome : (s t : State) (call : Call) (code : ℕ) → MayLeadTo s t → 0 < code → code < 65536 → IsSoundOutcome s call (refused t code)
+refused_outcome s t call code leads some small = record {
+  same = leads.same;
+  fits = leads.fits;
   code = small;
   answers = λ h. absurd (omega (arith, h));
   refuses = λ _. refl;
@@ -56,37 +79,23 @@ refused_outcome s t call code same fits some small = record {
 -- the call's values are in range
 answered_outcome : (s : State) (call : Call) (a : Answer) → IsAnswerOf call a → (IsFittingState s → IsFitting call → IsFittingAnswer a)
     → IsSoundOutcome s call (done s a)
-answered_outcome s call a of_call answer_fits = done_outcome s s call a refl (λ f. f) of_call answer_fits
-
--- a state with the same precision, serial number, name, date, prism type and stored reply fits where the other does
-fits_likewise : (s t : State) → s.precision ≡ t.precision → s.serial ≡ t.serial → s.name ≡ t.name → s.date ≡ t.date → s.prism ≡ t.prism
-    → s.kept ≡ t.kept → IsFittingState s → IsFittingState t
-fits_likewise s t p n l d r k f = record {
-  precision = subst (λ (x : ℕ). x ≤ 15) p f.precision;
-  serial = subst FitsLong n f.serial;
-  name = rw (← l) f.name;
-  date = subst (λ (x : DateTime). AreValues (date_values x)) d f.date;
-  prism = subst FitsLong r f.prism;
-  kept = subst IsFittingKept k f.kept;
-}
+answered_outcome s call a of_call answer_fits = done_outcome s s call a (may_stay s) of_call answer_fits
 
 -- the outcome of a call that leads from the state s to t if that is allowed (b is true), and else is refused in s, is sound: if t
 -- has the serial number, name and scene of s; if t, where it is allowed, fits whenever s does; and if the call is answered
 -- without values
 set_outcome : (b : Bool) (s t : State) (call : Call) → opening_of t ≡ opening_of s → (b ≡ true → IsFittingState s → IsFittingState t)
     → IsAnswerOf call Nothing → IsSoundOutcome s call (set_if b s t)
-set_outcome true s t call same fits of_call = done_outcome s t call Nothing same (fits refl) of_call (λ _ _. tt)
-set_outcome false s t call same fits of_call = refused_outcome s s call 2 refl (λ f. f) (omega arith) (omega arith)
+set_outcome true s t call same fits of_call = done_outcome s t call Nothing (record { same = same; fits = fits refl }) of_call (λ _ _. tt)
+set_outcome false s t call same fits of_call = refused_outcome s s call 2 (may_stay s) (omega arith) (omega arith)
 
--- the outcome of a call that answers with the distance d, or is refused if there is none, is sound if serial number, name and
--- scene stay, the state after it, t, fits where s does, and the answer with any distance is one of the call, and has its values
--- in range where the call's are
-distance_sound : (s t : State) (call : Call) (answer_with : Decimal → Answer) (d : Option Decimal) → opening_of t ≡ opening_of s
-    → (IsFittingState s → IsFittingState t)
+-- the outcome of a call that answers with the distance d, or is refused if there is none, is sound if the call may lead to its state
+-- (`MayLeadTo`), and the answer with any distance is one of the call, and has its values in range where the call's are
+distance_sound : (s t : State) (call : Call) (answer_with : Decimal → Answer) (d : Option Decimal) → MayLeadTo s t
     → ((x : Decimal) → IsAnswerOf call (answer_with x)) → ((x : Decimal) → IsFitting call → IsFittingAnswer (answer_with x))
     → IsSoundOutcome s call (distance_outcome t answer_with d)
-distance_sound s t call answer_with (Some d) same fits of_call answer_fits = done_outcome s t call (answer_with d) same fits (of_call d) (λ _ c. answer_fits d c)
-distance_sound s t call answer_with None same fits of_call answer_fits = refused_outcome s t call 1285 same fits (omega arith) (omega arith)
+distance_sound s t call answer_with (Some d) leads of_call answer_fits = done_outcome s t call (answer_with d) leads (of_call d) (λ _ c. answer_fits d c)
+distance_sound s t call answer_with None leads of_call answer_fits = refused_outcome s t call 1285 leads (omega arith) (omega arith)
 
 -- the outcome of a measuring command is sound, for a call that is answered without values
 commanded_outcome : (s : State) (call : Call) (command : ℤ) → IsAnswerOf call Nothing → IsSoundOutcome s call (commanded s command)
@@ -94,21 +103,21 @@ commanded_outcome s call command of_call = by_tests (int_eq command (pos 0)) (in
   -- whichever outcome the three tests of the command choose, it is sound
   by_tests : (a b c : Bool) → IsSoundOutcome s call (commanded_by_tests s a b c)
   by_tests true b c = answered_outcome s call Nothing of_call (λ _ _. tt)
-  by_tests false true c = done_outcome s (measured s) call Nothing refl (fits_likewise s (measured s) refl refl refl refl refl refl) of_call (λ _ _. tt)
-  by_tests false false true = done_outcome s (unmeasured s) call Nothing refl (fits_likewise s (unmeasured s) refl refl refl refl refl refl) of_call (λ _ _. tt)
-  by_tests false false false = refused_outcome s s call 2 refl (λ f. f) (omega arith) (omega arith)
+  by_tests false true c = done_outcome s (measured s) call Nothing (leads_likewise s (measured s) refl refl refl refl refl) of_call (λ _ _. tt)
+  by_tests false false true = done_outcome s (unmeasured s) call Nothing (leads_likewise s (unmeasured s) refl refl refl refl refl) of_call (λ _ _. tt)
+  by_tests false false false = refused_outcome s s call 2 (may_stay s) (omega arith) (omega arith)
 
 -- the outcome of a search that found a target, or none, is sound, for a call that is answered without values
 adjusted_outcome : (s : State) (call : Call) (t : Option Target) → IsAnswerOf call Nothing → IsSoundOutcome s call (adjusted s t)
-adjusted_outcome s call (Some t) of_call = done_outcome s (pointed s t.hz t.v) call Nothing refl (fits_likewise s (pointed s t.hz t.v) refl refl refl refl refl refl) of_call (λ _ _. tt)
-adjusted_outcome s call None of_call = refused_outcome s s call 8710 refl (λ f. f) (omega arith) (omega arith)
+adjusted_outcome s call (Some t) of_call = done_outcome s (pointed s t.hz t.v) call Nothing (leads_likewise s (pointed s t.hz t.v) refl refl refl refl refl) of_call (λ _ _. tt)
+adjusted_outcome s call None of_call = refused_outcome s s call 8710 (may_stay s) (omega arith) (omega arith)
 
 -- the outcome of a search within areas is sound, for a call that is answered without values
 searched_outcome : (s : State) (call : Call) (area_hz area_v : Decimal) → IsAnswerOf call Nothing → IsSoundOutcome s call (searched s area_hz area_v)
 searched_outcome s call area_hz area_v of_call = by_test (int_lt area_hz.digits (pos 0) || int_lt area_v.digits (pos 0)) where
   -- whether an area is below zero (true) or none is, the outcome is sound
   by_test : (b : Bool) → IsSoundOutcome s call (cond b (refused s 2) (adjusted s (first_within s.pointing area_hz area_v s.scene)))
-  by_test true = refused_outcome s s call 2 refl (λ f. f) (omega arith) (omega arith)
+  by_test true = refused_outcome s s call 2 (may_stay s) (omega arith) (omega arith)
   by_test false = adjusted_outcome s call (first_within s.pointing area_hz area_v s.scene) of_call
 
 -- What the tests of values imply.
@@ -188,7 +197,7 @@ new_prism : (s : State) (n : ℤ) → is_prism n ≡ true → IsFittingState s �
 new_prism s n h f = record { precision = f.precision; serial = f.serial; name = f.name; date = f.date; prism = prism_fits n h; kept = f.kept }
 
 -- the lemmas of which the search proves each row of the execution table
-ruleset row_rules = (answered_outcome, done_outcome, set_outcome, distance_sound, commanded_outcome, searched_outcome, fits_likewise, new_places, new_date, new_prism, face_fits, precision_fits, arith)
+ruleset row_rules = (answered_outcome, done_outcome, set_outcome, distance_sound, commanded_outcome, searched_outcome, may_stay, leads_likewise, new_places, new_date, new_prism, face_fits, precision_fits, arith)
 
 -- the outcome of every call in every state is sound. A new row of the table is made of the same parts, so it needs nothing here
 pub exec_outcome : (s : State) (call : Call) → IsSoundOutcome s call (exec s call)

@@ -32,7 +32,8 @@ frame_answered before after Cleared text h = h
 frame_answered before after Overlong text h = h
 frame_answered before after More text h = h
 
--- and so of the text that was appended, if there is one
+-- where a text was appended by which `IsReplyToRequest` holds of the reply to a line, or none was, `AnswersFrame` holds of the frame
+-- and that text, or none
 pub answered_frame : (before after : State) (frame : Frame) (old new : List ℕ) (has_text : Bool)
     → AppendsAnswer (AnswersLines (RepliesTo IsReplyToRequest) before frame after) old new has_text
     → AppendsAnswer (AnswersFrame before frame after) old new has_text

@@ -19,11 +19,11 @@ use Rattle.gc_instrument.specs.State.{State}
 use Rattle.gc_instrument.proofs.HeardFrames.{lines-next}
 
 -- a state, an id or none, and a call determine the state after the call, and the reply
-one_done : (s t u : State) (id : Option ℕ) (call : Call) (x y : List ℕ) → AnswersCall s id call t x → AnswersCall s id call u y → (t ≡ u) × (x ≡ y)
-one_done s t u id call x y (repeats e same) (repeats f again) = (same ∙ sym again, (let g : ◌≡◌ {A = Option (List ℕ)} (Some x) (Some y) = sym e ∙ f in cc))
-one_done s t u id call x y (repeats e same) (executes f again told) = let wrong : ◌≡◌ {A = Option (List ℕ)} (Some x) None = sym e ∙ f in let never : ⊥ = cc in absurd never
-one_done s t u id call x y (executes e same made) (repeats f again) = let wrong : ◌≡◌ {A = Option (List ℕ)} None (Some y) = sym e ∙ f in let never : ⊥ = cc in absurd never
-one_done s t u id call x y (executes e same made) (executes f again told) =
+one_answer_to_call : (s t u : State) (id : Option ℕ) (call : Call) (x y : List ℕ) → AnswersCall s id call t x → AnswersCall s id call u y → (t ≡ u) × (x ≡ y)
+one_answer_to_call s t u id call x y (repeats e same) (repeats f again) = (same ∙ sym again, (let g : ◌≡◌ {A = Option (List ℕ)} (Some x) (Some y) = sym e ∙ f in cc))
+one_answer_to_call s t u id call x y (repeats e same) (executes f again told) = let wrong : ◌≡◌ {A = Option (List ℕ)} (Some x) None = sym e ∙ f in let never : ⊥ = cc in absurd never
+one_answer_to_call s t u id call x y (executes e same made) (repeats f again) = let wrong : ◌≡◌ {A = Option (List ℕ)} None (Some y) = sym e ∙ f in let never : ⊥ = cc in absurd never
+one_answer_to_call s t u id call x y (executes e same made) (executes f again told) =
     let one : x ≡ y = made ∙ sym told in
     (same ∙ ap (λ (line : List ℕ). with_kept (kept_after s.kept id line) (exec s call).state) one ∙ sym again, one)
 
@@ -34,7 +34,7 @@ one_answer s t u q x y (refuses e is same made) (refuses f other again told) =
 one_answer s t u q x y (refuses e is same made) (answers_call c other does) = absurd (no_refusal q.rpc q.params c e other is)
 one_answer s t u q x y (answers_call c is does) (refuses e other again told) = absurd (no_refusal q.rpc q.params c e is other)
 one_answer s t u q x y (answers_call c is does) (answers_call d other makes) =
-    one_done s t u q.id d x y (subst (λ (e : Call). AnswersCall s q.id e t x) (one_call q.rpc q.params c d is other) does) makes
+    one_answer_to_call s t u q.id d x y (subst (λ (e : Call). AnswersCall s q.id e t x) (one_call q.rpc q.params c d is other) does) makes
 
 -- a state and a line determine the state after the line, and the reply or that there is none
 pub one_reply : OneReply

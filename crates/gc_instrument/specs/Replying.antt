@@ -143,9 +143,11 @@ pub record IsReplyToRequest (before : State) (q : RequestFields) (after : State)
   pub plain : (call : Call) → IsCall q.rpc q.params call → IsPlain text
   pub says : (call : Call) → IsCall q.rpc q.params call → kept_line before.kept q.id ≡ None → IsAnswered before (reply_id q) call text
 
--- for each id below 8 and each call with values in range: if the line is the call's request line with that id, `IsExchanged`
--- holds of the call, the states before and after, and the reply, which was appended to `old`; `has_reply`, which says whether
--- there is a reply, is true then
+-- `Then` holds of each id below 8 and each call with values in range of which the line is the request line
+abbrev pub OfItsCall : (line : List ℕ) → (Then : (id : ℕ) → Call → Type 0) → Type 0
+OfItsCall line Then = (id : ℕ) (call : Call) → id < 8 → IsFitting call → line ≡ request_line (Some id) call → Then id call
+
+-- if the line is the request line of a call (`OfItsCall`), its reply was appended to `old`, and `IsExchanged` holds of the call and
+-- this reply. `has_reply` says whether a reply was appended
 abbrev pub AppendsExchange : (before : State) → (line : List ℕ) → (after : State) → (old new : List ℕ) → (has_reply : Bool) → Type 0
-AppendsExchange before line after old new has_reply = (id : ℕ) (call : Call) → id < 8 → IsFitting call
-    → line ≡ request_line (Some id) call → AppendsAnswer (IsExchanged before id call after) old new has_reply
+AppendsExchange before line after old new has_reply = OfItsCall line (λ id call. AppendsAnswer (IsExchanged before id call after) old new has_reply)

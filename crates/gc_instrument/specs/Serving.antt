@@ -1,7 +1,7 @@
 -- What serving writes, and how it ends: this project's own.
-use Rattle.std.specs.Prelude.{◌≡◌, ℕ, ◌+◌, ◌-◌, ◌*◌, ◌<◌, ◌≤◌, List, ◌∷◌, ◌++◌, length, take, Option, Some, Result, Ok, Err}
-use Rattle.std.specs.Io.KnownBytes.{Appends, Consumes}
-use Rattle.gc_lines.specs.Answering.{Ports, HasEnded, Progress, progress}
+use Rattle.std.specs.Prelude.{◌≡◌, ℕ, ◌+◌, ◌<◌, List, ◌∷◌, ◌++◌, length, take, Option, Some, Result, Ok, Err}
+use Rattle.std.specs.Io.KnownBytes.{Appends}
+use Rattle.gc_lines.specs.Answering.{IsRunOverPorts, Ports, Progress, progress}
 use Rattle.gc_lines.specs.AnsweringLines.{AnswersLines}
 use Rattle.gc_lines.specs.Frames.{lines}
 use Rattle.gc_lines.specs.Lines.{with_end}
@@ -54,11 +54,6 @@ Serves from to heard old new (Err (Write count bytes)) = ServesPart (progress fr
 Serves from to heard old new (Err (TooManyReads count)) = ServesAll (progress from old 0) (progress to new count) heard
 
 -- serving in at most `most` reads led the instrument from the state `from` to `to` and the ports from `old` to `new`, and had
--- this result
-pub record IsServing (from to : State) (old new : Ports) (most : ℕ) (result : Result Served ServeFault) : Type 0 where
-  -- the source gave at most 256 bytes a read, the instrument got their lines, and the sink took the replies: how far, `Serves`
-  -- says by the result
-  pub serves : (given : List ℕ) × Consumes old.remaining new.remaining given
-      × (length given ≤ 256 * (new.reads - old.reads)) × Serves from to (lines given) old.taken new.taken result
-  -- why the run ended, and what that says of the ports, as `HasEnded` has it
-  pub ended : HasEnded old new most result
+-- this result: the instrument got the lines of the bytes that the source gave, and the sink took the replies, as `Serves` says
+abbrev pub IsServing : (from to : State) → (old new : Ports) → (most : ℕ) → Result Served ServeFault → Type 0
+IsServing from to old new most result = IsRunOverPorts (λ given. Serves from to (lines given)) old new most result

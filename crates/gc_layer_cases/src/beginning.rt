@@ -1,8 +1,7 @@
 //! Rows of a synchronization by null procedures, one after the other, as `Beginning` of gc_client plays it.
 
-use gc_cases::{Rows, Told};
+use gc_cases::{Row, Rows, Told};
 use gc_client::Beginning;
-use std::alloc::Global;
 
 /// A synchronization in progress.
 #[derive(Drop)]
@@ -40,10 +39,10 @@ impl Beginnings {
 
 impl Rows for Beginnings {
     // Plays a row: `ask`, `hear` with a line, `answered`, or `resume`.
-    fn play(&mut self, _alloc: Global, word: &str, _what: &str, bytes: &[u8], came: &mut Told) {
-        match word {
+    fn play(&mut self, row: Row<'_>, came: &mut Told) {
+        match row.word {
             "ask" => self.ask(came),
-            "hear" => came.display(&self.beginning.hear(bytes)),
+            "hear" => came.display(&self.beginning.hear(row.bytes)),
             "answered" => self.tell_answered(came),
             "resume" => self.resume(),
             _ => came.text("an unknown word"),

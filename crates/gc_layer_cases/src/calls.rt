@@ -1,11 +1,10 @@
 //! Rows of calls and answers on the line.
 
-use gc_cases::{Rows, Told, cut_word};
+use gc_cases::{Row, Rows, Told, cut_word};
 use gc_catalogue::{
     Answer, Call, CallFault, Reading, decode_answer, decode_call, encode_answer, encode_call,
 };
 use gc_lines::{read_reply, read_request};
-use std::alloc::Global;
 
 /// What plays these rows. Nothing is kept from row to row.
 #[derive(Drop)]
@@ -13,11 +12,11 @@ pub struct Calls;
 
 impl Rows for Calls {
     // Plays a row: `call` with a request's line, or `reading` or `answer` with the lines of a request and a reply.
-    fn play(&mut self, _alloc: Global, word: &str, what: &str, bytes: &[u8], came: &mut Told) {
-        match word {
-            "call" => rewrite_call(bytes, came),
-            "reading" => tell_reading(what, came),
-            "answer" => rewrite_answer(what, came),
+    fn play(&mut self, row: Row<'_>, came: &mut Told) {
+        match row.word {
+            "call" => rewrite_call(row.bytes, came),
+            "reading" => tell_reading(row.what, came),
+            "answer" => rewrite_answer(row.what, came),
             _ => came.text("an unknown word"),
         }
     }

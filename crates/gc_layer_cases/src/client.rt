@@ -1,15 +1,13 @@
 //! Rows of a client: what happens to the client, and what it gives. A case is played twice, once over each kind of window.
 
-ghost use Rattle.std.specs.Prelude.{◌≤◌};
-ghost use Rattle.gc_client.specs.declared.window.TheConstants.{WINDOW};
+ghost use Rattle.gc_client.specs.Rule.{IsWidth};
 
 use crate::calls::call_of;
 use arrayvec::ArrayVec;
-use gc_cases::{Case, Rows, Told, cut_word, play_rows};
+use gc_cases::{Case, Row, Rows, Told, cut_word, play_rows};
 use gc_catalogue::{Call, Reading};
 use gc_client::{Client, Hearing, Outcome, Ring, Settlement, Slots, WINDOW, Window};
 use gc_lines::Line;
-use std::alloc::Global;
 
 // What plays these rows: a client; the call that it sends; and the line and the list of settlements into which all rows write.
 #[derive(Drop)]
@@ -22,37 +20,36 @@ struct Clients<W: Window<Asked = Call>> {
 
 /// Plays a case twice: with a client over a window in fixed places, and with one over a ring. Where the ring gets no memory, `wrong`
 /// notes that it lacks a part.
-pub fn play_clients(alloc: Global, case: &Case<'_>, wrong: &mut Told) {
-    play_over(alloc, case, Slots::new(), wrong);
-    match Ring::new(alloc) {
-        Ok(ring) => play_over(alloc, case, ring, wrong),
+pub fn play_clients(case: &Case<'_>, wrong: &mut Told) {
+    play_over(case, Slots::new(), wrong);
+    match Ring::new(wrong.alloc) {
+        Ok(ring) => play_over(case, ring, wrong),
         Err(_) => wrong.lack(),
     }
 }
 
 // Plays a case with a client over this window.
-fn play_over<W: Window<Asked = Call>>(alloc: Global, case: &Case<'_>, window: W, wrong: &mut Told) {
+fn play_over<W: Window<Asked = Call>>(case: &Case<'_>, window: W, wrong: &mut Told) {
     let mut clients = Clients {
         client: Client::with_width(window, width_of(case)),
         call: Call::NullProc,
         line: Line::new(),
         settled: ArrayVec::new(),
     };
-    play_rows(alloc, case, &mut clients, wrong);
+    play_rows(case, &mut clients, wrong);
 }
 
 // How many requests may wait for their replies: two if the case says so, otherwise seven.
 fn width_of(case: &Case<'_>) -> u8
-    ensures least { 1 ≤ result }
-    ensures most { result ≤ WINDOW }
+    ensures { IsWidth result }
 {
     if case.is("width", "2") { 2 } else { 7 }
 }
 
 impl<W: Window<Asked = Call>> Rows for Clients<W> {
     // Plays a row, and reports what it gives, how many requests wait, and the next id.
-    fn play(&mut self, _alloc: Global, word: &str, what: &str, bytes: &[u8], came: &mut Told) {
-        self.play_word(word, what, bytes, came);
+    fn play(&mut self, row: Row<'_>, came: &mut Told) {
+        self.play_word(row, came);
         came.titled("; ", &self.client.waiting());
         came.titled(" wait, next ", &self.client.next_id());
     }
@@ -61,12 +58,12 @@ impl<W: Window<Asked = Call>> Rows for Clients<W> {
 impl<W: Window<Asked = Call>> Clients<W> {
     // Does with the client what the row's word says, and reports what that gives: `call` or `hear` with a line, `send` with a
     // target and a deadline, `expire` with a moment, `restart` or `deadline`; or that the word is unknown.
-    fn play_word(&mut self, word: &str, what: &str, bytes: &[u8], came: &mut Told) {
-        match word {
-            "call" => self.take_call(bytes, came),
-            "send" => self.send(what, came),
-            "hear" => self.hear(bytes, came),
-            "expire" => self.expire(what, came),
+    fn play_word(&mut self, row: Row<'_>, came: &mut Told) {
+        match row.word {
+            "call" => self.take_call(row.bytes, came),
+            "send" => self.send(row.what, came),
+            "hear" => self.hear(row.bytes, came),
+            "expire" => self.expire(row.what, came),
             "restart" => tell_settled(self.client.restart().as_slice(), came),
             "deadline" => came.debug(&self.client.next_deadline()),
             _ => came.text("an unknown word"),

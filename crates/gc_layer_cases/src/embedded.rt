@@ -4,7 +4,6 @@ use gc_cases::Told;
 use gc_instrument::{Instrument, Served, Target, serve};
 use gc_lines::{FromReader, ToWriter};
 use gc_values::{Decimal, Text};
-use std::alloc::Global;
 use std::io::{Read, Write};
 
 // Serves an instrument with one target over any reader and writer, until the end of the input. Returns how many replies were written;
@@ -23,8 +22,8 @@ fn serve_bench<R: Read + Drop, W: Write + Drop>(input: R, output: W) -> Option<S
 }
 
 /// Serves the requests in `input`, and reports what `serve_bench` returned, and the output.
-pub fn tell_embedded(alloc: Global, input: &[u8], came: &mut Told) {
-    let mut output = Vec::new(alloc);
+pub fn tell_embedded(input: &[u8], came: &mut Told) {
+    let mut output = Vec::new(came.alloc);
     came.debug(&serve_bench(input, &mut output));
     came.bytes(output.as_slice());
 }

@@ -1,10 +1,10 @@
 //! Rows of a file of rows, in memory: what opening it leaves of the bytes that it held, and what it holds of those that are
 //! written.
 
-use gc_cases::{Rows, Told, bytes_of, cut_word};
+use gc_cases::{Row, Rows, Told, bytes_of, cut_word};
 use gc_files::{MemoryFile, Refused, RowsFile, RowsOptions, copy_lines, open_rows};
 use gc_lines::{Durable, PortFailed, Sink};
-use std::alloc::{AllocError, Global};
+use std::alloc::AllocError;
 
 // The head: a new file gets it first, and an old one begins with it.
 const HEAD: &[u8] = b"run,sent\n";
@@ -25,16 +25,16 @@ impl Files {
     // Opens a new file that holds the bytes of the other words and has room for as many more as the first word says (`file_of`),
     // and reports what opening it gave. `is_synced`: a sync of the rows syncs the file; otherwise it leaves the file alone. If
     // memory runs out for the file, `came` notes that it lacks a part.
-    fn open(&mut self, alloc: Global, is_synced: bool, words: &str, came: &mut Told) {
-        match file_of(alloc, words, came) {
+    fn open(&mut self, is_synced: bool, words: &str, came: &mut Told) {
+        match file_of(words, came) {
             Ok(file) => self.open_file(file, is_synced, came),
             Err(_) => came.lack(),
         }
     }
 
     // Opens a file as `open` does if `is_synced` is true, but one whose syncs fail.
-    fn open_failing(&mut self, alloc: Global, words: &str, came: &mut Told) {
-        match file_of(alloc, words, came) {
+    fn open_failing(&mut self, words: &str, came: &mut Told) {
+        match file_of(words, came) {
             Ok(mut file) => {
                 file.fail_syncs();
                 self.open_file(file, true, came);
@@ -61,8 +61,8 @@ impl Files {
 
     // Copies the file that is open into a new one with room for 1000 bytes, and opens that one (`copy_into`). If memory runs out
     // for the new one, `came` notes that it lacks a part.
-    fn copy(&mut self, alloc: Global, came: &mut Told) {
-        match MemoryFile::new(alloc, b"", 1000) {
+    fn copy(&mut self, came: &mut Told) {
+        match MemoryFile::new(came.alloc, b"", 1000) {
             Some(fresh) => self.copy_into(fresh, came),
             None => came.lack(),
         }
@@ -79,9 +79,9 @@ impl Files {
     }
 
     // Plays a row on the file that is open, or reports that none is.
-    fn play_on_open(&mut self, word: &str, bytes: &[u8], came: &mut Told) {
+    fn play_on_open(&mut self, row: Row<'_>, came: &mut Told) {
         match &mut self.rows {
-            Some(rows) => play_on_rows(rows, word, bytes, came),
+            Some(rows) => play_on_rows(rows, row, came),
             None => came.text("no file is open"),
         }
     }
@@ -90,24 +90,24 @@ impl Files {
 impl Rows for Files {
     // Plays a row: `open`, `open_synced` or `open_failing` with a room in bytes and what the file holds, `copy`, or a word of
     // `play_on_rows`.
-    fn play(&mut self, alloc: Global, word: &str, what: &str, bytes: &[u8], came: &mut Told) {
-        match word {
-            "open" => self.open(alloc, false, what, came),
-            "open_synced" => self.open(alloc, true, what, came),
-            "open_failing" => self.open_failing(alloc, what, came),
-            "copy" => self.copy(alloc, came),
-            _ => self.play_on_open(word, bytes, came),
+    fn play(&mut self, row: Row<'_>, came: &mut Told) {
+        match row.word {
+            "open" => self.open(false, row.what, came),
+            "open_synced" => self.open(true, row.what, came),
+            "open_failing" => self.open_failing(row.what, came),
+            "copy" => self.copy(came),
+            _ => self.play_on_open(row, came),
         }
     }
 }
 
 // A file that holds the bytes of all words but the first, and has room for as many more as the first word says. `Err`: memory
 // ran out.
-fn file_of(alloc: Global, words: &str, came: &mut Told) -> Result<MemoryFile, AllocError> {
+fn file_of(words: &str, came: &mut Told) -> Result<MemoryFile, AllocError> {
     let (room, held) = cut_word(words);
     let room = came.number_in(room);
-    let held = bytes_of(alloc, held)?;
-    MemoryFile::new(alloc, held.as_slice(), room).ok_or(AllocError)
+    let held = bytes_of(came.alloc, held)?;
+    MemoryFile::new(came.alloc, held.as_slice(), room).ok_or(AllocError)
 }
 
 // Reports how many lines were copied, or that copying failed.
@@ -133,10 +133,10 @@ fn tell_refused(why: Refused, file: &MemoryFile, came: &mut Told) {
 
 // Syncs what was written (`keep`), writes the bytes (`write`), or reports what the file holds (`holds`), as the word says, or
 // that the word is unknown.
-fn play_on_rows(rows: &mut RowsFile<MemoryFile>, word: &str, bytes: &[u8], came: &mut Told) {
-    match word {
+fn play_on_rows(rows: &mut RowsFile<MemoryFile>, row: Row<'_>, came: &mut Told) {
+    match row.word {
         "keep" => sync_rows(rows, came),
-        "write" => write_to(rows, bytes, came),
+        "write" => write_to(rows, row.bytes, came),
         "holds" => came.bytes(rows.file().bytes()),
         _ => came.text("an unknown word"),
     }

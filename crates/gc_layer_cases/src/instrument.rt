@@ -3,7 +3,7 @@
 use crate::calls::call_of;
 use crate::embedded::tell_embedded;
 use crate::twice::ask_twice;
-use gc_cases::{Rows, Told, cut_word};
+use gc_cases::{Row, Rows, Told, cut_word};
 use gc_instrument::{Instrument, Target};
 use gc_lines::Line;
 use gc_values::{Decimal, Text, read_long};
@@ -90,15 +90,15 @@ impl Instruments {
 impl Rows for Instruments {
     // Plays a row: `line`, `execute`, `twice` or `embedded` with bytes, `target` or `instrument` with words, or a word of
     // `play_word`.
-    fn play(&mut self, alloc: Global, word: &str, what: &str, bytes: &[u8], came: &mut Told) {
-        match word {
-            "line" => hand_in(&mut self.instrument, bytes, came),
-            "execute" => self.execute(bytes, came),
-            "target" => self.add_target(what, came),
-            "instrument" => self.make(what, came),
-            "twice" => ask_twice(bytes, came),
-            "embedded" => tell_embedded(alloc, bytes, came),
-            _ => self.play_word(word, came),
+    fn play(&mut self, row: Row<'_>, came: &mut Told) {
+        match row.word {
+            "line" => hand_in(&mut self.instrument, row.bytes, came),
+            "execute" => self.execute(row.bytes, came),
+            "target" => self.add_target(row.what, came),
+            "instrument" => self.make(row.what, came),
+            "twice" => ask_twice(row.bytes, came),
+            "embedded" => tell_embedded(row.bytes, came),
+            word => self.play_word(word, came),
         }
     }
 }

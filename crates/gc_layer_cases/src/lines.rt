@@ -1,11 +1,10 @@
 //! Rows of lines: requests and replies read and written again, headers, and what an assembler makes of a piece.
 
-use gc_cases::{Rows, Told, cut_word};
+use gc_cases::{Row, Rows, Told, cut_word};
 use gc_lines::{
     Assembler, Lent, Line, LineFault, is_plain, push_reply, push_request, read_reply, read_request,
     write_reply, write_request,
 };
-use std::alloc::Global;
 
 /// What plays these rows: the assembler that the pieces of a case go through, one after the other.
 #[derive(Drop)]
@@ -25,12 +24,12 @@ impl Lines {
 impl Rows for Lines {
     // Plays a row: `request` or `reply` with a line, `header` with numbers, `piece` with bytes, or `start`: is the assembler at
     // the start of a line?
-    fn play(&mut self, _alloc: Global, word: &str, what: &str, bytes: &[u8], came: &mut Told) {
-        match word {
-            "request" => rewrite_request(bytes, came),
-            "reply" => rewrite_reply(bytes, came),
-            "header" => tell_header(what, came),
-            "piece" => hand_in_piece(&mut self.assembler, bytes, came),
+    fn play(&mut self, row: Row<'_>, came: &mut Told) {
+        match row.word {
+            "request" => rewrite_request(row.bytes, came),
+            "reply" => rewrite_reply(row.bytes, came),
+            "header" => tell_header(row.what, came),
+            "piece" => hand_in_piece(&mut self.assembler, row.bytes, came),
             "start" => came.display(&self.assembler.at_start()),
             _ => came.text("an unknown word"),
         }

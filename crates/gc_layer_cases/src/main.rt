@@ -1,7 +1,7 @@
 //! Plays the cases of the layers up to the instrument, and of files of rows: no part of the product. The cases of a layer are
 //! in a file of their own, `data/layers.NAME`, and are played by the file of `src` for that layer (`measuring.rt` for `stations`).
 //!
-//! A case is a list of rows, `do WORD WHAT -> CAME` (`Rows` of gc_cases). In each file `play` gets WORD, WHAT as it is (`what`), and the
+//! A case is a list of rows, `do WORD WHAT -> CAME` (`play_rows` of gc_cases). A `Row` has WORD, WHAT as it is (`what`), and the
 //! bytes for which WHAT stands (`bytes`). What a function reports is appended to `came`, a text that is then compared with CAME.
 #![tactic(auto)]
 
@@ -26,7 +26,6 @@ use instrument::Instruments;
 use lines::Lines;
 use measuring::Stations;
 use ports::Ports;
-use std::alloc::Global;
 use std::io;
 use std::process::ExitCode;
 use values::Values;
@@ -47,25 +46,25 @@ enum Layer {
 
 impl Player for Layer {
     // Plays a case of the layer. There is never an error.
-    fn play(&self, rt: &HostRuntime, case: &Case<'_>, wrong: &mut Told) -> io::Result<()> {
-        self.play_case(rt.alloc(), case, wrong);
+    fn play(&self, _rt: &HostRuntime, case: &Case<'_>, wrong: &mut Told) -> io::Result<()> {
+        self.play_case(case, wrong);
         Ok(())
     }
 }
 
 impl Layer {
     // Plays a case of the layer. What came otherwise than the case expects is appended to `wrong`.
-    fn play_case(&self, alloc: Global, case: &Case<'_>, wrong: &mut Told) {
+    fn play_case(&self, case: &Case<'_>, wrong: &mut Told) {
         match self {
-            Layer::Lines => play_rows(alloc, case, &mut Lines::new(), wrong),
-            Layer::Ports => play_rows(alloc, case, &mut Ports, wrong),
-            Layer::Values => play_rows(alloc, case, &mut Values, wrong),
-            Layer::Calls => play_rows(alloc, case, &mut Calls, wrong),
-            Layer::Client => play_clients(alloc, case, wrong),
-            Layer::Beginning => play_rows(alloc, case, &mut Beginnings::new(), wrong),
-            Layer::Stations => play_rows(alloc, case, &mut Stations::new(alloc), wrong),
-            Layer::Instrument => play_rows(alloc, case, &mut Instruments::new(alloc), wrong),
-            Layer::Files => play_rows(alloc, case, &mut Files::new(), wrong),
+            Layer::Lines => play_rows(case, &mut Lines::new(), wrong),
+            Layer::Ports => play_rows(case, &mut Ports, wrong),
+            Layer::Values => play_rows(case, &mut Values, wrong),
+            Layer::Calls => play_rows(case, &mut Calls, wrong),
+            Layer::Client => play_clients(case, wrong),
+            Layer::Beginning => play_rows(case, &mut Beginnings::new(), wrong),
+            Layer::Stations => play_rows(case, &mut Stations::new(wrong.alloc), wrong),
+            Layer::Instrument => play_rows(case, &mut Instruments::new(wrong.alloc), wrong),
+            Layer::Files => play_rows(case, &mut Files::new(), wrong),
         }
     }
 }

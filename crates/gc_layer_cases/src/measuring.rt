@@ -2,7 +2,7 @@
 //! After it comes what plays the rows of a case with such a station.
 
 use crate::client::target_and_deadline;
-use gc_cases::{Rows, Told, bytes_behind, cut_word};
+use gc_cases::{Row, Rows, Told};
 use gc_catalogue::{Answer, Call, Reading};
 use gc_client::{Client, Heard, Outcome, Settlement, Slots};
 use gc_lines::{Assembler, Frame};
@@ -136,18 +136,18 @@ impl Stations {
         }
     }
 
-    // Hands the station the bytes of a read, those in `bytes` after the word `now`, and the moment that this word writes.
-    // Reports what the station reported.
-    fn hear(&mut self, alloc: Global, now: &str, bytes: &[u8], came: &mut Told) {
-        let mut told = String::new(alloc);
-        let read = bytes_behind(now, bytes);
+    // Hands the station the bytes of a read and the moment after it, which are in the row: first the moment, then the bytes
+    // (`Row::cut_bytes`). Reports what the station reported.
+    fn hear(&mut self, row: Row<'_>, came: &mut Told) {
+        let mut told = String::new(came.alloc);
+        let (now, read) = row.cut_bytes();
         let heard = self.station.hear(read, came.number_in(now), &mut told);
         tell_report(heard, told.as_str(), came);
     }
 
     // Restarts the station, and reports what it reported.
-    fn restart(&mut self, alloc: Global, came: &mut Told) {
-        let mut told = String::new(alloc);
+    fn restart(&mut self, came: &mut Told) {
+        let mut told = String::new(came.alloc);
         let restarted = self.station.restart(&mut told);
         tell_report(restarted, told.as_str(), came);
     }
@@ -163,11 +163,11 @@ fn tell_report(end: Result<(), AllocError>, told: &str, came: &mut Told) {
 
 impl Rows for Stations {
     // Plays a row: `ask` with a target and a deadline, `hear` with a moment and bytes, `restart`, `deadline`, `go_on` or `sent`.
-    fn play(&mut self, alloc: Global, word: &str, what: &str, bytes: &[u8], came: &mut Told) {
-        match word {
-            "ask" => self.ask(what, came),
-            "hear" => self.hear(alloc, cut_word(what).0, bytes, came),
-            "restart" => self.restart(alloc, came),
+    fn play(&mut self, row: Row<'_>, came: &mut Told) {
+        match row.word {
+            "ask" => self.ask(row.what, came),
+            "hear" => self.hear(row, came),
+            "restart" => self.restart(came),
             "deadline" => came.debug(&self.station.client.next_deadline()),
             "go_on" => self.station.go_on(),
             "sent" => came.bytes(self.connection.as_slice()),

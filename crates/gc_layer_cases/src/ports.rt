@@ -3,9 +3,8 @@
 
 ghost use Rattle.std.specs.Prelude.{None};
 
-use gc_cases::{Rows, Told, cut_word};
+use gc_cases::{Row, Rows, Told, cut_word};
 use gc_lines::{FromReader, Line, ReadAhead, Sink, Source, ToWriter, begin_request, write_line};
-use std::alloc::Global;
 use std::cell::Cell;
 use std::io::{self, ErrorKind, Read};
 
@@ -61,11 +60,11 @@ pub struct Ports;
 
 impl Rows for Ports {
     // Plays a row: `source` or `ahead` with three words, `sink` with a room in bytes, or `lines`.
-    fn play(&mut self, _alloc: Global, word: &str, what: &str, _bytes: &[u8], came: &mut Told) {
-        match word {
-            "source" => read_source(what, came),
-            "ahead" => read_ahead(what, came),
-            "sink" => write_through(what, came),
+    fn play(&mut self, row: Row<'_>, came: &mut Told) {
+        match row.word {
+            "source" => read_source(row.what, came),
+            "ahead" => read_ahead(row.what, came),
+            "sink" => write_through(row.what, came),
             "lines" => write_lines(came),
             _ => came.text("an unknown word"),
         }

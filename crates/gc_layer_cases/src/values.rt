@@ -2,12 +2,11 @@
 
 ghost use Rattle.std.specs.Prelude.{◌≤◌};
 
-use gc_cases::{Rows, Told, cut_word};
+use gc_cases::{Row, Rows, Told, cut_word};
 use gc_values::{
     Decimal, Items, Kind, Text, Value, ValueFault, read_bool, read_byte, read_long, read_text,
     read_whole, split,
 };
-use std::alloc::Global;
 use std::fmt;
 
 /// What plays these rows. Nothing is kept from row to row.
@@ -15,18 +14,18 @@ use std::fmt;
 pub struct Values;
 
 impl Rows for Values {
-    // Plays a row: the word says what is read or done, and the rest of the row is an item (`item`), or numbers (`what`).
-    fn play(&mut self, _alloc: Global, word: &str, what: &str, item: &[u8], came: &mut Told) {
-        match word {
-            "split" => split_list(item, came),
-            "decimal" => tell_read(Decimal::read(item), came),
-            "new" => new_decimal(what, came),
-            "compare" => compare(what, came),
-            "round" => round(what, came),
-            "within" => within(what, came),
-            "whole" => read_whole_word(what, came),
-            "long" => tell_read(read_long(item), came),
-            _ => play_item(word, item, came),
+    // Plays a row: the word says what is read or done, and the rest of the row is an item (its bytes), or numbers.
+    fn play(&mut self, row: Row<'_>, came: &mut Told) {
+        match row.word {
+            "split" => split_list(row.bytes, came),
+            "decimal" => tell_read(Decimal::read(row.bytes), came),
+            "new" => new_decimal(row.what, came),
+            "compare" => compare(row.what, came),
+            "round" => round(row.what, came),
+            "within" => within(row.what, came),
+            "whole" => read_whole_word(row.what, came),
+            "long" => tell_read(read_long(row.bytes), came),
+            word => play_item(word, row.bytes, came),
         }
     }
 }
@@ -148,7 +147,7 @@ fn tell_text(read: Result<Text, ValueFault>, came: &mut Told) {
 fn tell_string_bytes(text: &Text, came: &mut Told) {
     came.counted(&text.as_bytes().len(), " bytes ");
     came.bytes(text.as_bytes());
-    came.either(*text == Text::empty(), "as the empty one", "");
+    came.text_if(*text == Text::empty(), "as the empty one");
 }
 
 // The kind of this name. `None`: no kind has it.

@@ -1,5 +1,5 @@
 -- An answerer of lines: when a line is no request, that it has one reply, and what it appends to the text that it was handed.
-use Rattle.std.proofs.Common.{◌≡◌, ℕ, List, [], ◌∷◌, ◌++◌, Option, Some, None, Result, Ok, Err, true, false, refl, sym, ap, ◌∙◌, subst, append_assoc}
+use Rattle.std.proofs.Common.{◌≡◌, ℕ, List, [], ◌∷◌, Option, Some, None, Result, Ok, Err, true, false, refl, sym, ap, ◌∙◌, subst, append_assoc}
 use Rattle.gc_lines.specs.Answering.{AppendsAnswer}
 use Rattle.gc_lines.specs.AnsweringLines.{RepliesTo, silent, answers, ReplyRule, HasOneReply, AnswersLines}
 use Rattle.gc_lines.specs.Headers.{GivesEach}

@@ -39,12 +39,12 @@ prefix_digits (b ∷ bs) = elim (is_ascii_digit b) as (λ v. is_ascii_digit b �
 ] refl
 
 -- `digits_len` and `prefix_len` count the same number of digits at the front
-pub run_is : (bs : List ℕ) → digits_len bs ≡ prefix_len is_ascii_digit bs
-run_is bs = length-prefix_len is_ascii_digit bs
+pub same_run : (bs : List ℕ) → digits_len bs ≡ prefix_len is_ascii_digit bs
+same_run bs = length-prefix_len is_ascii_digit bs
 
 -- the first `digits_len bs` bytes of bs are digits
 pub run_digits : (bs : List ℕ) → AllDigits 10 (take (digits_len bs) bs)
-run_digits bs = subst (λ (n : ℕ). AllDigits 10 (take n bs)) (sym (run_is bs)) (prefix_digits bs)
+run_digits bs = subst (λ (n : ℕ). AllDigits 10 (take n bs)) (sym (same_run bs)) (prefix_digits bs)
 
 -- what follows the digits at the front of bs that `prefix_len` counts doesn't begin with a digit
 prefix_stops : (bs : List ℕ) → NoDigitFirst (drop (prefix_len is_ascii_digit bs) bs)
@@ -56,7 +56,7 @@ prefix_stops (b ∷ bs) = elim (is_ascii_digit b) as (λ v. is_ascii_digit b ≡
 
 -- what follows the first `digits_len bs` bytes of bs doesn't begin with a digit
 pub run_stops : (bs : List ℕ) → NoDigitFirst (drop (digits_len bs) bs)
-run_stops bs = subst (λ (n : ℕ). NoDigitFirst (drop n bs)) (sym (run_is bs)) (prefix_stops bs)
+run_stops bs = subst (λ (n : ℕ). NoDigitFirst (drop n bs)) (sym (same_run bs)) (prefix_stops bs)
 
 -- `prefix_len` counts no digit at the front of bytes that don't begin with a digit
 no_run : (rest : List ℕ) → NoDigitFirst rest → prefix_len is_ascii_digit rest ≡ 0
@@ -64,28 +64,28 @@ no_run [] h = refl
 no_run (b ∷ bs) h = rw h refl
 
 -- a byte that is worth less than ten is an ASCII digit
-is_digit : (c : ℕ) → digit_value c < 10 → is_ascii_digit c ≡ true
-is_digit c h = let r = digit_from_value c h in grind (arith, nat_tests)
+below_ten_is_digit : (c : ℕ) → digit_value c < 10 → is_ascii_digit c ≡ true
+below_ten_is_digit c h = let r = digit_from_value c h in grind (arith, nat_tests)
 
 -- where `text` is digits, the longest prefix of digits of `text ++ rest` is as long as `text` and that of `rest` together
 prefix_run : (text rest : List ℕ) → AllDigits 10 text → prefix_len is_ascii_digit (text ++ rest) ≡ length text + prefix_len is_ascii_digit rest
 prefix_run [] rest a = omega arith
-prefix_run (c ∷ cs) rest a = rw (is_digit c a.0) (omega (arith, prefix_run cs rest a.1))
+prefix_run (c ∷ cs) rest a = rw (below_ten_is_digit c a.0) (omega (arith, prefix_run cs rest a.1))
 
 -- where `text` is digits, and `rest` doesn't begin with a digit, the run of `text ++ rest` is as long as `text`
 pub run_length : (text rest : List ℕ) → AllDigits 10 text → NoDigitFirst rest → digits_len (text ++ rest) ≡ length text
-run_length text rest a h = omega (arith, run_is (text ++ rest), prefix_run text rest a, no_run rest h)
+run_length text rest a h = omega (arith, same_run (text ++ rest), prefix_run text rest a, no_run rest h)
 
 -- where the run of b and then bs has length 1, b is from 48 to 57, and bs doesn't begin with a digit
 pub run_of_one : (b : ℕ) (bs : List ℕ) → digits_len (b ∷ bs) ≡ 1 → (48 ≤ b) × (b ≤ 57) × NoDigitFirst bs
 run_of_one b bs e = elim (is_ascii_digit b) as (λ v. is_ascii_digit b ≡ v → cond v (1 + prefix_len is_ascii_digit bs) 0 ≡ 1 → (48 ≤ b) × (b ≤ 57) × NoDigitFirst bs) [
   | true ↦ λ t h. let r = digit_range b t in let none : prefix_len is_ascii_digit bs ≡ 0 = omega arith in (r.0, r.1, subst (λ (n : ℕ). NoDigitFirst (drop n bs)) none (prefix_stops bs))
   | false ↦ λ _ h. absurd (omega arith)
-] refl (sym (run_is (b ∷ bs)) ∙ e)
+] refl (sym (same_run (b ∷ bs)) ∙ e)
 
 -- where i is below ten, and `rest` doesn't begin with a digit, the run of the digit of i and then `rest` has length 1
 pub one_digit_runs : (i : ℕ) (rest : List ℕ) → i < 10 → NoDigitFirst rest → digits_len ((48 + i) ∷ rest) ≡ 1
-one_digit_runs i rest h stop = run_is ((48 + i) ∷ rest) ∙ rw (digit_of i h, no_run rest stop) refl where
+one_digit_runs i rest h stop = same_run ((48 + i) ∷ rest) ∙ rw (digit_of i h, no_run rest stop) refl where
   -- 48 plus a number below ten is an ASCII digit
   digit_of : (i : ℕ) → i < 10 → is_ascii_digit (48 + i) ≡ true
   digit_of i h = grind (arith, nat_tests)
@@ -159,7 +159,7 @@ value_small bytes i all few = omega (arith, digits_value_short digits_are_numera
 pub run_long : (bytes : List ℕ) (i : ℕ) → i ≤ length bytes → AllDigits 10 (take i bytes) → i ≤ digits_len bytes
 run_long bytes i within all =
     let cut : prefix_len is_ascii_digit (take i bytes ++ drop i bytes) ≡ prefix_len is_ascii_digit bytes = ap (λ xs. prefix_len is_ascii_digit xs) (take-append-drop i bytes) in
-    omega (arith, run_is bytes, cut, prefix_run (take i bytes) (drop i bytes) all, length-take-le i bytes within)
+    omega (arith, same_run bytes, cut, prefix_run (take i bytes) (drop i bytes) all, length-take-le i bytes within)
 
 -- where the run has six digits or more, `number_at` gives the fault
 pub number_long : (fault : LineFault) (bytes : List ℕ) → 6 ≤ digits_len bytes → number_at fault bytes ≡ Err fault

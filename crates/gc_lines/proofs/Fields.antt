@@ -10,7 +10,7 @@ use Rattle.gc_lines.specs.declared.fault.LineFault.TheVariants.{Signature, Id, C
 use Rattle.gc_lines.specs.Numbers.{IsSmallNumber, HasNumber, NoDigitFirst}
 use Rattle.gc_lines.specs.Headers.{HasId, EndsId, IsIdInRange, id_text, PastSignature}
 use Rattle.gc_lines.specs.Readers.{number_at, digits_len, signature_at, id_at, colon_at}
-use Rattle.gc_lines.proofs.Digits.{run_is, run_digits, run_stops, run_length, run_of_one, one_digit_runs}
+use Rattle.gc_lines.proofs.Digits.{same_run, run_digits, run_stops, run_length, run_of_one, one_digit_runs}
 use Rattle.gc_lines.proofs.Reading.{ReadsField, guard_ok, guard_err}
 
 -- the signature
@@ -48,7 +48,7 @@ number_found f bytes x e =
     let u = and_parts _ _ t.1 in
     let value : digits_value 10 (take len bytes) ≡ x.0 = ap (λ (p : ℕ × List ℕ). p.0) g.1 in
     let rest : drop len bytes ≡ x.1 = ap (λ (p : ℕ × List ℕ). p.1) g.1 in
-    let l : length (take len bytes) ≡ len = ap (λ n. length (take n bytes)) (run_is bytes) in
+    let l : length (take len bytes) ≡ len = ap (λ n. length (take n bytes)) (same_run bytes) in
     record {
       text = take len bytes;
       is_number = record {
@@ -151,9 +151,9 @@ ok_no_fault : {A : Type 0} (x : A) (d f : LineFault) → Ok x ≡ Err d → f �
 ok_no_fault x d f e = (cc)
 
 -- where `id_at` gives a fault, the fault is `Id`
-id_named : (bytes : List ℕ) (d : LineFault) → id_at bytes ≡ Err d → Id ≡ d
-id_named [] d e = let x : Option ℕ × List ℕ = (None, []) in ok_no_fault x d Id e
-id_named (a ∷ bs) d e = elim (eqb a 44) as (λ v. cond {A = Result (Option ℕ × List ℕ) LineFault} v
+id_fault_is_id : (bytes : List ℕ) (d : LineFault) → id_at bytes ≡ Err d → Id ≡ d
+id_fault_is_id [] d e = let x : Option ℕ × List ℕ = (None, []) in ok_no_fault x d Id e
+id_fault_is_id (a ∷ bs) d e = elim (eqb a 44) as (λ v. cond {A = Result (Option ℕ × List ℕ) LineFault} v
     (cond (eqb (digits_len bs) 1 && ltb (get_or bs 0 0) 56) (Ok (Some (get_or bs 0 0 - 48), drop 1 bs)) (Err Id)) (Ok (None, a ∷ bs)) ≡ Err d → Id ≡ d) [
       | true ↦ λ f. (let x : Option ℕ × List ℕ = (Some (get_or bs 0 0 - 48), drop 1 bs) in guard_err _ x Id d f).1
       | false ↦ λ f. let x : Option ℕ × List ℕ = (None, a ∷ bs) in ok_no_fault x d Id f
@@ -161,7 +161,7 @@ id_named (a ∷ bs) d e = elim (eqb a 44) as (λ v. cond {A = Result (Option ℕ
 
 -- `id_at` gives an id or none, and what follows it, just where the bytes have the form of these, and its one fault is `Id`
 pub id_reads : ReadsField id_at (λ bytes x. HasId bytes x.0 x.1) Id
-id_reads = record { found = id_found; again = id_again; named = id_named }
+id_reads = record { found = id_found; again = id_again; named = id_fault_is_id }
 
 -- the colon
 

@@ -4,7 +4,7 @@ use Rattle.std.proofs.Common.{◌≡◌, Bool, false, ℕ, ◌+◌, ◌*◌, ◌
 use Rattle.std.specs.Io.KnownBytes.{Consumes}
 use Rattle.std.proofs.lemmas.List.{append-nil}
 use Rattle.std.proofs.KnownBytes.{Consumes-trans}
-use Rattle.gc_lines.specs.Answering.{AnswerRule, AnswersAll, AnswersPart, Progress, progress}
+use Rattle.gc_lines.specs.Answering.{AnswerRule, AnswersAll, AnswersPart, GaveInReads, Progress, progress}
 use Rattle.gc_lines.specs.Assembler.{Kept, StandsFor}
 use Rattle.gc_lines.specs.Frames.{frames, rest_behind}
 use Rattle.gc_lines.specs.Passing.{frames_behind, GathersPart}
@@ -23,17 +23,12 @@ pub record AnsweredSoFar {State : Type 0} (rule : AnswerRule State Frame) (sourc
   pub stands : StandsFor kept (rest_behind [] given)
   pub all : AnswersAll rule from to (frames given)
 
--- the source gave bytes, at most 256 in each of so many reads, and of their frames `Is` is true
-abbrev pub GaveFrames : (source_old source_new : Option (List ℕ)) → (reads : ℕ) → (Is : List Frame → Type 0) → Type 0
-GaveFrames source_old source_new reads Is =
-    (given : List ℕ) × Consumes source_old source_new given × (length given ≤ 256 * reads) × Is (frames given)
-
 -- Here `AnsweredSoFar` is true, and one more read leaves the source the bytes a''.
 module _ {State : Type 0} (rule : AnswerRule State Frame) (a a' a'' : Option (List ℕ)) (kept : Kept) (s t : Progress State) (reads : ℕ)
     (so : AnsweredSoFar rule a a' kept s t reads) where
   -- where that read gives no byte, the source gave at most 256 bytes for each of the `reads` reads before it, and all frames of
   -- these bytes were answered
-  pub given_end : Consumes a' a'' [] → GaveFrames a a'' reads (AnswersAll rule s t)
+  pub given_end : Consumes a' a'' [] → GaveInReads a a'' reads (λ given. AnswersAll rule s t (frames given))
   given_end gave = (
     so.given,
     subst (λ (xs : List ℕ). Consumes a a'' xs) (append-nil so.given) (Consumes-trans a a' a'' so.given [] so.gave gave),
@@ -64,7 +59,7 @@ module _ {State : Type 0} (rule : AnswerRule State Frame) (a a' a'' : Option (Li
     -- (`AnswersPart`). That took the answerer to the state `reached`, which is that of u without `gathers`
     pub given_part : (u : Progress State) (bytes : ℕ) (gathers : Bool)
         → ((rest : List ℕ) → StandsFor kept rest → GathersPart rule t u (frames_behind rest piece) bytes gathers)
-        → (reached : State) × GaveFrames a a'' (reads + 1) (λ seen. AnswersPart rule s (progress reached u.taken u.whole) seen bytes)
+        → (reached : State) × GaveInReads a a'' (reads + 1) (λ given. AnswersPart rule s (progress reached u.taken u.whole) (frames given) bytes)
         × (gathers ≡ false → reached ≡ u.state)
     given_part u bytes gathers answered =
         let it = answered (rest_behind [] so.given) so.stands in (

@@ -24,9 +24,9 @@ params_again bytes params (inl e) = ap params_at e.0 ∙ ap (λ (p : List ℕ). 
 params_again bytes params (inr e) = ap params_at e
 
 -- where `params_at` gives a fault, the fault is `Code`
-params_named : (bytes : List ℕ) (d : LineFault) → params_at bytes ≡ Err d → Code ≡ d
-params_named [] d e = (cc)
-params_named (b ∷ bs) d e = (guard_err (eqb b 44) bs Code d e).1
+params_fault_is_code : (bytes : List ℕ) (d : LineFault) → params_at bytes ≡ Err d → Code ≡ d
+params_fault_is_code [] d e = (cc)
+params_fault_is_code (b ∷ bs) d e = (guard_err (eqb b 44) bs Code d e).1
 
 -- the code with its parameters
 
@@ -53,18 +53,18 @@ code_again bytes x has =
     ∙ bind_on (params_at has.tail) (λ params. Ok (x.0, params)) x.1 (params_again has.tail x.1 has.is_tail)
 
 -- where `code_at` gives a fault, the fault is `Code`
-code_named : (bytes : List ℕ) (d : LineFault) → code_at bytes ≡ Err d → Code ≡ d
-code_named bytes d e = elim (bind_err (number_at Code bytes) _ d e) [
+code_fault_is_code : (bytes : List ℕ) (d : LineFault) → code_at bytes ≡ Err d → Code ≡ d
+code_fault_is_code bytes d e = elim (bind_err (number_at Code bytes) _ d e) [
   | inl h ↦ (number_reads Code).named bytes d h
   | inr a ↦ elim (bind_err (params_at a.0.1) _ d a.2) [
-    | inl h ↦ params_named a.0.1 d h
+    | inl h ↦ params_fault_is_code a.0.1 d h
     | inr b ↦ (cc)
   ]
 ]
 
 -- `code_at` gives a return code and parameters just where the bytes have the form of these, and its one fault is `Code`
 code_reads : ReadsField code_at (λ bytes x. HasCode bytes x.0 x.1) Code
-code_reads = record { found = code_found; again = code_again; named = code_named }
+code_reads = record { found = code_found; again = code_again; named = code_fault_is_code }
 
 -- the line
 
@@ -77,9 +77,9 @@ abbrev read_body : HeaderFields → Result ReplyFields LineFault
 read_body h = code_at h.rest >>= λ code. Ok (reply_fields h code)
 
 -- where `read_body` gives a fault, the fault is `Code`, and what follows the header hasn't the form of a reply's body
-body_named : (h : HeaderFields) (d : LineFault) → read_body h ≡ Err d → (Code ≡ d) × (¬ IsReplyBody h.rest)
-body_named h d e = elim (bind_err (code_at h.rest) _ d e) [
-  | inl f ↦ (code_named h.rest d f, λ has. fault_means_none _ _ _ code_reads h.rest d f (has.0, has.1) has.2)
+body_fault_is_code : (h : HeaderFields) (d : LineFault) → read_body h ≡ Err d → (Code ≡ d) × (¬ IsReplyBody h.rest)
+body_fault_is_code h d e = elim (bind_err (code_at h.rest) _ d e) [
+  | inl f ↦ (code_fault_is_code h.rest d f, λ has. fault_means_none _ _ _ code_reads h.rest d f (has.0, has.1) has.2)
   | inr a ↦ (cc)
 ]
 
@@ -89,7 +89,7 @@ body_refused h bad = rw (none_means_fault _ _ _ code_reads h.rest (λ x has. bad
 
 -- `read_body` fails just where what follows the header hasn't the form of a reply's body, and then with `Code`
 reads_body : ReadsBody read_body IsReplyBody
-reads_body = record { named = body_named; refused = body_refused }
+reads_body = record { named = body_fault_is_code; refused = body_refused }
 
 -- where `reply_at` gives fields, the line has the grammar of a reply with these fields
 pub reply_found : (line : List ℕ) (r : ReplyFields) → reply_at line ≡ Ok r → IsReply line r

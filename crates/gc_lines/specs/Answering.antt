@@ -119,6 +119,15 @@ ports_of of_source source of_sink sink = record {
   sink_failed = of_sink.failed sink;
 }
 
+-- what is seen of a sink: the bytes that it has taken, where they are known, and whether it has failed
+pub record Taken : Type 0 where
+  pub bytes : Option (List ℕ)
+  pub failed : Bool
+
+-- what is seen of this sink, by the ghost members of its trait
+abbrev pub taken_by : {K : Type 0} → Sink K → K → Taken
+taken_by of_sink sink = record { bytes = of_sink.taken sink; failed = of_sink.failed sink }
+
 -- what each result of a run of at most `most` reads says of the ports before (`old`) and after it (`new`). Ok: a read was
 -- answered, and the last was the end. Read: one of the reads failed at the source, so fewer than `most` were answered, and none
 -- was the end. Write: the sink failed, after a read that wasn't the end. TooManyReads: all `most` reads were answered, none was
@@ -155,12 +164,24 @@ pub record HasEnded (old new : Ports) (most : ℕ) (result : Result Served Serve
   pub too_many : old.source_failed ≡ false → old.sink_failed ≡ false → IsErrAnd result (λ fault. serve_fault_number fault ≡ 44)
       ↔ ((new.reads ≡ old.reads + most) × (old.reads < new.reads → new.ended ≡ false) × (new.source_failed ≡ false) × (new.sink_failed ≡ false))
 
--- the source gave at most 256 bytes a read, the frames of these bytes were answered, and the sink took the texts: how far,
--- `AnswersFrames` says by the result. `old` and `new` are the ports before and after the run; `from` and `to` are as there
+-- the source, which had the bytes `old` and has the bytes `new` still to give, gave some in so many reads, at most 256 in each,
+-- and `Is` is true of those that it gave
+abbrev pub GaveInReads : (old new : Option (List ℕ)) → (reads : ℕ) → (Is : List ℕ → Type 0) → Type 0
+GaveInReads old new reads Is = (given : List ℕ) × Consumes old new given × (length given ≤ 256 * reads) × Is given
+
+-- a run of at most `most` reads took the ports from `old` to `new`, and had this result
+pub record IsRunOverPorts (does : (given : List ℕ) → (old new : Option (List ℕ)) → Result Served ServeFault → Type 0) (old new : Ports) (most : ℕ)
+    (result : Result Served ServeFault) : Type 0 where
+  -- `does` says, by the result, what the sink took for the bytes that the source gave
+  pub did : GaveInReads old.remaining new.remaining (new.reads - old.reads) (λ given. does given old.taken new.taken result)
+  -- why the run ended, and what that says of the ports
+  pub ended : HasEnded old new most result
+
+-- the frames of the bytes that the source gave were answered, and the sink took the texts: how far, `AnswersFrames` says by the
+-- result. `old` and `new` are the ports before and after the run; `from` and `to` are as there
 abbrev pub AnswersGiven : {State : Type 0} → AnswerRule State Frame → (from to : State) → (old new : Ports) → Result Served ServeFault → Type 0
 AnswersGiven rule from to old new result =
-    (given : List ℕ) × Consumes old.remaining new.remaining given
-    × (length given ≤ 256 * (new.reads - old.reads)) × AnswersFrames rule from to (frames given) old.taken new.taken result
+    GaveInReads old.remaining new.remaining (new.reads - old.reads) (λ given. AnswersFrames rule from to (frames given) old.taken new.taken result)
 
 -- a run answered as `AnswersGiven` says, which took the answerer from the state `from` to one that it reached. Without `gathers`
 -- that is its state at the end, `to`; with `gathers` the answerer may have got later frames after it

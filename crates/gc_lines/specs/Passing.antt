@@ -25,6 +25,10 @@ abbrev pub completed : Frame → List Frame
 completed More = []
 completed frame = frame ∷ []
 
+-- how many texts of a session were written whole, or wait
+abbrev pub texts_in : Session → ℕ
+texts_in session = session.replies + length session.lengths
+
 -- the progress of an answerer in this state, of this sink, and of a session
 abbrev pub session_progress : {State K : Type 0} → Sink K → State → K → Session → Progress State
 session_progress of_sink state sink session = progress state (of_sink.taken sink) session.replies
@@ -108,6 +112,6 @@ TakesTextsPart old new whole total text lengths bytes = (n : ℕ) × TakesFront 
 -- one it took `bytes` bytes
 abbrev pub WritesWaiting : {K : Type 0} → Sink K → (sink_old sink_new : K) → (old new : Session) → Result (Unit {0}) ℕ → Type 0
 WritesWaiting of_sink sink_old sink_new old new (Ok _) =
-    Appends (of_sink.taken sink_old) (of_sink.taken sink_new) old.text.items × (new.replies ≡ old.replies + length old.lengths)
+    Appends (of_sink.taken sink_old) (of_sink.taken sink_new) old.text.items × (new.replies ≡ texts_in old)
 WritesWaiting of_sink sink_old sink_new old new (Err bytes) =
     TakesTextsPart (of_sink.taken sink_old) (of_sink.taken sink_new) old.replies new.replies old.text.items old.lengths bytes

@@ -1,7 +1,7 @@
 -- What a call of a source and of a sink does to what contracts see of them: this project's own. `old` and `new` are what is seen
 -- before and after the call: the bytes that a source has still to give, or those that a sink took (`None`: they aren't known, and
 -- nothing is claimed of them), or whether a port has failed.
-use Rattle.std.specs.Prelude.{◌≡◌, ℕ, ◌+◌, ◌<◌, ◌≤◌, ◌==◌, Bool, true, false, List, length, take, Option, Result, Ok, Err}
+use Rattle.std.specs.Prelude.{◌≡◌, ℕ, ◌+◌, ◌<◌, ◌≤◌, ◌==◌, Bool, true, false, List, length, take, Option, Result, Ok, Err, OnOk, IfErr}
 use Rattle.std.specs.Io.KnownBytes.{Consumes, Appends, Keeps, IsAtEnd}
 
 -- a read gave the first n bytes of buf, and n is 0 only where no byte is left; a failed read gave none
@@ -34,3 +34,12 @@ FailsWith (Err _) old new = new ≡ true
 -- a sink took the first n bytes of a text, which aren't all of it
 abbrev pub TakesFront : (old new : Option (List ℕ)) (n : ℕ) (text : List ℕ) → Type 0
 TakesFront old new n text = (n < length text) × Appends old new (take n text)
+
+-- a sink took a front of a text, maybe no byte, and not all of it
+abbrev pub TakesPart : (old new : Option (List ℕ)) (text : List ℕ) → Type 0
+TakesPart old new text = (n : ℕ) × TakesFront old new n text
+
+-- what a sink took of a text that a call was to write whole: all of it, or where the call failed with n (`Err`) the first n bytes,
+-- which aren't all
+abbrev pub TakesText : {X : Type 0} → (old new : Option (List ℕ)) → Result X ℕ → (text : List ℕ) → Type 0
+TakesText old new result text = OnOk result (Appends old new text) × IfErr result (λ n. TakesFront old new n text)

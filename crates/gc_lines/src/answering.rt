@@ -16,6 +16,9 @@ use arrayvec::ArrayVec;
 /// How many bytes a run reads at a time at most.
 const PIECE: usize = 256;
 
+/// The most bytes of a text that is sent, its line end counted.
+pub(crate) const TEXT_ROOM: usize = 514;
+
 /// Texts to be sent, one after the other: at most 8192 bytes in all, and at most 514 in each, its line end counted.
 pub type Outgoing = ArrayVec<u8, 8192>;
 

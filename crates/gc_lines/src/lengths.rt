@@ -4,10 +4,13 @@ ghost use Rattle.std.specs.Prelude.{◌≡◌, ◌<◌, [], ◌∷◌, ◌++◌,
 
 use std::marker::Model;
 
+// The most lengths of texts.
+pub(crate) const MOST_LENGTHS: usize = 256;
+
 // At most 256 lengths, in an array: clearing them only resets the count, which matters where each text is written at once.
 #[derive(Drop)]
 pub(crate) struct Lengths {
-    all: [usize; 256],
+    all: [usize; MOST_LENGTHS],
     // How many places of `all` are in use, from the first on.
     count: usize,
 }
@@ -28,7 +31,7 @@ impl Lengths {
         ensures { result ≡ [] }
     {
         Lengths {
-            all: [0; 256],
+            all: [0; MOST_LENGTHS],
             count: 0,
         }
     }

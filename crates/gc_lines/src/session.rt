@@ -5,13 +5,13 @@ ghost use Rattle.std.specs.Prelude.{◌≡◌, ◌+◌, ◌<◌, ◌≤◌, ◌^
 ghost use Rattle.gc_lines.specs.Assembler.{StandsFor};
 ghost use Rattle.gc_lines.specs.Lent.{lent_seen};
 ghost use Rattle.gc_lines.specs.Passing.{AnswersPiece, ChangesTextsAlone, GathersFrame, HasRoomForText, NoneWait, WritesWaiting};
-ghost use Rattle.gc_lines.specs.Passing.{session_progress, whole_and_part};
+ghost use Rattle.gc_lines.specs.Passing.{session_progress, texts_in, whole_and_part};
 ghost use Rattle.gc_lines.specs.Ports.{FailsWith};
 
-use crate::answering::{Answers, Outgoing};
+use crate::answering::{Answers, Outgoing, TEXT_ROOM};
 use crate::assembler::Assembler;
 use crate::frame::Lent;
-use crate::lengths::Lengths;
+use crate::lengths::{Lengths, MOST_LENGTHS};
 use crate::line::Line;
 use crate::ports::Sink;
 use crate::writing::write_whole;
@@ -88,10 +88,10 @@ impl Session {
         sink: &mut K,
         frame: Lent<'_>,
     ) -> Result<(), usize>
-        requires count { self.old.replies + length self.old.lengths + 1 < 2 ^ 64 }
+        requires count { texts_in self.old + 1 < 2 ^ 64 }
         requires room { HasRoomForText self.old }
-        ensures few { self.new.replies ≤ self.old.replies + length self.old.lengths + 1 }
-        ensures bound { OnOk result (self.new.replies + length self.new.lengths ≤ self.old.replies + length self.old.lengths + 1) }
+        ensures few { self.new.replies ≤ texts_in self.old + 1 }
+        ensures bound { OnOk result (texts_in self.new ≤ texts_in self.old + 1) }
         ensures room { OnOk result (HasRoomForText self.new) }
         ensures same { ChangesTextsAlone self.old self.new }
         ensures failed { FailsWith result (K.failed sink.old) (K.failed sink.new) }
@@ -109,28 +109,29 @@ impl Session {
         if self.may_wait() {
             return Ok(());
         }
-        // By two branches, as at the end of `answer_piece`.
+        // By two branches, since each outcome is proved in one.
         if let Err(bytes) = self.write_texts(sink) {
             return Err(bytes);
         }
         Ok(())
     }
 
-    // Whether the texts that wait may wait for one more: texts are gathered, and there is room for one of 514 bytes among the
-    // 8192 of `Outgoing`, and for its length among the 256 of `Lengths`.
+    // Whether the texts that wait may wait for one more: texts are gathered, and there is room for one more text and its length.
     #[inline]
     fn may_wait(&self) -> bool
         ensures { result ≡ true → HasRoomForText self.now }
     {
-        self.gathers && self.lengths.len() < 256 && self.text.len() <= 8192 - 514
+        self.gathers
+            && self.lengths.len() < MOST_LENGTHS
+            && self.text.remaining_capacity() >= TEXT_ROOM
     }
 
     // Writes all texts that wait, and counts those that the sink took whole. `Err(bytes)`: the sink failed, and took only the first
     // `bytes` bytes of one of them; none of them is removed then, not even those that were counted.
     #[inline]
     fn write_texts<K: Sink>(&mut self, sink: &mut K) -> Result<(), usize>
-        requires { self.old.replies + length self.old.lengths < 2 ^ 64 }
-        ensures bound { self.new.replies ≤ self.old.replies + length self.old.lengths }
+        requires { texts_in self.old < 2 ^ 64 }
+        ensures bound { self.new.replies ≤ texts_in self.old }
         ensures same { ChangesTextsAlone self.old self.new }
         ensures failed { FailsWith result (K.failed sink.old) (K.failed sink.new) }
         ensures nothing { OnOk result (NoneWait self.new) }
@@ -151,8 +152,8 @@ impl Session {
     // how many bytes of the next text it took.
     #[inline(never)]
     fn count_part(&mut self, taken: usize) -> usize
-        requires { self.old.replies + length self.old.lengths < 2 ^ 64 }
-        ensures bound { self.new.replies ≤ self.old.replies + length self.old.lengths }
+        requires { texts_in self.old < 2 ^ 64 }
+        ensures bound { self.new.replies ≤ texts_in self.old }
         ensures same { ChangesTextsAlone self.old self.new }
         ensures parts { (self.new.replies, result) ≡ whole_and_part self.old.replies taken self.old.lengths }
     {

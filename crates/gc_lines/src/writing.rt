@@ -1,9 +1,7 @@
 //! Bytes are written whole: in as many writes as the sink needs, until it has all of them or has failed.
 
-ghost use Rattle.std.specs.Prelude.{◌≡◌, ◌++◌, ◌<◌, length, OnOk, IfErr};
-ghost use Rattle.std.specs.Io.KnownBytes.{Appends};
 ghost use Rattle.gc_lines.specs.Lines.{with_end};
-ghost use Rattle.gc_lines.specs.Ports.{FailsWith, TakesFront};
+ghost use Rattle.gc_lines.specs.Ports.{FailsWith, TakesText};
 
 use crate::line::{Line, with_end};
 use crate::ports::Sink;
@@ -12,8 +10,7 @@ use crate::ports::Sink;
 /// call the sink, also where the sink has failed before.
 pub fn write_whole<K: Sink>(sink: &mut K, bytes: &[u8]) -> Result<(), usize>
     ensures failed { FailsWith result (K.failed sink.old) (K.failed sink.new) }
-    ensures ok { OnOk result (Appends (K.taken sink.old) (K.taken sink.new) bytes.now) }
-    ensures err { IfErr result (λ n. TakesFront (K.taken sink.old) (K.taken sink.new) n bytes.now) }
+    ensures took { TakesText (K.taken sink.old) (K.taken sink.new) result bytes.now }
 {
     let mut at = 0;
     while at < bytes.len() {
@@ -29,8 +26,7 @@ pub fn write_whole<K: Sink>(sink: &mut K, bytes: &[u8]) -> Result<(), usize>
 /// bytes of the line and its CR LF, and failed.
 pub fn write_line<K: Sink>(sink: &mut K, line: &Line) -> Result<(), usize>
     ensures failed { FailsWith result (K.failed sink.old) (K.failed sink.new) }
-    ensures ok { OnOk result (Appends (K.taken sink.old) (K.taken sink.new) (with_end line.now.items)) }
-    ensures err { IfErr result (λ n. TakesFront (K.taken sink.old) (K.taken sink.new) n (with_end line.now.items)) }
+    ensures took { TakesText (K.taken sink.old) (K.taken sink.new) result (with_end line.now.items) }
 {
     write_whole(sink, &with_end(line))
 }

@@ -1,12 +1,10 @@
 -- What a whole write leaves.
-use Rattle.std.proofs.Common.{ℕ, List, Option, Result, Ok, Err, OnOk, IfErr, inl, inr}
-use Rattle.std.specs.Io.KnownBytes.{Appends}
-use Rattle.gc_lines.specs.Ports.{TakesFront}
+use Rattle.std.proofs.Common.{ℕ, List, Option, Result, Ok, Err, inl, inr}
+use Rattle.gc_lines.specs.Ports.{TakesText}
 use Rattle.gc_logs.specs.Bounds.{TakesAllOrFront}
 
 -- whatever the result of a whole write of a text, all of the text was taken, or a front of it
 pub all_or_front : {X : Type 0} (old new : Option (List ℕ)) (text : List ℕ) (r : Result X ℕ)
-    → OnOk r (Appends old new text) → IfErr r (λ n. TakesFront old new n text)
-    → TakesAllOrFront old new text
-all_or_front old new text (Ok x) ok err = inl ok
-all_or_front old new text (Err n) ok err = inr (n, err)
+    → TakesText old new r text → TakesAllOrFront old new text
+all_or_front old new text (Ok x) took = inl took.0
+all_or_front old new text (Err n) took = inr (n, took.1)

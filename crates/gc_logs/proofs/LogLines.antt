@@ -1,16 +1,17 @@
 -- The lines that a log has of more and more bytes, what is pending after these, and the bytes that the lines stand for
--- (`wire`). `TakesText` says that a log's sink, if it hasn't failed, took a text: a, b and c are what the sink has taken at first, then and at
--- last, and fa, fb and fc whether it had failed by then. `p` is what is pending.
-use Rattle.std.proofs.Common.{◌≡◌, ℕ, ◌+◌, ◌-◌, ◌<◌, ◌==◌, ◌&&◌, Bool, true, inl, inr, not, List, [], ◌∷◌, ◌++◌, length, take, get_or, Option, refl, sym, ap, subst, ◌∙◌, arith, append_assoc, append-nil}
+-- (`wire`). `TakesUnlessFailed` says that a log's sink, if it hasn't failed, took a text: a, b and c are what is seen of the sink at first,
+-- then and at last. `p` is what is pending.
+use Rattle.std.proofs.Common.{◌≡◌, ℕ, ◌+◌, ◌-◌, ◌<◌, ◌==◌, ◌&&◌, true, inl, inr, not, List, [], ◌∷◌, ◌++◌, length, take, get_or, refl, sym, ap, subst, ◌∙◌, arith, append_assoc, append-nil}
 use Rattle.std.specs.Prelude.{nat_lt}
 use Rattle.std.proofs.lemmas.Bool.{cases_Bool, cond_both, eqb-true, ltb-true, and_parts}
 use Rattle.std.proofs.lemmas.List.{take_all, take_more}
 use Rattle.std.proofs.lemmas.List.Concat.{flat_map-append}
 use Rattle.std.proofs.KnownBytes.{Appends-trans}
+use Rattle.gc_lines.specs.Answering.{Taken}
 use Rattle.gc_lines.specs.Frames.{ends_in_return}
 use Rattle.gc_lines.specs.Lines.{with_end}
 use Rattle.gc_texts.specs.Logs.{log_line}
-use Rattle.gc_logs.specs.Logging.{Entry, entry, line_mark, part_mark, entry_of_line, entries_at, pending_at, entries, pending_behind, log_text_of, TakesText, wire_of, wire, LogKeepsAll}
+use Rattle.gc_logs.specs.Logging.{Entry, entry, line_mark, part_mark, entry_of_line, entries_at, pending_at, entries, pending_behind, log_text_of, TakesUnlessFailed, wire_of, wire, LogKeepsAll}
 use Rattle.gc_logs.specs.declared.logging.Unwritten.{Unwritten}
 use Rattle.gc_logs.specs.declared.logging.Direction.{Direction}
 use Rattle.gc_logs.specs.declared.logging.Direction.TheVariants.{Went, Came}
@@ -28,36 +29,35 @@ pending_more p [] b = refl
 pending_more p (c ∷ cs) b = pending_more (pending_at p c) cs b
 
 -- if a log took one text, and then another, it took both as one
-takes_both : {a b c : Option (List ℕ)} {fa fb fc : Bool} (xs ys : List ℕ)
-    → TakesText a b fa fb xs → TakesText b c fb fc ys → TakesText a c fa fc (xs ++ ys)
-takes_both {a} {b} {c} {fa} {fb} {fc} xs ys one next = record {
-  took = λ stands. Appends-trans a b c xs ys (one.took (next.stood stands)) (next.took stands);
+takes_both : {a b c : Taken} (xs ys : List ℕ) → TakesUnlessFailed a b xs → TakesUnlessFailed b c ys → TakesUnlessFailed a c (xs ++ ys)
+takes_both {a} {b} {c} xs ys one next = record {
+  took = λ stands. Appends-trans a.bytes b.bytes c.bytes xs ys (one.took (next.stood stands)) (next.took stands);
   stood = λ stands. one.stood (next.stood stands);
 }
 
 -- if a log took the lines of one list, and then those of another, written at an equal moment, it took those of both
-pub takes_both_lists : {a b c : Option (List ℕ)} {fa fb fc : Bool} (utc now : ℕ) (es fs : List Entry)
-    → now ≡ utc → TakesText a b fa fb (log_text_of utc es) → TakesText b c fb fc (log_text_of now fs) → TakesText a c fa fc (log_text_of utc (es ++ fs))
-takes_both_lists {a} {b} {c} {fa} {fb} {fc} utc now es fs same one next =
-    subst (TakesText a c fa fc) (sym (flat_map-append (λ (e : Entry). log_line utc e.mark e.bytes) es fs))
-    (takes_both (log_text_of utc es) (log_text_of utc fs) one (subst (λ u. TakesText b c fb fc (log_text_of u fs)) same next))
+pub takes_both_lists : {a b c : Taken} (utc now : ℕ) (es fs : List Entry) → now ≡ utc
+    → TakesUnlessFailed a b (log_text_of utc es) → TakesUnlessFailed b c (log_text_of now fs) → TakesUnlessFailed a c (log_text_of utc (es ++ fs))
+takes_both_lists {a} {b} {c} utc now es fs same one next =
+    subst (TakesUnlessFailed a c) (sym (flat_map-append (λ (e : Entry). log_line utc e.mark e.bytes) es fs))
+    (takes_both (log_text_of utc es) (log_text_of utc fs) one (subst (λ u. TakesUnlessFailed b c (log_text_of u fs)) same next))
 
 -- one turn of the loop over the bytes `bs`, at byte i: `p` is pending before the loop, and `q` before this byte
 module _ (p q : Unwritten) (bs : List ℕ) (i : ℕ) (within : i < length bs) (behind : q ≡ pending_behind p (take i bs)) where
   -- if a log took the lines of the first i bytes, and then those of byte i, it took the lines of the first i + 1
-  pub took_more : {a b c : Option (List ℕ)} {fa fb fc : Bool} (utc : ℕ) (way : Direction)
-      → TakesText a b fa fb (log_text_of utc (entries way p (take i bs))) → TakesText b c fb fc (log_text_of utc (entries_at way q (get_or bs i 0)))
-      → TakesText a c fa fc (log_text_of utc (entries way p (take (i + 1) bs)))
-  took_more {a} {b} {c} {fa} {fb} {fc} utc way one next =
+  pub took_more : {a b c : Taken} (utc : ℕ) (way : Direction)
+      → TakesUnlessFailed a b (log_text_of utc (entries way p (take i bs))) → TakesUnlessFailed b c (log_text_of utc (entries_at way q (get_or bs i 0)))
+      → TakesUnlessFailed a c (log_text_of utc (entries way p (take (i + 1) bs)))
+  took_more {a} {b} {c} utc way one next =
       let es = entries way p (take i bs) in
       let fs = entries_at way (pending_behind p (take i bs)) (get_or bs i 0) in
       let whole : es ++ fs ≡ entries way p (take (i + 1) bs) = sym (ap (entries way p) (take_more bs i 0 within) ∙ entries_more way p (take i bs) (get_or bs i 0)) in
-      let last : TakesText b c fb fc (log_text_of utc fs) = subst (λ z. TakesText b c fb fc (log_text_of utc (entries_at way z (get_or bs i 0)))) behind next in
-      subst (TakesText a c fa fc) (ap (log_text_of utc) whole) (takes_both_lists utc utc es fs refl one last)
+      let last : TakesUnlessFailed b c (log_text_of utc fs) = subst (λ z. TakesUnlessFailed b c (log_text_of utc (entries_at way z (get_or bs i 0)))) behind next in
+      subst (TakesUnlessFailed a c) (ap (log_text_of utc) whole) (takes_both_lists utc utc es fs refl one last)
 
   -- if byte i makes `r` of what is pending before it, `r` is pending after the first i + 1
-  pub is_behind : (r : Unwritten) → r ≡ pending_at q (get_or bs i 0) → r ≡ pending_behind p (take (i + 1) bs)
-  is_behind r next = next ∙ ap (λ z. pending_at z (get_or bs i 0)) behind ∙ sym (ap (pending_behind p) (take_more bs i 0 within) ∙ pending_more p (take i bs) (get_or bs i 0))
+  pub pending_at_next : (r : Unwritten) → r ≡ pending_at q (get_or bs i 0) → r ≡ pending_behind p (take (i + 1) bs)
+  pending_at_next r next = next ∙ ap (λ z. pending_at z (get_or bs i 0)) behind ∙ sym (ap (pending_behind p) (take_more bs i 0 within) ∙ pending_more p (take i bs) (get_or bs i 0))
 
 -- bytes that end in a CR are the bytes before the CR, and the CR
 last_return : (bytes : List ℕ) → ends_in_return bytes ≡ true → bytes ≡ take (length bytes - 1) bytes ++ 13 ∷ []

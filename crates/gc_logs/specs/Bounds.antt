@@ -1,7 +1,7 @@
 -- A log with a bound: this project's own.
 use Rattle.std.specs.Prelude.{◌≡◌, ◌⊎◌, ℕ, ◌+◌, ◌≤◌, ◌<◌, min, Bool, true, false, List, ◌++◌, length, take, Option, Result, IfOk, codes}
 use Rattle.std.specs.Io.KnownBytes.{Appends}
-use Rattle.gc_lines.specs.Ports.{TakesBytes, TakesFront}
+use Rattle.gc_lines.specs.Ports.{TakesBytes, TakesPart}
 use Rattle.gc_lines.specs.declared.ports.Sink.{Ghosts as Sink}
 use Rattle.gc_logs.specs.declared.bounded.Bounded.{Bounded}
 use Rattle.gc_logs.specs.declared.logged.Logged.{Logged}
@@ -17,7 +17,7 @@ full_notice line = moment_of line ++ codes " - full: what went or came from here
 
 -- a sink took all of the text, or a front of it
 abbrev pub TakesAllOrFront : (old new : Option (List ℕ)) → (text : List ℕ) → Type 0
-TakesAllOrFront old new text = Appends old new text ⊎ ((n : ℕ) × TakesFront old new n text)
+TakesAllOrFront old new text = Appends old new text ⊎ TakesPart old new text
 
 -- a sink took the notice that a log is full, in place of `line`, or a front of that notice
 abbrev pub TakesNotice : (old new : Option (List ℕ)) → (line : List ℕ) → Type 0

@@ -3,6 +3,7 @@
 use Rattle.std.specs.Prelude.{◌≡◌, ℕ, ◌-◌, ◌==◌, ◌&&◌, Bool, true, false, not, nat_lt, List, [], ◌∷◌, ◌++◌, length, take, Option, if◌then◌else◌, codes}
 use Rattle.std.specs.Io.KnownBytes.{Appends}
 use Rattle.std.specs.List.{flat_map}
+use Rattle.gc_lines.specs.Answering.{Taken, taken_by}
 use Rattle.gc_lines.specs.Frames.{ends_in_return}
 use Rattle.gc_lines.specs.Lines.{with_end}
 use Rattle.gc_lines.specs.declared.ports.Sink.{Ghosts as Sink}
@@ -82,14 +83,14 @@ abbrev pub log_text_of : ℕ → List Entry → List ℕ
 log_text_of utc es = flat_map (λ (e : Entry). log_line utc e.mark e.bytes) es
 
 -- if a log's sink hasn't failed now, it hadn't failed before, and it took this text
-pub record TakesText (old new : Option (List ℕ)) (old_failed new_failed : Bool) (text : List ℕ) : Type 0 where
-  pub took : new_failed ≡ false → Appends old new text
-  pub stood : new_failed ≡ false → old_failed ≡ false
+pub record TakesUnlessFailed (old new : Taken) (text : List ℕ) : Type 0 where
+  pub took : new.failed ≡ false → Appends old.bytes new.bytes text
+  pub stood : new.failed ≡ false → old.failed ≡ false
 
--- if this sink hasn't failed now, it took the text of these lines, written at the moment `utc` (`TakesText`). `old` and `new` are the sink
--- before and after
+-- if this sink hasn't failed now, it took the text of these lines, written at the moment `utc` (`TakesUnlessFailed`). `old` and `new`
+-- are the sink before and after
 abbrev pub TakesEntries : {K : Type 0} → Sink K → (old new : K) → (utc : ℕ) → List Entry → Type 0
-TakesEntries of_sink old new utc es = TakesText (of_sink.taken old) (of_sink.taken new) (of_sink.failed old) (of_sink.failed new) (log_text_of utc es)
+TakesEntries of_sink old new utc es = TakesUnlessFailed (taken_by of_sink old) (taken_by of_sink new) (log_text_of utc es)
 
 -- the bytes on the link that a line of a log with this mark and these bytes stands for: its bytes, with CR LF after a whole line; none for
 -- a word on the connection
@@ -111,18 +112,16 @@ LogKeepsAll =
     (way : Direction) (p : Unwritten) (bytes : List ℕ)
     → p.bytes.items ++ bytes ≡ wire (entries way p bytes) ++ (pending_behind p bytes).bytes.items
 
--- what is seen of a log: what its sink took and whether it has failed, what is pending of each direction, and the last moment
+-- what is seen of a log: of its sink, what is pending of each direction, and the last moment
 pub record LogSeen : Type 0 where
-  pub taken : Option (List ℕ)
-  pub failed : Bool
+  pub sink : Taken
   pub went : Unwritten
   pub came : Unwritten
   pub utc : ℕ
 
 -- what is seen of this log, by the ghost members of its sink
 abbrev pub log_seen : {K : Type 0} → Sink K → Log K → LogSeen
-log_seen of_sink log =
-    record { taken = of_sink.taken log.sink; failed = of_sink.failed log.sink; went = log.went; came = log.came; utc = log.utc }
+log_seen of_sink log = record { sink = taken_by of_sink log.sink; went = log.went; came = log.came; utc = log.utc }
 
 -- the line of a log that says what became of the connection, in this word
 abbrev pub link_entry : List ℕ → Entry
@@ -165,7 +164,7 @@ came_behind came _ = came
 
 -- a log took these lines, at the moment that it had and keeps, and these are pending then of the sent and of the received bytes
 pub record TakesLines (old new : LogSeen) (es : List Entry) (sent received : Unwritten) : Type 0 where
-  pub took : TakesText old.taken new.taken old.failed new.failed (log_text_of old.utc es)
+  pub took : TakesUnlessFailed old.sink new.sink (log_text_of old.utc es)
   pub went : new.went ≡ sent
   pub came : new.came ≡ received
   pub utc : new.utc ≡ old.utc

@@ -17,8 +17,8 @@ abbrev pub acts_in : {R : Type 0} → Option (Appended R) → Option (List Act)
 acts_in None = None
 acts_in (Some left) = acts_of left.link
 
--- the run that began with the streams `old`, without an act, had the streams `new` at its end, and left `left`; `turns` and `turns'`
--- are what had been seen of link and file at each act so far, at its start and at its end
+-- the run that began with the streams `old`, without an act, had the streams `new` at its end, and left `left`; `turns` and
+-- `turns'` are what had been seen of link and file at each act so far, at its start and at its end
 abbrev pub appending_run : {R S K E : Type 0} → (old new : Streams S K E) → (turns turns' : List Snapshot) → (left : Option (Appended R)) → AppendingRun S (Followed R) K E
 appending_run old new turns turns' left =
     record { before = stage old (Some []) turns; after = stage new (acts_in left) turns'; file = file_of left }

@@ -1,6 +1,5 @@
--- What a station does with the tasks of a text, what it writes of them, and how its end is reported: this project's own. An
--- apostrophe (as in acts') marks what holds at the end, in place of at the start. A `Snapshot` is what was seen of link and sink
--- before one act.
+-- What a station does with the tasks of a text, what it writes of them, and how its end is reported: this project's own. A
+-- `Snapshot` is what was seen of link and sink before one act.
 use Rattle.std.specs.Prelude.{◌≡◌, ℕ, Bool, true, ◌⊎◌, List, [], ◌++◌, if◌then◌else◌, Option, Result, Ok, Err, codes}
 use Rattle.std.specs.Fmt.{decimal}
 use Rattle.std.specs.Io.KnownBytes.{Consumes, Appends}
@@ -16,7 +15,7 @@ use Rattle.gc_lines.specs.Ports.{TakesFront}
 use Rattle.gc_links.specs.Acts.{Act}
 use Rattle.gc_station.specs.Keeping.{Snapshot, KeepsUpForReadings, close_at_output}
 use Rattle.gc_station.specs.Records.{Record}
-use Rattle.gc_station.specs.Runs.{RanForReadings, LastUnlessFailed}
+use Rattle.gc_station.specs.Runs.{RunSeen, RanForReadings, LastUnlessFailed}
 use Rattle.gc_station.specs.declared.plan.Plan.{Plan}
 use Rattle.gc_station.specs.declared.tally.Tally.{Tally}
 use Rattle.gc_texts.specs.Names.{name_text}
@@ -49,8 +48,8 @@ pub record PortsSeen : Type 0 where
   pub messages : Option (List ℕ)
   pub turns : List Snapshot
 
--- the run ended with `Output`, because the sink failed before the records: of what comes before them it took the first `bytes` bytes, not
--- all, and nothing else was done
+-- the run ended with `Output`, because the sink failed before the records: of what comes before them it took the first `bytes`
+-- bytes, not all, and nothing else was done
 pub record FailsInFront (layout : Layout) (old new : PortsSeen) (result : Result Tally Stop) : Type 0 where
   pub is : result ≡ Err (Run Output)
   pub bytes : ℕ
@@ -76,28 +75,26 @@ abbrev pub survey_of : Settings → (max_turns : ℕ) → TasksSeen → Survey
 survey_of station max_turns all =
     record { plan = plan_of station.choice all.setup all.tasks; tasks = all.tasks; max_turns = max_turns; layout = station.layout; names = all.names }
 
--- a run over a link, whose acts before and after are `acts` and `acts'`, wrote the records that its acts give of the tasks into a
--- sink, which had taken `taken` before and `taken'` after, and ended with `end` (`RanForReadings`)
-abbrev pub RunsSurvey : Survey → (acts acts' : Option (List Act)) → (taken taken' : Option (List ℕ)) → (end : Result Tally RunFault) → Type 0
-RunsSurvey survey acts acts' taken taken' end =
-    RanForReadings survey.plan survey.tasks survey.max_turns (text_by survey) acts acts' taken taken' end
+-- what is seen of the link and the book of a run that measures this survey, whose ports have been seen so
+abbrev pub run_in : Survey → PortsSeen → RunSeen
+run_in survey seen = record { acts = seen.acts; text = text_by survey; taken = seen.taken }
 
--- at each act of a run over these tasks, all that the acts before it settled was recorded, and lasted (`KeepsUpForReadings`).
--- `taken` is what the sink had taken before the run; `seen` and `seen'` are what was seen at each act so far, before the run and
--- after it. A run whose sink failed closes the connection at its end (`close_at_output`)
-abbrev pub SurveyKeepsUp : Survey → (acts acts' : Option (List Act)) → (taken : Option (List ℕ)) → (seen seen' : List Snapshot) → (end : Result Tally RunFault) → Type 0
-SurveyKeepsUp survey acts acts' taken seen seen' end =
-    KeepsUpForReadings survey.plan survey.tasks survey.max_turns (text_by survey) acts acts' taken seen seen' (close_at_output end)
+-- a run over a link wrote the records that its acts give of the tasks into a sink, and ended with `end` (`RanForReadings`); and
+-- at each act all that the acts before it settled was recorded, and lasted (`KeepsUpForReadings`). If the sink failed the
+-- connection was closed at the end (`close_at_output`)
+pub record RunsSurvey (survey : Survey) (old new : PortsSeen) (end : Result Tally RunFault) : Type 0 where
+  pub ran : RanForReadings survey.plan survey.tasks survey.max_turns (run_in survey old) (run_in survey new) end
+  pub keeps :
+      KeepsUpForReadings survey.plan survey.tasks survey.max_turns (run_in survey old) (run_in survey new) old.turns new.turns (close_at_output end)
 
--- the sink took what comes before the records, and then what a run over the link records of its tasks. At each act all that the acts
--- before it settled was recorded, and lasted. `between` is what the sink had taken before the records
+-- the sink took what comes before the records, and then what a run over the link records of the tasks (`RunsSurvey`). `between`
+-- is what the sink had taken before the records
 pub record RunsAfterFront (survey : Survey) (old new : PortsSeen) (result : Result Tally Stop) : Type 0 where
   pub between : Option (List ℕ)
   pub front : Appends old.taken between (front_text survey.layout)
   pub end : Result Tally RunFault
   pub is : result ≡ end_of_run end
-  pub ran : RunsSurvey survey old.acts new.acts between new.taken end
-  pub keeps : SurveyKeepsUp survey old.acts new.acts between old.turns new.turns end
+  pub run : RunsSurvey survey (record old { taken = between }) new end
 
 -- nothing was done over the link, and nothing written
 pub record IsUnused (old new : PortsSeen) : Type 0 where
@@ -114,7 +111,8 @@ Measures given station max_turns old new result =
     ⊎ ((all : TasksSeen) × GivesTasks given old.input new.input station.choice all
     × (FailsInFront station.layout old new result ⊎ RunsAfterFront (survey_of station max_turns all) old new result))
 
--- a source gave bytes, by at most one read for each and one for the end, and of these `Measures` holds, in at most `max_turns` acts
+-- a source gave bytes, by at most one read for each and one for the end, and of these `Measures` holds, in at most `max_turns`
+-- acts
 abbrev pub MeasuresText : Settings → (max_turns : ℕ) → (old new : PortsSeen) → Result Tally Stop → Type 0
 MeasuresText station max_turns old new result = Gave old.input new.input (λ given. Measures given station max_turns old new result)
 

@@ -17,8 +17,8 @@ abbrev pub IsStopFor : (text : List ℕ) → (fault : RunFault) → Stop → Typ
 IsStopFor text (Schedule n) stop = (trouble : Trouble) × IsTrouble (line_at text n) trouble × (stop ≡ Line n trouble)
 IsStopFor text fault stop = stop ≡ Text fault
 
--- the text that a source gave, to its end, is a station's text without a command of a cycle, read with some deadline and some chaining
--- as its defaults, and so the stop is `Empty`
+-- the text that a source gave, to its end, is a station's text without a command of a cycle, read with some deadline and some
+-- chaining as its defaults, and so the stop is `Empty`
 pub record HasNoCommand (given : List ℕ) (old new : Input) (stop : Stop) : Type 0 where
   pub read : WasRead given old new
   pub deadline : ℕ
@@ -28,7 +28,8 @@ pub record HasNoCommand (given : List ℕ) (old new : Input) (stop : Stop) : Typ
   pub none : length all.tasks ≤ all.setup
   pub is : stop ≡ Empty
 
--- the text that a source gave wasn't read to its end, or is no station's text, or has no command of a cycle, and this stop says which
+-- the text that a source gave wasn't read to its end, or is no station's text, or has no command of a cycle, and this stop says
+-- which
 abbrev pub RefusesTasks : (given : List ℕ) → (old new : Input) → Stop → Type 0
 RefusesTasks given old new stop =
     ((fault : RunFault) × RefusesText TaskFault given old new fault × IsStopFor given fault stop) ⊎ HasNoCommand given old new stop

@@ -1,5 +1,5 @@
--- What a station's status and messages report of its run, and what it measured then: this project's own. `old` and `new` are the run
--- at its start and at its end.
+-- What a station's status and messages report of its run, and what it measured then: this project's own. `old` and `new` are the
+-- run at its start and at its end.
 use Rattle.std.specs.Prelude.{◌≡◌, ℕ, Bool, true, ◌⊎◌, List, [], Option, Some, None, Result, Err}
 use Rattle.std.specs.Io.KnownBytes.{Appends}
 use Rattle.gc_measuring.specs.Logging.{ReportsLoss}
@@ -34,8 +34,8 @@ abbrev pub acts_of : {L : Type 0} → Option (Telling L) → Option (List Act)
 acts_of None = None
 acts_of (Some link) = Some link.history.acts
 
--- how the ports of a run are seen: its source and its sink by the ghost members of their traits; `lasts` says whether all that the
--- sink took lasts, and `shown` gives what was written on the messages, if that is known
+-- how the ports of a run are seen: its source and its sink by the ghost members of their traits; `lasts` says whether all that
+-- the sink took lasts, and `shown` gives what was written on the messages, if that is known
 pub record Views (S K E : Type 0) : Type 1 where
   pub source : Source S
   pub sink : Sink K
@@ -94,7 +94,8 @@ pub record MeasuresAll {S K E : Type 0} (views : Views S K E) (station : Setting
 abbrev pub CannotBegin : (has_log : Bool) → RunFault → Type 0
 CannotBegin has_log fault = IsFaultWithoutLink fault ⊎ ((has_log ≡ true) × (fault ≡ Log))
 
--- a run didn't begin, and ended with a fault for which it can't (`CannotBegin`); then there was no link, and nothing was read or written
+-- a run didn't begin, and ended with a fault for which it can't (`CannotBegin`); then there was no link, and nothing was read or
+-- written
 pub record IsUnbegun {S K E : Type 0} (has_log : Bool) (old new : Stage S K E) (end : Result Tally Stop) : Type 0 where
   pub fault : RunFault
   pub is : end ≡ Err (Run fault)
@@ -115,10 +116,10 @@ pub record MeasuresAtLink {S K E : Type 0} (views : Views S K E) (station : Sett
   pub measured : MeasuresGiven (begun_at run station) (seen_at views old) (seen_at views new) end
   pub all_last : AllLast (views.lasts new.streams.output) end
 
--- a run measured over its link, or it didn't begin; and the status and the messages report how it ended, and then whether the log,
--- if one was asked for (`has_log`), isn't complete (`is_lost`). The sink has failed if the run ended with `Output`, else only if it
--- had before. `between` are the messages before the report of the end, and `behind` those after it
-pub record ReportsRun {S K E : Type 0} (views : Views S K E) (has_log : Bool) (station : Settings) (old new : Stage S K E) (status : ℕ)
+-- a run measured over its link, or it didn't begin; and the status and the messages report how it ended, and then whether the
+-- log, if one was asked for (`has_log`), isn't complete (`is_lost`). The sink has failed if the run ended with `Output`, else
+-- only if it had before. `between` are the messages before the report of the end, and `behind` those after it
+pub record ReportsAtSite {S K E : Type 0} (views : Views S K E) (has_log : Bool) (station : Settings) (old new : Stage S K E) (status : ℕ)
     : Type 0 where
   pub end : Result Tally Stop
   pub between : E
@@ -162,15 +163,18 @@ pub record IsFiled {S F K E : Type 0} (sink : Sink F) (whole : AppendingRun S F 
   pub read : whole.after.streams.input ≡ ended.input
   pub messages : whole.after.streams.messages ≡ ended.messages
 
--- a run that appends to a file is reported after what was written of the file's opening, and the file has the rows of what was
--- measured. `begun` and `ended` are the run's own streams, with the file as output (`IsFiled`)
-pub record ReportsAppended {S F K E : Type 0} (views : Views S F E) (has_log : Bool) (station : Settings) (whole : AppendingRun S F K E)
-    (status : ℕ) : Type 0 where
+-- `Holds` is true of the own stages of a run that appends to a file, at its start and at its end. `begun` and `ended` are the
+-- run's own streams, with the file as output (`IsFiled`)
+pub record HoldsOfFiled {S F K E : Type 0} (sink : Sink F) (whole : AppendingRun S F K E) (Holds : Stage S F E → Stage S F E → Type 0) : Type 0 where
   pub begun : Streams S F E
   pub ended : Streams S F E
-  pub filed : IsFiled views.sink whole begun ended
-  pub run : ReportsRun views has_log (for_file station)
-      (stage begun whole.before.acts whole.before.turns) (stage ended whole.after.acts whole.after.turns) status
+  pub filed : IsFiled sink whole begun ended
+  pub holds : Holds (stage begun whole.before.acts whole.before.turns) (stage ended whole.after.acts whole.after.turns)
+
+-- a run that appends to a file is reported after what was written of the file's opening, and the file has the rows of what was
+-- measured
+abbrev pub ReportsAppended : {S F K E : Type 0} → Views S F E → (has_log : Bool) → Settings → AppendingRun S F K E → (status : ℕ) → Type 0
+ReportsAppended views has_log station whole status = HoldsOfFiled views.sink whole (λ old new. ReportsAtSite views has_log (for_file station) old new status)
 
 -- a file of records can't be had, which is reported (`RefusesFile`); or a run appended to it, and its end is reported
 -- (`ReportsAppended`)
@@ -178,11 +182,6 @@ abbrev pub ReportsAppending : {S F K E : Type 0} → Views S F E → (has_log : 
 ReportsAppending views has_log station whole status =
     RefusesFile views.shown whole.before.streams whole.after.streams status ⊎ ReportsAppended views has_log station whole status
 
--- a source gave a text to its end, and the run over its commands, which appended to a file, is done, or its end was asked for.
--- `begun` and `ended` are the run's own streams, with the file as output (`IsFiled`)
-pub record AppendsAll {S F K E : Type 0} (views : Views S F E) (station : Settings) (whole : AppendingRun S F K E) : Type 0 where
-  pub begun : Streams S F E
-  pub ended : Streams S F E
-  pub filed : IsFiled views.sink whole begun ended
-  pub all : MeasuresAllAtLink views (for_file station)
-      (stage begun whole.before.acts whole.before.turns) (stage ended whole.after.acts whole.after.turns)
+-- a source gave a text to its end, and the run over its commands, which appended to a file, is done, or its end was asked for
+abbrev pub AppendsAll : {S F K E : Type 0} → Views S F E → Settings → AppendingRun S F K E → Type 0
+AppendsAll views station whole = HoldsOfFiled views.sink whole (λ old new. MeasuresAllAtLink views (for_file station) old new)

@@ -17,14 +17,14 @@ use std::alloc::Global;
 use std::io::{self, Write};
 use std::process::ExitCode;
 
-/// Reads the text of a station, and writes on the output what a station would do with it: the setup, and the chains of a cycle with
-/// the names of their targets, the deadlines of their commands in milliseconds, and how often and after what they may be sent again.
-/// What looks wrong, and is no fault, is reported on the messages, as far as they can be written: angles outside one turn, targets
-/// of which the text says where they are, though no command measures their direction, names of targets without a command, and
-/// spaces or tabs at ends of lines.
+/// Reads the text of a station, and writes on the output what a station would do with it: the setup, and the chains of a cycle
+/// with the names of their targets, the deadlines of their commands in milliseconds, and how often and after what they may be
+/// sent again. What looks wrong, and is no fault, is reported on the messages, as far as they can be written: angles outside one
+/// turn, targets of which the text says where they are, though no command measures their direction, names of targets without a
+/// command, and spaces or tabs at ends of lines.
 ///
-/// Status 0: the text can be measured. Status 1: it can't be read or is refused, memory was refused, or the output failed, each of
-/// which is reported as a run reports it. `Err`: this report couldn't be written. The streams are handed back. No clause says
+/// Status 0: the text can be measured. Status 1: it can't be read or is refused, memory was refused, or the output failed, each
+/// of which is reported as a run reports it. `Err`: this report couldn't be written. The streams are handed back. No clause says
 /// what is written.
 pub fn check_task_text<S: Source, K: Sink, E: Write>(
     alloc: Global,
@@ -54,8 +54,8 @@ pub fn check_task_text<S: Source, K: Sink, E: Write>(
     (streams, status)
 }
 
-// Reports what looks wrong in the text of these tasks, and is no fault, as `check_task_text` says. `Err`: the messages couldn't be
-// written, and what comes after that isn't reported.
+// Reports what looks wrong in the text of these tasks, and is no fault, as `check_task_text` says. `Err`: the messages couldn't
+// be written, and what comes after that isn't reported.
 fn report_doubts<E: Write>(text: &[u8], tasks: &Tasks, messages: &mut E) -> io::Result<()> {
     report_odd_angles(text, tasks, messages)?;
     report_unasked(tasks, messages)?;
@@ -63,7 +63,8 @@ fn report_doubts<E: Write>(text: &[u8], tasks: &Tasks, messages: &mut E) -> io::
     report_blanks(text, messages)
 }
 
-// Writes the outline of these tasks on the output. It fails with `Memory` if memory was refused, and with `Output` if the output failed.
+// Writes the outline of these tasks on the output. It fails with `Memory` if memory was refused, and with `Output` if the output
+// failed.
 fn write_outline<K: Sink>(alloc: Global, tasks: &Tasks, output: &mut K) -> Result<(), Stop> {
     let mut outline = Vec::new(alloc);
     if outline_tasks(tasks, &mut outline).is_err() {
@@ -131,8 +132,8 @@ pub fn write_target<W: Write>(target: u32, name: &[u8], out: &mut W) -> io::Resu
     Ok(())
 }
 
-// Writes a command after its target: the number of its procedure, `now` if it sets the clock to the moment at which it is sent, and
-// its deadline in milliseconds.
+// Writes a command after its target: the number of its procedure, `now` if it sets the clock to the moment at which it is sent,
+// and its deadline in milliseconds.
 fn outline_command<W: Write>(task: &Task, outline: &mut W) -> io::Result<()> {
     let procedure = task.command.call.number();
     let deadline = task.deadline;

@@ -1,5 +1,5 @@
-//! How the end of a station's run is reported: by its counts if it is done or its end was asked for, else by the fault for which it
-//! stopped.
+//! How the end of a station's run is reported: by its counts if it is done or its end was asked for, else by the fault for which
+//! it stopped.
 
 ghost use Rattle.std.specs.Prelude.{◌≤◌, IfOk, OnOk};
 ghost use Rattle.std.specs.Io.KnownBytes.{Appends};

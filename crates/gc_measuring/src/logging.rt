@@ -34,8 +34,8 @@ const MARKS: &[u8] = b"<>-";
 // The length of `MOMENT` and the first byte of a mark.
 const FRONT: usize = 26;
 
-// Whether `front`, the first `FRONT` bytes of a file, begins as a log does: with a moment of the form of `MOMENT`, and then one of
-// `MARKS`. A shorter file has to agree only as far as it goes; an empty one counts as a log.
+// Whether `front`, the first `FRONT` bytes of a file, begins as a log does: with a moment of the form of `MOMENT`, and then one
+// of `MARKS`. A shorter file has to agree only as far as it goes; an empty one counts as a log.
 fn begins_log(front: &[u8]) -> bool {
     front.iter().enumerate().all(|(at, b)| match MOMENT.get(at) {
         Some(b'0') => b.is_ascii_digit(),
@@ -185,8 +185,8 @@ pub(crate) fn measure_logged<L: Link, G: Sink, S: Source, K: Durable, E: Write>(
     (streams, ended)
 }
 
-// Writes a line if the log isn't complete (`is_lost`), after the report of how the run ended, whose status (`ended`) stays as it was.
-// `Err`: `ended` is an error, and then nothing is written, or this line couldn't be written.
+// Writes a line if the log isn't complete (`is_lost`), after the report of how the run ended, whose status (`ended`) stays as it
+// was. `Err`: `ended` is an error, and then nothing is written, or this line couldn't be written.
 fn report_loss<E: Write>(
     ended: io::Result<ExitCode>,
     is_lost: bool,

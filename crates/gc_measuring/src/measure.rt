@@ -1,11 +1,10 @@
 //! A station's text, read from a source, measured over a link, and its records written into a sink, all in one form.
 
-ghost use Rattle.std.specs.Prelude.{◌≡◌, ◌+◌, ◌≤◌, OnOk, IfErr};
-ghost use Rattle.std.specs.Io.KnownBytes.{Appends};
-ghost use Rattle.gc_measuring.specs.Measuring.{text_in, front_text, survey_of, RunsSurvey, SurveyKeepsUp, MeasuresText, IsUntouched, AllLast};
+ghost use Rattle.std.specs.Prelude.{◌≡◌, ◌+◌, ◌≤◌};
+ghost use Rattle.gc_measuring.specs.Measuring.{text_in, front_text, survey_of, RunsSurvey, MeasuresText, IsUntouched, AllLast};
 ghost use Rattle.gc_measuring.specs.Stops.{with_fault};
 ghost use Rattle.gc_measuring.specs.Telling.{ports_seen};
-ghost use Rattle.gc_lines.specs.Ports.{FailsWith, TakesFront};
+ghost use Rattle.gc_lines.specs.Ports.{FailsWith, TakesText};
 ghost use Rattle.gc_station.specs.Runs.{FailsAtOutput, LastUnlessFailed};
 ghost use Rattle.gc_texts.specs.Tasks.{tasks_seen};
 ghost use Rattle.gc_texts.specs.declared.text.TheConstants.{TEXT_LIMIT};
@@ -95,7 +94,7 @@ pub fn run_station_text<L: Link, S: Source, K: Durable, E: Write>(
 // Measures these tasks over a link by the settings of `station`, in at most `max_turns` acts, and writes their records on the
 // output. The streams are handed back, with how the run ended. What was seen of link and output at each act is noted in
 // `kept`.
-fn measure<L: Link, S, K: Durable, E: Write>(
+fn measure<L: Link, S: Source, K: Durable, E: Write>(
     link: &mut L,
     station: Settings,
     tasks: Tasks,
@@ -104,10 +103,10 @@ fn measure<L: Link, S, K: Durable, E: Write>(
     streams: Streams<S, K, E>,
     kept: &mut Kept,
 ) -> (Streams<S, K, E>, Result<Tally, RunFault>)
-    ensures ran { RunsSurvey (survey_of station max_turns (tasks_seen tasks))
-        (L.acts link.old) (L.acts link.new) (K.taken streams.output) (K.taken result.0.output) result.1 }
-    ensures keeps { SurveyKeepsUp (survey_of station max_turns (tasks_seen tasks))
-        (L.acts link.old) (L.acts link.new) (K.taken streams.output) kept.old.turns kept.new.turns result.1 }
+    ensures runs { RunsSurvey (survey_of station max_turns (tasks_seen tasks))
+        (ports_seen S.Source K.Sink E.contents streams (L.acts link.old) kept.old.turns)
+        (ports_seen S.Source K.Sink E.contents result.0 (L.acts link.new) kept.new.turns)
+        result.1 }
     ensures output { FailsAtOutput (K.failed streams.output) (K.failed result.0.output) result.1 }
     ensures is_durable { LastUnlessFailed (K.is_durable result.0.output) result.1 }
     ensures input { result.0.input ≡ streams.input }
@@ -146,12 +145,11 @@ fn measure<L: Link, S, K: Durable, E: Write>(
     (streams, end)
 }
 
-// Writes what comes before the records, unless the sink has it already (`layout.headed`). `Err(n)`: the sink took the first n bytes of
-// it, which aren't all, and failed.
+// Writes what comes before the records, unless the sink has it already (`layout.headed`). `Err(n)`: the sink took the first n
+// bytes of it, which aren't all, and failed.
 fn write_front<K: Durable>(sink: &mut K, layout: Layout) -> Result<(), usize>
     ensures failed { FailsWith result (K.failed sink.old) (K.failed sink.new) }
-    ensures ok { OnOk result (Appends (K.taken sink.old) (K.taken sink.new) (front_text layout)) }
-    ensures err { IfErr result (λ n. TakesFront (K.taken sink.old) (K.taken sink.new) n (front_text layout)) }
+    ensures took { TakesText (K.taken sink.old) (K.taken sink.new) result (front_text layout) }
 {
     if layout.headed {
         // For the proof: writing no bytes gives the clauses, which an `Ok(())` alone doesn't.
@@ -180,8 +178,8 @@ struct Records<'a, K, E> {
 }
 
 impl<'a, K, E: Write> Records<'a, K, E> {
-    // Ends the reporter at the end of a run, as `Reporter::end` says, and reports before that, if the run is stale (`is_stale`), since
-    // when no answer of a good quality came. The sink and the messages are handed back.
+    // Ends the reporter at the end of a run, as `Reporter::end` says, and reports before that, if the run is stale (`is_stale`),
+    // since when no answer of a good quality came. The sink and the messages are handed back.
     fn end(self, is_stale: bool) -> (K, E)
         ensures { result.0 ≡ self.entry.sink }
     {

@@ -1,6 +1,6 @@
 //! A station that appends its records, as rows, to a file that outlasts the program.
 
-ghost use Rattle.std.specs.Prelude.{◌≡◌, ◌≤◌, [], Ok, IfOk, OnOk, OnErr};
+ghost use Rattle.std.specs.Prelude.{◌≡◌, ◌≤◌, [], IfOk, OnOk, OnErr};
 ghost use Rattle.std.specs.Io.KnownBytes.{Appends};
 ghost use Rattle.std.specs.Option.{is_some};
 ghost use Rattle.std.specs.Process.{exit_status};
@@ -41,27 +41,13 @@ fn fault_of_unfit(why: Unfit) -> RunFault
     }
 }
 
-// Writes what the opening of a file did: how many rows it copied, and how many bytes of a torn row it cut off; nothing of what is 0.
+// Writes what the opening of a file did: how many rows it copied, and how many bytes of a torn row it cut off; nothing of what is
+// 0.
 fn report_opened<E: Write>(copied: u64, torn: u64, messages: &mut E) -> io::Result<()>
     ensures { OnOk result (Appends (E.contents messages.old) (E.contents messages.new) (opened_lines copied torn)) }
 {
     report_copied(copied, messages)?;
     report_torn(torn, messages)
-}
-
-// Writes after the fault's line, for a file that doesn't begin as this station's rows do (`Foreign`), what may have happened and
-// how to rotate the file, and for any other nothing. The status of the report of the fault (`ended`) stays as it was. `Err`: `ended`
-// is an error, and then nothing is written, or this line couldn't be written.
-fn report_rotation<E: Write>(
-    ended: io::Result<ExitCode>,
-    why: Unfit,
-    messages: &mut E,
-) -> io::Result<ExitCode>
-    ensures told { IfOk result (λ status. (ended ≡ Ok status) × Appends (E.contents messages.old) (E.contents messages.new) (rotation_line why)) }
-{
-    let status = ended?;
-    write_rotation(why, messages)?;
-    Ok(status)
 }
 
 // Writes, for `Foreign` alone, the line on what may have happened to the file and how to rotate it.
@@ -190,11 +176,13 @@ pub fn append_at<
     }
 }
 
-// Reports with status 1 why a file of records can't be had and, for one that doesn't begin as this station's rows do, how to rotate it.
+// Reports with status 1 why a file of records can't be had and, for one that doesn't begin as this station's rows do, how to
+// rotate it.
 fn refuse_file<E: Write>(why: Unfit, messages: &mut E) -> io::Result<ExitCode>
     ensures told { IfOk result (λ status. (exit_status status ≡ 1) × Appends (E.contents messages.old) (E.contents messages.new) (unfit_text why)) }
 {
     let stop = Stop::Run(fault_of_unfit(why));
-    let ended = report_end_of_run(Err(stop), messages);
-    report_rotation(ended, why, messages)
+    let status = report_end_of_run(Err(stop), messages)?;
+    write_rotation(why, messages)?;
+    Ok(status)
 }

@@ -1,5 +1,5 @@
-//! The messages that a station writes while it runs. An error of writing them is ignored, because neither its requests nor its records
-//! depend on them.
+//! The messages that a station writes while it runs. An error of writing them is ignored, because neither its requests nor its
+//! records depend on them.
 
 ghost use Rattle.std.specs.Prelude.{◌≡◌, OnOk};
 ghost use Rattle.std.specs.Io.KnownBytes.{Appends};
@@ -47,7 +47,8 @@ impl<E: Write> Reporter<E> {
         self.signs.count(stamp, ending);
     }
 
-    /// Writes before an act what is new of the link and the line, unless nobody watches, and in any case what is new of the files.
+    /// Writes before an act what is new of the link and the line, unless nobody watches, and in any case what is new of the
+    /// files.
     pub(crate) fn report(&mut self, noticed: Noticed, health: LinkHealth, moment: Moment) {
         let Noticed {
             odd,
@@ -68,8 +69,8 @@ impl<E: Write> Reporter<E> {
         }
     }
 
-    /// Writes that this cycle was not done when the next was due, unless nobody watches or a line of this kind was written in the last
-    /// minute.
+    /// Writes that this cycle was not done when the next was due, unless nobody watches or a line of this kind was written in the
+    /// last minute.
     pub(crate) fn report_overrun(&mut self, cycle: u64) {
         if self.signs.claim_overrun() {
             let _ = self.signs.clear(&mut self.messages);
@@ -77,14 +78,14 @@ impl<E: Write> Reporter<E> {
         }
     }
 
-    /// Writes, of a run that ended because it is stale, since when no answer of a good quality came. `since` is in milliseconds since
-    /// 1970. The line is written also if nobody watches.
+    /// Writes, of a run that ended because it is stale, since when no answer of a good quality came. `since` is in milliseconds
+    /// since 1970. The line is written also if nobody watches.
     pub(crate) fn report_stale(&mut self, since: u64) {
         let _ = self.signs.report_stale(since, &mut self.messages);
     }
 
-    /// Writes at the end how many commands were skipped that no line reported yet, as `Signs::end` does, clears the status line of a
-    /// terminal, and hands the messages back. What became of the files since the last `report` isn't written.
+    /// Writes at the end how many commands were skipped that no line reported yet, as `Signs::end` does, clears the status line
+    /// of a terminal, and hands the messages back. What became of the files since the last `report` isn't written.
     pub(crate) fn end(self) -> E {
         let Reporter {
             mut signs,
@@ -96,8 +97,8 @@ impl<E: Write> Reporter<E> {
     }
 }
 
-// Writes the line of a station's start: how many commands a cycle has (`count`), to which place they go, and what the station waits
-// for first.
+// Writes the line of a station's start: how many commands a cycle has (`count`), to which place they go, and what the station
+// waits for first.
 fn report_start<E: Write>(place: Place<'_>, count: usize, messages: &mut E) -> io::Result<()> {
     let commands = if count == 1 { "command" } else { "commands" };
     writeln!(

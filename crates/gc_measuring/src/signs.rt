@@ -6,7 +6,7 @@ ghost use Rattle.gc_texts.specs.Endings.{ending_seen};
 
 use crate::wanted::{Wanted, has_lasted};
 use gc_links::Moment;
-use gc_messages::{MINUTE, Oddities, ShortText};
+use gc_messages::{MINUTE, Oddities, RateLimit, ShortText};
 use gc_station::{LinkHealth, Tally, is_well};
 use gc_texts::{Ending, Stamp, stamp_text};
 use gc_words::Watch;
@@ -23,33 +23,6 @@ const COLUMNS: usize = 79;
 // A second, in milliseconds: the status line of a terminal is rewritten once a second at most, and gives ages in seconds.
 const SECOND: u64 = 1_000;
 
-// Limits how often a line of one kind is written. `last`: when one was granted last, also one that couldn't be written, in
-// milliseconds of the clock for deadlines; `None`: none was yet.
-#[derive(Clone, Copy)]
-struct RateLimit {
-    last: Option<u64>,
-}
-
-impl RateLimit {
-    // No line of this kind was written yet.
-    fn new() -> RateLimit {
-        RateLimit { last: None }
-    }
-
-    // Claims the writing of a line of this kind at `elapsed`, by the clock for deadlines. It is granted if there was none, or the
-    // last one is at least `apart` milliseconds old, and then a line counts as written now. Returns whether it is granted.
-    fn claim(&mut self, elapsed: u64, apart: u64) -> bool {
-        let is_granted = match self.last {
-            Some(last) => has_lasted(last, elapsed, apart),
-            None => true,
-        };
-        if is_granted {
-            self.last = Some(elapsed);
-        }
-        is_granted
-    }
-}
-
 /// What was seen of a station, and what was reported of it.
 #[derive(Clone, Copy)]
 pub(crate) struct Signs {
@@ -61,12 +34,12 @@ pub(crate) struct Signs {
     elapsed: u64,
     // Since when an answer is wanted.
     wanted: Wanted,
-    // Whether a trouble was reported and no line yet says that it is over; and whether a command was answered since the last report of a
-    // trouble, and since the last look without a connection.
+    // Whether a trouble was reported and no line yet says that it is over; and whether a command was answered since the last
+    // report of a trouble, and since the last look without a connection.
     is_troubled: bool,
     is_answered: bool,
-    // How many skipped commands no line has reported yet, how many of them there were after the last look, and when the first of them
-    // was skipped, in milliseconds since 1970.
+    // How many skipped commands no line has reported yet, how many of them there were after the last look, and when the first of
+    // them was skipped, in milliseconds since 1970.
     skipped: u64,
     skipped_before: u64,
     skipped_since: u64,
@@ -134,7 +107,8 @@ impl Signs {
         self.watch != Watch::Nobody
     }
 
-    /// Counts a record by its ending, and notes its cycle, whether a command was answered or skipped, and whether the setup isn't done.
+    /// Counts a record by its ending, and notes its cycle, whether a command was answered or skipped, and whether the setup isn't
+    /// done.
     pub(crate) fn count(&mut self, stamp: Stamp, ending: Ending<'_>)
         ensures { self.new.counts ≡ counted (ending_seen ending.entry) self.old.counts }
     {
@@ -160,8 +134,8 @@ impl Signs {
         }
     }
 
-    // Notes that an answer came, also one with a return code other than 0, with values that can't be read, or with a direction that is
-    // elsewhere.
+    // Notes that an answer came, also one with a return code other than 0, with values that can't be read, or with a direction
+    // that is elsewhere.
     fn note_answer(&mut self)
         ensures { self.new.counts ≡ self.old.counts }
     {
@@ -180,8 +154,8 @@ impl Signs {
         self.skipped = self.skipped.saturating_add(1);
     }
 
-    /// Claims the writing of a line on a cycle that wasn't done when the next was due. It is granted if somebody watches, and none
-    /// was written in the last minute, and then it counts as written. Returns whether it is granted.
+    /// Claims the writing of a line on a cycle that wasn't done when the next was due. It is granted if somebody watches, and
+    /// none was written in the last minute, and then it counts as written. Returns whether it is granted.
     pub(crate) fn claim_overrun(&mut self) -> bool {
         self.is_watched() && self.overrun.claim(self.elapsed, MINUTE)
     }
@@ -218,9 +192,9 @@ impl Signs {
         self.elapsed = moment.elapsed;
     }
 
-    // Notes whether an answer is wanted, and writes the lines that are due, each kind at most once a minute: on a missing connection,
-    // on a setup that isn't done, on a line that isn't quiet, on an answer that doesn't come, and on the end of such a trouble.
-    // `before` is the health of the link at the look before this one, and `is_lost` as in `see`.
+    // Notes whether an answer is wanted, and writes the lines that are due, each kind at most once a minute: on a missing
+    // connection, on a setup that isn't done, on a line that isn't quiet, on an answer that doesn't come, and on the end of such
+    // a trouble. `before` is the health of the link at the look before this one, and `is_lost` as in `see`.
     fn report_troubles<E: Write>(
         &mut self,
         before: LinkHealth,
@@ -294,8 +268,8 @@ impl Signs {
         self.report_since(self.since.utc, "no connection", messages)
     }
 
-    // Reports at most once a minute that the setup isn't done, if a command of it wasn't answered well and no record of a cycle came
-    // since.
+    // Reports at most once a minute that the setup isn't done, if a command of it wasn't answered well and no record of a cycle
+    // came since.
     fn report_unprepared<E: Write>(&mut self, messages: &mut E) -> io::Result<()> {
         match self.unprepared_since {
             Some(since) if self.unprepared.claim(self.elapsed, MINUTE) => {
@@ -318,8 +292,8 @@ impl Signs {
         self.report_since(self.since.utc, "line not quiet", messages)
     }
 
-    // Reports at most once a minute that no answer comes, once that has lasted for `LASTING`, whatever became of connections meanwhile.
-    // From then on the want is overdue, also if no line of this kind may be written yet.
+    // Reports at most once a minute that no answer comes, once that has lasted for `LASTING`, whatever became of connections
+    // meanwhile. From then on the want is overdue, also if no line of this kind may be written yet.
     fn report_unanswered<E: Write>(&mut self, messages: &mut E) -> io::Result<()> {
         match self.wanted.lasting(self.elapsed, LASTING) {
             Some(since) => {
@@ -333,8 +307,8 @@ impl Signs {
         }
     }
 
-    /// Reports, of a run that ended because it is stale, since when no answer of a good quality came. `since` is in milliseconds since
-    /// 1970.
+    /// Reports, of a run that ended because it is stale, since when no answer of a good quality came. `since` is in milliseconds
+    /// since 1970.
     pub(crate) fn report_stale<E: Write>(
         &mut self,
         since: u64,
@@ -365,8 +339,8 @@ impl Signs {
         writeln!(messages, "geocom: connected again")
     }
 
-    // Writes how many commands were skipped that no line reported yet, if any were, and since when, unless a line of this kind was
-    // written in the last minute.
+    // Writes how many commands were skipped that no line reported yet, if any were, and since when, unless a line of this kind
+    // was written in the last minute.
     fn report_skipped<E: Write>(&mut self, messages: &mut E) -> io::Result<()> {
         if self.skipped == 0 || !self.skipping.claim(self.elapsed, MINUTE) {
             return Ok(());
@@ -392,8 +366,8 @@ impl Signs {
         messages.write_all(row.bytes.as_slice())
     }
 
-    // Writes the cycle, how many commands were answered, how long ago the last answer came, and the other counts without those that
-    // are 0.
+    // Writes the cycle, how many commands were answered, how long ago the last answer came, and the other counts without those
+    // that are 0.
     fn show_counts<E: Write>(&self, row: &mut E) -> io::Result<()> {
         let cycle = self.cycle;
         let answered = self.counts.answered;
@@ -414,8 +388,8 @@ impl Signs {
         }
     }
 
-    /// Writes at the end of a run how many commands were skipped that no line reported yet, unless nobody watches or a line of this
-    /// kind was written in the last minute, and clears the status line of a terminal.
+    /// Writes at the end of a run how many commands were skipped that no line reported yet, unless nobody watches or a line of
+    /// this kind was written in the last minute, and clears the status line of a terminal.
     pub(crate) fn end<E: Write>(&mut self, messages: &mut E) -> io::Result<()> {
         if self.is_watched() {
             self.report_skipped(messages)?;

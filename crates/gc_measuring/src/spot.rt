@@ -24,8 +24,8 @@ impl<'a> Spot<'a> {
     }
 
     /// Whether the error that the system returned last may explain how the run ended: if the fault that was noted is that the
-    /// system refused the place (`Socket`, `Forbidden`, `NoTerminal`), or if no fault was noted. So it is, too, where the log or the
-    /// file of records can't be had, and where the run ended without a fault.
+    /// system refused the place (`Socket`, `Forbidden`, `NoTerminal`), or if no fault was noted. So it is, too, where the log or
+    /// the file of records can't be had, and where the run ended without a fault.
     pub fn has_system_reason(self) -> bool {
         match self.noticed.get().fault {
             None => true,

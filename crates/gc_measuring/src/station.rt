@@ -4,7 +4,7 @@ ghost use Rattle.std.specs.Prelude.{◌≡◌, ◌≤◌, [], Some, IfOk, IfErr}
 ghost use Rattle.std.specs.Option.{is_some};
 ghost use Rattle.std.specs.Process.{exit_status};
 ghost use Rattle.gc_measuring.specs.Stops.{fault_without_link, IsFaultWithoutLink};
-ghost use Rattle.gc_measuring.specs.Telling.{ReportsMeasuring, MeasuresAll, ReportsRun, MeasuresAllAtLink, CannotBegin, acts_of, stage, views_by};
+ghost use Rattle.gc_measuring.specs.Telling.{ReportsMeasuring, MeasuresAll, ReportsAtSite, MeasuresAllAtLink, CannotBegin, acts_of, stage, views_by};
 
 use crate::counts::report_end_of_run;
 use crate::logging::{LogSink, log_at, measure_logged};
@@ -57,7 +57,7 @@ pub fn measure_at<
     // or the output failed before the records, or the text's commands were measured: the link that is handed back has recorded
     // all acts of the run and no other, the sink its records, and at each act all that was settled before lasted. Or log, link or
     // clock couldn't be had, and nothing was done.
-    ensures told { IfOk result.1 (λ status. ReportsRun (views_by S.Source K.Sink K.is_durable E.contents) (is_some spot.entry.site.log) station
+    ensures told { IfOk result.1 (λ status. ReportsAtSite (views_by S.Source K.Sink K.is_durable E.contents) (is_some spot.entry.site.log) station
         (stage streams (Some []) kept.old.turns) (stage result.0 (acts_of result.2) kept.new.turns) (exit_status status)) }
 
     // Status 0 only if the source gave a text to its end, and the run over its commands is done, or its end was asked for.
@@ -106,10 +106,7 @@ fn open_link_and_log<
     ensures logged { IfOk result (λ opened. is_some opened.log ≡ is_some spot.entry.site.log) }
     ensures fault { IfErr result (λ fault. CannotBegin (is_some spot.entry.site.log) fault) }
 {
-    let log = match log_at(rt, spot.noticed, spot.site.log) {
-        Ok(log) => log,
-        Err(fault) => return Err(fault),
-    };
+    let log = log_at(rt, spot.noticed, spot.site.log)?;
     match link_at(rt, spot.site.place) {
         Ok((link, moment)) => Ok(Opened { link, moment, log }),
         Err(fault) => {
@@ -148,9 +145,9 @@ fn fault_without_link(reason: Option<Unusable>) -> RunFault
     }
 }
 
-/// Measures over a link, reports how the run ended, and notes at `spot` the fault, if the run stopped for one. Returns the streams
-/// and the status of the report, or the error if it couldn't be written. What was seen of link and output at each act is noted in
-/// `kept`.
+/// Measures over a link, reports how the run ended, and notes at `spot` the fault, if the run stopped for one. Returns the
+/// streams and the status of the report, or the error if it couldn't be written. What was seen of link and output at each act is
+/// noted in `kept`.
 pub(crate) fn measure_over<L: Link, S: Source, K: Durable, E: Write>(
     alloc: Global,
     link: &mut L,

@@ -67,10 +67,7 @@ impl Wanted {
     fn want(&mut self, moment: Moment)
         ensures { self.new ≡ record self.old { since = wanted_from self.old.since moment } }
     {
-        self.since = match self.since {
-            Some(since) => Some(since),
-            None => Some(moment),
-        };
+        self.since = self.since.or(Some(moment));
     }
 
     /// Since when an answer is wanted, if at `elapsed`, in milliseconds of the clock for deadlines, that is at least `least`
@@ -85,8 +82,8 @@ impl Wanted {
     }
 }
 
-/// Whether at least `least` milliseconds passed from `from` to `elapsed`, both in milliseconds of the clock for deadlines. If that
-/// clock went back, none passed.
+/// Whether at least `least` milliseconds passed from `from` to `elapsed`, both in milliseconds of the clock for deadlines. If
+/// that clock went back, none passed.
 pub(crate) fn has_lasted(from: u64, elapsed: u64, least: u64) -> bool
     ensures { result ≡ has_lasted from elapsed least }
 {

@@ -6,6 +6,7 @@ ghost use Rattle.std.specs.Prelude.{OnOk};
 ghost use Rattle.std.specs.Io.KnownBytes.{Appends};
 ghost use Rattle.gc_messages.specs.Repairs.{copied_line, count_line, torn_line};
 
+use crate::rate_limit::RateLimit;
 use gc_links::Moment;
 use std::io::{self, Write};
 
@@ -61,9 +62,8 @@ impl FilesSeen {
 pub struct FilesTold {
     // What was reported last.
     told: FilesSeen,
-    // When it was reported last that the path of the rows leads astray, in milliseconds of the clock for deadlines. `None`: it hasn't been
-    // since the path led to the file.
-    astray: Option<u64>,
+    // When it was reported last, since the path led to the file, that it leads astray.
+    astray: RateLimit,
 }
 
 impl FilesTold {
@@ -71,7 +71,7 @@ impl FilesTold {
     pub fn new() -> FilesTold {
         FilesTold {
             told: FilesSeen::none(),
-            astray: None,
+            astray: RateLimit::new(),
         }
     }
 
@@ -81,11 +81,7 @@ impl FilesTold {
     ///
     /// `None`: there is nothing to report. `Some` may have nothing to write, as when the path leads to the file again.
     pub fn take_news(&mut self, seen: FilesSeen, moment: Moment) -> Option<FilesNews> {
-        let is_due = match self.astray {
-            Some(last) => moment.elapsed.saturating_sub(last) >= MINUTE,
-            None => true,
-        };
-        let tells_astray = seen.is_astray && is_due;
+        let tells_astray = seen.is_astray && self.astray.claim(moment.elapsed, MINUTE);
         if seen == self.told && !tells_astray {
             return None;
         }
@@ -95,11 +91,8 @@ impl FilesTold {
             tells_astray,
         };
         self.told = seen;
-        if tells_astray {
-            self.astray = Some(moment.elapsed);
-        }
         if !seen.is_astray {
-            self.astray = None;
+            self.astray = RateLimit::new();
         }
         Some(news)
     }

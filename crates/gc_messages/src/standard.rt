@@ -54,7 +54,7 @@ impl Standard {
 
     /// Reports, with status 1, that a standard stream is closed: the line of `StreamClosed` if the messages are open, else no line.
     /// `Err`: that line couldn't be written.
-    pub fn refuse<E: Write>(self, messages: &mut E) -> io::Result<ExitCode>
+    pub fn report_closed<E: Write>(self, messages: &mut E) -> io::Result<ExitCode>
         ensures told { IfOk result (λ status. ReportsClosed self (exit_status status) (E.contents messages.old) (E.contents messages.new)) }
         ensures bound { IfOk result (λ status. exit_status status ≤ 1) }
     {

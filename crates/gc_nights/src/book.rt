@@ -7,7 +7,7 @@ ghost use Rattle.gc_measuring.specs.Measuring.{text_in};
 use crate::claim::Claim;
 use crate::deadlines::Deadlines;
 use crate::summary::Summary;
-use gc_lines::{Line, PortFailed, Sink, line_from};
+use gc_lines::{PortFailed, Sink, line_from};
 use gc_links::Moment;
 use gc_measuring::write_station_row;
 use gc_station::{Book, LinkHealth};
@@ -56,7 +56,7 @@ impl Seen {
             at: stamp.utc.saturating_sub(self.start),
             deadline: self.deadlines.of(stamp),
             call: command.call,
-            line: line_of(ending),
+            line: ending.line().map(|line| line_from(line.as_slice())),
             stamp,
             target: command.target,
             row: self.summary.rows,
@@ -72,14 +72,6 @@ fn speaks_of_reply(ending: Ending<'_>) -> bool {
     match ending {
         Ending::Late => true,
         _ => ending.line().is_some(),
-    }
-}
-
-// A copy of the reply's line of a row with this ending, if it has one.
-fn line_of(ending: Ending<'_>) -> Option<Line> {
-    match ending.line() {
-        Some(line) => Some(line_from(line.as_slice())),
-        None => None,
     }
 }
 

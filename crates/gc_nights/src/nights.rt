@@ -62,26 +62,106 @@ enum RunEnd {
     GaveUp,
 }
 
-/// Rehearses all nights over a link that is new. However they end, the acts that the link recorded are those of a station, run after
-/// run. As long as fewer than six runs in a row ended while they synchronized, each run is one in the field: whatever the line lost,
-/// repeated, held or closed, each answer that it recorded was made on executing the very request of its cycle and place. Runs that
-/// end before they are done are counted in the book's summary, but not a run at which the rehearsal fails.
-///
-/// It fails with `Untrue` after the first run with a false row, with the fault `Memory` if memory was refused for a claim, a
-/// count or a truth, and with the fault `Output` if a row couldn't be written. The nights that are left aren't rehearsed then. A
-/// line for which memory is refused is lost, and that is no failure.
-pub(crate) fn run_nights<K: Sink>(
-    link: &mut Rehearsed<Seeded>,
-    book: &mut RunBook<K>,
-    programme: Programme<'_>,
-) -> Result<(), Halt>
-    requires { link.old.carried ≡ [] }
-    ensures { AreFaithfulRuns programme.entry.tasks.now link.new.carried }
-{
-    let end = run_each_night(link, book, programme);
-    link.line_keeps_order();
-    rehearsals_in_a_row_are_faithful();
-    end
+/// The link over which the runs of a rehearsal go, and the book of their rows.
+#[derive(Drop)]
+pub(crate) struct Rehearsing<K> {
+    pub(crate) link: Rehearsed<Seeded>,
+    pub(crate) book: RunBook<K>,
+}
+
+impl<K: Sink> Rehearsing<K> {
+    /// Rehearses all nights over a link that is new. However they end, the acts that the link recorded are those of a station, run after
+    /// run. As long as fewer than six runs in a row ended while they synchronized, each run is one in the field: whatever the line lost,
+    /// repeated, held or closed, each answer that it recorded was made on executing the very request of its cycle and place. Runs that
+    /// end before they are done are counted in the book's summary, but not a run at which the rehearsal fails.
+    ///
+    /// It fails with `Untrue` after the first run with a false row, with the fault `Memory` if memory was refused for a claim, a
+    /// count or a truth, and with the fault `Output` if a row couldn't be written. The nights that are left aren't rehearsed then. A
+    /// line for which memory is refused is lost, and that is no failure.
+    pub(crate) fn run_nights(&mut self, programme: Programme<'_>) -> Result<(), Halt>
+        requires { self.old.link.carried ≡ [] }
+        ensures { AreFaithfulRuns programme.entry.tasks.now self.new.link.carried }
+    {
+        let end = self.run_each_night(programme);
+        self.link.acts_are_of_line();
+        rehearsals_in_a_row_are_faithful();
+        end
+    }
+
+    // Rehearses the nights in turn: each begins a day after the one before was due, or once that one is over, if that is later. It fails as
+    // `run_nights` does.
+    fn run_each_night(&mut self, programme: Programme<'_>) -> Result<(), Halt>
+        ensures { AreRuns programme.entry.tasks.now self.old.link.carried self.new.link.carried }
+    {
+        for night in 0..programme.nights {
+            wait_until(&mut self.link, night.saturating_mul(DAY));
+            self.run_night(programme, night)?;
+        }
+        Ok(())
+    }
+
+    // Rehearses the night with this number, counted from 0, run after run, until its cycles are done or its time is over. A station
+    // that was killed begins again at once, and one that gave up after `RESTART_DELAY`. It fails as `run_nights` does.
+    fn run_night(&mut self, programme: Programme<'_>, night: u64) -> Result<(), Halt>
+        ensures { AreRuns programme.entry.tasks.now self.old.link.carried self.new.link.carried }
+    {
+        let begins = night.saturating_mul(DAY);
+        let mut kills = programme.kills;
+        // For the proof that the loop ends. No night has so many runs: kills are few, and a station that gave up waits.
+        for _ in 0..u64::MAX {
+            let cycles = cycles_left(programme, begins, self.link.elapsed());
+            if cycles == 0 {
+                return Ok(());
+            }
+            let limits = RunLimits {
+                cycles,
+                acts: acts_until_kill(programme, night, kills),
+                until: end_of_night(programme, begins),
+            };
+            match self.run_once(programme, limits)? {
+                RunEnd::Done | RunEnd::CutOff => return Ok(()),
+                RunEnd::Killed => kills = kills.saturating_sub(1),
+                RunEnd::GaveUp => self.link.wait(RESTART_DELAY),
+            }
+        }
+        Ok(())
+    }
+
+    // Runs the station over the line by this plan. The result is the fault for which it stopped; `None`: all its cycles are done.
+    fn run_by_plan(&mut self, programme: Programme<'_>, plan: &Plan) -> Option<RunFault>
+        ensures { AreRuns programme.entry.tasks.now self.old.link.carried self.new.link.carried }
+    {
+        commands_are_askable(programme.tasks);
+        // What is seen at each act, for proofs alone.
+        let mut kept = Kept::new();
+        run_station(
+            &mut self.link,
+            &mut self.book,
+            programme.tasks,
+            plan,
+            u64::MAX,
+            &mut kept,
+        )
+        .err()
+    }
+
+    // Runs the station over the line within these limits. Then the rows of the run are compared with the truth (`check_rows`), and if that
+    // succeeds, the end of the run is judged (`judge_end`). It fails as these two do.
+    fn run_once(&mut self, programme: Programme<'_>, limits: RunLimits) -> Result<RunEnd, Halt>
+        ensures { AreRuns programme.entry.tasks.now self.old.link.carried self.new.link.carried }
+    {
+        let choice = Choice {
+            cycles: limits.cycles,
+            ..programme.choice
+        };
+        let plan = plan_of(choice, programme.setup, programme.tasks);
+        self.link.begin();
+        let begins = programme.start.saturating_add(self.link.elapsed());
+        self.book.begin(begins, limits);
+        let fault = self.run_by_plan(programme, &plan);
+        check_rows(&self.link, &self.book, programme.seed)?;
+        judge_end(&mut self.book, fault)
+    }
 }
 
 // Lets the time go by until this moment, in milliseconds since the link was made; no time, if it is past.
@@ -89,54 +169,6 @@ fn wait_until(link: &mut Rehearsed<Seeded>, moment: u64)
     ensures { link.new.carried ≡ link.old.carried }
 {
     link.wait(moment.saturating_sub(link.elapsed()));
-}
-
-// Rehearses the nights in turn: each begins a day after the one before was due, or once that one is over, if that is later. It fails as
-// `run_nights` does.
-fn run_each_night<K: Sink>(
-    link: &mut Rehearsed<Seeded>,
-    book: &mut RunBook<K>,
-    programme: Programme<'_>,
-) -> Result<(), Halt>
-    ensures { AreRuns programme.entry.tasks.now link.old.carried link.new.carried }
-{
-    for night in 0..programme.nights {
-        wait_until(link, night.saturating_mul(DAY));
-        run_night(link, book, programme, night)?;
-    }
-    Ok(())
-}
-
-// Rehearses the night with this number, counted from 0, run after run, until its cycles are done or its time is over. A station
-// that was killed begins again at once, and one that gave up after `RESTART_DELAY`. It fails as `run_nights` does.
-fn run_night<K: Sink>(
-    link: &mut Rehearsed<Seeded>,
-    book: &mut RunBook<K>,
-    programme: Programme<'_>,
-    night: u64,
-) -> Result<(), Halt>
-    ensures { AreRuns programme.entry.tasks.now link.old.carried link.new.carried }
-{
-    let begins = night.saturating_mul(DAY);
-    let mut kills = programme.kills;
-    // For the proof that the loop ends. No night has so many runs: kills are few, and a station that gave up waits.
-    for _ in 0..u64::MAX {
-        let cycles = cycles_left(programme, begins, link.elapsed());
-        if cycles == 0 {
-            return Ok(());
-        }
-        let limits = RunLimits {
-            cycles,
-            acts: acts_until_kill(programme, night, kills),
-            until: end_of_night(programme, begins),
-        };
-        match run_once(link, book, programme, limits)? {
-            RunEnd::Done | RunEnd::CutOff => return Ok(()),
-            RunEnd::Killed => kills = kills.saturating_sub(1),
-            RunEnd::GaveUp => link.wait(RESTART_DELAY),
-        }
-    }
-    Ok(())
 }
 
 // When a night is over that was due `begins` milliseconds after the line was made, in milliseconds since 1970: a day after it was due or,
@@ -178,44 +210,6 @@ fn acts_until_kill(programme: Programme<'_>, night: u64, left: u64) -> u64 {
         .saturating_add(1);
     let draw = Draws::of_kills(programme.seed).draw(kill, 1);
     among(draw, 0, most).saturating_add(ACTS_BEFORE_KILL)
-}
-
-// Runs the station over the line by this plan. The result is the fault for which it stopped; `None`: all its cycles are done.
-fn run_by_plan<K: Sink>(
-    link: &mut Rehearsed<Seeded>,
-    book: &mut RunBook<K>,
-    programme: Programme<'_>,
-    plan: &Plan,
-) -> Option<RunFault>
-    ensures { AreRuns programme.entry.tasks.now link.old.carried link.new.carried }
-{
-    commands_are_askable(programme.tasks);
-    // What is seen at each act, for proofs alone.
-    let mut kept = Kept::new();
-    run_station(link, book, programme.tasks, plan, u64::MAX, &mut kept).err()
-}
-
-// Runs the station over the line within these limits. Then the rows of the run are compared with the truth (`check_rows`), and if that
-// succeeds, the end of the run is judged (`judge_end`). It fails as these two do.
-fn run_once<K: Sink>(
-    link: &mut Rehearsed<Seeded>,
-    book: &mut RunBook<K>,
-    programme: Programme<'_>,
-    limits: RunLimits,
-) -> Result<RunEnd, Halt>
-    ensures { AreRuns programme.entry.tasks.now link.old.carried link.new.carried }
-{
-    let choice = Choice {
-        cycles: limits.cycles,
-        ..programme.choice
-    };
-    let plan = plan_of(choice, programme.setup, programme.tasks);
-    link.begin();
-    let begins = programme.start.saturating_add(link.elapsed());
-    book.begin(begins, limits);
-    let fault = run_by_plan(link, book, programme, &plan);
-    check_rows(link, book, programme.seed)?;
-    judge_end(book, fault)
 }
 
 // How a run ended that stopped for this fault; `None`: it is done. The summary counts the last cycle of a run that is done, and

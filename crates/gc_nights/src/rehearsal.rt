@@ -6,7 +6,7 @@ ghost use Rattle.std.specs.Process.{exit_status};
 use crate::book::{RunBook, Seen};
 use crate::deadlines::Deadlines;
 use crate::halt::{FileOption, Halt};
-use crate::nights::{Programme, run_nights};
+use crate::nights::{Programme, Rehearsing};
 use crate::report::tell_summary;
 use crate::seeded::Seeded;
 use crate::summary::Summary;
@@ -18,9 +18,9 @@ use gc_messages::Streams;
 use gc_rehearsal::Rehearsed;
 use gc_rows::write_head;
 use gc_scenes::SceneInstrument;
-use gc_texts::{RunFault, Tasks, line_at, read_text};
+use gc_texts::{RunFault, Task, Tasks, line_at, read_text};
 use gc_words::{Layout, Rehearsal};
-use std::alloc::Global;
+use std::alloc::{AllocError, Global};
 use std::fs::{File, Files};
 use std::io::{self, Write};
 use std::process::ExitCode;
@@ -94,14 +94,12 @@ fn texts_of<R: Files, S: Source>(
 ) -> Result<Texts, Halt> {
     let rules = rules_of(rt, alloc, rehearsal.line)?;
     let instrument = instrument_of(rt, alloc, rehearsal.scene)?;
-    match read_task_text(alloc, input, &rehearsal.station.choice) {
-        Ok((tasks, _)) => Ok(Texts {
-            rules,
-            instrument,
-            tasks,
-        }),
-        Err(stop) => Err(Halt::Text(stop)),
-    }
+    let (tasks, _) = read_task_text(alloc, input, &rehearsal.station.choice).map_err(Halt::Text)?;
+    Ok(Texts {
+        rules,
+        instrument,
+        tasks,
+    })
 }
 
 // Reads the file at this path, which this option names, to its end. Fails with `File` and the fault of `read_text`, or `Read` if the
@@ -115,10 +113,7 @@ fn read_file<R: Files>(
     let Ok(file) = File::open(rt, path) else {
         return Err(Halt::File(option, RunFault::Read));
     };
-    match read_text(alloc, &mut FromReader::new(file)) {
-        Ok(text) => Ok(text),
-        Err(fault) => Err(Halt::File(option, fault)),
-    }
+    read_text(alloc, &mut FromReader::new(file)).map_err(|fault| Halt::File(option, fault))
 }
 
 // The rules of the line in the file at this path; without a path those of a line to which nothing happens. Fails as `read_file`
@@ -128,10 +123,7 @@ fn rules_of<R: Files>(rt: &R, alloc: Global, line: Option<&str>) -> Result<Rules
         return Ok(Rules::none());
     };
     let text = read_file(rt, alloc, path, FileOption::Line)?;
-    match read_rules(text.as_slice()) {
-        Ok(rules) => Ok(rules),
-        Err(refusal) => Err(Halt::Line(refusal)),
-    }
+    read_rules(text.as_slice()).map_err(Halt::Line)
 }
 
 // The instrument of the scene in the file at this path; without a path the simulator. Fails as `read_file` and `instrument_in`
@@ -142,10 +134,7 @@ fn instrument_of<R: Files>(
     scene: Option<&str>,
 ) -> Result<SceneInstrument, Halt> {
     let Some(path) = scene else {
-        return match read_rule_scene::<RuleForm>(alloc, SIMULATOR) {
-            Ok(instrument) => Ok(instrument),
-            Err(fault) => Err(Halt::Fault(fault)),
-        };
+        return read_rule_scene::<RuleForm>(alloc, SIMULATOR).map_err(Halt::Fault);
     };
     let text = read_file(rt, alloc, path, FileOption::Scene)?;
     instrument_in(alloc, text.as_slice())
@@ -172,6 +161,41 @@ fn kills_of(rules: &Rules) -> u64 {
     }
 }
 
+// What was seen before the first row, of these tasks, of which the first `setup` are the setup; a cycle has `commands` commands.
+// `Err`: memory was refused.
+fn seen_at_first(
+    alloc: Global,
+    tasks: &[Task],
+    setup: usize,
+    commands: usize,
+) -> Result<Seen, AllocError> {
+    let summary = Summary::new(alloc, commands)?;
+    let deadlines = Deadlines::new(alloc, tasks, setup)?;
+    Ok(Seen::new(alloc, BEGINNING, deadlines, summary))
+}
+
+// The programme of a rehearsal on a line with these rules, of these tasks, of which the first `setup` are the setup; a cycle has
+// `commands` commands.
+fn programme_of<'a>(
+    rehearsal: Rehearsal<'_>,
+    rules: &Rules,
+    tasks: &'a [Task],
+    setup: usize,
+    commands: usize,
+) -> Programme<'a> {
+    Programme {
+        tasks,
+        setup,
+        commands: commands as u64,
+        choice: rehearsal.station.choice,
+        nights: rehearsal.nights,
+        cycles: rehearsal.cycles,
+        kills: kills_of(rules),
+        seed: rehearsal.seed,
+        start: BEGINNING,
+    }
+}
+
 // Rehearses the nights of these texts, writes the rows on the output, with a header if their form has one, and, once the nights
 // are done, the summary on the messages. The output is handed back. Fails as `run_nights` does, and before the first night if
 // memory is refused or the header can't be written, but not if the summary can't be written.
@@ -194,45 +218,31 @@ fn rehearse_texts<K: Sink + Drop, E: Write>(
         names,
         nears: _,
     } = tasks;
-    let Ok(summary) = Summary::new(alloc, commands) else {
+    let Ok(seen) = seen_at_first(alloc, tasks.as_slice(), setup, commands) else {
         return (output, Err(Halt::Fault(RunFault::Memory)));
     };
     let layout = rehearsal.station.layout;
     if write_head(&mut output, layout.form).is_err() {
         return (output, Err(Halt::Fault(RunFault::Output)));
     }
-    let programme = Programme {
-        tasks: tasks.as_slice(),
-        setup,
-        commands: commands as u64,
-        choice: rehearsal.station.choice,
-        nights: rehearsal.nights,
-        cycles: rehearsal.cycles,
-        kills: kills_of(&rules),
-        seed: rehearsal.seed,
-        start: BEGINNING,
-    };
-    let Ok(deadlines) = Deadlines::new(alloc, tasks.as_slice(), setup) else {
-        return (output, Err(Halt::Fault(RunFault::Memory)));
-    };
-    let seen = Seen::new(alloc, BEGINNING, deadlines, summary);
+    let programme = programme_of(rehearsal, &rules, tasks.as_slice(), setup, commands);
     let book = RunBook::new(output, layout, names, seen);
     let chance = Seeded::new(rules, rehearsal.seed);
     let link = Rehearsed::new(alloc, chance, instrument, BEGINNING);
-    rehearse_over(programme, link, book, messages)
+    rehearse_over(programme, Rehearsing { link, book }, messages)
 }
 
 // Rehearses the nights over a link that is new, and writes the summary if they are done. The output is handed back. Fails as
 // `run_nights` does, and not if the summary can't be written.
 fn rehearse_over<K: Sink + Drop, E: Write>(
     programme: Programme<'_>,
-    mut link: Rehearsed<Seeded>,
-    mut book: RunBook<K>,
+    mut rehearsing: Rehearsing<K>,
     messages: &mut E,
 ) -> (K, Result<(), Halt>)
-    requires { link.carried ≡ [] }
+    requires { rehearsing.link.carried ≡ [] }
 {
-    let end = run_nights(&mut link, &mut book, programme);
+    let end = rehearsing.run_nights(programme);
+    let Rehearsing { link, book } = rehearsing;
     let (output, mut seen, names) = book.end();
     if end.is_ok() {
         // If the summary can't be written, the rows are there all the same.

@@ -1,6 +1,6 @@
 //! What decides on the line of a rehearsal: the rules of its text, and a seed.
 
-use gc_fates::{Draws, Rules, fate_of, restarts_at};
+use gc_fates::{Draws, LineFate, Rules, fate_of, restarts_at};
 use gc_rehearsal::{Chance, Fate};
 
 // Of a request that a close cuts, fewer bytes than this are sent.
@@ -45,7 +45,7 @@ impl Seeded {
 
     // Counts the line that sets out next, the reply to the request that reached the instrument or else a request, and returns what happens
     // to it.
-    fn next_fate(&mut self) -> gc_fates::Fate {
+    fn next_fate(&mut self) -> LineFate {
         if self.is_reply_next {
             self.is_reply_next = false;
             self.downs = self.downs.saturating_add(1);

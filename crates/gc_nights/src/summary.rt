@@ -160,14 +160,14 @@ impl Summary {
     // The cycle of a row with this stamp, as it was before the row: the one that is going on; or else a new one, before which that
     // one is ended and counted (`finish`). It fails as `finish` does.
     fn cycle_of(&mut self, stamp: Stamp) -> Result<Cycle, AllocError> {
-        if let Some(cycle) = self.cycle {
-            if cycle.number == stamp.cycle {
-                return Ok(cycle);
+        match self.cycle {
+            Some(cycle) if cycle.number == stamp.cycle => Ok(cycle),
+            _ => {
+                self.finish()?;
+                self.count = self.count.saturating_add(1);
+                Ok(Cycle::new(stamp.cycle))
             }
         }
-        self.finish()?;
-        self.count = self.count.saturating_add(1);
-        Ok(Cycle::new(stamp.cycle))
     }
 
     // Counts a row of a target, which gets a tally at its first row. It fails, and doesn't count the row, if memory is refused

@@ -22,14 +22,13 @@ use crate::ends::{tell_cut_ends, tell_ends, written_word};
 use crate::streams::{accepted, bounded, hear, listener_at_1024, tell_end_behind};
 use arrayvec::ArrayVec;
 use gc_ask::{Address, BusyClock, Keeping, Slow, ask_at, ask_tcp, keep_on, serve_on, serve_tcp};
-use gc_cases::{Case, Player, Rows, Told, bytes_behind, cut_word, play_rows, port_of};
+use gc_cases::{Case, Player, Row, Rows, Told, cut_word, play_rows, port_of, text_of};
 use gc_instrument::Instrument;
 use gc_links::{Place, listen};
 use gc_probes::{PieceSink, PieceSource};
 use gc_scenes::{Delay, SceneInstrument, SceneRules, SlowInstrument, Ways};
 use gc_texts::RunFault;
 use gc_values::Text;
-use std::alloc::Global;
 use std::io::{self, Write};
 use std::net::{Ipv6Addr, Shutdown, SocketAddr, TcpListener, TcpStream};
 use std::time::Instant;
@@ -55,7 +54,7 @@ fn play_at(rt: &HostRuntime, listener: TcpListener, case: &Case<'_>, wrong: &mut
         instrument: Instrument::simulator(),
         callers: Vec::new(rt.alloc()),
     };
-    play_rows(rt.alloc(), case, &mut played, wrong);
+    play_rows(case, &mut played, wrong);
 }
 
 // A port, the instrument that is served there, and the port's callers.
@@ -71,18 +70,18 @@ struct PortRows<'a> {
 
 impl<'a> Rows for PortRows<'a> {
     // Plays a row by its word: here if something is served, asked or heard, otherwise in `prepare`.
-    fn play(&mut self, _alloc: Global, word: &str, what: &str, bytes: &[u8], came: &mut Told) {
-        match word {
-            "serve" => self.serve(what, came),
-            "keep" => self.keep(what, came),
-            "slow" => self.serve_slowly(what, came),
-            "hear" => self.hear(what, came),
-            "ask" => self.ask(cut_word(what).0, bytes, came),
-            "at" => self.ask_at(what, came),
-            "port" => self.ask_port(what, came),
-            "ends" => tell_ends(self.rt.alloc(), came),
+    fn play(&mut self, row: Row<'_>, came: &mut Told) {
+        match row.word {
+            "serve" => self.serve(row.what, came),
+            "keep" => self.keep(row.what, came),
+            "slow" => self.serve_slowly(row.what, came),
+            "hear" => self.hear(row.what, came),
+            "ask" => self.ask(row, came),
+            "at" => self.ask_at(row.what, came),
+            "port" => self.ask_port(row.what, came),
+            "ends" => tell_ends(came),
             "cut_ends" => tell_cut_ends(came),
-            _ => self.prepare(word, what, bytes, came),
+            _ => self.prepare(row, came),
         }
     }
 }
@@ -113,14 +112,14 @@ fn tell_uncounted(lines: &str, came: &mut Told) {
 impl<'a> PortRows<'a> {
     // Plays a row in which a caller does something, or in which another port is listened at, and reports what can't be done, or that the
     // word is unknown.
-    fn prepare(&mut self, word: &str, what: &str, bytes: &[u8], came: &mut Told) {
-        match word {
-            "call" => tell_done(self.call(bytes), came),
-            "again" => self.write_times(cut_word(what).0, bytes, came),
+    fn prepare(&mut self, row: Row<'_>, came: &mut Told) {
+        match row.word {
+            "call" => tell_done(self.call(row.bytes), came),
+            "again" => self.write_times(row, came),
             "shut" => tell_done(self.shut(), came),
             "leave" => drop(self.callers.pop()),
             "accept" => tell_done(self.accept(), came),
-            "listen" => tell_done(self.listen(what), came),
+            "listen" => tell_done(self.listen(row.what), came),
             _ => came.text("an unknown word"),
         }
     }
@@ -147,11 +146,12 @@ impl<'a> PortRows<'a> {
         }
     }
 
-    // The last caller writes what is in `bytes` after the number `times`, that many times. At the first write that fails it
-    // stops, and reports that.
-    fn write_times(&mut self, times: &str, bytes: &[u8], came: &mut Told) {
+    // The last caller writes the bytes that the row has after a number (`Row::cut_bytes`), as many times as the number says. At
+    // the first write that fails it stops, and reports that.
+    fn write_times(&mut self, row: Row<'_>, came: &mut Told) {
+        let (times, bytes) = row.cut_bytes();
         for _ in 0..came.number_in::<u64>(times) {
-            if !self.write(bytes_behind(times, bytes)) {
+            if !self.write(bytes) {
                 return tell_done(false, came);
             }
         }
@@ -258,20 +258,21 @@ impl<'a> PortRows<'a> {
     fn hear(&mut self, what: &str, came: &mut Told) {
         let place = came.number_in::<usize>(what);
         match self.callers.get_mut(place) {
-            Some(caller) => tell_heard(self.rt.alloc(), caller, came),
+            Some(caller) => tell_heard(caller, came),
             None => came.text("no such caller"),
         }
     }
 
-    // Asks the commands in `bytes` after the number `reads` at the port, in at most that many reads, and reports what was
-    // written and how it ended; or `no port` if the system doesn't say which port it is.
-    fn ask(&self, reads: &str, bytes: &[u8], came: &mut Told) {
+    // Asks the commands that the row has after a number (`Row::cut_bytes`) at the port, in at most as many reads as the number
+    // says, and reports what was written and how it ended; or `no port` if the system doesn't say which port it is.
+    fn ask(&self, row: Row<'_>, came: &mut Told) {
         let port = port_of(&self.listener);
         if port == 0 {
             return came.text("no port");
         }
+        let (reads, commands) = row.cut_bytes();
         let most = came.number_in(reads);
-        self.tell_asked(port, bytes_behind(reads, bytes), most, came);
+        self.tell_asked(port, commands, most, came);
     }
 
     // Asks a text without commands at the address or name `what`, with the listener's port (0 if the system doesn't say), and
@@ -280,11 +281,10 @@ impl<'a> PortRows<'a> {
         if self.is_absent {
             return came.text("done");
         }
-        let mut name = Told::new(self.rt.alloc());
+        let mut name = Told::new(came.alloc);
         name.text(what);
         name.titled(":", &port_of(&self.listener));
-        let name = str::from_utf8(name.as_bytes()).unwrap_or("");
-        tell_end(self.ask_place(Place::Host(name)), came)
+        tell_end(self.ask_place(Place::Host(text_of(name.as_bytes()))), came)
     }
 
     // Asks a text without commands at the port that `what` says, by its number and as a place, then serves that port, and reports how
@@ -361,7 +361,7 @@ fn has_passed(rt: &HostRuntime, begun: &Instant, ms: u32) -> bool {
 
 // Reports that an act can't be done, unless it was done.
 fn tell_done(is_done: bool, came: &mut Told) {
-    came.either(is_done, "", "it can't be done");
+    came.text_if(!is_done, "it can't be done");
 }
 
 // Connects to this listener, and returns the caller's end, of which each read waits for a bounded time (`bounded`). `Err`: the
@@ -376,12 +376,12 @@ fn connected(rt: &HostRuntime, listener: &TcpListener) -> io::Result<TcpStream> 
 fn tell_kept(all: bool, messages: &[u8], came: &mut Told) {
     came.text(written_word(all));
     came.text(": ");
-    tell_uncounted(str::from_utf8(messages).unwrap_or("no text"), came);
+    tell_uncounted(text_of(messages), came);
 }
 
 // Reports what a caller hears until the end of its connection, or `it waits` if no end comes, a read fails, or memory runs out.
-fn tell_heard(alloc: Global, caller: &mut TcpStream, came: &mut Told) {
-    let mut bytes = Vec::new(alloc);
+fn tell_heard(caller: &mut TcpStream, came: &mut Told) {
+    let mut bytes = Vec::new(came.alloc);
     if !hear(caller, &mut bytes) {
         return came.text("it waits");
     }

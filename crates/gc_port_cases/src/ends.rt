@@ -5,7 +5,6 @@ ghost use Rattle.std.specs.Prelude.{None};
 use gc_ask::{CallerFault, Callers, keep};
 use gc_cases::Told;
 use gc_lines::ServeFault;
-use std::alloc::Global;
 
 // Callers whose connections end as `FIRST_ENDS` says, in this order, and those of all later callers well.
 #[derive(Drop)]
@@ -41,9 +40,9 @@ impl Callers for Ends {
 
 /// Serves eight callers, whose first seven connections end as `FIRST_ENDS` says, and the eighth well. Reports how many were served,
 /// whether the lines of all faults were written, and these lines.
-pub fn tell_ends(alloc: Global, came: &mut Told) {
+pub fn tell_ends(came: &mut Told) {
     let mut ends = Ends { at: 0 };
-    let mut messages = Vec::new(alloc);
+    let mut messages = Vec::new(came.alloc);
     let all = keep(&mut ends, 8, &mut messages);
     tell_served(ends.at, all, came);
     came.text(": ");

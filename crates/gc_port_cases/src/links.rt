@@ -19,7 +19,7 @@ ghost use Rattle.std.specs.Prelude.{◌<◌, length};
 
 use crate::devices::tell_outcome;
 use crate::streams::{accepted, hear, listener_at_1024, tell_end_behind};
-use gc_cases::{Case, Player, Rows, Told, play_rows};
+use gc_cases::{Case, Player, Row, Rows, Told, play_rows};
 use gc_links::{Came, Link, TcpLink, listen};
 use std::alloc::{AllocError, Global};
 use std::io::{self, Write};
@@ -79,7 +79,7 @@ fn play_over<'a>(
         far: None,
         sent: 0,
     };
-    play_rows(rt.alloc(), case, &mut played, wrong);
+    play_rows(case, &mut played, wrong);
 }
 
 // A link, its far end, and the listener at its port.
@@ -97,21 +97,21 @@ struct LinkRows<'a> {
 
 impl<'a> Rows for LinkRows<'a> {
     // Plays a row by its word: here, or in devices.rt.
-    fn play(&mut self, _alloc: Global, word: &str, what: &str, bytes: &[u8], came: &mut Told) {
-        match word {
+    fn play(&mut self, row: Row<'_>, came: &mut Told) {
+        match row.word {
             "open" => came.either(self.link.open().is_ok(), "open", "shut"),
             "close" => self.link.close(),
-            "put" => self.put(bytes, came),
+            "put" => self.put(row.bytes, came),
             "stall" => self.stall(came),
             "read" => self.read(&mut [0; 2], 1000, came),
             "look" => self.read(&mut [0; 16], 1, came),
-            "wait" => self.wait(what, came),
+            "wait" => self.wait(row.what, came),
             "hear" => self.hear(came),
             "accept" => self.far = self.accept(),
-            "far" => self.write_far(bytes, came),
+            "far" => self.write_far(row.bytes, came),
             "go" => self.far = None,
             "deaf" => self.listener = None,
-            _ => tell_outcome(self.rt, word, came),
+            word => tell_outcome(self.rt, word, came),
         }
     }
 }
@@ -178,14 +178,14 @@ impl<'a> LinkRows<'a> {
     // Reports what the far end heard until the end of its connection, or that there is no far end.
     fn hear(&mut self, came: &mut Told) {
         match &mut self.far {
-            Some(far) => tell_far_heard(self.rt.alloc(), far, self.sent, came),
+            Some(far) => tell_far_heard(far, self.sent, came),
             None => came.text("no far end"),
         }
     }
 
     // The far end writes these bytes. Reports only if it can't.
     fn write_far(&mut self, bytes: &[u8], came: &mut Told) {
-        came.either(write_all(&mut self.far, bytes), "", "it can't be written");
+        came.text_if(!write_all(&mut self.far, bytes), "it can't be written");
     }
 
     // Accepts the connection that the link made, and returns its far end. It waits for ever if none was made. `None`: nobody
@@ -205,8 +205,8 @@ fn write_all(far: &mut Option<TcpStream>, bytes: &[u8]) -> bool {
 
 // Reads what the far end hears until its connection is shut, and reports it as `tell_far_bytes` says. `sent` is how many bytes the
 // stalled put sent.
-fn tell_far_heard(alloc: Global, far: &mut TcpStream, sent: usize, came: &mut Told) {
-    let mut bytes = Vec::new(alloc);
+fn tell_far_heard(far: &mut TcpStream, sent: usize, came: &mut Told) {
+    let mut bytes = Vec::new(came.alloc);
     let is_end = hear(far, &mut bytes);
     tell_far_bytes(is_end, bytes.as_slice(), sent, came);
 }

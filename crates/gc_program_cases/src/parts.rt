@@ -9,8 +9,8 @@
 //!
 //! A case has at most sixteen lines of each of the first three, and one of each other.
 
-use gc_cases::{Case, Told, bytes_of};
-use std::alloc::{AllocError, Global};
+use gc_cases::{Case, Told, bytes_of, text_of};
+use std::alloc::AllocError;
 
 // The most texts that a case has under one key. Further ones aren't looked for.
 const MOST_PARTS: usize = 16;
@@ -18,31 +18,28 @@ const MOST_PARTS: usize = 16;
 /// Reports each part that a case asks for and that the output or the messages, `told`, lack, and after these parts the messages:
 /// in one line under `wrong`, a key that no case has. Such a line comes also if memory ran out for a part or for the messages.
 /// Messages that aren't UTF-8 count as `no text`.
-pub fn tell_parts(alloc: Global, case: &Case<'_>, output: &str, told: &Told, wrong: &mut Told) {
+pub fn tell_parts(case: &Case<'_>, output: &str, told: &Told, wrong: &mut Told) {
     let mut missing = Missing {
-        alloc,
         case: *case,
-        parts: Told::new(alloc),
+        parts: Told::new(wrong.alloc),
     };
-    let messages = str::from_utf8(told.as_bytes()).unwrap_or("no text");
-    missing.add_all(output, messages);
+    missing.add_all(output, text_of(told.as_bytes()));
     if told.is_lacking() {
         missing.parts.lack();
     }
-    case.tell_told("wrong", &missing.parts, wrong);
+    case.compare_told("wrong", &missing.parts, wrong);
 }
 
 /// Whether a case asks for parts of the messages, by texts in them. The number of their bytes (`length`) is no such part.
 pub fn asks_for_parts(case: &Case<'_>) -> bool {
     ["tells", "counts", "begins", "ends"]
         .iter()
-        .any(|key| case.value(key) != "")
+        .any(|key| case.has(key))
 }
 
 // The parts that a case asks for and that aren't in what came, as far as they were looked for.
 #[derive(Drop)]
 struct Missing<'a> {
-    alloc: Global,
     case: Case<'a>,
     parts: Told,
 }
@@ -102,28 +99,28 @@ impl<'a> Missing<'a> {
 
     // How often the text that a value spells occurs in what came. `Err`: memory ran out.
     fn count_of(&self, value: &str, came: &str) -> Result<usize, AllocError> {
-        let bytes = bytes_of(self.alloc, value)?;
+        let bytes = bytes_of(self.parts.alloc, value)?;
         Ok(count_in(bytes.as_slice(), came))
     }
 
     // Adds `begins` if the messages begin otherwise than the case says, and `ends` if they end otherwise. If memory runs out for one
     // of these texts, `parts` notes that it lacks a part, and neither is added.
     fn add_ends(&mut self, messages: &[u8]) {
-        let Ok(begin) = bytes_of(self.alloc, self.case.value("begins")) else {
+        let Ok(begin) = bytes_of(self.parts.alloc, self.case.value("begins")) else {
             return self.parts.lack();
         };
-        let Ok(end) = bytes_of(self.alloc, self.case.value("ends")) else {
+        let Ok(end) = bytes_of(self.parts.alloc, self.case.value("ends")) else {
             return self.parts.lack();
         };
         self.parts
-            .either(messages.starts_with(begin.as_slice()), "", "begins ");
+            .text_if(!messages.starts_with(begin.as_slice()), "begins ");
         self.parts
-            .either(messages.ends_with(end.as_slice()), "", "ends ");
+            .text_if(!messages.ends_with(end.as_slice()), "ends ");
     }
 
     // Adds `length` if the messages have another number of bytes (`length`) than the case says, if it says one.
     fn add_length(&mut self, length: u64) {
-        if !self.case.is("length", "") && self.case.number("length", u64::MAX) != length {
+        if self.case.has("length") && self.case.number("length", u64::MAX) != length {
             self.parts.text("length ");
         }
     }

@@ -16,8 +16,8 @@
 //!     until 9000             of a far end: after this many milliseconds its monotonic clock can't be read any more
 
 use crate::far_end::{FarEnd, Seen, paired_ends};
-use crate::said::{Said, tell_seen};
-use gc_cases::{Case, CaseRuntime, Player, Told, input_of, port_of};
+use crate::said::{Said, compare_seen};
+use gc_cases::{Case, CaseRuntime, Player, Told, input_of, port_of, text_of};
 use gc_console::{Oddities, Standard, Streams, run_program};
 use gc_links::listen;
 use std::alloc::{AllocError, Global};
@@ -57,8 +57,7 @@ fn held(case: &Case<'_>, listener: TcpListener) -> Option<TcpListener> {
 fn play_at(rt: &HostRuntime, case: &Case<'_>, port: u16, wrong: &mut Told) {
     let mut digits = Told::new(rt.alloc());
     digits.display(&port);
-    let port = str::from_utf8(digits.as_bytes()).unwrap_or("no port");
-    play_named(rt, case, port, wrong);
+    play_named(rt, case, text_of(digits.as_bytes()), wrong);
 }
 
 // Plays a case in which `PORT` stands for these digits.
@@ -71,8 +70,8 @@ fn play_named(rt: &HostRuntime, case: &Case<'_>, port: &str, wrong: &mut Told) {
         port,
     };
     run.play(rt, &seen, &mut said);
-    said.tell(rt.alloc(), case, port, wrong);
-    tell_seen(rt.alloc(), case, seen.get_mut(), wrong);
+    said.compare(case, port, wrong);
+    compare_seen(case, seen.get_mut(), wrong);
 }
 
 // A run of the program: the case that says how it is run, and the digits for which `PORT` stands in the case's words.

@@ -24,10 +24,10 @@ impl Write for Room {
     // Stores as many of the bytes as there is room for, and returns how many: 0 once there is no room. `Err`: memory ran out.
     fn write(&mut self, buf: &[u8]) -> io::Result<usize> {
         let left = usize::try_from(self.left).unwrap_or(usize::MAX);
-        let taken = buf.get(..left).unwrap_or(buf);
-        self.bytes.extend_from_slice(taken)?;
-        self.left = self.left.saturating_sub(taken.len() as u64);
-        Ok(taken.len().min(buf.len()))
+        let taken = left.min(buf.len());
+        self.bytes.extend_from_slice(&buf[..taken])?;
+        self.left = self.left.saturating_sub(taken as u64);
+        Ok(taken)
     }
 
     fn flush(&mut self) -> io::Result<()> {

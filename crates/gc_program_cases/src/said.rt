@@ -7,7 +7,7 @@
 use crate::far_end::Seen;
 use crate::parts::{asks_for_parts, tell_parts};
 use crate::room::Room;
-use gc_cases::{Case, Told};
+use gc_cases::{Case, Told, text_of};
 use std::alloc::Global;
 use std::process::ExitCode;
 
@@ -34,16 +34,15 @@ impl Said {
     }
 
     /// Reports where the status, the output or the messages came otherwise than the case has them, and each part that the case
-    /// asks for and that the output, which counts as empty if it isn't UTF-8, or the messages lack. Without a far end the
+    /// asks for and that the output, which counts as `no text` if it isn't UTF-8, or the messages lack. Without a far end the
     /// messages have `PORT` for the digits `port`.
-    pub fn tell(&self, alloc: Global, case: &Case<'_>, port: &str, wrong: &mut Told) {
-        let mut told = Told::new(alloc);
-        self.append_messages(alloc, case, port, &mut told);
-        case.tell("status", self.status_text(case).as_bytes(), wrong);
-        case.tell("output", self.compared_output(case), wrong);
+    pub fn compare(&self, case: &Case<'_>, port: &str, wrong: &mut Told) {
+        let mut told = Told::new(wrong.alloc);
+        self.append_messages(case, port, &mut told);
+        case.compare("status", self.status_text(case).as_bytes(), wrong);
+        case.compare("output", self.compared_output(case), wrong);
         compare_messages(case, &told, wrong);
-        let output = str::from_utf8(self.output.bytes.as_slice()).unwrap_or("");
-        tell_parts(alloc, case, output, &told, wrong);
+        tell_parts(case, text_of(self.output.bytes.as_slice()), &told, wrong);
     }
 
     // The status in a digit, or `any` if the case takes any; or that there is none, which no case takes.
@@ -60,19 +59,19 @@ impl Said {
         if case.is("output", "any") {
             return b"any";
         }
-        if case.is("has", "") {
-            self.output.bytes.as_slice()
-        } else {
+        if case.has("has") {
             b""
+        } else {
+            self.output.bytes.as_slice()
         }
     }
 
     // Appends the messages to `told`: of a case without a far end with `PORT` for the port; of one with a far end without the lines that
     // end in `WAITS`, or, if it has a terminal, as they are. Messages that aren't UTF-8 are `no text`.
-    fn append_messages(&self, alloc: Global, case: &Case<'_>, port: &str, told: &mut Told) {
-        let messages = str::from_utf8(self.messages.as_slice()).unwrap_or("no text");
-        if case.is("far", "") {
-            append_with_port(alloc, messages, port, told);
+    fn append_messages(&self, case: &Case<'_>, port: &str, told: &mut Told) {
+        let messages = text_of(self.messages.as_slice());
+        if !case.has("far") {
+            append_with_port(messages, port, told);
         } else if case.is("terminal", "yes") {
             told.text(messages);
         } else {
@@ -85,9 +84,9 @@ impl Said {
 // `messages`, and is reported if it has.
 fn compare_messages(case: &Case<'_>, told: &Told, wrong: &mut Told) {
     if asks_for_parts(case) {
-        case.tell("messages", b"", wrong);
+        case.compare("messages", b"", wrong);
     } else {
-        case.tell_told("messages", told, wrong);
+        case.compare_told("messages", told, wrong);
     }
 }
 
@@ -104,8 +103,8 @@ fn status_digit(status: ExitCode) -> &'static str {
 
 // Appends messages to `told`, with `PORT` wherever they have the digits of the port. If memory runs out, `told` notes that it
 // lacks a part.
-fn append_with_port(alloc: Global, messages: &str, port: &str, told: &mut Told) {
-    match messages.replace(alloc, port, "PORT") {
+fn append_with_port(messages: &str, port: &str, told: &mut Told) {
+    match messages.replace(told.alloc, port, "PORT") {
         Ok(named) => told.text(named.as_str()),
         Err(_) => told.lack(),
     }
@@ -123,28 +122,28 @@ fn append_without_waits(messages: &str, told: &mut Told) {
 
 /// Reports each key of the case under which it has something else than what came at the far end. Keys that it doesn't have are
 /// left out.
-pub fn tell_seen(alloc: Global, case: &Case<'_>, seen: &Seen, wrong: &mut Told) {
+pub fn compare_seen(case: &Case<'_>, seen: &Seen, wrong: &mut Told) {
     compare_if_asked(case, "heard", &seen.heard, wrong);
-    compare_number(alloc, case, "opened", u64::from(seen.tried), wrong);
-    compare_number(alloc, case, "elapsed", seen.elapsed, wrong);
+    compare_number(case, "opened", u64::from(seen.tried), wrong);
+    compare_number(case, "elapsed", seen.elapsed, wrong);
     compare_if_asked(case, "files", &seen.files, wrong);
 }
 
 // Compares what came with the case's value under this key, if it has one; `nothing` stands for no bytes.
 fn compare_if_asked(case: &Case<'_>, key: &str, came: &Told, wrong: &mut Told) {
-    if case.is(key, "") {
+    if !case.has(key) {
         return;
     }
     if came.is("") {
-        case.tell(key, b"nothing", wrong);
+        case.compare(key, b"nothing", wrong);
     } else {
-        case.tell_told(key, came, wrong);
+        case.compare_told(key, came, wrong);
     }
 }
 
 // Compares a number with the case's value under this key, if it has one.
-fn compare_number(alloc: Global, case: &Case<'_>, key: &str, number: u64, wrong: &mut Told) {
-    let mut digits = Told::new(alloc);
+fn compare_number(case: &Case<'_>, key: &str, number: u64, wrong: &mut Told) {
+    let mut digits = Told::new(wrong.alloc);
     digits.display(&number);
     compare_if_asked(case, key, &digits, wrong);
 }

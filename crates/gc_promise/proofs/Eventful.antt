@@ -20,7 +20,7 @@ use Rattle.gc_station.proofs.Going.{runs-append}
 use Rattle.gc_station.specs.Model.{Runs, opening}
 use Rattle.gc_station.specs.NextCommand.{expected_first}
 use Rattle.gc_station.specs.Parts as part
-use Rattle.gc_station.specs.Parts.{Part, nothing, parts_of}
+use Rattle.gc_station.specs.Parts.{Part, idle_part, parts_of}
 use Rattle.gc_station.specs.Records.{Record, texts_of}
 use Rattle.gc_station.specs.Runs.{RanTo, state_after}
 use Rattle.gc_station.specs.Scopes.{AreReadings, Scope}
@@ -75,7 +75,7 @@ abbrev all_parts : List Part
 all_parts =
     part_of_cycle 1 begins_shown (seen breaks_moves) (Some (0, 40) ∷ None ∷ (map (λ place. Some (place, 95)) (2 ∷ 3 ∷ 4 ∷ 5 ∷ 6 ∷ []) ++ None ∷ None ∷ []))
     ∷ part_of_cycle 3 anew_shown (seen chain_moves) (Some (0, 385) ∷ (map (λ place. Some (place, 390)) (1 ∷ 2 ∷ 3 ∷ 4 ∷ 5 ∷ 6 ∷ []) ++ None ∷ []))
-    ∷ nothing
+    ∷ idle_part
     ∷ []
 
 -- what happens in the first synchronization (`begins_turns`) shows the station the turns `begins_shown`

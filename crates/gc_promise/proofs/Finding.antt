@@ -1,7 +1,7 @@
 -- What is under each name in the object of JSON that was written of a record. A member is a name with its value. Members
 -- are in the order of the text, and of two with one name the later one counts.
 use Rattle.std.proofs.Common.{◌≡◌, ℕ, ℤ, ◌==◌, Bool, true, false, cond, List, [], ◌∷◌, ◌++◌, Option, Some, None, refl, sym, ap, ◌∙◌, subst, arith}
-use Rattle.std.specs.Prelude.{codes, nat_eq, slice_get}
+use Rattle.std.specs.Prelude.{codes, nat_eq}
 use Rattle.std.specs.Cmp.Lexicographic.{pointwise}
 use Rattle.std.specs.Fmt.{decimal}
 use Rattle.std.specs.List.{AllByRecursion}
@@ -37,11 +37,10 @@ use Rattle.gc_rows.specs.Quantities.{column_of, quantity_names, quantity_text}
 use Rattle.gc_rows.specs.Rows.{code_of, com_of, moment_text, procedure_of, values_of}
 use Rattle.gc_rows.specs.ProcedureQuantities.{names_from}
 use Rattle.gc_rows.specs.declared.when.When.{When}
-use Rattle.gc_rows.proofs.ProcedureQuantities.{have_their_names}
-use Rattle.gc_station.proofs.Lists.{all_at}
-use Rattle.gc_promise.specs.Fields.{quantity_in, under}
+use Rattle.gc_rows.proofs.ProcedureQuantities.{quantities_under_their_names}
+use Rattle.gc_promise.specs.Fields.{IsQuantity, quantity_in, under}
 use Rattle.gc_promise.specs.Objects.{text_of}
-use Rattle.gc_promise.proofs.Names.{IsAnswerTo, value_texts, word_plain}
+use Rattle.gc_promise.proofs.Names.{IsAnswerTo, of_quantity, value_texts, word_plain}
 use Rattle.gc_promise.proofs.Plain.{NeedsNoEscape, decimal_plain, digits_plain, plain_both}
 use Rattle.gc_promise.proofs.Apart.{find, later_none, find_both, LacksAll, early_names, quantities_apart, quality_apart, quality_without, lacks_both, attempt_apart, attempt_without, items_without, quality_found, moment_unqualified, ending_apart, ending_without, command_apart, command_without, moment_without, moment_found, moments_found, sent_found, command_found, outcome_found, line_found}
 
@@ -164,7 +163,7 @@ texts_plain (Angles hz v) other = (double_plain hz, (double_plain v, tt))
 texts_plain (Measured hz v distance) other = (double_plain hz, (double_plain v, (double_plain distance, tt)))
 texts_plain (MeasuredMode hz v distance mode) other = (double_plain hz, (double_plain v, (double_plain distance, (signed_plain mode, tt))))
 
-module _ (call : Call) (name : List ℕ) (k : ℕ) (is : slice_get quantity_names k ≡ Some name) where
+module _ (call : Call) (name : List ℕ) (is : IsQuantity name) where
   -- under this name of a quantity, the members of an answer have what its texts have, escaped. `came` are the parameters of
   -- the reply, as its line has them
   abbrev IsUnder : Answer → List ℕ → Type 0
@@ -175,14 +174,14 @@ module _ (call : Call) (name : List ℕ) (k : ℕ) (is : slice_get quantity_name
   -- `IsUnder` holds of each answer that isn't an instrument's name
   number_under : (answer : Answer) (came : List ℕ) → ((bytes : List ℕ) → answer ≡ Name bytes → ⊥) → IsUnder answer came
   number_under answer came other =
-      all_at (AreUnder call answer came) quantity_names k name (answer_under call answer came other) is
+      of_quantity (AreUnder call answer came) (answer_under call answer came other) name is
       ∙ under_plain name (names_from (column_of call answer) (answer_fields answer).values) (value_texts answer) (texts_plain answer other)
 
   -- `IsUnder` holds of each answer
   is_under : (answer : Answer) (came : List ℕ) → IsUnder answer came
   is_under (Name bytes) came =
-      all_at (λ (n : List ℕ). text_of (find n (values_members 17 (value.Text bytes ∷ []) came)) ≡ escaped (under n (codes "instrument" ∷ []) (bytes ∷ []))) quantity_names k name
-      (name_under bytes came) is
+      of_quantity (λ (n : List ℕ). text_of (find n (values_members 17 (value.Text bytes ∷ []) came)) ≡ escaped (under n (codes "instrument" ∷ []) (bytes ∷ [])))
+      (name_under bytes came) name is
   is_under Nothing came = number_under Nothing came (λ bytes e. cc)
   is_under (Short n) came = number_under (Short n) came (λ bytes e. cc)
   is_under (Version release version subversion) came = number_under (Version release version subversion) came (λ bytes e. cc)
@@ -197,13 +196,13 @@ module _ (call : Call) (name : List ℕ) (k : ℕ) (is : slice_get quantity_name
 
 -- where `answer` is one to what was asked (`IsAnswerTo`), the members for quantities of a command that was answered with it
 -- have, under the name of a quantity, the answer's quantity of that name, escaped
-pub member_stands : (asked : Asked) (name : List ℕ) (k : ℕ) → slice_get quantity_names k ≡ Some name → (quality : Quality) (answer : Answer) (line : List ℕ) → IsAnswerTo asked answer
+pub member_stands : (asked : Asked) (name : List ℕ) → IsQuantity name → (quality : Quality) (answer : Answer) (line : List ℕ) → IsAnswerTo asked answer
     → text_of (find name (quantity_members asked (Answered quality (Some answer) line))) ≡ escaped (quantity_in asked (Answers answer) name)
-member_stands (Table call) name k is quality answer line of =
-    is_under call name k is answer (values_of line) ∙ ap (λ (names : List (List ℕ)). escaped (under name names (value_texts answer))) (have_their_names call answer of)
-member_stands (Raw raw) name k is quality answer line of =
+member_stands (Table call) name is quality answer line of =
+    is_under call name is answer (values_of line) ∙ ap (λ (names : List (List ℕ)). escaped (under name names (value_texts answer))) (quantities_under_their_names call answer of)
+member_stands (Raw raw) name is quality answer line of =
     let items = item_members (split_items (values_of line)) in
-    ap text_of (all_at (λ (n : List ℕ). find n items ≡ None) quantity_names k name (items_without (split_items (values_of line))) is)
+    ap text_of (of_quantity (λ (n : List ℕ). find n items ≡ None) (items_without (split_items (values_of line))) name is)
 
 -- All members of a record.
 
@@ -357,26 +356,26 @@ module _ (when : When) (text : List ℕ) (command : Wish) (end : End) where
   none_started =
       (refl, (refl, (refl, (refl, (refl, (refl, (refl, (refl, (refl, (refl, (refl, (refl, (refl, (refl, (refl, (refl, (refl, (refl, (refl, (refl, (refl, (refl, (refl, (refl, tt))))))))))))))))))))))))
 
-  module _ (name : List ℕ) (k : ℕ) (is : slice_get quantity_names k ≡ Some name) where
+  module _ (name : List ℕ) (is : IsQuantity name) where
     -- a name of a quantity isn't `run`
     not_started : started name ≡ None
-    not_started = all_at (λ (n : List ℕ). started n ≡ None) quantity_names k name none_started is
+    not_started = of_quantity (λ (n : List ℕ). started n ≡ None) none_started name is
 
     -- what is found under this name of a quantity among the members after the ending is what is found among those for
     -- quantities: the quality and the attempt have other names
     in_quantities : find name more ≡ find name quantities
     in_quantities =
         find_both name quantities last
-        ∙ ap (λ (o : Option json.Json). later_or o (find name quantities)) (all_at (λ (n : List ℕ). find n last ≡ None) quantity_names k name
-        (lacks_both on_quality (attempt_members when) quantity_names (quality_without (quality_text (quality_of end))) (attempt_without when)) is)
+        ∙ ap (λ (o : Option json.Json). later_or o (find name quantities)) (of_quantity (λ (n : List ℕ). find n last ≡ None)
+        (lacks_both on_quality (attempt_members when) quantity_names (quality_without (quality_text (quality_of end))) (attempt_without when)) name is)
 
     -- under this name of a quantity the object has what the members for quantities have
     pub member_quantity : at_member name ≡ text_of (find name quantities)
     member_quantity =
         found_at name (find name quantities) None None None in_quantities
-        (all_at (λ (n : List ℕ). find n ending ≡ None) quantity_names k name (ending_without end) is)
-        (all_at (λ (n : List ℕ). find n on_command ≡ None) quantity_names k name (command_without command text) is)
-        (all_at (λ (n : List ℕ). find n moments ≡ None) quantity_names k name
-        (moment_without when.stamp.sent (stamp_text when.stamp.utc) (decimal when.stamp.cycle) (decimal when.stamp.turn.place)) is)
+        (of_quantity (λ (n : List ℕ). find n ending ≡ None) (ending_without end) name is)
+        (of_quantity (λ (n : List ℕ). find n on_command ≡ None) (command_without command text) name is)
+        (of_quantity (λ (n : List ℕ). find n moments ≡ None)
+        (moment_without when.stamp.sent (stamp_text when.stamp.utc) (decimal when.stamp.cycle) (decimal when.stamp.turn.place)) name is)
         ∙ ap (λ (o : Option json.Json). text_of (later_or (later_or (later_or (later_or (find name quantities) None) None) None) o)) not_started
         ∙ ap text_of (last_found (find name quantities))

@@ -7,7 +7,7 @@ use Rattle.std.specs.Io.KnownBytes.{Appends}
 use Rattle.gc_catalogue.specs.declared.answer.Reading.{Reading}
 use Rattle.gc_catalogue.specs.declared.asked.Asked.{Asked}
 use Rattle.gc_files.specs.Failing.{Sides, Event, Ran, Failed, feeds, settled, same_sides, sides_after, runs_of, Occur, IsFound, IsTrusted}
-use Rattle.gc_files.specs.Files.{Step, Life, content, MayLeave}
+use Rattle.gc_files.specs.Files.{Step, Life, content, MayBeLeft}
 use Rattle.gc_files.specs.Rows.{whole, opened_table, cuts_none, appended}
 use Rattle.gc_files.specs.Runs.{synced, Run, row_lines, IsRun, rows_of, AreRowCounts, HasRows}
 use Rattle.gc_files.specs.Sinks.{steps_in, taken_in, is_durable}
@@ -68,10 +68,10 @@ found station given old new end told file headed none acts fresh took (inr (all,
 -- for a sink that has taken the bytes of its file (`bytes_in`), what `append_at` reports is a run of the file that it hands
 -- back, or no act was made (`AppendsAreRuns`)
 pub appends_are_runs : {S R : Type 0} (source : Source S) (sink : Sink (Followed R)) (K E : Type 0) → ((f : Followed R) → sink.taken f ≡ Some (bytes_in f)) → AppendsAreRuns source sink K E
-appends_are_runs source sink K E taken lasts shown has_log station whole file status none left tells = elim tells.run.ran [
+appends_are_runs source sink K E taken lasts shown has_log station whole file status none left tells = elim tells.holds.ran [
   | inl ran ↦
       let it = same_Some file tells.ended.output (sym left ∙ tells.filed.left) in
-      found (begun_at ran.run (words.for_file station)) ran.measured.0 _ _ tells.run.end ran.told file refl none ran.is tells.filed.fresh
+      found (begun_at ran.run (words.for_file station)) ran.measured.0 _ _ tells.holds.end ran.told file refl none ran.is tells.filed.fresh
       (subst (λ f. sink.taken f ≡ Some (bytes_in file)) it (taken file)) ran.measured.2
   | inr unbegun ↦ inl unbegun.turns
 ]
@@ -95,11 +95,11 @@ module _ {R : Type 0} (m : RunMoment R) (is : IsRunMoment m) (reads : Asked → 
 
   -- the run kept up: at each of its turns, what the acts before it settled was kept
   keeps : KeepsUp m.run.survey.plan m.run.survey.tasks scope text (Some []) (Some m.run.recorded) (Some []) m.run.old.turns m.run.new.turns (close_at_output ran.end)
-  keeps = rw (← is.run.is_run.none, ← is.run.is_run.acts, ← none_between) (ran.keeps.0 reads are)
+  keeps = rw (← is.run.is_run.none, ← is.run.is_run.acts, ← none_between) (ran.run.keeps.0 reads are)
 
   -- what the file and those before it took in the end is what the run wrote (`Ran`)
   took : runs.Ran m.run.survey.plan m.run.survey.tasks scope text (Some []) (Some m.run.recorded) (Some []) (Some (bytes_in m.file)) ran.end
-  took = rw (← is.run.is_run.none, ← is.run.is_run.acts, ← is.run.took, ← none_between) (ran.ran.0 reads are)
+  took = rw (← is.run.is_run.none, ← is.run.is_run.acts, ← is.run.took, ← none_between) (ran.run.ran.0 reads are)
 
   -- at the moment's turn, which is one of the run's, all that the acts before it settled was kept (`IsKeptAt`)
   seen : IsKeptAt m.run.survey.plan m.run.survey.tasks scope text (Some []) (Some []) [] m.turn
@@ -213,7 +213,7 @@ rows_outlast_crashes m is reads are x was =
     let one_run : Run = run m is reads are x.opening in
     let now = runs_so m is reads are x.head (content (life_begun x)) x.opening was.opens in
     let all = happen_two x.head (settled x.first) x.earlier (one_run ∷ []) was.happened (now, tt, tt) in
-    let there = subst (λ (l : Life). MayLeave l.start l.steps x.found) (sym (life_two (settled x.first) x.earlier (one_run ∷ []))) was.is_found in
+    let there = subst (λ (l : Life). MayBeLeft l x.found) (sym (life_two (settled x.first) x.earlier (one_run ∷ []))) was.is_found in
     let p = splits_at_run x.head (opened_table x.head x.first) x.found x.earlier [] one_run (tables_last x.head x.first was.is_head (x.earlier ++ one_run ∷ []) all x.found there) in
     (p.counts, row_lines (take p.count one_run.rows), p.first, left_of m is reads are p.count p.least, p.is ∙ no_rows_of_none p.counts' p.others _)
   where

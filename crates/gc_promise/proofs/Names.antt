@@ -1,6 +1,6 @@
 -- What is under a name in the row of a record.
 use Rattle.std.proofs.Common.{◌≡◌, ◌||◌, ℕ, ℤ, Bool, true, false, List, [], ◌∷◌, ◌++◌, length, map, replicate, Option, Some, None, if◌then◌else◌, refl, sym, ap, ◌∙◌, arith}
-use Rattle.std.specs.Prelude.{codes, nat_eq, not, slice_get}
+use Rattle.std.specs.Prelude.{codes, nat_eq, not}
 use Rattle.std.specs.Cmp.Lexicographic.{pointwise}
 use Rattle.std.specs.Fmt.{decimal}
 use Rattle.std.specs.List.{AllByRecursion, list_any}
@@ -23,14 +23,13 @@ use Rattle.gc_texts.specs.declared.wish.Wish.{Wish}
 use Rattle.gc_texts.specs.declared.quality.Quality.{Quality}
 use Rattle.gc_texts.specs.declared.quality.Quality.TheVariants as quality
 use Rattle.gc_rows.specs.Quantities.{column_of, quantity_names, quantity_text}
-use Rattle.gc_rows.specs.Records.{last_names}
+use Rattle.gc_rows.specs.Records.{header, last_names}
 use Rattle.gc_rows.specs.Rows.{row_fields, moment_text, when_fields, command_fields, fault_field, reply_fields, fields_after_ending, quantity_fields, last_fields, com_of, code_of, values_of, spread, answer_columns, procedure_of}
 use Rattle.gc_rows.specs.ProcedureQuantities.{names_from}
 use Rattle.gc_rows.specs.declared.when.When.{When}
-use Rattle.gc_rows.proofs.ProcedureQuantities.{have_their_names, quantities_fill}
+use Rattle.gc_rows.proofs.ProcedureQuantities.{quantities_under_their_names, quantities_fill}
 use Rattle.gc_station.proofs.Lists.{all_at}
-use Rattle.gc_promise.specs.Fields.{under, quantity_in}
-use Rattle.gc_promise.specs.Tables.{header}
+use Rattle.gc_promise.specs.Fields.{IsQuantity, under, quantity_in}
 use Rattle.gc_promise.proofs.Plain.{NeedsNoEscape, decimal_plain, moment_plain}
 use Rattle.std.proofs.lemmas.Bool.{not-false, or_parts}
 
@@ -280,9 +279,13 @@ blank : AllByRecursion (λ (name : List ℕ). under name quantity_names (map esc
 blank =
     (refl, (refl, (refl, (refl, (refl, (refl, (refl, (refl, (refl, (refl, (refl, (refl, (refl, (refl, (refl, (refl, (refl, (refl, (refl, (refl, (refl, (refl, (refl, (refl, tt))))))))))))))))))))))))
 
--- `blank`, of the name of the quantity at place k
-blank_under : (name : List ℕ) (k : ℕ) → slice_get quantity_names k ≡ Some name → under name quantity_names (map escaped (replicate 24 [])) ≡ []
-blank_under name k is = all_at (λ (n : List ℕ). under n quantity_names (map escaped (replicate 24 [])) ≡ []) quantity_names k name blank is
+-- what holds of each name of a quantity holds of this one
+pub of_quantity : (P : List ℕ → Type 0) → AllByRecursion P quantity_names → (name : List ℕ) → IsQuantity name → P name
+of_quantity P each name is = all_at P quantity_names is.0 name each is.1
+
+-- `blank`, of the name of one quantity
+blank_under : (name : List ℕ) → IsQuantity name → under name quantity_names (map escaped (replicate 24 [])) ≡ []
+blank_under = of_quantity (λ (n : List ℕ). under n quantity_names (map escaped (replicate 24 [])) ≡ []) blank
 
 -- the answer is one to what was asked; each answer is, where a procedure was asked that isn't in the table
 abbrev pub IsAnswerTo : Asked → Answer → Type 0
@@ -295,38 +298,38 @@ answer_to (Table call) fields answer says = says.2.of_call
 answer_to (Raw raw) fields answer says = tt
 
 -- the columns of an answer to what was asked have, under the name of a quantity, the answer's quantity of that name, escaped
-columns_told : (asked : Asked) (answer : Answer) (name : List ℕ) (k : ℕ) → slice_get quantity_names k ≡ Some name → IsAnswerTo asked answer
+columns_told : (asked : Asked) (answer : Answer) (name : List ℕ) → IsQuantity name → IsAnswerTo asked answer
     → under name quantity_names (map escaped (answer_columns asked answer)) ≡ escaped (quantity_in asked (Value answer) name)
-columns_told (Table call) answer name k is of =
-    all_at (AreUnderTheirNames call answer) quantity_names k name (answer_under_its_names call answer) is
-    ∙ ap (λ (names : List (List ℕ)). escaped (under name names (value_texts answer))) (have_their_names call answer of)
-columns_told (Raw raw) answer name k is of = blank_under name k is
+columns_told (Table call) answer name is of =
+    of_quantity (AreUnderTheirNames call answer) (answer_under_its_names call answer) name is
+    ∙ ap (λ (names : List (List ℕ)). escaped (under name names (value_texts answer))) (quantities_under_their_names call answer of)
+columns_told (Raw raw) answer name is of = blank_under name is
 
-module _ (when : When) (text : List ℕ) (command : Wish) (name : List ℕ) (k : ℕ) (is : slice_get quantity_names k ≡ Some name) where
+module _ (when : When) (text : List ℕ) (command : Wish) (name : List ℕ) (is : IsQuantity name) where
   -- under this name a row has what the fields of its quantities have
   quantities_under : (end : End) → row_at when text command end true name ≡ under name quantity_names (map escaped (quantity_fields command.call end))
   quantities_under end =
-      all_at (IsBehind when text command end) quantity_names k name (behind_others when text command end) is
+      of_quantity (IsBehind when text command end) (behind_others when text command end) name is
       ∙ ap (under name (quantity_names ++ last_names)) (map-append escaped (quantity_fields command.call end) (last_fields when end))
       ∙ under_front name quantity_names (map escaped (quantity_fields command.call end)) last_names (map escaped (last_fields when end)) (filled command.call end)
-      (all_at (λ key. IsAmong key quantity_names) quantity_names k name all_among is)
+      (of_quantity (λ key. IsAmong key quantity_names) all_among name is)
 
   -- where `answer` is one to what the command asks (`IsAnswerTo`), the row of the command, answered with it, has under this
   -- name the answer's quantity of this name, escaped
   pub quantity_stands : (quality : Quality) (answer : Answer) (line : List ℕ) → IsAnswerTo command.call answer
       → row_at when text command (Answered quality (Some answer) line) true name ≡ escaped (quantity_in command.call (Value answer) name)
-  quantity_stands quality answer line of = quantities_under (Answered quality (Some answer) line) ∙ columns_told command.call answer name k is of
+  quantity_stands quality answer line of = quantities_under (Answered quality (Some answer) line) ∙ columns_told command.call answer name is of
 
   -- the row of a command that was answered without values has nothing under this name of a quantity
   pub none_answered : (quality : Quality) (line : List ℕ) → row_at when text command (Answered quality None line) true name ≡ []
-  none_answered quality line = quantities_under (Answered quality None line) ∙ blank_under name k is
+  none_answered quality line = quantities_under (Answered quality None line) ∙ blank_under name is
 
   -- the row of a command that didn't end as `Answered` has nothing under this name of a quantity
   pub none_else : (end : End) → ((quality : Quality) (answer : Option Answer) (line : List ℕ) → end ≡ Answered quality answer line → ⊥) → row_at when text command end true name ≡ []
   none_else (Answered quality answer line) other = absurd (other quality answer line refl)
-  none_else (Unreadable line fault) other = quantities_under (Unreadable line fault) ∙ blank_under name k is
-  none_else (Elsewhere line) other = quantities_under (Elsewhere line) ∙ blank_under name k is
-  none_else Late other = quantities_under Late ∙ blank_under name k is
-  none_else Lost other = quantities_under Lost ∙ blank_under name k is
-  none_else Skipped other = quantities_under Skipped ∙ blank_under name k is
-  none_else Missed other = quantities_under Missed ∙ blank_under name k is
+  none_else (Unreadable line fault) other = quantities_under (Unreadable line fault) ∙ blank_under name is
+  none_else (Elsewhere line) other = quantities_under (Elsewhere line) ∙ blank_under name is
+  none_else Late other = quantities_under Late ∙ blank_under name is
+  none_else Lost other = quantities_under Lost ∙ blank_under name is
+  none_else Skipped other = quantities_under Skipped ∙ blank_under name is
+  none_else Missed other = quantities_under Missed ∙ blank_under name is

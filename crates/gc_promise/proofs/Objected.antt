@@ -4,7 +4,6 @@ use Rattle.std.proofs.Common.{◌≡◌, ℕ, ◌<◌, true, List, [], ◌∷◌
 use Rattle.std.specs.Prelude.{codes, slice_get, All, Bool, false, ◌==◌}
 use Rattle.std.specs.List.{AllByRecursion, flat_map}
 use Rattle.std.proofs.lemmas.Bool.{cond_both}
-use Rattle.std.proofs.lemmas.List.{length-map}
 use Rattle.std.proofs.lemmas.List.Elements.{All-from_recursion}
 use Rattle.gc_lines.specs.Numbers.{IsSmallNumber}
 use Rattle.gc_lines.specs.Replies.{ReplyFields}
@@ -24,22 +23,20 @@ use Rattle.gc_texts.specs.declared.name.Name.{Name}
 use Rattle.gc_texts.specs.declared.quality.Quality.{Quality}
 use Rattle.gc_rows.specs.JsonLines.{members_after_run, members_text, string_text}
 use Rattle.gc_rows.specs.Laws.{record_read}
-use Rattle.gc_rows.specs.Quantities.{quantity_names}
 use Rattle.gc_rows.specs.Records.{head_text, record_text}
 use Rattle.gc_rows.specs.Rows.{code_of, com_of}
 use Rattle.gc_rows.specs.declared.record.Form.{Form}
 use Rattle.gc_rows.specs.declared.record.Form.TheVariants.{Json}
 use Rattle.gc_rows.specs.declared.when.When.{When}
-use Rattle.gc_rows.proofs.JsonLines.{feed_apart, reads_as}
-use Rattle.gc_rows.proofs.Members.{have_plain_members}
+use Rattle.gc_rows.proofs.JsonLines.{feed_apart, object_reads_back}
+use Rattle.gc_rows.proofs.Members.{each_member_plain}
 use Rattle.gc_station.specs.Qualities.{answer_in}
 use Rattle.gc_station.specs.Records.{Record, texts_of}
 use Rattle.gc_station.specs.Scopes.{AreReadings}
 use Rattle.gc_measuring.specs.Measuring.{Survey, front_text, text_by}
 use Rattle.gc_field.specs.World.{Ends}
 use Rattle.gc_field.specs.Instrument.{IsAnInstrument, AnyState}
-use Rattle.gc_world.proofs.Places.{get_seen}
-use Rattle.gc_promise.specs.Fields.{quantity_in}
+use Rattle.gc_promise.specs.Fields.{IsQuantity, quantity_in}
 use Rattle.gc_files.specs.Runs as rows
 use Rattle.gc_promise.specs.Objects.{AreOfBytes, AreOwnObjects, IsOwnObject, IsTyped, ObjectsAreTheirOwn}
 use Rattle.gc_promise.specs.Tables.{FieldRun, IsFieldRun, acts_in_field, records_in}
@@ -50,11 +47,11 @@ use Rattle.gc_values.proofs.Every.{every_front as all_front}
 use Rattle.gc_promise.proofs.Tabled.{nothing_in}
 use Rattle.gc_promise.proofs.Taken.{run_took}
 use Rattle.gc_promise.proofs.Unbroken.{line_unbroken}
-use Rattle.gc_promise.proofs.Written.{HasItsTexts, all_written, target_in, when_in, written_own}
+use Rattle.gc_promise.proofs.Written.{HasItsTexts, all_written, one_for_one, target_in, when_in, written_own}
 
 -- Quantities.
 
-module _ (when : When) (text : List ℕ) (command : Wish) (name : List ℕ) (k : ℕ) (is : slice_get quantity_names k ≡ Some name) where
+module _ (when : When) (text : List ℕ) (command : Wish) (name : List ℕ) (is : IsQuantity name) where
   module _ (fields : ReplyFields) (told : Reading) (is_told : IsAskedReading command.call fields told) where
     -- if the command is answered, with the answer of the reading `told` as its values, the object has the quantity of this name
     -- of `told`, escaped
@@ -65,20 +62,20 @@ module _ (when : When) (text : List ℕ) (command : Wish) (name : List ℕ) (k :
       by_values : (values : Option Answer) → values ≡ answer_in told → at_member when text command (Answered quality values line) name ≡ escaped (quantity_in command.call told name)
       by_values (Some answer) has =
           let value : told ≡ reading.Value answer = value_if_some told answer (sym has) in
-          member_quantity when text command (Answered quality (Some answer) line) name k is
-          ∙ member_stands command.call name k is quality answer line (answer_to command.call fields answer (subst (IsAskedReading command.call fields) value is_told))
+          member_quantity when text command (Answered quality (Some answer) line) name is
+          ∙ member_stands command.call name is quality answer line (answer_to command.call fields answer (subst (IsAskedReading command.call fields) value is_told))
           ∙ ap (λ (x : Reading). escaped (quantity_in command.call x name)) (sym value)
-      by_values None has = member_quantity when text command (Answered quality None line) name k is ∙ sym (nothing_in command.call name told (no_value_if_none told (sym has)))
+      by_values None has = member_quantity when text command (Answered quality None line) name is ∙ sym (nothing_in command.call name told (no_value_if_none told (sym has)))
 
   -- if the command didn't end as `Answered`, the object has nothing under this name of a quantity
   none_stands : (end : End) → ((quality : Quality) (answer : Option Answer) (line : List ℕ) → end ≡ Answered quality answer line → ⊥) → at_member when text command end name ≡ []
   none_stands (Answered quality answer line) other = absurd (other quality answer line refl)
-  none_stands (Unreadable line fault) other = member_quantity when text command (Unreadable line fault) name k is
-  none_stands (Elsewhere line) other = member_quantity when text command (Elsewhere line) name k is
-  none_stands Late other = member_quantity when text command Late name k is
-  none_stands Lost other = member_quantity when text command Lost name k is
-  none_stands Skipped other = member_quantity when text command Skipped name k is
-  none_stands Missed other = member_quantity when text command Missed name k is
+  none_stands (Unreadable line fault) other = member_quantity when text command (Unreadable line fault) name is
+  none_stands (Elsewhere line) other = member_quantity when text command (Elsewhere line) name is
+  none_stands Late other = member_quantity when text command Late name is
+  none_stands Lost other = member_quantity when text command Lost name is
+  none_stands Skipped other = member_quantity when text command Skipped name is
+  none_stands Missed other = member_quantity when text command Missed name is
 
 -- An object.
 
@@ -109,8 +106,8 @@ module _ (survey : Survey) (r : Record) where
         rc = λ line n answered is. subst (λ (t : List ℕ). IsSmallNumber t n) (sym (member_rc when text r.command r.end line answered)) (zeros_gone (code_of line) n is);
         values = λ line answered. member_values when text r.command r.end line answered;
         quantities = λ shows fields told is_told quality values line is has name quantity.
-            stands when text r.command name quantity.0 quantity.1 fields told is_told r.end quality values line is has;
-        none = λ shows other name quantity. none_stands when text r.command name quantity.0 quantity.1 r.end (λ quality answer line e. other (ap word_of e));
+            stands when text r.command name quantity fields told is_told r.end quality values line is has;
+        none = λ shows other name quantity. none_stands when text r.command name quantity r.end (λ quality answer line e. other (ap word_of e));
       }
 
 -- Lines.
@@ -164,10 +161,10 @@ module _ {State : Type 0} (ends : Ends State) (kept : State → Option KeptReply
       let text = target_in survey r in
       let bounds = all_written (IsTyped survey.layout.run) (records_in survey reads (acts_in_field x)) written others order
       small.each n r got in
-      let members = have_plain_members when text r.command r.end bounds.0 (name_bytes r.command.target survey.names small.names) bounds.1 bounds.2 in
+      let members = each_member_plain when text r.command r.end bounds.0 (name_bytes r.command.target survey.names small.names) bounds.1 bounds.2 in
       record {
         members = record_read when.run (members_after_run when text r.command r.end);
-        reads_as = reads_as when.run (members_after_run when text r.command r.end) small.run members;
+        reads_as = object_reads_back when.run (members_after_run when text r.command r.end) small.run members;
         own = written_own ends kept is survey reads are (acts_in_field x) x.in_flight x.happened was.in_field true (at survey r) r (object_stands survey r) written others order n got;
       }
 
@@ -178,7 +175,7 @@ module _ {State : Type 0} (ends : Ends State) (kept : State → Option KeptReply
   all_unbroken (r ∷ rs) bounds =
       let when = when_in survey r in
       let text = target_in survey r in
-      let members = have_plain_members when text r.command r.end bounds.0.0 (name_bytes r.command.target survey.names small.names) bounds.0.1 bounds.0.2 in
+      let members = each_member_plain when text r.command r.end bounds.0.0 (name_bytes r.command.target survey.names small.names) bounds.0.1 bounds.0.2 in
       (line_unbroken when text r.command r.end bounds.0.2 members, all_unbroken rs bounds.1)
 
   -- what the sink took are the run's own objects
@@ -197,14 +194,7 @@ module _ {State : Type 0} (ends : Ends State) (kept : State → Option KeptReply
             all_unbroken written
             (all_front (IsTyped survey.layout.run) written took.are.unwritten
             (subst (AllByRecursion (IsTyped survey.layout.run)) took.are.order small.each));
-        as_many = length-map written line_of_record;
-        each = λ n line e.
-            let seen = get_seen line_of_record written n line e in (
-              seen.0,
-              seen.1,
-              subst (λ (l : List ℕ). IsOwnObject ends AnyState kept reads x l seen.0) seen.2
-                  (each_own written took.are.unwritten took.are.order n seen.0 seen.1),
-            );
+        one_for_one = one_for_one (IsOwnObject ends AnyState kept reads x) line_of_record written (each_own written took.are.unwritten took.are.order);
       }
 
 -- what a sink took of a run are its own objects

@@ -14,25 +14,21 @@ use Rattle.gc_texts.specs.Endings.{End, line_of}
 use Rattle.gc_texts.specs.Names.{name_text}
 use Rattle.gc_texts.specs.declared.wish.Wish.{Wish}
 use Rattle.gc_texts.specs.declared.name.Name.{Name}
-use Rattle.gc_texts.specs.declared.tasks.Task.{Task}
 use Rattle.gc_rows.specs.Records.{record_text}
 use Rattle.gc_rows.specs.Rows.{row_of, row_fields, com_of, code_of, values_of}
 use Rattle.gc_rows.specs.declared.when.When.{When}
 use Rattle.gc_rows.proofs.Columns.{reply_columns}
 use Rattle.gc_rows.proofs.Rows.{read_back}
-use Rattle.gc_links.specs.Acts.{Act}
 use Rattle.gc_station.specs.Answers.{AnswerIsJustified}
-use Rattle.gc_station.specs.Parts.{Part}
 use Rattle.gc_station.specs.Records.{Record}
-use Rattle.gc_station.specs.Scopes.{Scope}
-use Rattle.gc_station.specs.declared.plan.Plan.{Plan}
 use Rattle.gc_station.proofs.Answers.{answers_true}
 use Rattle.gc_words.specs.declared.layout.Layout.{Layout}
 use Rattle.gc_measuring.specs.Measuring.{text_in, when_of}
 use Rattle.gc_field.specs.World.{Ends}
+use Rattle.gc_field.specs.Begin.{UnderWay}
 use Rattle.gc_field.specs.Instrument.{AnyState}
-use Rattle.gc_field.specs.Runs.{IsOwnAnswer}
-use Rattle.gc_field.specs.Shown.{Stretch}
+use Rattle.gc_field.specs.Runs.{IsOwnAnswer, Program, program_parts, program_records}
+use Rattle.gc_field.specs.Shown.{stretches}
 use Rattle.gc_field.proofs.Joining.{run_faithful}
 use Rattle.gc_promise.specs.Rows.{column, FieldsSay, IsOwnIfAnswered, RowsAreTheirOwn}
 use Rattle.gc_promise.specs.Tables.{table_form}
@@ -88,9 +84,17 @@ says layout columns names r line answered reply =
     }
 
 module _ {State : Type 0} (ends : Ends State) (kept : State → Option KeptReply) (layout : Layout) (columns : Bool) (names : List Name) (form : layout.form ≡ table_form columns)
-    (plan : Plan) (commands : List Task) (scope : Scope) (acts : List Act) (ps : List Part) (ss : List (Stretch State)) where
-  -- if a record's answer is its own (`IsOwnAnswer`) and justified, and a reply in time ended its command, its row is its own
-  one_own : (r : Record) → IsOwnAnswer ends AnyState kept commands ps ss r → AnswerIsJustified plan commands scope acts r → IsOwnIfAnswered ends AnyState kept layout names commands ps ss r
+    (u : UnderWay State) (x : Program State) where
+  -- the answer of this record of the run is its own
+  abbrev AnswerIsOwn : Record → Type 0
+  AnswerIsOwn = IsOwnAnswer ends AnyState kept x.commands (program_parts x) (stretches ends u x.runs)
+
+  -- the answer of this record of the run is justified
+  abbrev IsJustified : Record → Type 0
+  IsJustified = AnswerIsJustified x.plan x.commands x.scope x.acts
+
+  -- if a record's answer is its own and justified, and a reply in time ended its command, its row is its own
+  one_own : (r : Record) → AnswerIsOwn r → IsJustified r → IsOwnIfAnswered ends AnyState kept layout names u x r
   one_own r own came line answered =
       let justified = came line answered in
       let fields = record_fields layout columns names r in
@@ -100,15 +104,15 @@ module _ {State : Type 0} (ends : Ends State) (kept : State → Option KeptReply
       record {
         fields = fields;
         row = row;
-        reads_back = λ behind. rw row (read_back.row fields behind (two_fields columns (when_of layout.run r) (name_text r.command.target names) r.command r.end));
-        says = says layout columns names r line answered (a_reply line _ justified.id);
+        reads_back = λ behind. rw row (read_back.row fields (two_fields columns (when_of layout.run r) (name_text r.command.target names) r.command r.end) behind);
+        says = says layout columns names r line answered (a_reply line _ justified.reply.id);
         own = own line answered;
       }
 
-  -- if the answers of these records are their own (`IsOwnAnswer`) and justified, the row of each of them whose command a reply in
-  -- time ended is its own
-  each_own : (records : List Record) → AllByRecursion (IsOwnAnswer ends AnyState kept commands ps ss) records → AllByRecursion (AnswerIsJustified plan commands scope acts) records
-      → AllByRecursion (IsOwnIfAnswered ends AnyState kept layout names commands ps ss) records
+  -- if the answers of these records are their own and justified, the row of each of them whose command a reply in time ended is
+  -- its own
+  each_own : (records : List Record) → AllByRecursion AnswerIsOwn records → AllByRecursion IsJustified records
+      → AllByRecursion (IsOwnIfAnswered ends AnyState kept layout names u x) records
   each_own [] own came = tt
   each_own (r ∷ records) own came = (one_own r own.0 came.0, each_own records own.1 came.1)
 
@@ -116,4 +120,4 @@ module _ {State : Type 0} (ends : Ends State) (kept : State → Option KeptReply
 pub rows_own : {State : Type 0} → RowsAreTheirOwn State
 rows_own ends kept is layout columns names form u x field =
     let faithful = run_faithful ends AnyState kept is u x field in
-    each_own ends kept layout columns names form x.plan x.commands x.scope x.acts _ _ _ faithful.own (answers_true x.plan x.commands x.scope x.acts field.runs)
+    each_own ends kept layout columns names form u x (program_records x) faithful.own (answers_true x.plan x.commands x.scope x.acts field.runs)

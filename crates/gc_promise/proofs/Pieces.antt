@@ -11,8 +11,8 @@ use Rattle.gc_files.specs.Runs.{row_lines, AreRows}
 use Rattle.gc_files.proofs.Whole.{whole_none}
 use Rattle.gc_field.proofs.BeginWords.{cons_not_nil}
 
--- the lines of bytes, without their line feeds; after the last line feed there is one more, if anything is left. (`onto_first` puts
--- a byte before the bytes of the first line.)
+-- the lines of bytes, without their line feeds; after the last line feed there is one more, if anything is left. (`onto_first`
+-- puts a byte before the bytes of the first line.)
 abbrev pub pieces : List ℕ → List (List ℕ)
 pieces [] = []
 pieces (b ∷ bs) = if b == 10 then [] ∷ pieces bs else onto_first b (pieces bs)

@@ -10,7 +10,7 @@ use Rattle.gc_values.specs.Digits.{AreDigits}
 use Rattle.gc_texts.specs.Logs.{escape, escaped, hex_digit}
 use Rattle.gc_texts.specs.Stamps.{date_of, date_text, stamp_text, three_digits, time_text, two_digits}
 use Rattle.gc_rows.specs.Rows.{moment_text}
-use Rattle.gc_rows.proofs.Members.{digits_are}
+use Rattle.gc_rows.proofs.Members.{same_digits}
 use Rattle.gc_texts.proofs.LogStamps.{date_within}
 
 -- escaping changes nothing in this text
@@ -32,7 +32,7 @@ digits_plain (d ∷ ds) are = ap (λ l. l ++ escaped ds) (digit_plain d are.0.0 
 
 -- bytes that are digits, by `AllDigits`, are printed as they are
 pub number_plain : (ds : List ℕ) → AllDigits 10 ds → NeedsNoEscape ds
-number_plain ds are = digits_plain ds (digits_are ds are)
+number_plain ds are = digits_plain ds (same_digits ds are)
 
 -- the last place of a number is printed as a digit
 glyph_is_digit : (n : ℕ) → (48 ≤ digit_glyph false (n % 10)) × (digit_glyph false (n % 10) ≤ 57)

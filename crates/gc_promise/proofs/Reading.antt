@@ -124,7 +124,7 @@ one_read xs behind row e =
 
 -- a row of more than one field is read as its fields, `escaped`
 pub row_reads : (fields : List (List ℕ)) → 1 < length fields → AreReadAs (row_of fields) (map escaped fields ∷ [])
-row_reads fields many behind = one_read (row_of fields ++ behind) behind (map escaped fields) (read_back.row fields behind many)
+row_reads fields many behind = one_read (row_of fields ++ behind) behind (map escaped fields) (read_back.row fields many behind)
 
 -- the empty text is read as no rows
 pub none_read : AreReadAs [] []

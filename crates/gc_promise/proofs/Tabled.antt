@@ -3,7 +3,6 @@
 use Rattle.std.proofs.Common.{◌≡◌, ℕ, Bool, true, false, List, [], ◌∷◌, ◌++◌, map, Option, Some, None, if◌then◌else◌, refl, sym, ap, ◌∙◌, subst, arith, append_assoc}
 use Rattle.std.specs.Prelude.{codes, slice_get}
 use Rattle.std.proofs.lemmas.Bool.{false≢true}
-use Rattle.std.proofs.lemmas.List.{length-map}
 use Rattle.gc_lines.specs.Numbers.{IsSmallNumber}
 use Rattle.gc_lines.specs.Replies.{ReplyFields}
 use Rattle.gc_catalogue.specs.Asked.{IsAskedReading}
@@ -16,8 +15,7 @@ use Rattle.gc_texts.specs.Endings.{End, Answered, Unreadable, word_of}
 use Rattle.gc_texts.specs.Logs.{escaped}
 use Rattle.gc_texts.specs.declared.wish.Wish.{Wish}
 use Rattle.gc_texts.specs.declared.quality.Quality.{Quality}
-use Rattle.gc_rows.specs.Quantities.{quantity_names}
-use Rattle.gc_rows.specs.Records.{first_names, head_text, last_names, record_text}
+use Rattle.gc_rows.specs.Records.{head_text, header, record_text}
 use Rattle.gc_rows.specs.Rows.{code_of, com_of, row_of}
 use Rattle.gc_rows.specs.declared.record.Form.{Form}
 use Rattle.gc_rows.specs.declared.when.When.{When}
@@ -27,16 +25,15 @@ use Rattle.gc_station.specs.Scopes.{AreReadings}
 use Rattle.gc_measuring.specs.Measuring.{Survey, front_text, text_by}
 use Rattle.gc_field.specs.World.{Ends}
 use Rattle.gc_field.specs.Instrument.{IsAnInstrument, AnyState}
-use Rattle.gc_world.proofs.Places.{get_seen}
 use Rattle.gc_promise.specs.Fields.{IsQuantity, quantity_in, under}
-use Rattle.gc_promise.specs.Tables.{AreReadAs, FieldRun, IsFieldRun, IsOwnIn, IsOwnTable, TablesAreTheirOwn, acts_in_field, head_rows, header, records_in, table_form}
+use Rattle.gc_promise.specs.Tables.{AreReadAs, FieldRun, IsFieldRun, IsOwnIn, IsOwnTable, TablesAreTheirOwn, acts_in_field, head_rows, records_in, table_form}
 use Rattle.gc_promise.proofs.Judged.{no_value_if_none, value_if_some}
 use Rattle.gc_promise.proofs.Names.{answer_to, none_answered, none_else, quantity_stands, under_attempt, under_cycle, under_outcome, under_place, under_procedure, under_quality, under_rc, under_rc_com, under_sent, under_target, under_values, row_at}
 use Rattle.gc_promise.proofs.Owning.{record_fields, in_table, two_fields}
 use Rattle.gc_promise.proofs.Plain.{number_plain}
 use Rattle.gc_promise.proofs.Reading.{both_read, each_reads, none_read, row_reads}
 use Rattle.gc_promise.proofs.Taken.{run_took}
-use Rattle.gc_promise.proofs.Written.{HasItsTexts, target_in, when_in, written_own}
+use Rattle.gc_promise.proofs.Written.{HasItsTexts, one_for_one, target_in, when_in, written_own}
 
 -- Quantities.
 
@@ -47,7 +44,7 @@ nothing_in call name (reading.Refused code) none = refl
 nothing_in call name (reading.ComFault code) none = refl
 nothing_in call name (reading.Unreadable fault) none = refl
 
-module _ (when : When) (text : List ℕ) (command : Wish) (name : List ℕ) (k : ℕ) (is : slice_get quantity_names k ≡ Some name) (fields : ReplyFields) (told : Reading)
+module _ (when : When) (text : List ℕ) (command : Wish) (name : List ℕ) (is : IsQuantity name) (fields : ReplyFields) (told : Reading)
     (is_told : IsAskedReading command.call fields told) where
   -- if the command is answered, with the answer of the reading `told` as its values, the row has the quantity of this name of
   -- `told`, escaped
@@ -55,9 +52,9 @@ module _ (when : When) (text : List ℕ) (command : Wish) (name : List ℕ) (k :
       → row_at when text command (Answered quality values line) true name ≡ escaped (quantity_in command.call told name)
   stands quality (Some answer) line has =
       let value : told ≡ reading.Value answer = value_if_some told answer (sym has) in
-      quantity_stands when text command name k is quality answer line (answer_to command.call fields answer (subst (IsAskedReading command.call fields) value is_told))
+      quantity_stands when text command name is quality answer line (answer_to command.call fields answer (subst (IsAskedReading command.call fields) value is_told))
       ∙ ap (λ (x : Reading). escaped (quantity_in command.call x name)) (sym value)
-  stands quality None line has = none_answered when text command name k is quality line ∙ sym (nothing_in command.call name told (no_value_if_none told (sym has)))
+  stands quality None line has = none_answered when text command name is quality line ∙ sym (nothing_in command.call name told (no_value_if_none told (sym has)))
 
 -- A row.
 
@@ -77,14 +74,14 @@ module _ (survey : Survey) (columns : Bool) (r : Record) where
       → row_at (when_in survey r) (target_in survey r) r.command r.end b name ≡ escaped (quantity_in r.command.call told name)
   quantity_at true shows fields told is_told quality values line is has name quantity =
       ap (λ (end : End). row_at (when_in survey r) (target_in survey r) r.command end true name) is
-      ∙ stands (when_in survey r) (target_in survey r) r.command name quantity.0 quantity.1 fields told is_told quality values line has
+      ∙ stands (when_in survey r) (target_in survey r) r.command name quantity fields told is_told quality values line has
   quantity_at false shows fields told is_told quality values line is has name quantity = absurd (false≢true shows)
 
   -- if the command isn't answered, a row with columns of quantities (`b`) has nothing under each name of one
   no_quantity_at : (b : Bool) → b ≡ true → (word_of r.end ≡ codes "answered" → ⊥) → (name : List ℕ) → IsQuantity name
       → row_at (when_in survey r) (target_in survey r) r.command r.end b name ≡ []
   no_quantity_at true shows other name quantity =
-      none_else (when_in survey r) (target_in survey r) r.command name quantity.0 quantity.1 r.end (λ quality answer line e. other (ap word_of e))
+      none_else (when_in survey r) (target_in survey r) r.command name quantity r.end (λ quality answer line e. other (ap word_of e))
   no_quantity_at false shows other name quantity = absurd (false≢true shows)
 
   -- under the names of the header the record's row has what `HasItsTexts` says
@@ -121,8 +118,8 @@ head_reads true columns form is = none_read
 head_reads false columns form is = subst (λ (f : Form). AreReadAs (head_text f) (header columns ∷ [])) (sym is) (names_read columns) where
   -- the header of a table with quantities (`true`) or without (`false`) reads as one row: the names of its columns
   names_read : (b : Bool) → AreReadAs (head_text (table_form b)) (header b ∷ [])
-  names_read false = row_reads (first_names ++ last_names) (omega arith)
-  names_read true = row_reads (first_names ++ (quantity_names ++ last_names)) (omega arith)
+  names_read false = row_reads (header false) (omega arith)
+  names_read true = row_reads (header true) (omega arith)
 
 module _ {State : Type 0} (ends : Ends State) (kept : State → Option KeptReply) (is : IsAnInstrument ends AnyState kept) (reads : Asked → List ℕ → Reading) (are : AreReadings reads)
     (x : FieldRun State) (was : IsFieldRun ends kept reads x) (columns : Bool) (form : x.run.survey.layout.form ≡ table_form columns) where
@@ -163,14 +160,9 @@ module _ {State : Type 0} (ends : Ends State) (kept : State → Option KeptReply
         rows = map (row survey columns) written;
         reads_as = whole;
         behind = λ held earlier first. both_read held (front ++ texts) earlier (head_rows survey.layout columns ++ map (row survey columns) written) first whole;
-        as_many = length-map written (row survey columns);
-        each = λ n fields e.
-            let seen = get_seen (row survey columns) written n fields e in (
-              seen.0,
-              seen.1,
-              subst (λ (f : List (List ℕ)). IsOwnIn ends AnyState kept columns (λ name. under name (header columns) f) reads x seen.0) seen.2
-                  (each_own written took.are.unwritten took.are.order n seen.0 seen.1),
-            );
+        one_for_one =
+            one_for_one (λ fields r. IsOwnIn ends AnyState kept columns (λ name. under name (header columns) fields) reads x r) (row survey columns) written
+            (each_own written took.are.unwritten took.are.order);
       }
 
 -- what a sink took of a run is its own table

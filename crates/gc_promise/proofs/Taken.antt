@@ -94,6 +94,6 @@ run_took ends kept reads are x was =
     let ran : Ran survey.plan survey.tasks scope text (Some []) (Some run.recorded) (Some start) run.new.taken b.end =
     subst (λ (t : Option (List ℕ)). Ran survey.plan survey.tasks scope text (Some []) (Some run.recorded) t run.new.taken b.end) between
     (subst (λ (t : Option (List Act)). Ran survey.plan survey.tasks scope text (Some []) t b.between run.new.taken b.end) was.is_run.acts
-    (subst (λ (t : Option (List Act)). Ran survey.plan survey.tasks scope text t run.new.acts b.between run.new.taken b.end) was.is_run.none (b.ran.0 reads are))) in
+    (subst (λ (t : Option (List Act)). Ran survey.plan survey.tasks scope text t run.new.acts b.between run.new.taken b.end) was.is_run.none (b.run.ran.0 reads are))) in
     subst (λ (r : Result Tally Stop). Took text (records_in survey reads (acts_measured r run.recorded)) r start run.new.taken) (sym b.is)
     (ran_took text survey.plan survey.tasks scope run.recorded start run.new.taken b.end ran)

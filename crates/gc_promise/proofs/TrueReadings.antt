@@ -32,8 +32,8 @@ use Rattle.gc_station.specs.Scopes.{AreReadings}
 use Rattle.gc_promise.specs.Eventful.{at_target, elsewhere_reply, empty_reply, measured_reply, numbered_reply, pointed_reply}
 
 -- what the reply to command 2 says
-abbrev away : Answer
-away = Measured (decimal (pos 5) 1 refl) (decimal (pos 15) 1 refl) (decimal (pos 8725) 2 refl)
+abbrev elsewhere_answer : Answer
+elsewhere_answer = Measured (decimal (pos 5) 1 refl) (decimal (pos 15) 1 refl) (decimal (pos 8725) 2 refl)
 
 -- What each reply says of a call with such answers, by the grammar of replies.
 
@@ -60,10 +60,11 @@ module _ (call : Call) where
   measured_says of_call =
       value_says measured_reply (codes "2.25,1.625,110.0625") 1 at_target refl of_call (written_reads (answer_fields at_target).values (tt, (tt, (tt, tt))))
 
-  -- of a call that asks for angles and a distance, the reply to command 2 says those of `away`, where target 8 doesn't stand
-  elsewhere_says : (call_fields call).answer ≡ shape.Measured → ReadsBy IsAskedReading (Table call) elsewhere_reply (Value away)
+  -- of a call that asks for angles and a distance, the reply to command 2 says those of `elsewhere_answer`, where target 8
+  -- doesn't stand
+  elsewhere_says : (call_fields call).answer ≡ shape.Measured → ReadsBy IsAskedReading (Table call) elsewhere_reply (Value elsewhere_answer)
   unfolding header_at reply_at digits rounded
-  elsewhere_says of_call = value_says elsewhere_reply (codes "0.5,1.5,87.25") 2 away refl of_call (written_reads (answer_fields away).values (tt, (tt, (tt, tt))))
+  elsewhere_says of_call = value_says elsewhere_reply (codes "0.5,1.5,87.25") 2 elsewhere_answer refl of_call (written_reads (answer_fields elsewhere_answer).values (tt, (tt, (tt, tt))))
 
   -- of a call that asks for a whole number, the reply to command 3 says the number 31
   numbered_says : (call_fields call).answer ≡ shape.Long → ReadsBy IsAskedReading (Table call) numbered_reply (Value (Long (pos 31)))
@@ -82,19 +83,19 @@ module _ (call : Call) where
       }
 
 -- the function that gives this reading of this line, and of any other line what `says` gives
-abbrev saying : (line : List ℕ) → Reading → (says : List ℕ → Reading) (x : List ℕ) → Reading
-saying line reading says x = if pointwise nat_eq line x then reading else says x
+abbrev with_reading : (line : List ℕ) → Reading → (says : List ℕ → Reading) (x : List ℕ) → Reading
+with_reading line reading says x = if pointwise nat_eq line x then reading else says x
 
 -- the function with these readings put before it, for the calls that have them
 abbrev pub patched : (Asked → List ℕ → Reading) → Asked → List ℕ → Reading
-patched reads (Table (Position hz v pos_mode atr_mode dummy)) = saying pointed_reply (Value Nothing) (reads (Table (Position hz v pos_mode atr_mode dummy)))
-patched reads (Table (SimpleMea wait mode)) = saying measured_reply (Value at_target) (saying elsewhere_reply (Value away) (reads (Table (SimpleMea wait mode))))
-patched reads (Table InstrumentNo) = saying numbered_reply (Value (Long (pos 31))) (saying empty_reply (Unreadable Count) (reads (Table InstrumentNo)))
+patched reads (Table (Position hz v pos_mode atr_mode dummy)) = with_reading pointed_reply (Value Nothing) (reads (Table (Position hz v pos_mode atr_mode dummy)))
+patched reads (Table (SimpleMea wait mode)) = with_reading measured_reply (Value at_target) (with_reading elsewhere_reply (Value elsewhere_answer) (reads (Table (SimpleMea wait mode))))
+patched reads (Table InstrumentNo) = with_reading numbered_reply (Value (Long (pos 31))) (with_reading empty_reply (Unreadable Count) (reads (Table InstrumentNo)))
 patched reads call = reads call
 
 -- if a function gives this reading of the line anyway, to put the reading before it changes nothing
-said_so : (line : List ℕ) (reading : Reading) (says : List ℕ → Reading) → says line ≡ reading → saying line reading says ≡ says
-said_so line reading says e = fun_ext (λ x. by_test x (pointwise nat_eq line x) refl) where
+with_reading_same : (line : List ℕ) (reading : Reading) (says : List ℕ → Reading) → says line ≡ reading → with_reading line reading says ≡ says
+with_reading_same line reading says e = fun_ext (λ x. by_test x (pointwise nat_eq line x) refl) where
   -- the two functions give the same of x, whether x is the line (`same`) or not
   by_test : (x : List ℕ) (same : Bool) → pointwise nat_eq line x ≡ same → (if same then reading else says x) ≡ says x
   by_test x true t = sym e ∙ ap says (same_text line x (sym t))
@@ -106,14 +107,16 @@ module _ (reads : Asked → List ℕ → Reading) (are : AreReadings reads) wher
   patched_of_call : (call : Asked) → patched reads call ≡ reads call
   patched_of_call (Table (Position hz v pos_mode atr_mode dummy)) =
       let call = Table (Position hz v pos_mode atr_mode dummy) in
-      said_so pointed_reply (Value Nothing) (reads call) (are call pointed_reply (Value Nothing) (pointed_says (Position hz v pos_mode atr_mode dummy) refl))
+      with_reading_same pointed_reply (Value Nothing) (reads call) (are call pointed_reply (Value Nothing) (pointed_says (Position hz v pos_mode atr_mode dummy) refl))
   patched_of_call (Table (SimpleMea wait mode)) =
       let call = Table (SimpleMea wait mode) in
-      ap (saying measured_reply (Value at_target)) (said_so elsewhere_reply (Value away) (reads call) (are call elsewhere_reply (Value away) (elsewhere_says (SimpleMea wait mode) refl)))
-      ∙ said_so measured_reply (Value at_target) (reads call) (are call measured_reply (Value at_target) (measured_says (SimpleMea wait mode) refl))
+      ap (with_reading measured_reply (Value at_target))
+      (with_reading_same elsewhere_reply (Value elsewhere_answer) (reads call) (are call elsewhere_reply (Value elsewhere_answer) (elsewhere_says (SimpleMea wait mode) refl)))
+      ∙ with_reading_same measured_reply (Value at_target) (reads call) (are call measured_reply (Value at_target) (measured_says (SimpleMea wait mode) refl))
   patched_of_call (Table InstrumentNo) =
-      ap (saying numbered_reply (Value (Long (pos 31)))) (said_so empty_reply (Unreadable Count) (reads (Table InstrumentNo)) (are (Table InstrumentNo) empty_reply (Unreadable Count) (empty_says InstrumentNo refl)))
-      ∙ said_so numbered_reply (Value (Long (pos 31))) (reads (Table InstrumentNo)) (are (Table InstrumentNo) numbered_reply (Value (Long (pos 31))) (numbered_says InstrumentNo refl))
+      ap (with_reading numbered_reply (Value (Long (pos 31))))
+      (with_reading_same empty_reply (Unreadable Count) (reads (Table InstrumentNo)) (are (Table InstrumentNo) empty_reply (Unreadable Count) (empty_says InstrumentNo refl)))
+      ∙ with_reading_same numbered_reply (Value (Long (pos 31))) (reads (Table InstrumentNo)) (are (Table InstrumentNo) numbered_reply (Value (Long (pos 31))) (numbered_says InstrumentNo refl))
   patched_of_call call = refl
 
   -- `patched` of a function that gives what replies say is the function itself

@@ -17,7 +17,7 @@ use Rattle.gc_texts.specs.Stamps.{stamp_text}
 use Rattle.gc_texts.specs.declared.wish.Wish.{Wish}
 use Rattle.gc_rows.specs.JsonLines.{Member, Text, Number, Texts, behind_backslash, comma_where, ending_members, item_members, members_after_run, last_members, list_text, member_text, members_text, members_after_ending, answer_members, attempt_members, quantity_members, reply_members, sent_members, string_text, strings_text, value_members, values_members, command_members, when_members, without_zeros, quality_members}
 use Rattle.gc_rows.specs.Items.{split_items}
-use Rattle.gc_rows.specs.Laws.{IsEndOfBytes, IsPlainMember, IsPlainName, IsReplyOfBytes}
+use Rattle.gc_rows.specs.Laws.{ArePlainMembers, IsEndOfBytes, IsPlainName, IsReplyOfBytes}
 use Rattle.gc_rows.specs.Quantities.{column_of, quantity_name, quantity_text}
 use Rattle.gc_rows.specs.Rows.{code_of, com_of, procedure_of, values_of}
 use Rattle.gc_rows.specs.declared.when.When.{When}
@@ -107,7 +107,7 @@ named_lacks name is =
     ((λ e. omega (arith, e)), ((λ e. omega (arith, e)), tt))
 
 -- plain members with plain digits have no line feed in their text
-members_lack : (members : List Member) → AllByRecursion IsPlainMember members → AllByRecursion HasPlainDigits members → Lacks 10 (members_text members)
+members_lack : (members : List Member) → ArePlainMembers members → AllByRecursion HasPlainDigits members → Lacks 10 (members_text members)
 members_lack [] are plain = tt
 members_lack (Text name bytes ∷ ms) are plain =
     lacks_both 10 (member_text (Text name bytes)) (members_text ms)
@@ -209,7 +209,7 @@ members_plain when name command end is =
     (all_append HasPlainDigits (quantity_members command.call end) (last_members when end) (quantities_plain command.call end) (last_plain when end))))
 
 -- if a record's ending is of bytes, and its members are plain, its line, without the line feed at its end, has no line feed
-pub line_unbroken : (when : When) (name : List ℕ) (command : Wish) (end : End) → IsEndOfBytes end → AllByRecursion IsPlainMember (members_after_run when name command end)
+pub line_unbroken : (when : When) (name : List ℕ) (command : Wish) (end : End) → IsEndOfBytes end → ArePlainMembers (members_after_run when name command end)
     → Lacks 10 ((codes "{\"run\":" ++ string_text (stamp_text when.run)) ++ (members_text (members_after_run when name command end) ++ codes "}"))
 line_unbroken when name command end is are =
     let front : Lacks 10 (codes "{\"run\":") =

@@ -15,9 +15,7 @@ use Rattle.gc_station.specs.Scopes.{AreReadings}
 use Rattle.gc_station.proofs.Readings.{for_readings}
 use Rattle.gc_measuring.specs.Measuring.{RunsAfterFront, text_in}
 use Rattle.gc_field.specs.Instrument.{AnyState, never_kept}
-use Rattle.gc_field.specs.Runs.{program_parts}
-use Rattle.gc_field.specs.Shown.{stretches}
-use Rattle.gc_promise.specs.Eventful.{acts, at_start, commands, elsewhere_reply, empty_reply, measured_reply, numbered_reply, pointed_reply, program, runs, tally, reporting}
+use Rattle.gc_promise.specs.Eventful.{acts, at_start, elsewhere_reply, empty_reply, measured_reply, numbered_reply, pointed_reply, program, tally, reporting}
 use Rattle.gc_promise.specs.Rows.{IsOwnIfAnswered}
 use Rattle.gc_promise.specs.Tables.{IsFieldRun, table_form}
 use Rattle.gc_promise.specs.Witness.{HasOwnRows, SomeRowIsItsOwn, survey, in_a_table, layout_in, ports_at, run_in, taken}
@@ -31,7 +29,7 @@ use Rattle.gc_promise.specs.Objects.{AreOfBytes}
 
 -- the row of each of these records whose command a reply in time ended is its own
 abbrev HaveOwnRows : (Asked → List ℕ → Reading) → List Record → Type 0
-HaveOwnRows reads = AllByRecursion (IsOwnIfAnswered reporting AnyState never_kept in_a_table [] commands (program_parts (program reads)) (stretches reporting at_start runs))
+HaveOwnRows reads = AllByRecursion (IsOwnIfAnswered reporting AnyState never_kept in_a_table [] at_start (program reads))
 
 -- what is seen at each act of the eventful run, where its records are written in this form
 abbrev turns_in : Form → List Snapshot
@@ -45,8 +43,10 @@ is_measured form =
       front = refl;
       end = Ok tally;
       is = refl;
-      ran = for_readings _ (λ reads are. (Done, ran_whole (text_in (layout_in form) []) reads are, refl));
-      keeps = for_readings _ (keeps_whole (text_in (layout_in form) []));
+      run = record {
+        ran = for_readings _ (λ reads are. (Done, ran_whole (text_in (layout_in form) []) reads are, refl));
+        keeps = for_readings _ (keeps_whole (text_in (layout_in form) []));
+      };
     }
 
 -- in each form, the eventful run is one in the field

@@ -1,5 +1,5 @@
 -- The row of a record, or its object, is its own: one proof for both, over the text under each name.
-use Rattle.std.proofs.Common.{◌≡◌, inl, inr, ℕ, Bool, true, List, [], ◌++◌, get_or, Option, Some, refl, sym, ap, ◌∙◌, subst, arith}
+use Rattle.std.proofs.Common.{◌≡◌, inl, inr, ℕ, Bool, true, List, [], ◌++◌, map, get_or, Option, Some, refl, sym, ap, ◌∙◌, subst, arith}
 use Rattle.std.specs.Prelude.{codes, slice_get}
 use Rattle.std.specs.List.{AllByRecursion}
 use Rattle.gc_lines.specs.Numbers.{IsSmallNumber}
@@ -38,9 +38,11 @@ use Rattle.gc_field.specs.Instrument.{IsAnInstrument, AnyState}
 use Rattle.gc_field.specs.Runs.{IsInField, IsOwnAnswer}
 use Rattle.gc_field.specs.Shown.{Stretch, stretches}
 use Rattle.gc_field.proofs.Joining.{run_faithful}
+use Rattle.gc_world.proofs.Places.{get_seen}
+use Rattle.std.proofs.lemmas.List.{length-map}
 use Rattle.std.proofs.lemmas.Option.{same_Some}
 use Rattle.gc_promise.specs.Fields.{IsOwn, IsQuantity, IsRowOf, IsOutcomeOfReply, HasReply, quality_in, quantity_in, quantity_source}
-use Rattle.gc_promise.specs.Tables.{parts_in, program_of, records_in, scope_of}
+use Rattle.gc_promise.specs.Tables.{AreOneForOne, parts_in, program_of, records_in, scope_of}
 use Rattle.gc_promise.proofs.Judged.{IsJudged, judged}
 use Rattle.gc_promise.proofs.Owning.{a_reply}
 use Rattle.gc_promise.proofs.Setting.{never_sent, set_to}
@@ -102,6 +104,17 @@ without_quality Missed other = refl
 -- what holds of all elements of `xs` holds of the one at a place among the first of them (`written`)
 pub all_written : {X : Type 0} (P : X → Type 0) (xs written others : List X) → xs ≡ written ++ others → AllByRecursion P xs → (n : ℕ) (x : X) → slice_get written n ≡ Some x → P x
 all_written P xs written others order all n x is = all_at P written n x (all_front P written others (subst (AllByRecursion P) order all)) is
+
+-- where each of these records has the relation to what `f` makes of it, what `f` makes of all of them are these records, one for
+-- one
+pub one_for_one : {X : Type 0} (Is : X → Record → Type 0) (f : Record → X) (rs : List Record) → ((n : ℕ) (r : Record) → slice_get rs n ≡ Some r → Is (f r) r) → AreOneForOne Is (map f rs) rs
+one_for_one Is f rs own =
+    record {
+      as_many = length-map rs f;
+      each = λ n x e.
+          let seen = get_seen f rs n x e in
+          (seen.0, seen.1, subst (λ y. Is y seen.0) seen.2 (own n seen.0 seen.1));
+    }
 
 -- A row or an object.
 
@@ -167,7 +180,7 @@ module _ (survey : Survey) (reads : Asked → List ℕ → Reading) (are : AreRe
         replied = λ is.
             let replied = reply_ended r.end (subst IsOutcomeOfReply has.is_of.command.outcome is) in
             let justified = came replied.0 replied.1 in
-            (replied.0, says replied.0 replied.1 (a_reply replied.0 _ justified.id) listed, own replied.0 replied.1);
+            (replied.0, says replied.0 replied.1 (a_reply replied.0 _ justified.reply.id) listed, own replied.0 replied.1);
         without = λ shows other name quantity. has.none shows (λ answers. other (has.is_of.command.outcome ∙ answers)) name quantity;
         unqualified = λ other. has.quality ∙ without_quality r.end (λ answers. other (has.is_of.command.outcome ∙ answers));
       }

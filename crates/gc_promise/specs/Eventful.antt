@@ -27,9 +27,7 @@ use Rattle.gc_texts.specs.declared.turn.Turn as command
 use Rattle.gc_links.specs.Acts.{Act, Told, Put, Cut, Gave, Silent, Ended, Broke, Closed, Opened, Unopened}
 use Rattle.gc_station.specs.Beginnings.{IsResynchronizing}
 use Rattle.gc_station.specs.Links.{AreChained}
-use Rattle.gc_station.specs.Progressing.{is_over}
 use Rattle.gc_station.specs.Records.{Record}
-use Rattle.gc_station.specs.Runs.{state_after}
 use Rattle.gc_station.specs.Scopes.{Scope}
 use Rattle.gc_station.specs.Tallies.{tally_of}
 use Rattle.gc_station.specs.declared.plan.Plan.{Plan}
@@ -44,7 +42,7 @@ use Rattle.gc_field.specs.ChainWitness.{hz, v, points, reads_all, first_reply}
 use Rattle.gc_field.specs.Drifting.{tells_its_state}
 use Rattle.gc_field.specs.Field.{Move, Sends, Tells, Comes, Foreign, OnLine, Anew, Changes}
 use Rattle.gc_field.specs.Instrument.{IsAnInstrument, AnyState, never_kept}
-use Rattle.gc_field.specs.Runs.{IsInField, Program, program_records, world}
+use Rattle.gc_field.specs.Runs.{IsInField, NoActFollows, Program, program_records, world}
 use Rattle.gc_field.specs.Shown.{Stretch}
 use Rattle.gc_field.specs.Witness.{null_lines, at, eight_answered, exchanged, replies, run_and_end}
 
@@ -344,8 +342,8 @@ executed_moves =
     ∷ OnLine Up_deliver
     ∷ map Tells (390 ∷ 400 ∷ 400 ∷ 410 ∷ 415 ∷ [])
 
--- the replies come, behind a line that is none; a null procedure is sent. The instrument changes before it executes command 5, and the
--- line loses the request of command 6
+-- the replies come, behind a line that is none; a null procedure is sent. The instrument changes before it executes command 5,
+-- and the line loses the request of command 6
 abbrev pub heard_moves : List (Move (List ℕ))
 heard_moves =
     Foreign (codes "?")
@@ -479,7 +477,7 @@ connections (_ ∷ acts) = connections acts
 pub record IsEventful (reads : Asked → List ℕ → Reading) : Type 0 where
   pub is_instrument : IsAnInstrument reporting AnyState never_kept
   pub field : IsInField reporting AnyState never_kept at_start (program reads)
-  pub over : is_over (state_after plan commands (scope reads) acts).progress ≡ true
+  pub over : NoActFollows (program reads)
   pub written : program_records (program reads) ≡ records
   -- commands end in each of the seven ways
   pub counted : tally_of records ≡ tally

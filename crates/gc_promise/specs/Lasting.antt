@@ -4,7 +4,7 @@ use Rattle.std.specs.Prelude.{◌≡◌, ◌⊎◌, ℕ, Bool, true, false, List
 use Rattle.gc_catalogue.specs.declared.answer.Reading.{Reading}
 use Rattle.gc_catalogue.specs.declared.asked.Asked.{Asked}
 use Rattle.gc_files.specs.Failing.{Sides, Event, Ran, Failed, Copied, Crashed, settled, same_sides, done_by, Loses, sides_after, runs_of, Occur, IsFound, IsTrusted}
-use Rattle.gc_files.specs.Files.{Step, Life, content, later_by, MayLeave}
+use Rattle.gc_files.specs.Files.{Step, Life, content, later_by, MayBeLeft}
 use Rattle.gc_files.specs.Rows.{head_written, opened_table, IsFront}
 use Rattle.gc_files.specs.Rows as opening
 use Rattle.gc_files.specs.Runs.{Run, IsHead, Happen, life_after, rows_of, AreRowCounts}
@@ -16,7 +16,7 @@ use Rattle.gc_messages.specs.Following.{bytes_in}
 use Rattle.gc_messages.specs.declared.following.Followed.{Followed}
 use Rattle.gc_station.specs.Keeping.{Snapshot}
 use Rattle.gc_station.specs.Records.{texts_of}
-use Rattle.gc_station.specs.Scopes.{AreReadings}
+use Rattle.gc_station.specs.Scopes.{ForEachReadings}
 use Rattle.gc_measuring.specs.Measuring.{Survey, text_by}
 use Rattle.gc_measuring.specs.Telling.{AppendingRun, ReportsAppended, views_by}
 use Rattle.gc_words.specs.declared.settings.Settings.{Settings}
@@ -108,10 +108,6 @@ pub record AreLeft {R : Type 0} (m : RunMoment R) (reads : Asked → List ℕ �
 abbrev pub OpensFile : (head held : List ℕ) → List Step → Type 0
 OpensFile head held steps = opening.MendedAndPut held steps (head_written head held)
 
--- these bytes are what a crash may leave of a file that had this life and then these steps
-abbrev pub MayBeLeft : Life → List Step → List ℕ → Type 0
-MayBeLeft life steps left = MayLeave life.start (life.steps ++ steps) left
-
 -- what happened to a file until a run was killed, or the machine crashed: the head of its table; what the file held at first, all
 -- of it on the disk; the earlier runs; the calls by which the run opened the file; and what was found at last
 pub record CrashHistory : Type 0 where
@@ -131,15 +127,15 @@ pub record IsCrashHistory (calls : List Step) (x : CrashHistory) : Type 0 where
   pub is_head : IsHead x.head
   pub happened : Happen x.head (settled x.first) x.earlier
   pub opens : OpensFile x.head (content (life_begun x)) x.opening
-  pub is_found : MayBeLeft (life_begun x) (x.opening ++ calls) x.found
+  pub is_found : MayBeLeft (later_by (x.opening ++ calls) (life_begun x)) x.found
 
 -- a run that appends to a file which syncs (`IsRunMoment`) is killed at any moment, or the machine crashes (`IsCrashHistory`).
 -- Whatever is found then, the next start makes of it the table that was there at first, after it rows of the earlier runs, and
 -- then the rows that are left of this run: where `reads` gives what replies say of their calls (`AreReadings`)
 abbrev pub RowsOutlastCrashes : Type 0 → Type 0
-RowsOutlastCrashes R = (m : RunMoment R) → IsRunMoment m → (reads : Asked → List ℕ → Reading) → AreReadings reads → (x : CrashHistory) → IsCrashHistory m.calls x
+RowsOutlastCrashes R = (m : RunMoment R) → IsRunMoment m → ForEachReadings (λ reads. (x : CrashHistory) → IsCrashHistory m.calls x
     → (counts : List ℕ) × (left : List ℕ) × AreRowCounts x.earlier counts × AreLeft m reads left
-    × (opened_table x.head x.found ≡ (opened_table x.head x.first ++ rows_of x.earlier counts) ++ left)
+    × (opened_table x.head x.found ≡ (opened_table x.head x.first ++ rows_of x.earlier counts) ++ left))
 
 -- Over failed syncs, too.
 
@@ -211,6 +207,6 @@ pub record IsFileHistory (calls : List Step) (x : FileHistory) : Type 0 where
 -- at first, rows of the earlier runs, the rows that are left of this run, and rows of the later ones: where `reads` gives what
 -- replies say of their calls (`AreReadings`)
 abbrev pub RowsOutlastFailures : Type 0 → Type 0
-RowsOutlastFailures R = (m : RunMoment R) → IsRunMoment m → (reads : Asked → List ℕ → Reading) → AreReadings reads → (x : FileHistory) → IsFileHistory m.calls x
+RowsOutlastFailures R = (m : RunMoment R) → IsRunMoment m → ForEachReadings (λ reads. (x : FileHistory) → IsFileHistory m.calls x
     → (counts : List ℕ) × (left : List ℕ) × (counts' : List ℕ) × AreRowCounts (runs_of x.earlier) counts × AreLeft m reads left × AreRowCounts (runs_of x.later) counts'
-    × (opened_table x.head x.found ≡ ((opened_table x.head x.first ++ rows_of (runs_of x.earlier) counts) ++ left) ++ rows_of (runs_of x.later) counts')
+    × (opened_table x.head x.found ≡ ((opened_table x.head x.first ++ rows_of (runs_of x.earlier) counts) ++ left) ++ rows_of (runs_of x.later) counts'))

@@ -1,6 +1,6 @@
 -- What a station wrote of a run in the field as lines of JSON, as they are read: this project's own. Texts are taken to be
 -- bytes, and numbers to have 64 bits, as those of the program do.
-use Rattle.std.specs.Prelude.{◌≡◌, ℕ, ◌<◌, ◌^◌, true, List, [], ◌++◌, length, Option, Some, slice_get}
+use Rattle.std.specs.Prelude.{◌≡◌, ℕ, ◌<◌, ◌^◌, true, List, [], ◌++◌, Option, Some}
 use Rattle.std.specs.List.{AllByRecursion}
 use Rattle.json.specs.Find.{get_member}
 use Rattle.json.specs.Json as json
@@ -15,11 +15,10 @@ use Rattle.gc_texts.specs.declared.name.Name.{Name}
 use Rattle.gc_rows.specs.Laws.{IsEndOfBytes, FitsIn64Bits}
 use Rattle.gc_rows.specs.declared.record.Form.TheVariants.{Json}
 use Rattle.gc_station.specs.Records.{Record}
-use Rattle.gc_station.specs.Scopes.{AreReadings}
 use Rattle.gc_measuring.specs.Measuring.{Survey, when_of}
 use Rattle.gc_field.specs.World.{Ends}
-use Rattle.gc_field.specs.Instrument.{IsAnInstrument, AnyState}
-use Rattle.gc_promise.specs.Tables.{AreWrittenIn, FieldRun, IsFieldRun, IsOwnIn, acts_in_field, records_in}
+use Rattle.gc_field.specs.Instrument.{AnyState}
+use Rattle.gc_promise.specs.Tables.{AreOneForOne, AreWrittenIn, FieldRun, IsOwnIn, OfEachFieldRun, acts_in_field, records_in}
 
 -- the record, of a run that began at the moment `run`, is in the types of the program: the numbers that are written of it have 64
 -- bits, and its texts are bytes
@@ -56,15 +55,11 @@ module _ {State : Type 0} (ends : Ends State) (Good : State → Type 0) (kept : 
       pub took : x.run.new.taken ≡ Some (x.had ++ (rows.row_lines lines ++ torn))
       pub are : AreWrittenIn reads x torn
       pub unbroken : AllByRecursion (Lacks 10) lines
-      pub as_many : length lines ≡ length are.written
-      pub each : (n : ℕ) (line : List ℕ) → slice_get lines n ≡ Some line → (r : Record) × (slice_get are.written n ≡ Some r) × IsOwnObject line r
+      pub one_for_one : AreOneForOne IsOwnObject lines are.written
 
--- what a sink took of a run in the field (`IsFieldRun`) are the run's own objects, if its records are in the types of the program
--- (`AreOfBytes`): where `reads` gives what replies say of their calls (`AreReadings`), for any instrument, all that a station
--- measures and writes as lines of JSON, and all that the line and the instrument may do meanwhile
+-- what a sink took of a run in the field are the run's own objects, of each run that is written as lines of JSON
+-- (`OfEachFieldRun`), if its records are in the types of the program (`AreOfBytes`)
 abbrev pub ObjectsAreTheirOwn : Type 0 → Type 0
 ObjectsAreTheirOwn State =
-    (ends : Ends State) (kept : State → Option KeptReply) → IsAnInstrument ends AnyState kept →
-    (reads : Asked → List ℕ → Reading) → AreReadings reads → (x : FieldRun State) → IsFieldRun ends kept reads x →
-    x.run.survey.layout.form ≡ Json → AreOfBytes x.run.survey (records_in x.run.survey reads (acts_in_field x)) →
-    AreOwnObjects ends AnyState kept reads x
+    OfEachFieldRun {State = State} (λ ends kept reads x.
+    x.run.survey.layout.form ≡ Json → AreOfBytes x.run.survey (records_in x.run.survey reads (acts_in_field x)) → AreOwnObjects ends AnyState kept reads x)

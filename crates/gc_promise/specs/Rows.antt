@@ -1,27 +1,22 @@
 -- The rows of a station in the field, this project's own: what is in the columns of a row of an answer was made by the
 -- instrument on executing the very request of that row's cycle and place. A part is what a station sees of its run from one
 -- synchronization to the next, and a stretch what happens on the line meanwhile, once it has synchronized.
-use Rattle.std.specs.Prelude.{◌≡◌, ℕ, Bool, List, [], ◌++◌, map, Option, Some, codes}
+use Rattle.std.specs.Prelude.{◌≡◌, ℕ, Bool, List, Option, Some, codes}
 use Rattle.std.specs.List.{AllByRecursion}
-use Rattle.csv.specs.Machine.{next_record}
-use Rattle.csv.specs.Reading.{default_config}
-use Rattle.csv.specs.declared.parser.State.TheVariants.{StartRecord}
 use Rattle.gc_instrument.specs.State.{KeptReply}
 use Rattle.gc_texts.specs.Endings.{line_of}
-use Rattle.gc_texts.specs.Logs.{escaped}
 use Rattle.gc_texts.specs.declared.name.Name.{Name}
-use Rattle.gc_texts.specs.declared.tasks.Task.{Task}
+use Rattle.gc_rows.specs.Laws.{ReadsBackAs}
 use Rattle.gc_rows.specs.Records as rows
 use Rattle.gc_rows.specs.Rows.{row_of}
-use Rattle.gc_station.specs.Parts.{Part}
 use Rattle.gc_station.specs.Records.{Record}
 use Rattle.gc_words.specs.declared.layout.Layout.{Layout}
 use Rattle.gc_measuring.specs.Measuring.{text_in}
 use Rattle.gc_field.specs.World.{Ends}
 use Rattle.gc_field.specs.Begin.{UnderWay}
-use Rattle.gc_field.specs.Instrument.{IsAnInstrument, AnyState}
+use Rattle.gc_field.specs.Instrument.{OfAnyInstrument}
 use Rattle.gc_field.specs.Runs.{IsInField, IsItsOwn, Program, program_parts, program_records}
-use Rattle.gc_field.specs.Shown.{Stretch, stretches}
+use Rattle.gc_field.specs.Shown.{stretches}
 use Rattle.gc_promise.specs.Fields.{SaysCodes, SaysCommand, under}
 use Rattle.gc_promise.specs.Tables.{table_form}
 
@@ -37,16 +32,17 @@ pub record FieldsSay (fields : List (List ℕ)) (r : Record) (line : List ℕ) :
   pub values : column (codes "values") fields ≡ says.reply.params
 
 module _ {State : Type 0} (ends : Ends State) (Good : State → Type 0) (kept : State → Option KeptReply) where
-  module _ (layout : Layout) (names : List Name) (commands : List Task) (ps : List Part) (ss : List (Stretch State)) where
+  -- Of the run `x`, with `u` in flight at its start, whose records are written in a layout, with these names of targets.
+  module _ (layout : Layout) (names : List Name) (u : UnderWay State) (x : Program State) where
     -- the row of a record in a table is its own: a reader of comma-separated values gives it back as its fields, `escaped` as the
     -- row has them, whatever stands after it; the fields say what the line of the record's reply says; and that line was made by
     -- the instrument on executing the request of the record's cycle and place
     pub record IsRowOfLine (r : Record) (line : List ℕ) : Type 0 where
       pub fields : List (List ℕ)
       pub row : text_in layout names r ≡ row_of fields
-      pub reads_back : (behind : List ℕ) → next_record default_config StartRecord [] [] (text_in layout names r ++ behind) ≡ Some (map escaped fields, StartRecord, behind)
+      pub reads_back : ReadsBackAs (text_in layout names r) fields
       pub says : FieldsSay fields r line
-      pub own : IsItsOwn ends Good kept commands ps ss r line
+      pub own : IsItsOwn ends Good kept x.commands (program_parts x) (stretches ends u x.runs) r line
 
     -- if a reply in time ended the record's command (`line_of`), its row is its own
     abbrev pub IsOwnIfAnswered : Record → Type 0
@@ -56,8 +52,7 @@ module _ {State : Type 0} (ends : Ends State) (Good : State → Type 0) (kept : 
 -- of targets, every plan, all commands, every run of the station in the field (`IsInField`), and all that the line and the
 -- instrument may do meanwhile
 abbrev pub RowsAreTheirOwn : Type 0 → Type 0
-RowsAreTheirOwn State =
-    (ends : Ends State) (kept : State → Option KeptReply) → IsAnInstrument ends AnyState kept →
+RowsAreTheirOwn State = OfAnyInstrument {State = State} (λ ends Good kept.
     (layout : Layout) (columns : Bool) (names : List Name) → layout.form ≡ table_form columns →
-    (u : UnderWay State) (x : Program State) → IsInField ends AnyState kept u x →
-    AllByRecursion (IsOwnIfAnswered ends AnyState kept layout names x.commands (program_parts x) (stretches ends u x.runs)) (program_records x)
+    (u : UnderWay State) (x : Program State) → IsInField ends Good kept u x →
+    AllByRecursion (IsOwnIfAnswered ends Good kept layout names u x) (program_records x))

@@ -8,8 +8,7 @@ use Rattle.gc_catalogue.specs.declared.answer.Reading.{Reading}
 use Rattle.gc_catalogue.specs.declared.asked.Asked.{Asked}
 use Rattle.gc_instrument.specs.State.{KeptReply}
 use Rattle.gc_texts.specs.declared.fault.RunFault.TheVariants.{Output}
-use Rattle.gc_rows.specs.Quantities.{quantity_names}
-use Rattle.gc_rows.specs.Records as rows
+use Rattle.gc_rows.specs.Records.{header}
 use Rattle.gc_rows.specs.declared.record.Form.{Form}
 use Rattle.gc_rows.specs.declared.record.Form.TheVariants.{Csv, Columns}
 use Rattle.gc_links.specs.Acts.{Act}
@@ -17,7 +16,7 @@ use Rattle.gc_station.specs.Links.{parts}
 use Rattle.gc_station.specs.Parts.{Part}
 use Rattle.gc_station.specs.Records.{Record}
 use Rattle.gc_station.specs.Runs.{state_after}
-use Rattle.gc_station.specs.Scopes.{Scope, AreReadings}
+use Rattle.gc_station.specs.Scopes.{Scope, ForEachReadings}
 use Rattle.gc_station.specs.declared.tally.Tally.{Tally}
 use Rattle.gc_words.specs.declared.layout.Layout.{Layout}
 use Rattle.gc_measuring.specs.Measuring.{Survey, PortsSeen, RunsAfterFront, text_by}
@@ -26,7 +25,7 @@ use Rattle.gc_measuring.specs.declared.stop.Stop.TheVariants.{Run}
 use Rattle.gc_field.specs.World.{Ends}
 use Rattle.gc_field.specs.Begin.{UnderWay}
 use Rattle.gc_field.specs.Beginnings as field
-use Rattle.gc_field.specs.Instrument.{IsAnInstrument, AnyState}
+use Rattle.gc_field.specs.Instrument.{AnyState, OfAnyInstrument}
 use Rattle.gc_field.specs.Runs.{IsInField, Program}
 use Rattle.gc_field.specs.Shown.{stretches}
 use Rattle.gc_promise.specs.Fields.{under, IsOwn}
@@ -88,6 +87,13 @@ pub record IsFieldRun {State : Type 0} (ends : Ends State) (kept : State → Opt
   pub took : x.run.old.taken ≡ Some x.had
   pub in_field : IsInField ends AnyState kept x.in_flight (program_of x.run.survey reads (acts_in_field x) x.happened)
 
+-- `Holds` is true of each run of a station in the field (`IsFieldRun`): for any instrument, where `reads` gives what replies say
+-- of their calls (`AreReadings`), all that a station measures and writes, and all that the line and the instrument may do
+-- meanwhile
+abbrev pub OfEachFieldRun : {State : Type 0} → (Ends State → (State → Option KeptReply) → (Asked → List ℕ → Reading) → FieldRun State → Type 0) → Type 0
+OfEachFieldRun {State = State} Holds =
+    OfAnyInstrument {State = State} (λ ends Good kept. ForEachReadings (λ reads. (x : FieldRun State) → IsFieldRun ends kept reads x → Holds ends kept reads x))
+
 -- What a sink took.
 
 -- these bytes are a front of the text of the first of these records, maybe empty, but not all of the text; if there is no record,
@@ -109,6 +115,11 @@ pub record AreWritten (text : Record → List ℕ) (records : List Record) (resu
 abbrev pub AreWrittenIn : {State : Type 0} → (reads : Asked → List ℕ → Reading) → (x : FieldRun State) → (torn : List ℕ) → Type 0
 AreWrittenIn reads x torn = AreWritten (text_by x.run.survey) (records_in x.run.survey reads (acts_in_field x)) x.run.result torn
 
+-- these are records, one for one and in order: each of `xs` has the relation `Is` to the record at its place
+pub record AreOneForOne {X : Type 0} (Is : X → Record → Type 0) (xs : List X) (records : List Record) : Type 0 where
+  pub as_many : length xs ≡ length records
+  pub each : (n : ℕ) (x : X) → slice_get xs n ≡ Some x → (r : Record) × (slice_get records n ≡ Some r) × Is x r
+
 -- a row or an object of run `x`, in which `at` gives the text under each name, is this record's own (`IsOwn`)
 abbrev pub IsOwnIn : {State : Type 0} → (ends : Ends State) → (Good : State → Type 0) → (kept : State → Option KeptReply) → (has_quantities : Bool) → (at : List ℕ → List ℕ)
     → (reads : Asked → List ℕ → Reading) → (x : FieldRun State) → Record → Type 0
@@ -121,11 +132,6 @@ IsOwnIn ends Good kept has_quantities at reads x r =
 abbrev pub table_form : Bool → Form
 table_form false = Csv
 table_form true = Columns
-
--- the names of the columns of a table, with those of the quantities (true) or without (false)
-abbrev pub header : Bool → List (List ℕ)
-header false = rows.first_names ++ rows.last_names
-header true = rows.first_names ++ (quantity_names ++ rows.last_names)
 
 -- the rows that the header is: one; or none if the output has its header already (`headed`)
 abbrev pub head_rows : Layout → Bool → List (List (List ℕ))
@@ -149,16 +155,9 @@ module _ {State : Type 0} (ends : Ends State) (Good : State → Type 0) (kept : 
     pub rows : List (List (List ℕ))
     pub reads_as : AreReadAs bytes (head_rows x.run.survey.layout columns ++ rows)
     pub behind : (held : List ℕ) (earlier : List (List (List ℕ))) → AreReadAs held earlier → AreReadAs (held ++ bytes) (earlier ++ (head_rows x.run.survey.layout columns ++ rows))
-    pub as_many : length rows ≡ length are.written
-    pub each : (n : ℕ) (row : List (List ℕ)) → slice_get rows n ≡ Some row
-        → (r : Record) × (slice_get are.written n ≡ Some r) × IsOwnIn ends Good kept columns (λ name. under name (header columns) row) reads x r
+    pub one_for_one : AreOneForOne (λ row r. IsOwnIn ends Good kept columns (λ name. under name (header columns) row) reads x r) rows are.written
 
--- what a sink took of a run in the field (`IsFieldRun`) is the run's own table: where `reads` gives what replies say of their
--- calls (`AreReadings`), for any instrument, all that a station measures and writes as a table, and all that the line and the
--- instrument may do meanwhile
+-- what a sink took of a run in the field is the run's own table, of each run that is written as a table (`OfEachFieldRun`)
 abbrev pub TablesAreTheirOwn : Type 0 → Type 0
 TablesAreTheirOwn State =
-    (ends : Ends State) (kept : State → Option KeptReply) → IsAnInstrument ends AnyState kept →
-    (reads : Asked → List ℕ → Reading) → AreReadings reads → (x : FieldRun State) → IsFieldRun ends kept reads x →
-    (columns : Bool) → x.run.survey.layout.form ≡ table_form columns →
-    IsOwnTable ends AnyState kept columns reads x
+    OfEachFieldRun {State = State} (λ ends kept reads x. (columns : Bool) → x.run.survey.layout.form ≡ table_form columns → IsOwnTable ends AnyState kept columns reads x)

@@ -11,8 +11,6 @@ use Rattle.gc_station.specs.Scopes.{ForReadings}
 use Rattle.gc_words.specs.declared.layout.Layout.{Layout}
 use Rattle.gc_measuring.specs.Measuring.{Survey, PortsSeen, RunsAfterFront, text_in}
 use Rattle.gc_field.specs.Instrument.{AnyState, never_kept}
-use Rattle.gc_field.specs.Runs.{program_parts}
-use Rattle.gc_field.specs.Shown.{stretches}
 use Rattle.gc_promise.specs.Eventful.{IsEventful, acts, at_start, commands, plan, program, records, reporting, runs, tally}
 use Rattle.gc_promise.specs.Eventful.{chained_record, elsewhere_record, elsewhere_reply, empty_reply, measured_reply, number_record, numbered_reply, pointed_reply, points_record, unreadable_record}
 use Rattle.gc_promise.specs.Rows.{IsRowOfLine}
@@ -76,8 +74,7 @@ module _ (reads : Asked → List ℕ → Reading) where
   abbrev pub IsOwnText : Record → (row line : List ℕ) → Type 0
   IsOwnText r row line =
       (text_in in_a_table [] r ≡ row)
-      × IsRowOfLine reporting AnyState never_kept in_a_table [] commands (program_parts (program reads))
-      (stretches reporting at_start runs) r line
+      × IsRowOfLine reporting AnyState never_kept in_a_table [] at_start (program reads) r line
 
   -- the run is eventful, and the row of each command that a reply in time settled is its own: of both commands of the chain, of
   -- the one that was measured elsewhere, of a number, and of one whose values don't read

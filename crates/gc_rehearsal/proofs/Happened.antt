@@ -125,13 +125,14 @@ pub reaches : (acts : List Act) (old new : Traffic) → MayHandOver old new → 
 reaches acts old new (inl same) c = subst (HasComeTo acts) (sym same) c
 reaches acts old new (inr x) c =
     one_more_unseen acts Reaches (lines_of old) (lines_of new) refl c
-    (record { line = x.request.line.items; reply = x.reply; front = ap texts x.front; played = x.played; sends = x.sends })
+    (record { line = x.request.line.items; front = ap texts x.front; plays = x.plays })
 
 -- acts that have come to lines have also come to those without the reply in front
 pub loses_front : (acts : List Act) (up : List (List ℕ)) (down down' : List Flight) (flight : Flight) (state : SceneState) → down ≡ flight ∷ down'
     → HasComeTo acts (lines up (texts down) state) → HasComeTo acts (lines up (texts down') state)
 loses_front acts up down down' flight state front c =
-    one_more_unseen acts Loses_front (lines up (texts down) state) (lines up (texts down') state) refl c (flight.line.items, ap texts front, refl)
+    one_more_unseen acts Loses_front (lines up (texts down) state) (lines up (texts down') state) refl c
+    (flight.line.items, record { front = ap texts front; others = refl })
 
 -- where acts have come to lines, the acts and a read of the reply in front, whole with its CR LF, have come to the lines without
 -- that reply
@@ -141,4 +142,4 @@ pub gives : (acts : List Act) (bytes : List ℕ) (moment : Moment)
     → HasComeTo acts (lines up (texts down) state) → HasComeTo (acts ++ Gave bytes moment ∷ []) (lines up (texts down') state)
 gives acts bytes moment up down down' flight state front is c =
     one_more_happened acts (Acts (Gave bytes moment)) (lines up (texts down) state) (lines up (texts down') state) c
-    (flight.line.items, texts down', ap texts front, is, refl)
+    (flight.line.items, is, record { front = ap texts front; others = refl })

@@ -37,10 +37,14 @@ pub data Happening : Type 0 where
 abbrev pub PutLeads : (l : Lines) → (bytes : List ℕ) → (m : Lines) → Type 0
 PutLeads l bytes m = (m ≡ l) ⊎ ((line : List ℕ) × (bytes ≡ with_end line) × (m ≡ record l { up = l.up ++ line ∷ [] }))
 
+-- the lines `m` are the lines `l` without the reply in front, which is this line
+pub record TakesReply (l : Lines) (line : List ℕ) (m : Lines) : Type 0 where
+  pub front : l.down ≡ line ∷ m.down
+  pub others : m ≡ record l { down = m.down }
+
 -- a read of these bytes leads from the lines `l` to the lines `m`: they are the reply in front, whole, with its CR LF
 abbrev pub GiveLeads : (l : Lines) → (bytes : List ℕ) → (m : Lines) → Type 0
-GiveLeads l bytes m =
-    (line : List ℕ) × (rest : List (List ℕ)) × (l.down ≡ line ∷ rest) × (bytes ≡ with_end line) × (m ≡ record l { down = rest })
+GiveLeads l bytes m = (line : List ℕ) × (bytes ≡ with_end line) × TakesReply l line m
 
 -- an act of the link leads from the lines `l` to the lines `m`: a whole write by `PutLeads`, a read of bytes by `GiveLeads`, and any
 -- other act changes nothing
@@ -55,19 +59,27 @@ IsQuiet (Put bytes) = ⊥
 IsQuiet (Gave bytes moment) = ⊥
 IsQuiet other = Unit {0}
 
+-- these bytes are one line, without CR LF: plain bytes, at most 512
+abbrev pub IsOneLine : List ℕ → Type 0
+IsOneLine line = IsPlain line × (length line ≤ 512)
+
 -- the replies in flight after the instrument made `reply` (`None`: it made none) are `new`: as before, or with the reply at the back, if
--- it is one line of at most 512 bytes
+-- it is one line
 abbrev pub MaySendOut : (down : List (List ℕ)) → Option (List ℕ) → (new : List (List ℕ)) → Type 0
 MaySendOut down None new = new ≡ down
-MaySendOut down (Some line) new = (new ≡ down) ⊎ (IsPlain line × (length line ≤ 512) × (new ≡ down ++ line ∷ []))
+MaySendOut down (Some line) new = (new ≡ down) ⊎ (IsOneLine line × (new ≡ down ++ line ∷ []))
 
--- the request in front reached the instrument, which played it (`IsPlayed`); the reply, if it made one, was sent or lost
-pub record HasReached (l m : Lines) : Type 0 where
-  pub line : List ℕ
+-- the instrument played this request (`IsPlayed`); its reply, if it made one, was sent or lost
+pub record HasPlayed (line : List ℕ) (l m : Lines) : Type 0 where
   pub reply : Option (List ℕ)
-  pub front : l.up ≡ line ∷ m.up
   pub played : IsPlayed l.state line m.state reply
   pub sends : MaySendOut l.down reply m.down
+
+-- the request in front reached the instrument, which played it (`HasPlayed`)
+pub record HasReached (l m : Lines) : Type 0 where
+  pub line : List ℕ
+  pub front : l.up ≡ line ∷ m.up
+  pub plays : HasPlayed line l m
 
 -- `new` are the same lines, with the last one twice
 abbrev pub IsRepeated : (lines new : List (List ℕ)) → Type 0
@@ -83,7 +95,7 @@ Leads l Repeats_up m = (up : List (List ℕ)) × IsRepeated l.up up × (m ≡ re
 Leads l Repeats_down m = (down : List (List ℕ)) × IsRepeated l.down down × (m ≡ record l { down = down })
 Leads l Loses_up m = m ≡ record l { up = [] }
 Leads l Loses_down m = m ≡ record l { down = [] }
-Leads l Loses_front m = (line : List ℕ) × (l.down ≡ line ∷ m.down) × (m ≡ record l { down = m.down })
+Leads l Loses_front m = (line : List ℕ) × TakesReply l line m
 
 -- these events, in order, lead from the first lines to the last
 abbrev pub LeadAll : (l : Lines) → List Happening → (m : Lines) → Type 0

@@ -1,8 +1,7 @@
 -- Not cited by theorems: what the functions of a queue do to the lines in it, the one that was sent first in front.
-use Rattle.std.specs.Prelude.{◌≡◌, ◌⊎◌, ℕ, List, [], ◌∷◌, ◌++◌, map, Option, Some}
+use Rattle.std.specs.Prelude.{◌≡◌, ◌⊎◌, ℕ, List, [], ◌∷◌, ◌++◌, map, Some}
 use Rattle.gc_lines.specs.Lines.{with_end}
-use Rattle.gc_scenes.specs.SceneReplying.{IsPlayed}
-use Rattle.gc_rehearsal.specs.Carrying.{IsRepeated, Lines, MaySendOut}
+use Rattle.gc_rehearsal.specs.Carrying.{HasPlayed, IsRepeated, Lines, MaySendOut}
 use Rattle.gc_rehearsal.specs.declared.carried.Traffic.{Traffic}
 use Rattle.gc_rehearsal.specs.declared.flight.Flight.{Flight}
 
@@ -22,7 +21,7 @@ MayAddLine old bytes new = (new ≡ old) ⊎ ((flight : Flight) × (bytes ≡ wi
 abbrev pub MayRepeat : (old new : List Flight) → Type 0
 MayRepeat old new = (new ≡ old) ⊎ IsRepeated (texts old) (texts new)
 
--- the lines of the queue are the same, or have this reply at their back, if it is one line of at most 512 bytes
+-- the lines of the queue are the same, or have this reply at their back, if it is one line
 abbrev pub MaySend : (old : List Flight) → (reply : List ℕ) → (new : List Flight) → Type 0
 MaySend old reply new = MaySendOut (texts old) (Some reply) (texts new)
 
@@ -30,14 +29,11 @@ MaySend old reply new = MaySendOut (texts old) (Some reply) (texts new)
 abbrev pub lines_of : Traffic → Lines
 lines_of traffic = record { up = texts traffic.up.items; down = texts traffic.down.items; state = traffic.instrument }
 
--- the request in front was taken from those in flight, and handed to the instrument. Its reply, if there is one, was put at the back of the
--- replies in flight, or is lost
+-- the request in front was taken from those in flight, and the instrument played it (`HasPlayed`)
 pub record IsHandedOver (old new : Traffic) : Type 0 where
   pub request : Flight
   pub front : old.up.items ≡ request ∷ new.up.items
-  pub reply : Option (List ℕ)
-  pub played : IsPlayed old.instrument request.line.items new.instrument reply
-  pub sends : MaySendOut (texts old.down.items) reply (texts new.down.items)
+  pub plays : HasPlayed request.line.items (lines_of old) (lines_of new)
 
 -- the lines in flight and the instrument are the same; or the request in front was handed to the instrument (`IsHandedOver`)
 abbrev pub MayHandOver : (old new : Traffic) → Type 0

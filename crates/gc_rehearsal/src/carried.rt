@@ -130,7 +130,7 @@ impl Carried {
     }
 
     /// The acts so far are those of a line that keeps order and loses lines whole (`IsOfLine`). A theorem, without effect.
-    pub fn line_keeps_order(&self)
+    pub fn acts_are_of_line(&self)
         ensures { IsOfLine self.now }
     {
         // The invariant of `Carried` is known once one of its fields is read.
@@ -219,7 +219,7 @@ impl Carried {
     /// Hands the next request to the instrument. Its reply, if it makes one, is sent, and arrives at the moment `arrives`, in
     /// milliseconds since the line was made. The reply is lost for `None`, if there is a CR or an LF in it, or if memory is
     /// refused for it. Returns whether the instrument made a reply, also one that is lost; `false` if no request is in flight.
-    pub fn reach(&mut self, arrives: Option<u64>) -> bool
+    pub fn hand_over(&mut self, arrives: Option<u64>) -> bool
         ensures { self.new ≡ self.old }
     {
         self.traffic.hand_over(arrives)
@@ -253,10 +253,7 @@ fn id_of(line: &[u8]) -> Option<u8> {
 
 // Whether the instrument has stored a reply with this id. It hasn't for `None`.
 fn has_stored(instrument: &SceneInstrument, id: Option<u8>) -> bool {
-    match (instrument.kept_id(), id) {
-        (Some(stored), Some(id)) => stored == id,
-        _ => false,
-    }
+    id.is_some() && instrument.kept_id() == id
 }
 
 // Puts a reply to the request `origin`, which arrives at the moment `arrives`, at the back of the queue `down`. The reply is lost

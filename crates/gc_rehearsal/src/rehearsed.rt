@@ -44,10 +44,10 @@ impl<C> Rehearsed<C> {
 
     /// The results of its calls are those of a line that keeps order and loses lines whole (`IsOfLine`), whatever its chance decided. A
     /// theorem, without effect.
-    pub fn line_keeps_order(&self)
+    pub fn acts_are_of_line(&self)
         ensures { IsOfLine self.now.carried }
     {
-        self.carried.line_keeps_order();
+        self.carried.acts_are_of_line();
     }
 
     /// Milliseconds since the start.
@@ -154,8 +154,8 @@ impl<C: Chance> Rehearsed<C> {
 
     // Hands the next request to the instrument at this moment, or now if that is later, and sends its reply with a fate of the
     // chance, which is taken and counted also if the instrument makes none. The instrument is restarted before the request
-    // reaches it, if the chance says so. If the reply is to arrive twice, but can't be sent (`Carried::reach`), the last reply
-    // that is in flight arrives twice instead, if there is one.
+    // reaches it, if the chance says so. If the reply is to arrive twice, but can't be sent (`Carried::hand_over`), the last reply
+    // that is in flight arrives twice instead, if there is one: any line may repeat that one.
     fn reach(&mut self, moment: u64)
         ensures { self.new.carried ≡ self.old.carried }
     {
@@ -164,7 +164,7 @@ impl<C: Chance> Rehearsed<C> {
         self.carried.pass(self.state.now);
         let fate = self.chance.fate();
         let arrives = self.state.schedule_reply(fate);
-        let answered = self.carried.reach(arrives);
+        let answered = self.carried.hand_over(arrives);
         if answered && fate.repeated && !fate.lost {
             self.carried.repeat_reply();
         }

@@ -8,7 +8,7 @@ use Rattle.gc_client.specs.declared.window.TheConstants.{WINDOW}
 use Rattle.gc_client.specs.Rule.{ById}
 use Rattle.gc_scenes.specs.SceneState.{SceneState}
 use Rattle.gc_station.specs.Parts as part
-use Rattle.gc_station.specs.Parts.{Part, nothing}
+use Rattle.gc_station.specs.Parts.{Part, idle_part}
 use Rattle.gc_world.specs.Clients.{by_ids}
 use Rattle.gc_field.specs.Begin as begin
 use Rattle.gc_field.specs.Begin.{AreTurns, IsTurn, SyncModel, UnderWay, begins, leaves, turned, turns}
@@ -19,17 +19,21 @@ use Rattle.gc_field.specs.InARow.{AreFewKilledWithTurns, killed_by, killed_over}
 use Rattle.gc_rehearsed.specs.Rehearsals.{unbegun}
 use Rattle.gc_field.specs.SceneField.{KeptReplyReads, scene_ends, scene_kept}
 use Rattle.gc_field.specs.Shown.{AreShownAs, shown, shows}
-use Rattle.gc_field.specs.World.{Numbered, World}
+use Rattle.gc_field.specs.World.{Numbered}
 use Rattle.gc_rehearsal.specs.Carrying.{Lines}
-use Rattle.gc_rehearsed.proofs.Sides.{client_move, is_move, is_turn, leaves_turn, left_turn, line_move, move_of, seen_none, shows_none, turn_of}
-use Rattle.gc_rehearsed.proofs.Steps.{AreSteps, Holds, Step, all_stepped, flow}
+use Rattle.gc_rehearsed.proofs.Sides.{SceneWorld, client_move, is_move, is_turn, leaves_turn, left_turn, line_move, move_of, seen_none, shows_none, turn_of}
+use Rattle.gc_rehearsed.proofs.Steps.{AreSteps, Holds, Step, all_stepped, under_way}
 use Rattle.gc_field.proofs.InARow.{same_lines, run}
 use Rattle.gc_field.proofs.InTime.{seen_append}
 use Rattle.gc_field.proofs.BeginWords.{cons_not_nil}
 
--- a world whose client knows ids, and whose instrument is that of a scene
-abbrev pub SceneWorld : Type 0
-SceneWorld = World (ById Asked) SceneState
+-- in the state b of a synchronization these ids are unanswered, and these lines in flight
+abbrev pub BeginIsAt : SyncModel SceneState → List ℕ → Lines → Type 0
+BeginIsAt b word l = (b.left ≡ word) × Holds (leaves b) l
+
+-- the world w has this client, and these lines in flight
+abbrev pub WorldIsAt : SceneWorld → ById Asked → Lines → Type 0
+WorldIsAt w c l = (w.client ≡ c) × Holds (on_line w.wire) l
 
 -- the world after a move, with a client's window of seven
 abbrev pub after_move : SceneWorld → Move SceneState → SceneWorld
@@ -39,15 +43,25 @@ after_move w m = moves scene_ends (by_ids WINDOW scene_ends) w m
 abbrev pub after_moves : List (Move SceneState) → SceneWorld → SceneWorld
 after_moves ms w = moved scene_ends (by_ids WINDOW scene_ends) ms w
 
--- runs over what is in flight show these parts, are possible, and lead to these lines; at most five in a row are killed while
--- they synchronize. At their end none counts as killed in a row if the station has synchronized then (`done`), and else at most
--- one
-pub record Later (u : UnderWay SceneState) (rs : List (Run SceneState)) (ps : List Part) (m : Lines) (done : Bool) : Type 0 where
-  pub show : AreShownAs scene_ends u rs ps
+-- what comes after the part that is going on: the other parts, the lines in flight at the end, and whether the station has
+-- synchronized then
+pub record Sequel : Type 0 where
+  pub parts : List Part
+  pub lines : Lines
+  pub begun : Bool
+
+-- these parts, then these lines in flight, and a station that has synchronized then or not
+abbrev pub sequel : List Part → Lines → (begun : Bool) → Sequel
+sequel ps m begun = record { parts = ps; lines = m; begun = begun }
+
+-- runs over what is in flight show the parts of the sequel, are possible, and lead to its lines; at most five in a row are killed
+-- while they synchronize. At their end none counts as killed in a row if the station has synchronized then, and else at most one
+pub record Later (u : UnderWay SceneState) (rs : List (Run SceneState)) (coming : Sequel) : Type 0 where
+  pub show : AreShownAs scene_ends u rs coming.parts
   pub may : AreRuns WINDOW scene_ends KeptReplyReads scene_kept u rs
-  pub holds : Holds (left_by_runs WINDOW scene_ends u rs) m
+  pub holds : Holds (left_by_runs WINDOW scene_ends u rs) coming.lines
   pub few : AreFewKilledWithTurns scene_ends 0 u rs
-  pub ends : killed_over scene_ends 0 u rs ≤ unbegun 0 done
+  pub ends : killed_over scene_ends 0 u rs ≤ unbegun 0 coming.begun
 
 -- if some ids of a run's synchronization aren't answered, no other run (`rs`) follows, and the station hasn't synchronized at
 -- the end (`done`)
@@ -56,9 +70,8 @@ IsLastUnlessBegun [] done rs = Unit {0}
 IsLastUnlessBegun (asked ∷ word) done rs = (rs ≡ []) × (done ≡ false)
 
 -- from the state b of a synchronization on: possible turns show `turns`, and possible moves after them `steps`; later runs show
--- the other parts, and lead to the lines m, and there are none if the turns leave ids unanswered. `done` says, as in `Later`,
--- whether the station has synchronized at the end
-pub record FromBegin (b : SyncModel SceneState) (turns : List part.SyncStep) (steps : List (client.Step Asked)) (others : List Part) (m : Lines) (done : Bool) : Type 0 where
+-- the sequel (`Later`), and there are none if the turns leave ids unanswered
+pub record FromBegin (b : SyncModel SceneState) (turns : List part.SyncStep) (steps : List (client.Step Asked)) (coming : Sequel) : Type 0 where
   pub ts : List (begin.SyncTurn SceneState)
   pub ms : List (Move SceneState)
   pub rs : List (Run SceneState)
@@ -66,25 +79,24 @@ pub record FromBegin (b : SyncModel SceneState) (turns : List part.SyncStep) (st
   pub see : seen ms ≡ steps
   pub are : AreTurns scene_ends KeptReplyReads scene_kept ts b
   pub may : ArePossibleIf WINDOW scene_ends KeptReplyReads scene_kept (turned scene_ends ts b).left (turned scene_ends ts b) ms
-  pub later : Later (left_if WINDOW scene_ends (turned scene_ends ts b).left (turned scene_ends ts b) ms) rs others m done
-  pub rest : IsLastUnlessBegun (turned scene_ends ts b).left done rs
+  pub later : Later (left_if WINDOW scene_ends (turned scene_ends ts b).left (turned scene_ends ts b) ms) rs coming
+  pub rest : IsLastUnlessBegun (turned scene_ends ts b).left coming.begun rs
 
--- from the world w of a client on: possible moves show `steps`; later runs show the other parts, and lead to the lines m, with
--- `done` as in `Later`
-pub record FromClient (w : SceneWorld) (steps : List (client.Step Asked)) (others : List Part) (m : Lines) (done : Bool) : Type 0 where
+-- from the world w of a client on: possible moves show `steps`, and later runs show the sequel (`Later`)
+pub record FromClient (w : SceneWorld) (steps : List (client.Step Asked)) (coming : Sequel) : Type 0 where
   pub ms : List (Move SceneState)
   pub rs : List (Run SceneState)
   pub see : seen ms ≡ steps
   pub may : ArePossible scene_ends KeptReplyReads scene_kept (by_ids WINDOW scene_ends) ms w
-  pub later : Later (on_line (after_moves ms w).wire) rs others m done
+  pub later : Later (on_line (after_moves ms w).wire) rs coming
 
 -- One thing more before what follows.
 
 -- if t is a possible turn in the state b, and `FromBegin` holds from the state after t, it holds from b, with what t shows
 -- before the turns `xs`
-pub turn_first : (b : SyncModel SceneState) (t : begin.SyncTurn SceneState) (xs : List part.SyncStep) (steps : List (client.Step Asked)) (others : List Part) (m : Lines) (done : Bool)
-    → IsTurn KeptReplyReads scene_kept b t → FromBegin (turns scene_ends b t) xs steps others m done → FromBegin b (shows b t ++ xs) steps others m done
-turn_first b t xs steps others m done is f = record {
+pub turn_first : (b : SyncModel SceneState) (t : begin.SyncTurn SceneState) (xs : List part.SyncStep) (steps : List (client.Step Asked)) (coming : Sequel)
+    → IsTurn KeptReplyReads scene_kept b t → FromBegin (turns scene_ends b t) xs steps coming → FromBegin b (shows b t ++ xs) steps coming
+turn_first b t xs steps coming is f = record {
   ts = t ∷ f.ts;
   ms = f.ms;
   rs = f.rs;
@@ -99,32 +111,32 @@ turn_first b t xs steps others m done is f = record {
 
 -- if `xs` are possible steps from what b has in flight, and `FromBegin` holds from each state with what they leave in flight
 -- and with the unanswered ids of b, it holds from b: the steps show nothing
-pub steps_turn : (xs : List Step) (b : SyncModel SceneState) (show : List part.SyncStep) (steps : List (client.Step Asked)) (others : List Part) (m : Lines) (done : Bool) → AreSteps xs (leaves b)
-    → ((c : SyncModel SceneState) → leaves c ≡ all_stepped xs (leaves b) → c.left ≡ b.left → FromBegin c show steps others m done) → FromBegin b show steps others m done
-steps_turn [] b show steps others m done are on = on b refl refl
-steps_turn (x ∷ xs) b show steps others m done are on =
+pub steps_turn : (xs : List Step) (b : SyncModel SceneState) (show : List part.SyncStep) (steps : List (client.Step Asked)) (coming : Sequel) → AreSteps xs (leaves b)
+    → ((c : SyncModel SceneState) → leaves c ≡ all_stepped xs (leaves b) → c.left ≡ b.left → FromBegin c show steps coming) → FromBegin b show steps coming
+steps_turn [] b show steps coming are on = on b refl refl
+steps_turn (x ∷ xs) b show steps coming are on =
     let one = leaves_turn b x in
-    subst (λ l. FromBegin b (l ++ show) steps others m done) (shows_none b x)
-    (turn_first b (turn_of x) show steps others m done (is_turn b x are.0)
-    (steps_turn xs (turns scene_ends b (turn_of x)) show steps others m done (subst (AreSteps xs) (sym one) are.1)
+    subst (λ l. FromBegin b (l ++ show) steps coming) (shows_none b x)
+    (turn_first b (turn_of x) show steps coming (is_turn b x are.0)
+    (steps_turn xs (turns scene_ends b (turn_of x)) show steps coming (subst (AreSteps xs) (sym one) are.1)
     (λ c e l. on c (e ∙ ap (all_stepped xs) one) (l ∙ left_turn b x))))
 
 -- if x is a possible move in the world w, and `FromClient` holds from the world after x, it holds from w, with what the client
 -- sees of x before the other steps
-pub move_first : (w : SceneWorld) (x : Move SceneState) (steps : List (client.Step Asked)) (others : List Part) (m : Lines) (done : Bool) → IsPossible KeptReplyReads scene_kept w x
-    → FromClient (after_move w x) steps others m done → FromClient w (seen (x ∷ []) ++ steps) others m done
-move_first w x steps others m done is f = record { ms = x ∷ f.ms; rs = f.rs; see = seen_append (x ∷ []) f.ms ∙ ap (λ l. seen (x ∷ []) ++ l) f.see; may = (is, f.may); later = f.later }
+pub move_first : (w : SceneWorld) (x : Move SceneState) (steps : List (client.Step Asked)) (coming : Sequel) → IsPossible KeptReplyReads scene_kept w x
+    → FromClient (after_move w x) steps coming → FromClient w (seen (x ∷ []) ++ steps) coming
+move_first w x steps coming is f = record { ms = x ∷ f.ms; rs = f.rs; see = seen_append (x ∷ []) f.ms ∙ ap (λ l. seen (x ∷ []) ++ l) f.see; may = (is, f.may); later = f.later }
 
 -- if `xs` are possible steps from what w has in flight, and `FromClient` holds from each world with what they leave in flight
 -- and with the client of w, it holds from w: the client sees nothing of the steps
-pub steps_move : (xs : List Step) (w : SceneWorld) (steps : List (client.Step Asked)) (others : List Part) (m : Lines) (done : Bool) → AreSteps xs (on_line w.wire)
-    → ((v : SceneWorld) → on_line v.wire ≡ all_stepped xs (on_line w.wire) → v.client ≡ w.client → FromClient v steps others m done) → FromClient w steps others m done
-steps_move [] w steps others m done are on = on w refl refl
-steps_move (x ∷ xs) w steps others m done are on =
+pub steps_move : (xs : List Step) (w : SceneWorld) (steps : List (client.Step Asked)) (coming : Sequel) → AreSteps xs (on_line w.wire)
+    → ((v : SceneWorld) → on_line v.wire ≡ all_stepped xs (on_line w.wire) → v.client ≡ w.client → FromClient v steps coming) → FromClient w steps coming
+steps_move [] w steps coming are on = on w refl refl
+steps_move (x ∷ xs) w steps coming are on =
     let one = line_move w x in
-    subst (λ l. FromClient w (l ++ steps) others m done) (seen_none x)
-    (move_first w (move_of x) steps others m done (is_move w x are.0)
-    (steps_move xs (after_move w (move_of x)) steps others m done (subst (AreSteps xs) (sym one) are.1)
+    subst (λ l. FromClient w (l ++ steps) coming) (seen_none x)
+    (move_first w (move_of x) steps coming (is_move w x are.0)
+    (steps_move xs (after_move w (move_of x)) steps coming (subst (AreSteps xs) (sym one) are.1)
     (λ v e c. on v (e ∙ ap (all_stepped xs) one) (c ∙ client_move w x))))
 
 -- From one side to the other.
@@ -135,16 +147,16 @@ without_number xs = map-map _ _ xs ∙ map-id xs
 
 -- a client that has just synchronized has in flight what the synchronization left
 pub begun_line : (u : UnderWay SceneState) → on_line (ids_begun u).wire ≡ u
-begun_line u = ap (λ q. flow q (on_line (ids_begun u).wire).down u.state) (without_number u.up) ∙ ap (λ q. flow u.up q u.state) (without_number u.down)
+begun_line u = ap (λ q. under_way q (on_line (ids_begun u).wire).down u.state) (without_number u.up) ∙ ap (λ q. under_way u.up q u.state) (without_number u.down)
 
 -- a synchronization starts over what is in flight
 pub begins_line : (u : UnderWay SceneState) → leaves (begins u) ≡ u
-begins_line u = ap (λ q. flow q (leaves (begins u)).down u.state) (same_lines u.up) ∙ ap (λ q. flow u.up q u.state) (same_lines u.down)
+begins_line u = ap (λ q. under_way q (leaves (begins u)).down u.state) (same_lines u.up) ∙ ap (λ q. under_way u.up q u.state) (same_lines u.down)
 
 -- if all ids are answered, `FromClient` of the client that has synchronized gives `FromBegin`, which shows no further turns
-pub begun_from : (b : SyncModel SceneState) (show : List part.SyncStep) (steps : List (client.Step Asked)) (others : List Part) (m : Lines) (done : Bool) → b.left ≡ [] → show ≡ []
-    → FromClient (ids_begun (leaves b)) steps others m done → FromBegin b show steps others m done
-begun_from b show steps others m done none quiet f = record {
+pub begun_from : (b : SyncModel SceneState) (show : List part.SyncStep) (steps : List (client.Step Asked)) (coming : Sequel) → b.left ≡ [] → show ≡ []
+    → FromClient (ids_begun (leaves b)) steps coming → FromBegin b show steps coming
+begun_from b show steps coming none quiet f = record {
   ts = [];
   ms = f.ms;
   rs = f.rs;
@@ -152,8 +164,8 @@ begun_from b show steps others m done none quiet f = record {
   see = f.see;
   are = tt;
   may = subst (λ left. ArePossibleIf WINDOW scene_ends KeptReplyReads scene_kept left b f.ms) (sym none) f.may;
-  later = subst (λ left. Later (left_if WINDOW scene_ends left b f.ms) f.rs others m done) (sym none) f.later;
-  rest = subst (λ left. IsLastUnlessBegun left done f.rs) (sym none) tt;
+  later = subst (λ left. Later (left_if WINDOW scene_ends left b f.ms) f.rs coming) (sym none) f.later;
+  rest = subst (λ left. IsLastUnlessBegun left coming.begun f.rs) (sym none) tt;
 }
 
 -- how many are killed in a row once the run r has followed `n` that were: none, if it has synchronized (no id is left); else at
@@ -168,12 +180,13 @@ killed_first n u r (asked ∷ word) (t ∷ ts) done rs e same rest =
     let one : killed_by scene_ends n u r (t ∷ ts) ≡ n + 1 = ap (λ l. killed_if l n) (ap (λ xs. (turned scene_ends xs (begins u)).left) same ∙ e) in
     inr (rest.0, rest.1, omega (arith, one))
 
--- if `unbegun n done` is at most five, then in the runs from a synchronization on, before which `n` in a row were killed while
--- they synchronized, at most five in a row are killed so, counted with those `n`, and at the end at most `unbegun n done`
-pub few_from : (n : ℕ) (u : UnderWay SceneState) (show : List part.SyncStep) (steps : List (client.Step Asked)) (others : List Part) (m : Lines) (done : Bool)
-    → (f : FromBegin (begins u) show steps others m done) → unbegun n done ≤ 5
-    → AreFewKilledWithTurns scene_ends n u (run f.ts f.ms ∷ f.rs) × (killed_over scene_ends n u (run f.ts f.ms ∷ f.rs) ≤ unbegun n done)
-few_from n u show steps others m done f small = by_end (killed_first n u (run f.ts f.ms) (turned scene_ends f.ts (begins u)).left f.ts done f.rs refl refl f.rest) where
+-- if `unbegun n coming.begun` is at most five, then in the runs from a synchronization on, before which `n` in a row were killed
+-- while they synchronized, at most five in a row are killed so, counted with those `n`, and at the end at most
+-- `unbegun n coming.begun`
+pub few_from : (n : ℕ) (u : UnderWay SceneState) (show : List part.SyncStep) (steps : List (client.Step Asked)) (coming : Sequel)
+    → (f : FromBegin (begins u) show steps coming) → unbegun n coming.begun ≤ 5
+    → AreFewKilledWithTurns scene_ends n u (run f.ts f.ms ∷ f.rs) × (killed_over scene_ends n u (run f.ts f.ms ∷ f.rs) ≤ unbegun n coming.begun)
+few_from n u show steps coming f small = by_end (killed_first n u (run f.ts f.ms) (turned scene_ends f.ts (begins u)).left f.ts coming.begun f.rs refl refl f.rest) where
   -- if no run counts as killed in a row after the first run, at most five do
   none_killed : killed_by scene_ends n u (run f.ts f.ms) f.ts ≡ 0 → killed_by scene_ends n u (run f.ts f.ms) f.ts ≤ 5
   none_killed none = omega (arith, none)
@@ -186,19 +199,19 @@ few_from n u show steps others m done f small = by_end (killed_first n u (run f.
 
   -- the lemma above, by whether the first run has synchronized
   by_end : (((turned scene_ends f.ts (begins u)).left ≡ []) × (killed_by scene_ends n u (run f.ts f.ms) f.ts ≡ 0))
-      ⊎ ((f.rs ≡ []) × (done ≡ false) × (killed_by scene_ends n u (run f.ts f.ms) f.ts ≤ n + 1))
-      → AreFewKilledWithTurns scene_ends n u ((run f.ts f.ms) ∷ f.rs) × (killed_over scene_ends n u ((run f.ts f.ms) ∷ f.rs) ≤ unbegun n done)
+      ⊎ ((f.rs ≡ []) × (coming.begun ≡ false) × (killed_by scene_ends n u (run f.ts f.ms) f.ts ≤ n + 1))
+      → AreFewKilledWithTurns scene_ends n u ((run f.ts f.ms) ∷ f.rs) × (killed_over scene_ends n u ((run f.ts f.ms) ∷ f.rs) ≤ unbegun n coming.begun)
   by_end (inl begun) = (
     (none_killed begun.1, subst (λ k. AreFewKilledWithTurns scene_ends k (left_by_run WINDOW scene_ends u (run f.ts f.ms)) f.rs) (sym begun.1) f.later.few),
-    subst (λ k. killed_over scene_ends k (left_by_run WINDOW scene_ends u (run f.ts f.ms)) f.rs ≤ unbegun n done) (sym begun.1) (by_done done f.later.ends),
+    subst (λ k. killed_over scene_ends k (left_by_run WINDOW scene_ends u (run f.ts f.ms)) f.rs ≤ unbegun n coming.begun) (sym begun.1) (by_done coming.begun f.later.ends),
   )
   by_end (inr killed) =
-      let count : killed_by scene_ends n u (run f.ts f.ms) f.ts ≤ unbegun n done = subst (λ d. killed_by scene_ends n u (run f.ts f.ms) f.ts ≤ unbegun n d) (sym killed.1) killed.2 in (
+      let count : killed_by scene_ends n u (run f.ts f.ms) f.ts ≤ unbegun n coming.begun = subst (λ d. killed_by scene_ends n u (run f.ts f.ms) f.ts ≤ unbegun n d) (sym killed.1) killed.2 in (
         (
           omega (arith, count, small),
           subst (λ rs. AreFewKilledWithTurns scene_ends (killed_by scene_ends n u (run f.ts f.ms) f.ts) (left_by_run WINDOW scene_ends u (run f.ts f.ms)) rs) (sym killed.0) tt,
         ),
-        subst (λ rs. killed_over scene_ends (killed_by scene_ends n u (run f.ts f.ms) f.ts) (left_by_run WINDOW scene_ends u (run f.ts f.ms)) rs ≤ unbegun n done) (sym killed.0) count,
+        subst (λ rs. killed_over scene_ends (killed_by scene_ends n u (run f.ts f.ms) f.ts) (left_by_run WINDOW scene_ends u (run f.ts f.ms)) rs ≤ unbegun n coming.begun) (sym killed.0) count,
       )
 
 -- one station, killed or not, counts as at most five in a row
@@ -206,12 +219,12 @@ one_few : (done : Bool) → unbegun 0 done ≤ 5
 one_few true = omega arith
 one_few false = omega arith
 
--- `FromBegin` of a synchronization over what is in flight in the world w, which shows the part p and then `others`, gives
--- `FromClient` from w, with no steps, and with p and then `others` as other parts
-pub ended_from : (w : SceneWorld) (p : Part) (others : List Part) (m : Lines) (done : Bool) → FromBegin (begins (on_line w.wire)) p.sync_steps p.steps others m done
-    → FromClient w [] (p ∷ others) m done
-ended_from w p others m done f =
-    let few = few_from 0 (on_line w.wire) p.sync_steps p.steps others m done f (one_few done) in
+-- `FromBegin` of a synchronization over what is in flight in the world w, which shows the part p and then a sequel, gives
+-- `FromClient` from w, with no steps, and with p in front of the sequel's parts
+pub ended_from : (w : SceneWorld) (p : Part) (coming : Sequel) → FromBegin (begins (on_line w.wire)) p.sync_steps p.steps coming
+    → FromClient w [] (sequel (p ∷ coming.parts) coming.lines coming.begun)
+ended_from w p coming f =
+    let few = few_from 0 (on_line w.wire) p.sync_steps p.steps coming f (one_few coming.begun) in
     record {
       ms = [];
       rs = run f.ts f.ms ∷ f.rs;
@@ -226,7 +239,7 @@ none_below true = omega arith
 none_below false = omega arith
 
 -- where the lines m are in flight, `FromClient` holds with no steps and one further part, in which nothing happens
-pub ended_over : (w : SceneWorld) (m : Lines) (done : Bool) → Holds (on_line w.wire) m → FromClient w [] (nothing ∷ []) m done
+pub ended_over : (w : SceneWorld) (m : Lines) (done : Bool) → Holds (on_line w.wire) m → FromClient w [] (sequel (idle_part ∷ []) m done)
 ended_over w m done holds =
     record {
       ms = [];
@@ -243,15 +256,15 @@ ended_over w m done holds =
     }
 
 -- where the lines m are in flight, `FromClient` holds with no steps and no further parts
-pub ends_client : (w : SceneWorld) (m : Lines) (done : Bool) → Holds (on_line w.wire) m → FromClient w [] [] m done
+pub ends_client : (w : SceneWorld) (m : Lines) (done : Bool) → Holds (on_line w.wire) m → FromClient w [] (sequel [] m done)
 ends_client w m done holds = record { ms = []; rs = []; see = refl; may = tt; later = record { show = tt; may = tt; holds = holds; few = tt; ends = none_below done } }
 
 -- where some ids aren't answered, and the lines m are in flight, `FromBegin` holds with no turns, no steps and no further parts,
 -- and with a station that hasn't synchronized at the end
-pub ends_begin : (b : SyncModel SceneState) (m : Lines) → (b.left ≡ [] → ⊥) → Holds (leaves b) m → FromBegin b [] [] [] m false
+pub ends_begin : (b : SyncModel SceneState) (m : Lines) → (b.left ≡ [] → ⊥) → Holds (leaves b) m → FromBegin b [] [] (sequel [] m false)
 ends_begin b m some holds = by_left b.left refl where
   -- the lemma above, by the ids that are left
-  by_left : (left : List ℕ) → b.left ≡ left → FromBegin b [] [] [] m false
+  by_left : (left : List ℕ) → b.left ≡ left → FromBegin b [] [] (sequel [] m false)
   by_left [] e = absurd (some e)
   by_left (asked ∷ rest) e = record {
     ts = [];
@@ -261,6 +274,6 @@ ends_begin b m some holds = by_left b.left refl where
     see = refl;
     are = tt;
     may = subst (λ left. ArePossibleIf WINDOW scene_ends KeptReplyReads scene_kept left b []) (sym e) refl;
-    later = subst (λ left. Later (left_if WINDOW scene_ends left b []) [] [] m false) (sym e) (record { show = tt; may = tt; holds = holds; few = tt; ends = omega arith });
+    later = subst (λ left. Later (left_if WINDOW scene_ends left b []) [] (sequel [] m false)) (sym e) (record { show = tt; may = tt; holds = holds; few = tt; ends = omega arith });
     rest = subst (λ left. IsLastUnlessBegun left false []) (sym e) (refl, refl);
   }

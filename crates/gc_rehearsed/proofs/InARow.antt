@@ -11,7 +11,7 @@ use Rattle.gc_station.proofs.Lists.{cons_head, cons_tail}
 use Rattle.gc_station.specs.Deciding.{has_begun}
 use Rattle.gc_station.specs.Model.{Runs, after_all, opening}
 use Rattle.gc_station.specs.Parts as part
-use Rattle.gc_station.specs.Parts.{Part, parts_of}
+use Rattle.gc_station.specs.Parts.{parts_of}
 use Rattle.gc_field.specs.Begin as begin
 use Rattle.gc_field.specs.Begin.{UnderWay, begins, leaves, none_under_way}
 use Rattle.gc_field.specs.Beginnings.{HasRisingIds, Run, left_by_runs}
@@ -23,7 +23,7 @@ use Rattle.gc_field.proofs.SceneField.{scene_is_an_instrument}
 use Rattle.gc_field.proofs.BeginJoin.{word_small}
 use Rattle.gc_rehearsal.specs.Carrying.{Lines, Happening, Acts, ActLeads, IsQuiet, LeadAll, acts_of}
 use Rattle.gc_rehearsed.specs.Rehearsals.{FewEndUnbegun, RunsAndStops, RehearsalsInARowAreFaithful, RehearsedStation, has_begun_at_its_end, programs, acts_of_all, unbegun}
-use Rattle.gc_rehearsed.proofs.Courses.{FromBegin, begins_line, few_from, steps_turn}
+use Rattle.gc_rehearsed.proofs.Courses.{BeginIsAt, FromBegin, Sequel, begins_line, few_from, sequel, steps_turn}
 use Rattle.gc_rehearsed.proofs.Rehearsed.{OnBegin, first_and_others, first_part, none_kept, other_parts, shows_the_run}
 use Rattle.gc_station.proofs.PartFronts.{some_parts}
 use Rattle.gc_rehearsed.proofs.Steps.{Holds, happens}
@@ -70,16 +70,16 @@ quiet_same act l n quiet does = does
 
 -- if all acts of what happens on the line between two stations are quiet, and `FromBegin` holds from each state with the lines
 -- that this leads to in flight and with the unanswered ids of b, it holds from b
-idle_first : (hs : List Happening) (b : begin.SyncModel SceneState) (l n : Lines) (show : List part.SyncStep) (steps : List (client.Step Asked)) (more : List Part) (m : Lines) (done : Bool)
+idle_first : (hs : List Happening) (b : begin.SyncModel SceneState) (l n : Lines) (show : List part.SyncStep) (steps : List (client.Step Asked)) (coming : Sequel)
     → AllByRecursion IsQuiet (acts_of hs) → Holds (leaves b) l → LeadAll l hs n
-    → ((c : begin.SyncModel SceneState) → Holds (leaves c) n → c.left ≡ b.left → FromBegin c show steps more m done) → FromBegin b show steps more m done
-idle_first [] b l n show steps more m done quiet holds all on = on b (subst (Holds (leaves b)) (sym all) holds) refl
-idle_first (Acts act ∷ hs) b l n show steps more m done quiet holds all on =
-    idle_first hs b all.0 n show steps more m done quiet.1 (subst (Holds (leaves b)) (sym (quiet_same act l all.0 quiet.0 all.1)) holds) all.2 on
-idle_first (h ∷ hs) b l n show steps more m done quiet holds all on =
+    → ((c : begin.SyncModel SceneState) → BeginIsAt c b.left n → FromBegin c show steps coming) → FromBegin b show steps coming
+idle_first [] b l n show steps coming quiet holds all on = on b (refl, subst (Holds (leaves b)) (sym all) holds)
+idle_first (Acts act ∷ hs) b l n show steps coming quiet holds all on =
+    idle_first hs b all.0 n show steps coming quiet.1 (subst (Holds (leaves b)) (sym (quiet_same act l all.0 quiet.0 all.1)) holds) all.2 on
+idle_first (h ∷ hs) b l n show steps coming quiet holds all on =
     let xs = happens (leaves b) l all.0 h (λ act e. cc) holds all.1 in
-    steps_turn xs.steps b show steps more m done xs.are
-    (λ c e k. idle_first hs c all.0 n show steps more m done quiet (subst (λ u. Holds u all.0) (sym e) xs.holds) all.2 (λ d h g. on d h (g ∙ k)))
+    steps_turn xs.steps b show steps coming xs.are
+    (λ c e k. idle_first hs c all.0 n show steps coming quiet (subst (λ u. Holds u all.0) (sym e) xs.holds) all.2 (λ d at. on d (subst (λ word. BeginIsAt d word n) k at)))
 
 -- The stations in a row.
 
@@ -113,13 +113,13 @@ goes_in_a_row n (x ∷ xs) hs before u l m quiet holds all told lives few =
     let one = cut hs before (acts_of_all (x ∷ xs)) l m told all in
     let two = cut one.back x.acts (x.after_run ++ acts_of_all xs) one.middle m one.backs one.later in
     let f : OnBegin (begins u) two.middle ps done =
-    idle_first one.front (begins u) l one.middle (first_part ps).sync_steps (first_part ps).steps (other_parts ps) two.middle done (subst (AllByRecursion IsQuiet) (sym one.fronts) quiet)
+    idle_first one.front (begins u) l one.middle (first_part ps).sync_steps (first_part ps).steps (sequel (other_parts ps) two.middle done) (subst (AllByRecursion IsQuiet) (sym one.fronts) quiet)
     (subst (λ v. Holds v l) (sym (begins_line u)) holds) one.leads
-    (λ c h k. subst (λ acts. OnBegin c two.middle (parts_of x.plan x.commands s acts) (has_begun (after_all x.plan x.commands s acts).progress)) two.fronts
-    ((shows_the_run x.plan x.commands lives.0.askable two.front two.middle).0 s c one.middle (invariant_opening x.plan x.commands x.scope) refl refl k
-    word_small h two.leads (subst (Runs x.plan x.commands s) (sym two.fronts) lives.0.runs))) in
+    (λ c at. subst (λ acts. OnBegin c two.middle (parts_of x.plan x.commands s acts) (has_begun (after_all x.plan x.commands s acts).progress)) two.fronts
+    ((shows_the_run x.plan x.commands lives.0.askable two.front two.middle).0 s c one.middle (invariant_opening x.plan x.commands x.scope) refl refl at
+    word_small two.leads (subst (Runs x.plan x.commands s) (sym two.fronts) lives.0.runs))) in
     let rs = run f.ts f.ms ∷ f.rs in
-    let killed = few_from n u (first_part ps).sync_steps (first_part ps).steps (other_parts ps) two.middle done f few.0 in
+    let killed = few_from n u (first_part ps).sync_steps (first_part ps).steps (sequel (other_parts ps) two.middle done) f few.0 in
     let rest = goes_in_a_row (killed_over scene_ends n u rs) xs two.back x.after_run (left_by_runs WINDOW scene_ends u rs) two.middle m lives.0.quiet f.later.holds two.later two.backs lives.1
     (fewer (killed_over scene_ends n u rs) (unbegun n done) xs killed.1 few.1) in
     record {

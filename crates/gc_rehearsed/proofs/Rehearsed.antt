@@ -13,15 +13,14 @@ use Rattle.gc_station.specs.Beginnings.{unanswered_after}
 use Rattle.gc_station.specs.Begun.{heard_in}
 use Rattle.gc_station.specs.Deciding.{has_begun, is_none_left}
 use Rattle.gc_station.specs.Model.{Model, Performs, Runs, action_at, after, after_all, losing, moved, opening, waiting_of, with_progress}
-use Rattle.gc_station.specs.Parts.{MarksAsk, MarkAsks, Part, sync_part, client_part, in_front, nothing, parts_of, put_part, client_after, course_at}
+use Rattle.gc_station.specs.Parts.{MarksAsk, MarkAsks, Part, sync_part, client_part, in_front, idle_part, parts_of, put_part, client_after, course_at}
 use Rattle.gc_station.specs.Progressing.{is_over, loses_all, turned}
 use Rattle.gc_station.proofs.Asked.{FirstHasNoSyncSteps, goes_begun, no_sync_steps, word_empty}
 use Rattle.gc_station.proofs.Booking.{sends_with_room, sent_by}
 use Rattle.gc_station.proofs.EachRun.{invariant_after, invariant_opening}
 use Rattle.gc_station.proofs.Facts.{action_for}
 use Rattle.gc_station.proofs.Invariant.{Invariant}
-use Rattle.gc_station.proofs.Meant.{put_is}
-use Rattle.gc_station.proofs.Meant as meant
+use Rattle.gc_station.proofs.Meant.{IsPutByClient, put_is}
 use Rattle.gc_station.proofs.PartFronts.{HasSome, some_parts}
 use Rattle.gc_station.proofs.Parting.{keeps_action, leads}
 use Rattle.gc_station.proofs.Turns.{no_act_once_over}
@@ -32,7 +31,7 @@ use Rattle.gc_field.specs.Begin.{begins, leaves, none_under_way}
 use Rattle.gc_field.specs.Asking.{MeansSyncSteps}
 use Rattle.gc_field.specs.Beginnings.{on_line}
 use Rattle.gc_field.specs.Begun.{ids_begun}
-use Rattle.gc_field.specs.Runs.{IsInField, IsMeant, Program}
+use Rattle.gc_field.specs.Runs.{IsInField, IsMeant}
 use Rattle.gc_field.specs.Meaning.{IsHeard, IsDiscarded}
 use Rattle.gc_field.specs.SceneField.{KeptReplyReads, scene_ends, scene_kept}
 use Rattle.gc_world.specs.Exchange.{ReadsWithItsId}
@@ -43,9 +42,10 @@ use Rattle.gc_field.proofs.SceneField.{scene_is_an_instrument}
 use Rattle.gc_field.proofs.BeginJoin.{IsSmall, word_small}
 use Rattle.gc_field.proofs.BeginWords.{cons_not_nil}
 use Rattle.gc_rehearsal.specs.Carrying.{Lines, Happening, Acts, ActLeads, PutLeads, LeadAll, acts_of}
-use Rattle.gc_rehearsed.specs.Rehearsals.{AreAskable, IsAskable, RehearsalsAreFaithful}
+use Rattle.gc_rehearsed.specs.Rehearsals.{AreAskable, IsAskable, RehearsalsAreFaithful, as_program}
 use Rattle.gc_rehearsed.proofs.Acted.{MovesTo, TurnsTo, feed_no_line, ids_left, moves_gave, moves_moment, moves_none, moves_sends, same_line, turns_act}
-use Rattle.gc_rehearsed.proofs.Courses.{FromBegin, FromClient, SceneWorld, begins_line, begun_from, begun_line, ended_from, ended_over, ends_begin, ends_client, steps_move, steps_turn}
+use Rattle.gc_rehearsed.proofs.Courses.{BeginIsAt, FromBegin, FromClient, Sequel, WorldIsAt, begins_line, begun_from, begun_line, ended_from, ended_over, ends_begin, ends_client, sequel, steps_move, steps_turn}
+use Rattle.gc_rehearsed.proofs.Sides.{SceneWorld}
 use Rattle.gc_rehearsed.proofs.Steps.{Holds, happens}
 use Rattle.gc_field.proofs.InARow.{run}
 
@@ -53,7 +53,7 @@ use Rattle.gc_field.proofs.InARow.{run}
 
 -- the first of these parts; where there is none, the one in which nothing happens
 abbrev pub first_part : List Part → Part
-first_part [] = nothing
+first_part [] = idle_part
 first_part (p ∷ ps) = p
 
 -- the parts after the first
@@ -68,40 +68,40 @@ first_and_others (p ∷ ps) some = refl
 
 -- `FromBegin` by parts: from the state b of a synchronization on, its run shows the first part, and later runs the others
 abbrev pub OnBegin : begin.SyncModel SceneState → Lines → List Part → Bool → Type 0
-OnBegin b m ps done = FromBegin b (first_part ps).sync_steps (first_part ps).steps (other_parts ps) m done
+OnBegin b m ps done = FromBegin b (first_part ps).sync_steps (first_part ps).steps (sequel (other_parts ps) m done)
 
 -- `FromClient` by parts: from the world w on, its client's run shows the steps of the first part, and later runs the others
 abbrev pub OnClient : SceneWorld → Lines → List Part → Bool → Type 0
-OnClient w m ps done = FromClient w (first_part ps).steps (other_parts ps) m done
+OnClient w m ps done = FromClient w (first_part ps).steps (sequel (other_parts ps) m done)
 
 -- if an act comes to the steps of the synchronization in its part p (`TurnsTo`), which has no steps of the client, and `OnBegin`
 -- holds of the later parts from each state that these steps may lead to, it holds from b of the later parts with p as the front of
 -- the first one (`in_front`)
 begin_first : (b : begin.SyncModel SceneState) (p : Part) (word : List ℕ) (n m : Lines) (ps : List Part) (done : Bool) → HasSome ps → p.steps ≡ [] → TurnsTo b p.sync_steps word n
-    → ((c : begin.SyncModel SceneState) → Holds (leaves c) n → c.left ≡ word → OnBegin c m ps done) → OnBegin b m (in_front p false ps) done
+    → ((c : begin.SyncModel SceneState) → BeginIsAt c word n → OnBegin c m ps done) → OnBegin b m (in_front p false ps) done
 begin_first b p word n m [] done some none to on = absurd some
 begin_first b p word n m (q ∷ ps) done some none to on =
-    subst (λ (ss : List (client.Step Asked)). FromBegin b (p.sync_steps ++ q.sync_steps) (ss ++ q.steps) ps m done) (sym none) (to q.sync_steps q.steps ps m done on)
+    subst (λ (ss : List (client.Step Asked)). FromBegin b (p.sync_steps ++ q.sync_steps) (ss ++ q.steps) (sequel ps m done)) (sym none) (to q.sync_steps q.steps (sequel ps m done) on)
 
 -- if an act comes to the steps of its part p (`MovesTo`), and `OnClient` holds of the later parts from each world that these
 -- steps may lead to, it holds from w of the later parts with p as the front of the first one (`in_front`)
 client_first : (w : SceneWorld) (p : Part) (c : ById Asked) (n m : Lines) (ps : List Part) (done : Bool) → HasSome ps → MovesTo w p.steps c n
-    → ((v : SceneWorld) → Holds (on_line v.wire) n → v.client ≡ c → OnClient v m ps done) → OnClient w m (in_front p false ps) done
+    → ((v : SceneWorld) → WorldIsAt v c n → OnClient v m ps done) → OnClient w m (in_front p false ps) done
 client_first w p c n m [] done some to on = absurd some
-client_first w p c n m (q ∷ ps) done some to on = to q.steps ps m done on
+client_first w p c n m (q ∷ ps) done some to on = to q.steps (sequel ps m done) on
 
 -- if an act comes to the steps of its part p (`MovesTo`), which ends with the act, and `FromClient` holds from each world that
 -- these steps may lead to, with no steps and with the later parts, `OnClient` holds from w of p and then the later parts
 client_last : (w : SceneWorld) (p : Part) (c : ById Asked) (n m : Lines) (ps : List Part) (done : Bool) → MovesTo w p.steps c n
-    → ((v : SceneWorld) → Holds (on_line v.wire) n → FromClient v [] ps m done) → OnClient w m (in_front p true ps) done
+    → ((v : SceneWorld) → Holds (on_line v.wire) n → FromClient v [] (sequel ps m done)) → OnClient w m (in_front p true ps) done
 client_last w p c n m ps done to on =
-    subst (λ (ss : List (client.Step Asked)). FromClient w ss ps m done) (append-nil p.steps) (to [] ps m done (λ v holds is. on v holds))
+    subst (λ (ss : List (client.Step Asked)). FromClient w ss (sequel ps m done)) (append-nil p.steps) (to [] (sequel ps m done) (λ v at. on v at.1))
 
 -- where a part has ended with the world v, and `OnBegin` holds of the later parts from a synchronization over what is in flight
 -- in v, `FromClient` holds from v with no steps and with the later parts
-client_anew : (v : SceneWorld) (m : Lines) (ps : List Part) (done : Bool) → HasSome ps → OnBegin (begins (on_line v.wire)) m ps done → FromClient v [] ps m done
+client_anew : (v : SceneWorld) (m : Lines) (ps : List Part) (done : Bool) → HasSome ps → OnBegin (begins (on_line v.wire)) m ps done → FromClient v [] (sequel ps m done)
 client_anew v m [] done some f = absurd some
-client_anew v m (q ∷ ps) done some f = ended_from v q ps m done f
+client_anew v m (q ∷ ps) done some f = ended_from v q (sequel ps m done) f
 
 -- What commands ask.
 
@@ -124,14 +124,14 @@ losing_loses false t = refl
 
 module _ (plan : Plan) (commands : List Task) (askable : AreAskable commands) where
   -- an act that puts bytes, whole or in part, once the station has synchronized, comes to the steps that it means
-  moves_put : (s : Model) (bytes : List ℕ) (w : SceneWorld) (l n : Lines) → Invariant plan commands s → w.client ≡ s.client → Holds (on_line w.wire) l
+  moves_put : (s : Model) (bytes : List ℕ) (w : SceneWorld) (l n : Lines) → Invariant plan commands s → WorldIsAt w s.client l
       → (let p = put_part plan commands s (action_at plan s) in MarksAsk commands p.marks (sent_by s.client p.steps))
-      → meant.IsPut s bytes (put_part plan commands s (action_at plan s)) → PutLeads l bytes n
+      → IsPutByClient s bytes (put_part plan commands s (action_at plan s)) → PutLeads l bytes n
       → MovesTo w (put_part plan commands s (action_at plan s)).steps (client_after s.client (put_part plan commands s (action_at plan s)).steps) n
-  moves_put s bytes w l n fine is holds of (inl feed) (inl same) =
-      subst (λ (p : Part). MovesTo w p.steps (client_after s.client p.steps) n) (sym feed.1) (moves_none w s.client l n is holds same)
-  moves_put s bytes w l n fine is holds of (inl feed) (inr sent) = absurd (feed_no_line sent.0 (sym feed.0 ∙ sent.1))
-  moves_put s bytes w l n fine is holds of (inr x) came =
+  moves_put s bytes w l n fine at of (inl feed) (inl same) =
+      subst (λ (p : Part). MovesTo w p.steps (client_after s.client p.steps) n) (sym feed.1) (moves_none w s.client l n at same)
+  moves_put s bytes w l n fine at of (inl feed) (inr sent) = absurd (feed_no_line sent.0 (sym feed.0 ∙ sent.1))
+  moves_put s bytes w l n fine at of (inr x) came =
       let one = subst (λ (p : Part). MarksAsk commands p.marks (sent_by s.client p.steps)) x.part of in
       let fits = asked_fits commands x.mark (record { target = x.target; call = x.call }) askable
       (subst (MarksAsk commands (x.mark ∷ [])) (sent_one s.client x.target x.call x.deadline x.room) one).0 in
@@ -139,10 +139,10 @@ module _ (plan : Plan) (commands : List Task) (askable : AreAskable commands) wh
         -- the steps that the send comes to, by whether the request is lost or is in flight
         by_came : PutLeads l bytes n → IsAskedFitting x.call
             → MovesTo w (client.Send x.target x.call x.deadline ∷ []) (client_after s.client (client.Send x.target x.call x.deadline ∷ [])) n
-        by_came (inl same) fits = moves_sends w s.client x.target x.call x.deadline (asked_line (Some s.client.next) x.call) l n is x.room fine.digit fits refl holds (inl same)
+        by_came (inl same) fits = moves_sends w s.client x.target x.call x.deadline (asked_line (Some s.client.next) x.call) l n at x.room fine.digit fits refl (inl same)
         by_came (inr sent) fits =
-            moves_sends w s.client x.target x.call x.deadline sent.0 l n is x.room fine.digit fits
-            (same_line sent.0 (asked_line (Some s.client.next) x.call) (sym sent.1 ∙ x.text)) holds (inr sent.2)
+            moves_sends w s.client x.target x.call x.deadline sent.0 l n at x.room fine.digit fits
+            (same_line sent.0 (asked_line (Some s.client.next) x.call) (sym sent.1 ∙ x.text)) (inr sent.2)
 
   -- what an act sends once the station has synchronized is of its mark's command, or a null procedure
   sends_of : (s : Model) (act : Act) → Invariant plan commands s → Performs commands s (action_at plan s) act → has_begun s.progress ≡ true
@@ -157,36 +157,36 @@ module _ (plan : Plan) (commands : List Task) (askable : AreAskable commands) wh
   -- an act once the station has synchronized leaves no bytes of an unfinished line if there were none, and comes to the steps
   -- of the act's part
   moves_act : (s : Model) (act : Act) (w : SceneWorld) (l n : Lines) → Invariant plan commands s → Performs commands s (action_at plan s) act
-      → (begun : has_begun s.progress ≡ true) → (empty : s.rest ≡ []) → w.client ≡ s.client → Holds (on_line w.wire) l → ActLeads l act n
+      → (begun : has_begun s.progress ≡ true) → (empty : s.rest ≡ []) → WorldIsAt w s.client l → ActLeads l act n
       → ((after plan commands s act).rest ≡ [])
       × MovesTo w (client_part plan commands s (action_at plan s) act).steps (client_after s.client (client_part plan commands s (action_at plan s) act).steps) n
-  moves_act s (Put bytes) w l n fine obeys begun rest is holds does = (
+  moves_act s (Put bytes) w l n fine obeys begun rest at does = (
     (is_meant plan commands s (Put bytes) true begun fine obeys).1.1 ∙ rest,
-    moves_put s bytes w l n fine is holds (sends_of s (Put bytes) fine obeys begun) (put_is plan commands s (Put bytes) bytes fine obeys refl begun) does,
+    moves_put s bytes w l n fine at (sends_of s (Put bytes) fine obeys begun) (put_is plan commands s (Put bytes) bytes fine obeys refl begun) does,
   )
-  moves_act s (Cut bytes count) w l n fine obeys begun rest is holds does = (
+  moves_act s (Cut bytes count) w l n fine obeys begun rest at does = (
     (is_meant plan commands s (Cut bytes count) true begun fine obeys).1.1 ∙ rest,
-    moves_put s bytes w l n fine is holds (sends_of s (Cut bytes count) fine obeys begun) (put_is plan commands s (Cut bytes count) bytes fine obeys refl begun) (inl does),
+    moves_put s bytes w l n fine at (sends_of s (Cut bytes count) fine obeys begun) (put_is plan commands s (Cut bytes count) bytes fine obeys refl begun) (inl does),
   )
-  moves_act s (Gave piece moment) w l n fine obeys begun rest is holds does =
+  moves_act s (Gave piece moment) w l n fine obeys begun rest at does =
       let p = client_part plan commands s (action_at plan s) (Gave piece moment) in
       let behind = (after plan commands s (Gave piece moment)).rest in
       let means = (is_meant plan commands s (Gave piece moment) true begun fine obeys).1 in
-      moves_gave w s.client piece moment p.steps behind l n is holds (subst (λ r. IsHeard r piece moment p.steps behind ⊎ IsDiscarded r moment p.steps behind) rest means) does
-  moves_act s (Told moment) w l n fine obeys begun rest is holds does = (
+      moves_gave w s.client piece moment p.steps behind l n at (subst (λ r. IsHeard r piece moment p.steps behind ⊎ IsDiscarded r moment p.steps behind) rest means) does
+  moves_act s (Told moment) w l n fine obeys begun rest at does = (
     (is_meant plan commands s (Told moment) true begun fine obeys).1.1 ∙ rest,
-    moves_moment w s.client moment.elapsed l n is holds does,
+    moves_moment w s.client moment.elapsed l n at does,
   )
-  moves_act s (Silent moment) w l n fine obeys begun rest is holds does = (
+  moves_act s (Silent moment) w l n fine obeys begun rest at does = (
     (is_meant plan commands s (Silent moment) true begun fine obeys).1.1 ∙ rest,
-    moves_moment w s.client moment.elapsed l n is holds does,
+    moves_moment w s.client moment.elapsed l n at does,
   )
-  moves_act s Untold w l n fine obeys begun rest is holds does = ((is_meant plan commands s Untold true begun fine obeys).1.1 ∙ rest, moves_none w s.client l n is holds does)
-  moves_act s Ended w l n fine obeys begun rest is holds does = ((is_meant plan commands s Ended true begun fine obeys).1.1 ∙ rest, moves_none w s.client l n is holds does)
-  moves_act s Broke w l n fine obeys begun rest is holds does = ((is_meant plan commands s Broke true begun fine obeys).1.1 ∙ rest, moves_none w s.client l n is holds does)
-  moves_act s Closed w l n fine obeys begun rest is holds does = ((is_meant plan commands s Closed true begun fine obeys).1.1, moves_none w s.client l n is holds does)
-  moves_act s Opened w l n fine obeys begun rest is holds does = ((is_meant plan commands s Opened true begun fine obeys).1.1 ∙ rest, moves_none w s.client l n is holds does)
-  moves_act s Unopened w l n fine obeys begun rest is holds does = ((is_meant plan commands s Unopened true begun fine obeys).1.1 ∙ rest, moves_none w s.client l n is holds does)
+  moves_act s Untold w l n fine obeys begun rest at does = ((is_meant plan commands s Untold true begun fine obeys).1.1 ∙ rest, moves_none w s.client l n at does)
+  moves_act s Ended w l n fine obeys begun rest at does = ((is_meant plan commands s Ended true begun fine obeys).1.1 ∙ rest, moves_none w s.client l n at does)
+  moves_act s Broke w l n fine obeys begun rest at does = ((is_meant plan commands s Broke true begun fine obeys).1.1 ∙ rest, moves_none w s.client l n at does)
+  moves_act s Closed w l n fine obeys begun rest at does = ((is_meant plan commands s Closed true begun fine obeys).1.1, moves_none w s.client l n at does)
+  moves_act s Opened w l n fine obeys begun rest at does = ((is_meant plan commands s Opened true begun fine obeys).1.1 ∙ rest, moves_none w s.client l n at does)
+  moves_act s Unopened w l n fine obeys begun rest at does = ((is_meant plan commands s Unopened true begun fine obeys).1.1 ∙ rest, moves_none w s.client l n at does)
 
   -- Whole runs.
 
@@ -224,13 +224,13 @@ module _ (plan : Plan) (commands : List Task) (askable : AreAskable commands) wh
 
   -- if what happens on the line has no acts, and `FromClient` holds from each world with the lines that this leads to in flight
   -- and with the client of w, it holds from w
-  goes_idly : (hs : List Happening) (w : SceneWorld) (l m : Lines) (steps : List (client.Step Asked)) (more : List Part) (done : Bool) → acts_of hs ≡ [] → Holds (on_line w.wire) l → LeadAll l hs m
-      → ((v : SceneWorld) → Holds (on_line v.wire) m → FromClient v steps more m done) → FromClient w steps more m done
-  goes_idly [] w l m steps more done none holds all on = on w (subst (Holds (on_line w.wire)) (sym all) holds)
-  goes_idly (Acts act ∷ hs) w l m steps more done none holds all on = absurd (cons_not_nil act (acts_of hs) none)
-  goes_idly (h ∷ hs) w l m steps more done none holds all on =
+  goes_idly : (hs : List Happening) (w : SceneWorld) (l m : Lines) (steps : List (client.Step Asked)) (coming : Sequel) → acts_of hs ≡ [] → Holds (on_line w.wire) l → LeadAll l hs m
+      → ((v : SceneWorld) → Holds (on_line v.wire) m → FromClient v steps coming) → FromClient w steps coming
+  goes_idly [] w l m steps coming none holds all on = on w (subst (Holds (on_line w.wire)) (sym all) holds)
+  goes_idly (Acts act ∷ hs) w l m steps coming none holds all on = absurd (cons_not_nil act (acts_of hs) none)
+  goes_idly (h ∷ hs) w l m steps coming none holds all on =
       let xs = happens (on_line w.wire) l all.0 h (λ act e. cc) holds all.1 in
-      steps_move xs.steps w steps more m done xs.are (λ v e k. goes_idly hs v all.0 m steps more done none (subst (λ u. Holds u all.0) (sym e) xs.holds) all.2 on)
+      steps_move xs.steps w steps coming xs.are (λ v e k. goes_idly hs v all.0 m steps coming none (subst (λ u. Holds u all.0) (sym e) xs.holds) all.2 on)
 
   -- From a synchronization and from a client on.
 
@@ -248,28 +248,28 @@ module _ (plan : Plan) (commands : List Task) (askable : AreAskable commands) wh
   -- happens on the line shows the parts of the station's run by these acts
   abbrev FromBeginOf : List Happening → Lines → Type 0
   FromBeginOf hs m =
-      (s : Model) (b : begin.SyncModel SceneState) (l : Lines) → Invariant plan commands s → s.rest ≡ [] → has_begun s.progress ≡ false → b.left ≡ s.progress.word
-      → IsSmall s.progress.word → Holds (leaves b) l → LeadAll l hs m → Runs plan commands s (acts_of hs)
+      (s : Model) (b : begin.SyncModel SceneState) (l : Lines) → Invariant plan commands s → s.rest ≡ [] → has_begun s.progress ≡ false → BeginIsAt b s.progress.word l
+      → IsSmall s.progress.word → LeadAll l hs m → Runs plan commands s (acts_of hs)
       → OnBegin b m (parts_of plan commands s (acts_of hs)) (has_begun (after_all plan commands s (acts_of hs)).progress)
 
   -- from each world w of a client on that agrees with the station's model s, which has synchronized, and with the line: what
   -- happens on the line shows the parts of the station's run by these acts
   abbrev FromClientOf : List Happening → Lines → Type 0
   FromClientOf hs m =
-      (s : Model) (w : SceneWorld) (l : Lines) → Invariant plan commands s → s.rest ≡ [] → has_begun s.progress ≡ true → w.client ≡ s.client
-      → Holds (on_line w.wire) l → LeadAll l hs m → Runs plan commands s (acts_of hs)
+      (s : Model) (w : SceneWorld) (l : Lines) → Invariant plan commands s → s.rest ≡ [] → has_begun s.progress ≡ true → WorldIsAt w s.client l
+      → LeadAll l hs m → Runs plan commands s (acts_of hs)
       → OnClient w m (parts_of plan commands s (acts_of hs)) (has_begun (after_all plan commands s (acts_of hs)).progress)
 
   -- if what happens later is `FromBeginOf` and `FromClientOf`, it is `FromBeginOf` with one more act before it
   act_begin : (act : Act) (hs : List Happening) (m : Lines) → FromBeginOf hs m → FromClientOf hs m → FromBeginOf (Acts act ∷ hs) m
-  act_begin act hs m later_begin later_client s b l fine rest begins left ids holds all runs =
+  act_begin act hs m later_begin later_client s b l fine rest begins at ids all runs =
       let o = action_at plan s in
       let t = after plan commands s act in
       let p = sync_part s o act in
       let done = has_begun (after_all plan commands t (acts_of hs)).progress in
       subst (λ x. OnBegin b m (in_front (if x then client_part plan commands s o act else sync_part s o act) (x && loses_all t.progress) (parts_of plan commands t (acts_of hs))) done) (sym begins)
       (begin_first b p (unanswered_after s.progress.word (heard_in p.sync_steps)) all.0 m (parts_of plan commands t (acts_of hs)) done (some_parts plan commands t (acts_of hs)) means.0 to.1
-      (λ c h k. next c h (k ∙ sym means.2) (has_begun t.progress) refl)) where
+      (λ c later. next c (subst (λ word. BeginIsAt c word all.0) (sym means.2) later) (has_begun t.progress) refl)) where
         -- the act means its part
         means : IsMeant false s act (sync_part s (action_at plan s) act) (after plan commands s act)
         means = is_meant plan commands s act false begins fine runs.0
@@ -277,26 +277,26 @@ module _ (plan : Plan) (commands : List Task) (askable : AreAskable commands) wh
         -- no bytes of an unfinished line are left, and the act comes to the steps of its part
         to : ((after plan commands s act).rest ≡ [])
             × TurnsTo b (sync_part s (action_at plan s) act).sync_steps (unanswered_after s.progress.word (heard_in (sync_part s (action_at plan s) act).sync_steps)) all.0
-        to = turns_act b s.progress.word act (sync_part s (action_at plan s) act).sync_steps (after plan commands s act).rest l all.0 left ids holds (some_left s.progress.word begins)
+        to = turns_act b s.progress.word act (sync_part s (action_at plan s) act).sync_steps (after plan commands s act).rest l all.0 at ids (some_left s.progress.word begins)
             (subst (λ r. MeansSyncSteps s.progress.word r act (sync_part s (action_at plan s) act).sync_steps (after plan commands s act).rest) rest means.1) all.1
 
         -- what happens later, from the state after the act, by whether the station has synchronized then (`x`)
-        next : (c : begin.SyncModel SceneState) → Holds (leaves c) all.0 → c.left ≡ (after plan commands s act).progress.word → (x : Bool) → has_begun (after plan commands s act).progress ≡ x
+        next : (c : begin.SyncModel SceneState) → BeginIsAt c (after plan commands s act).progress.word all.0 → (x : Bool) → has_begun (after plan commands s act).progress ≡ x
             → OnBegin c m (parts_of plan commands (after plan commands s act) (acts_of hs)) (has_begun (after_all plan commands (after plan commands s act) (acts_of hs)).progress)
-        next c h k false e =
-            later_begin (after plan commands s act) c all.0 (invariant_after plan commands s act fine) to.0 e k
-            (subst IsSmall (sym means.2) (ids_left s.progress.word (heard_in (sync_part s (action_at plan s) act).sync_steps) ids)) h all.2 runs.1
-        next c h k true e =
+        next c later false e =
+            later_begin (after plan commands s act) c all.0 (invariant_after plan commands s act fine) to.0 e later
+            (subst IsSmall (sym means.2) (ids_left s.progress.word (heard_in (sync_part s (action_at plan s) act).sync_steps) ids)) all.2 runs.1
+        next c later true e =
             let u = after plan commands s act in
             let ps = parts_of plan commands u (acts_of hs) in
-            begun_from c (first_part ps).sync_steps (first_part ps).steps (other_parts ps) m (has_begun (after_all plan commands u (acts_of hs)).progress)
-            (k ∙ word_empty u.progress.word e) (first_none ps (no_sync_steps plan commands u (acts_of hs) e))
-            (later_client u (ids_begun (leaves c)) all.0 (invariant_after plan commands s act fine) to.0 e (sym (client_new s act fine runs.0 begins))
-            (subst (λ v. Holds v all.0) (sym (begun_line (leaves c))) h) all.2 runs.1)
+            begun_from c (first_part ps).sync_steps (first_part ps).steps (sequel (other_parts ps) m (has_begun (after_all plan commands u (acts_of hs)).progress))
+            (later.0 ∙ word_empty u.progress.word e) (first_none ps (no_sync_steps plan commands u (acts_of hs) e))
+            (later_client u (ids_begun (leaves c)) all.0 (invariant_after plan commands s act fine) to.0 e
+            (sym (client_new s act fine runs.0 begins), subst (λ v. Holds v all.0) (sym (begun_line (leaves c))) later.1) all.2 runs.1)
 
   -- if what happens later is `FromBeginOf` and `FromClientOf`, it is `FromClientOf` with one more act before it
   act_client : (act : Act) (hs : List Happening) (m : Lines) → FromBeginOf hs m → FromClientOf hs m → FromClientOf (Acts act ∷ hs) m
-  act_client act hs m later_begin later_client s w l fine rest begun is holds all runs =
+  act_client act hs m later_begin later_client s w l fine rest begun at all runs =
       let o = action_at plan s in
       let t = after plan commands s act in
       let done = has_begun (after_all plan commands t (acts_of hs)).progress in
@@ -305,7 +305,7 @@ module _ (plan : Plan) (commands : List Task) (askable : AreAskable commands) wh
         -- no bytes of an unfinished line are left, and the act comes to its steps
         to : ((after plan commands s act).rest ≡ [])
             × MovesTo w (client_part plan commands s (action_at plan s) act).steps (client_after s.client (client_part plan commands s (action_at plan s) act).steps) all.0
-        to = moves_act s act w l all.0 fine runs.0 begun rest is holds all.1
+        to = moves_act s act w l all.0 fine runs.0 begun rest at all.1
 
         -- a station that loses all, and isn't synchronizing again, is over
         over_of : has_begun (after plan commands s act).progress ≡ true → loses_all (after plan commands s act).progress ≡ true
@@ -315,18 +315,18 @@ module _ (plan : Plan) (commands : List Task) (askable : AreAskable commands) wh
         -- what happens later, where the part has ended, by whether the station has synchronized after the act (`x`); if it has,
         -- the run is over
         anew : (v : SceneWorld) → Holds (on_line v.wire) all.0 → loses_all (after plan commands s act).progress ≡ true → (x : Bool) → has_begun (after plan commands s act).progress ≡ x
-            → FromClient v [] (parts_of plan commands (after plan commands s act) (acts_of hs)) m (has_begun (after_all plan commands (after plan commands s act) (acts_of hs)).progress)
+            → FromClient v [] (sequel (parts_of plan commands (after plan commands s act) (acts_of hs)) m (has_begun (after_all plan commands (after plan commands s act) (acts_of hs)).progress))
         anew v h lost false e =
             let u = after plan commands s act in
             let word = word_if_resynchronizing plan commands s act runs.0 begun e in
             client_anew v m (parts_of plan commands u (acts_of hs)) (has_begun (after_all plan commands u (acts_of hs)).progress) (some_parts plan commands u (acts_of hs))
-            (later_begin u (begins (on_line v.wire)) all.0 (invariant_after plan commands s act fine) to.0 e (sym word) (subst IsSmall (sym word) word_small)
-            (subst (λ q. Holds q all.0) (sym (begins_line (on_line v.wire))) h) all.2 runs.1)
+            (later_begin u (begins (on_line v.wire)) all.0 (invariant_after plan commands s act fine) to.0 e
+            (sym word, subst (λ q. Holds q all.0) (sym (begins_line (on_line v.wire))) h) (subst IsSmall (sym word) word_small) all.2 runs.1)
         anew v h lost true e =
             let u = after plan commands s act in
             let none = none_over u (acts_of hs) (over_of e lost) runs.1 in
-            subst (λ acts. FromClient v [] (parts_of plan commands u acts) m (has_begun (after_all plan commands u (acts_of hs)).progress)) (sym none)
-            (goes_idly hs v all.0 m [] (nothing ∷ []) (has_begun (after_all plan commands u (acts_of hs)).progress) none h all.2
+            subst (λ acts. FromClient v [] (sequel (parts_of plan commands u acts) m (has_begun (after_all plan commands u (acts_of hs)).progress))) (sym none)
+            (goes_idly hs v all.0 m [] (sequel (idle_part ∷ []) m (has_begun (after_all plan commands u (acts_of hs)).progress)) none h all.2
             (λ x g. ended_over x m (has_begun (after_all plan commands u (acts_of hs)).progress) g))
 
         -- the lemma above, by whether the part ends with the act (`x`)
@@ -338,7 +338,8 @@ module _ (plan : Plan) (commands : List Task) (askable : AreAskable commands) wh
             let p = client_part plan commands s (action_at plan s) act in
             client_first w p (client_after s.client p.steps) all.0 m (parts_of plan commands u (acts_of hs)) (has_begun (after_all plan commands u (acts_of hs)).progress)
             (some_parts plan commands u (acts_of hs)) to.1
-            (λ v h k. later_client u v all.0 (invariant_after plan commands s act fine) to.0 (goes_begun u e) (k ∙ sym (client_on s act fine runs.0 begun e)) h all.2 runs.1)
+            (λ v later. later_client u v all.0 (invariant_after plan commands s act fine) to.0 (goes_begun u e)
+            (subst (λ c. WorldIsAt v c all.0) (sym (client_on s act fine runs.0 begun e)) later) all.2 runs.1)
         by_loss true e =
             let u = after plan commands s act in
             let p = client_part plan commands s (action_at plan s) act in
@@ -348,19 +349,21 @@ module _ (plan : Plan) (commands : List Task) (askable : AreAskable commands) wh
   -- whatever happens on the line is `FromBeginOf` and `FromClientOf`: it shows what the station sees in a run
   pub shows_the_run : (hs : List Happening) (m : Lines) → FromBeginOf hs m × FromClientOf hs m
   shows_the_run [] m = (
-    λ s b l fine rest begins left ids holds all runs.
-        subst (λ d. FromBegin b [] [] [] m d) (sym begins) (ends_begin b m (λ e. some_left s.progress.word begins (sym left ∙ e)) (subst (Holds (leaves b)) (sym all) holds)),
-    λ s w l fine rest begun is holds all runs. ends_client w m (has_begun s.progress) (subst (Holds (on_line w.wire)) (sym all) holds),
+    λ s b l fine rest begins at ids all runs.
+        subst (λ d. FromBegin b [] [] (sequel [] m d)) (sym begins) (ends_begin b m (λ e. some_left s.progress.word begins (sym at.0 ∙ e)) (subst (Holds (leaves b)) (sym all) at.1)),
+    λ s w l fine rest begun at all runs. ends_client w m (has_begun s.progress) (subst (Holds (on_line w.wire)) (sym all) at.1),
   )
   shows_the_run (Acts act ∷ hs) m = let later = shows_the_run hs m in (act_begin act hs m later.0 later.1, act_client act hs m later.0 later.1)
   shows_the_run (h ∷ hs) m =
       let later = shows_the_run hs m in (
-        λ s b l fine rest begins left ids holds all runs.
-            let xs = happens (leaves b) l all.0 h (λ act e. cc) holds all.1 in
-            steps_turn xs.steps b _ _ _ m _ xs.are (λ c e k. later.0 s c all.0 fine rest begins (k ∙ left) ids (subst (λ u. Holds u all.0) (sym e) xs.holds) all.2 runs),
-        λ s w l fine rest begun is holds all runs.
-            let xs = happens (on_line w.wire) l all.0 h (λ act e. cc) holds all.1 in
-            steps_move xs.steps w _ _ m _ xs.are (λ v e k. later.1 s v all.0 fine rest begun (k ∙ is) (subst (λ u. Holds u all.0) (sym e) xs.holds) all.2 runs),
+        λ s b l fine rest begins at ids all runs.
+            let xs = happens (leaves b) l all.0 h (λ act e. cc) at.1 all.1 in
+            steps_turn xs.steps b _ _ _ xs.are
+            (λ c e k. later.0 s c all.0 fine rest begins (k ∙ at.0, subst (λ u. Holds u all.0) (sym e) xs.holds) ids all.2 runs),
+        λ s w l fine rest begun at all runs.
+            let xs = happens (on_line w.wire) l all.0 h (λ act e. cc) at.1 all.1 in
+            steps_move xs.steps w _ _ xs.are
+            (λ v e k. later.1 s v all.0 fine rest begun (k ∙ at.0, subst (λ u. Holds u all.0) (sym e) xs.holds) all.2 runs),
       )
 
 -- if the instrument keeps no reply, its state is a good one (`KeptReplyReads`)
@@ -369,17 +372,17 @@ none_kept state none = subst ReadsWithItsId (sym none) tt
 
 -- a run over a rehearsed line is one in the field, and faithful
 pub rehearsed : RehearsalsAreFaithful
-rehearsed plan commands scope acts of_line askable runs =
+rehearsed x of_line askable runs =
     let c = of_line.1 in
     let u = none_under_way c.start in
     let start : Lines = record { up = []; down = []; state = c.start } in
     let good = none_kept c.start c.none in
-    let s = opening plan scope in
-    let g = (shows_the_run plan commands askable c.happened of_line.0).0 s (begins u) start (invariant_opening plan commands scope) refl refl refl word_small
-    (record { up = tt; down = refl; one = tt; state = refl; good = good }) c.leads (subst (Runs plan commands s) (sym c.acts_are) runs) in
-    let f = subst (λ told. OnBegin (begins u) of_line.0 (parts_of plan commands s told) (has_begun (after_all plan commands s told).progress)) c.acts_are g in
-    let parts = first_and_others (parts_of plan commands s acts) (some_parts plan commands s acts) in
-    let program : Program SceneState = record { plan = plan; commands = commands; scope = scope; acts = acts; runs = run f.ts f.ms ∷ f.rs } in
+    let s = opening x.plan x.scope in
+    let g = (shows_the_run x.plan x.commands askable c.happened of_line.0).0 s (begins u) start (invariant_opening x.plan x.commands x.scope) refl refl
+    (refl, record { up = tt; down = refl; one = tt; state = refl; good = good }) word_small c.leads (subst (Runs x.plan x.commands s) (sym c.acts_are) runs) in
+    let f = subst (λ told. OnBegin (begins u) of_line.0 (parts_of x.plan x.commands s told) (has_begun (after_all x.plan x.commands s told).progress)) c.acts_are g in
+    let parts = first_and_others (parts_of x.plan x.commands s x.acts) (some_parts x.plan x.commands s x.acts) in
+    let program = as_program x (run f.ts f.ms ∷ f.rs) in
     let field : IsInField scene_ends KeptReplyReads scene_kept u program = record {
       runs = runs;
       lines = record { ids = tt; good = good };
@@ -389,7 +392,7 @@ rehearsed plan commands scope acts of_line askable runs =
     } in
     record {
       under_way = u;
-      runs = program.runs;
+      runs = run f.ts f.ms ∷ f.rs;
       field = field;
       faithful = run_faithful scene_ends KeptReplyReads scene_kept scene_is_an_instrument.instrument u program field;
     }

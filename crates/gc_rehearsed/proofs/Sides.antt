@@ -18,7 +18,7 @@ use Rattle.gc_field.specs.SceneField.{KeptReplyReads, scene_ends, scene_handed, 
 use Rattle.gc_field.specs.Shown.{shows}
 use Rattle.gc_field.specs.World as world
 use Rattle.gc_field.specs.World.{Numbered, Request, Wire, World, without, doubled, up_delivered, with_up, with_down}
-use Rattle.gc_rehearsed.proofs.Steps.{Step, Reach, Lose_up, Repeat_up, Lose_down, Repeat_down, Start, Change, IsStep, flow, reached, stepped}
+use Rattle.gc_rehearsed.proofs.Steps.{Step, Reach, Lose_up, Repeat_up, Lose_down, Repeat_down, Start, Change, IsStep, under_way, reached, stepped}
 use Rattle.gc_field.proofs.Shown.{left_reaches}
 
 -- While a station synchronizes.
@@ -39,15 +39,15 @@ leaves_reach b [] = refl
 leaves_reach b (x ∷ rest) =
     let h = scene_handed b.state x.line.id x.line.call in
     let reply : InFlight (List ℕ) = record { old = x.old; line = h.reply } in
-    ap (λ d. flow (map (λ y. y.line) rest) d h.state) (map-append (λ (y : InFlight (List ℕ)). y.line) b.down (reply ∷ []))
+    ap (λ d. under_way (map (λ y. y.line) rest) d h.state) (map-append (λ (y : InFlight (List ℕ)). y.line) b.down (reply ∷ []))
 
 -- a step leaves in flight what its turn leaves
 pub leaves_turn : (b : SyncModel SceneState) (x : Step) → leaves (turns scene_ends b (turn_of x)) ≡ stepped (leaves b) x
 leaves_turn b Reach = leaves_reach b b.up
-leaves_turn b (Lose_up k) = ap (λ q. flow q (leaves b).down b.state) (sym (without_map (λ (y : InFlight Request). y.line) k b.up))
-leaves_turn b (Repeat_up k) = ap (λ q. flow q (leaves b).down b.state) (sym (doubled_map (λ (y : InFlight Request). y.line) k b.up))
-leaves_turn b (Lose_down k) = ap (λ q. flow (leaves b).up q b.state) (sym (without_map (λ (y : InFlight (List ℕ)). y.line) k b.down))
-leaves_turn b (Repeat_down k) = ap (λ q. flow (leaves b).up q b.state) (sym (doubled_map (λ (y : InFlight (List ℕ)). y.line) k b.down))
+leaves_turn b (Lose_up k) = ap (λ q. under_way q (leaves b).down b.state) (sym (without_map (λ (y : InFlight Request). y.line) k b.up))
+leaves_turn b (Repeat_up k) = ap (λ q. under_way q (leaves b).down b.state) (sym (doubled_map (λ (y : InFlight Request). y.line) k b.up))
+leaves_turn b (Lose_down k) = ap (λ q. under_way (leaves b).up q b.state) (sym (without_map (λ (y : InFlight (List ℕ)). y.line) k b.down))
+leaves_turn b (Repeat_down k) = ap (λ q. under_way (leaves b).up q b.state) (sym (doubled_map (λ (y : InFlight (List ℕ)). y.line) k b.down))
 leaves_turn b Start = refl
 leaves_turn b (Change state) = refl
 
@@ -83,6 +83,10 @@ is_turn b (Change state) is = is
 
 -- Once it has synchronized.
 
+-- a world whose client knows ids, and whose instrument is that of a scene
+abbrev pub SceneWorld : Type 0
+SceneWorld = World (ById Asked) SceneState
+
 -- the move that a step of the line is
 abbrev pub move_of : Step → Move SceneState
 move_of Reach = field.OnLine world.Up_deliver
@@ -99,44 +103,44 @@ line_reach w [] = refl
 line_reach w (x ∷ rest) =
     let h = scene_handed w.state x.line.id x.line.call in
     let reply : Numbered (List ℕ) = record { number = x.number; line = h.reply } in
-    ap (λ d. flow (map (λ y. y.line) rest) d h.state) (map-append (λ (y : Numbered (List ℕ)). y.line) w.down (reply ∷ []))
+    ap (λ d. under_way (map (λ y. y.line) rest) d h.state) (map-append (λ (y : Numbered (List ℕ)). y.line) w.down (reply ∷ []))
 
 -- after a change of the requests, which are q then, q is in flight, with the replies and the state as before; q must be the old
 -- requests if the change isn't possible (b is false)
-line_up : (w : Wire SceneState) (q : List (Numbered Request)) (b : Bool) → (b ≡ false → q ≡ w.up) → on_line (with_up w q b) ≡ flow (map (λ x. x.line) q) (on_line w).down w.state
+line_up : (w : Wire SceneState) (q : List (Numbered Request)) (b : Bool) → (b ≡ false → q ≡ w.up) → on_line (with_up w q b) ≡ under_way (map (λ x. x.line) q) (on_line w).down w.state
 line_up w q true same = refl
-line_up w q false same = ap (λ (l : List (Numbered Request)). flow (map (λ x. x.line) l) (on_line w).down w.state) (sym (same refl))
+line_up w q false same = ap (λ (l : List (Numbered Request)). under_way (map (λ x. x.line) l) (on_line w).down w.state) (sym (same refl))
 
 -- after a change of the replies, which are q then, q is in flight, with the requests and the state as before; q must be the old
 -- replies if the change isn't possible (b is false)
-line_down : (w : Wire SceneState) (q : List (Numbered (List ℕ))) (b : Bool) → (b ≡ false → q ≡ w.down) → on_line (with_down w q b) ≡ flow (on_line w).up (map (λ x. x.line) q) w.state
+line_down : (w : Wire SceneState) (q : List (Numbered (List ℕ))) (b : Bool) → (b ≡ false → q ≡ w.down) → on_line (with_down w q b) ≡ under_way (on_line w).up (map (λ x. x.line) q) w.state
 line_down w q true same = refl
-line_down w q false same = ap (λ (l : List (Numbered (List ℕ))). flow (on_line w).up (map (λ x. x.line) l) w.state) (sym (same refl))
+line_down w q false same = ap (λ (l : List (Numbered (List ℕ))). under_way (on_line w).up (map (λ x. x.line) l) w.state) (sym (same refl))
 
 -- a step leaves in flight what its move leaves
-pub line_move : (w : World (ById Asked) SceneState) (x : Step) → on_line (moves scene_ends (by_ids WINDOW scene_ends) w (move_of x)).wire ≡ stepped (on_line w.wire) x
+pub line_move : (w : SceneWorld) (x : Step) → on_line (moves scene_ends (by_ids WINDOW scene_ends) w (move_of x)).wire ≡ stepped (on_line w.wire) x
 line_move w Reach = line_reach w.wire w.wire.up
 line_move w (Lose_up k) =
     let q = w.wire.up in
     line_up w.wire (without k q) (nat_lt k (length q)) (λ no. without_past k q (ltb-false k (length q) no))
-    ∙ ap (λ l. flow l (on_line w.wire).down w.wire.state) (sym (without_map (λ (y : Numbered Request). y.line) k q))
+    ∙ ap (λ l. under_way l (on_line w.wire).down w.wire.state) (sym (without_map (λ (y : Numbered Request). y.line) k q))
 line_move w (Repeat_up k) =
     let q = w.wire.up in
     line_up w.wire (doubled k q) (nat_lt k (length q)) (λ no. doubled_past k q (ltb-false k (length q) no))
-    ∙ ap (λ l. flow l (on_line w.wire).down w.wire.state) (sym (doubled_map (λ (y : Numbered Request). y.line) k q))
+    ∙ ap (λ l. under_way l (on_line w.wire).down w.wire.state) (sym (doubled_map (λ (y : Numbered Request). y.line) k q))
 line_move w (Lose_down k) =
     let q = w.wire.down in
     line_down w.wire (without k q) (nat_lt k (length q)) (λ no. without_past k q (ltb-false k (length q) no))
-    ∙ ap (λ l. flow (on_line w.wire).up l w.wire.state) (sym (without_map (λ (y : Numbered (List ℕ)). y.line) k q))
+    ∙ ap (λ l. under_way (on_line w.wire).up l w.wire.state) (sym (without_map (λ (y : Numbered (List ℕ)). y.line) k q))
 line_move w (Repeat_down k) =
     let q = w.wire.down in
     line_down w.wire (doubled k q) (nat_lt k (length q)) (λ no. doubled_past k q (ltb-false k (length q) no))
-    ∙ ap (λ l. flow (on_line w.wire).up l w.wire.state) (sym (doubled_map (λ (y : Numbered (List ℕ)). y.line) k q))
+    ∙ ap (λ l. under_way (on_line w.wire).up l w.wire.state) (sym (doubled_map (λ (y : Numbered (List ℕ)). y.line) k q))
 line_move w Start = refl
 line_move w (Change state) = refl
 
 -- the move of a step leaves the client as it is
-pub client_move : (w : World (ById Asked) SceneState) (x : Step) → (moves scene_ends (by_ids WINDOW scene_ends) w (move_of x)).client ≡ w.client
+pub client_move : (w : SceneWorld) (x : Step) → (moves scene_ends (by_ids WINDOW scene_ends) w (move_of x)).client ≡ w.client
 client_move w Reach = refl
 client_move w (Lose_up k) = refl
 client_move w (Repeat_up k) = refl
@@ -146,7 +150,7 @@ client_move w Start = refl
 client_move w (Change state) = refl
 
 -- the move of a possible step is possible
-pub is_move : (w : World (ById Asked) SceneState) (x : Step) → IsStep (on_line w.wire) x → IsPossible KeptReplyReads scene_kept w (move_of x)
+pub is_move : (w : SceneWorld) (x : Step) → IsStep (on_line w.wire) x → IsPossible KeptReplyReads scene_kept w (move_of x)
 is_move w Reach is = tt
 is_move w (Lose_up k) is = tt
 is_move w (Repeat_up k) is = tt

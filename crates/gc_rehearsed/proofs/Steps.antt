@@ -1,8 +1,7 @@
 -- What happens on a rehearsed line, as steps of what is in flight in the field: requests with their ids, replies, and the
 -- instrument.
-use Rattle.std.proofs.Common.{◌≡◌, inl, inr, ℕ, zero, suc, ◌<◌, ◌≤◌, List, [], ◌∷◌, ◌++◌, length, Option, Some, None, refl, sym, ◌∙◌, ap, subst}
+use Rattle.std.proofs.Common.{◌≡◌, inl, inr, ℕ, zero, suc, ◌<◌, List, [], ◌∷◌, ◌++◌, length, Some, refl, sym, ◌∙◌, ap, subst}
 use Rattle.std.specs.List.{AllByRecursion, AllZip}
-use Rattle.gc_lines.specs.Lines.{IsPlain}
 use Rattle.gc_links.specs.Acts.{Act}
 use Rattle.gc_catalogue.specs.Asked.{asked_line, IsAskedFitting}
 use Rattle.gc_catalogue.specs.declared.asked.Asked.{Asked}
@@ -10,13 +9,12 @@ use Rattle.gc_catalogue.specs.declared.asked.Asked.TheVariants.{Table, Raw}
 use Rattle.gc_scenes.proofs.Turns.{one_reply}
 use Rattle.gc_scenes.specs.SceneReplying.{IsPlayed}
 use Rattle.gc_scenes.specs.SceneState.{SceneState, scene_restarted, at_moment}
-use Rattle.std.proofs.lemmas.Option.{same_Some}
 use Rattle.gc_field.specs.Begin.{UnderWay}
 use Rattle.gc_field.specs.Instrument.{MayBecome}
 use Rattle.gc_field.specs.SceneField.{KeptReplyReads, scene_handed, scene_kept}
 use Rattle.gc_field.specs.World.{Request, without, doubled}
 use Rattle.gc_field.proofs.SceneField.{scene_is_an_instrument}
-use Rattle.gc_rehearsal.specs.Carrying.{Lines, Happening, Acts, Reaches, Restarts, Passes, Repeats_up, Repeats_down, Loses_up, Loses_down, Loses_front, HasReached, Leads, MaySendOut}
+use Rattle.gc_rehearsal.specs.Carrying.{Lines, Happening, Acts, Reaches, Restarts, Passes, Repeats_up, Repeats_down, Loses_up, Loses_down, Loses_front, HasReached, IsOneLine, Leads, MaySendOut, TakesReply}
 use Rattle.gc_lines.proofs.Lists.{all_append}
 use Rattle.gc_values.proofs.Every.{every_behind as all_behind}
 
@@ -32,13 +30,9 @@ pub record IsLineOf (r : Request) (line : List ℕ) : Type 0 where
 abbrev pub AreLinesOf : List Request → List (List ℕ) → Type 0
 AreLinesOf rs lines = AllZip IsLineOf rs lines
 
--- these bytes are one line, without CR LF: plain bytes, at most 512
-abbrev pub IsOneLine : List ℕ → Type 0
-IsOneLine line = IsPlain line × (length line ≤ 512)
-
--- what is in flight, with the instrument in this state
-abbrev pub flow : List Request → List (List ℕ) → SceneState → UnderWay SceneState
-flow up down state = record { up = up; down = down; state = state }
+-- these requests and replies in flight, with the instrument in this state
+abbrev pub under_way : List Request → List (List ℕ) → SceneState → UnderWay SceneState
+under_way up down state = record { up = up; down = down; state = state }
 
 -- what is in flight in the field is what is in flight on the line, with the instrument in the same state; each reply is one
 -- line, and what the instrument keeps reads with its id
@@ -69,7 +63,7 @@ pub data Step : Type 0 where
 -- what is in flight once the front request reached the instrument
 abbrev pub reached : UnderWay SceneState → List Request → UnderWay SceneState
 reached u [] = u
-reached u (r ∷ rest) = flow rest (u.down ++ (scene_handed u.state r.id r.call).reply ∷ []) (scene_handed u.state r.id r.call).state
+reached u (r ∷ rest) = under_way rest (u.down ++ (scene_handed u.state r.id r.call).reply ∷ []) (scene_handed u.state r.id r.call).state
 
 -- what is in flight after a step
 abbrev pub stepped : UnderWay SceneState → Step → UnderWay SceneState
@@ -122,10 +116,10 @@ lines_on (s ∷ rs) [] r line all one = absurd all
 lines_on (s ∷ rs) (x ∷ lines) r line all one = (all.0, lines_on rs lines r line all.1 one)
 
 -- what is in flight in the field is what is in flight on the line (`Holds`), also once one more request is, in both
-pub one_more : (u : UnderWay SceneState) (l n : Lines) (r : Request) (line : List ℕ) → Holds u l → IsLineOf r line → n ≡ record l { up = l.up ++ line ∷ [] }
-    → Holds (flow (u.up ++ r ∷ []) u.down u.state) n
-one_more u l n r line holds of_line more =
-    subst (Holds (flow (u.up ++ r ∷ []) u.down u.state)) (sym more)
+pub holds_one_more : (u : UnderWay SceneState) (l n : Lines) (r : Request) (line : List ℕ) → Holds u l → IsLineOf r line → n ≡ record l { up = l.up ++ line ∷ [] }
+    → Holds (under_way (u.up ++ r ∷ []) u.down u.state) n
+holds_one_more u l n r line holds of_line more =
+    subst (Holds (under_way (u.up ++ r ∷ []) u.down u.state)) (sym more)
     (record { up = lines_on u.up l.up r line holds.up of_line; down = holds.down; one = holds.one; state = holds.state; good = holds.good })
 
 -- where `front` and then `line` are the lines of the requests `rs`, these lines and then `line` once more are those of `rs`
@@ -149,83 +143,75 @@ played_as s r line is = subst (λ x. IsPlayed s x (scene_handed s r.id r.call).s
 -- What happens.
 
 -- there are possible steps that lose all requests, and leave the replies and the state as they are
-lose_all_up : (rs : List Request) (down : List (List ℕ)) (state : SceneState) → (xs : List Step) × AreSteps xs (flow rs down state) × (all_stepped xs (flow rs down state) ≡ flow [] down state)
+lose_all_up : (rs : List Request) (down : List (List ℕ)) (state : SceneState) → (xs : List Step) × AreSteps xs (under_way rs down state) × (all_stepped xs (under_way rs down state) ≡ under_way [] down state)
 lose_all_up [] down state = ([], tt, refl)
 lose_all_up (r ∷ rs) down state = let rest = lose_all_up rs down state in (Lose_up zero ∷ rest.0, (tt, rest.1), rest.2)
 
 -- there are possible steps that lose all replies, and leave the requests and the state as they are
-lose_all_down : (up : List Request) (down : List (List ℕ)) (state : SceneState) → (xs : List Step) × AreSteps xs (flow up down state) × (all_stepped xs (flow up down state) ≡ flow up [] state)
+lose_all_down : (up : List Request) (down : List (List ℕ)) (state : SceneState) → (xs : List Step) × AreSteps xs (under_way up down state) × (all_stepped xs (under_way up down state) ≡ under_way up [] state)
 lose_all_down up [] state = ([], tt, refl)
 lose_all_down up (x ∷ down) state = let rest = lose_all_down up down state in (Lose_down zero ∷ rest.0, (tt, rest.1), rest.2)
 
--- if `reply` and `t'` are the reply and the state that the instrument makes of the front request r, the state is a good one
--- (`KeptReplyReads`), `up'` are the lines of the requests `rs` behind r, each reply of `down` is one line, and `down'` is `down`
--- once `reply` was sent on its way or lost at once (`MaySendOut`), steps lead to `up'`, `down'` and `t'`
-sends_out : (rs : List Request) (down : List (List ℕ)) (s : SceneState) (reply : List ℕ) (r : Request) (up' down' : List (List ℕ)) (t' : SceneState)
-    → reply ≡ (scene_handed s r.id r.call).reply → t' ≡ (scene_handed s r.id r.call).state → KeptReplyReads (scene_handed s r.id r.call).state
-    → AreLinesOf rs up' → AllByRecursion IsOneLine down → MaySendOut down (Some reply) down'
-    → Steps (flow (r ∷ rs) down s) (record { up = up'; down = down'; state = t' })
-sends_out rs down s reply r up' down' t' is state good lines one (inl lost) =
-    let h = scene_handed s r.id r.call in
-    record {
-      steps = Reach ∷ Lose_down (length down) ∷ [];
-      are = (tt, (tt, tt));
-      holds = record {
-        up = lines;
-        down = without_last down h.reply ∙ sym lost;
-        one = subst (AllByRecursion IsOneLine) (sym lost) one;
-        state = sym state;
-        good = good;
-      };
-    }
-sends_out rs down s reply r up' down' t' is state good lines one (inr out) =
-    let h = scene_handed s r.id r.call in
-    record {
-      steps = Reach ∷ [];
-      are = (tt, tt);
-      holds = record {
-        up = lines;
-        down = ap (λ x. down ++ x ∷ []) (sym is) ∙ sym out.2;
-        one = subst (AllByRecursion IsOneLine) (sym out.2) (all_append IsOneLine down (reply ∷ []) one ((out.0, out.1), tt));
-        state = sym state;
-        good = good;
-      };
-    }
+-- if m has the state that the instrument makes of the front request r, a good one (`KeptReplyReads`), and the lines of the requests
+-- `rs` behind r, each reply of `down` is one line, and m has the replies of `down` once the reply to r was sent on its way or lost
+-- at once (`MaySendOut`), steps lead to m
+sends_out : (rs : List Request) (down : List (List ℕ)) (s : SceneState) (r : Request) (m : Lines) → m.state ≡ (scene_handed s r.id r.call).state
+    → KeptReplyReads (scene_handed s r.id r.call).state → AreLinesOf rs m.up → AllByRecursion IsOneLine down
+    → MaySendOut down (Some (scene_handed s r.id r.call).reply) m.down → Steps (under_way (r ∷ rs) down s) m
+sends_out rs down s r m state good lines one (inl lost) = record {
+  steps = Reach ∷ Lose_down (length down) ∷ [];
+  are = (tt, (tt, tt));
+  holds = record {
+    up = lines;
+    down = without_last down (scene_handed s r.id r.call).reply ∙ sym lost;
+    one = subst (AllByRecursion IsOneLine) (sym lost) one;
+    state = sym state;
+    good = good;
+  };
+}
+sends_out rs down s r m state good lines one (inr out) = record {
+  steps = Reach ∷ [];
+  are = (tt, tt);
+  holds = record {
+    up = lines;
+    down = sym out.1;
+    one = subst (AllByRecursion IsOneLine) (sym out.1) (all_append IsOneLine down ((scene_handed s r.id r.call).reply ∷ []) one (out.0, tt));
+    state = sym state;
+    good = good;
+  };
+}
 
 -- where the front line reaches the instrument (`HasReached`), steps of what is in flight in the field lead to the lines after
 -- that
-reaches : (rs : List Request) (down : List (List ℕ)) (s : SceneState) (l m : Lines) → Holds (flow rs down s) l → HasReached l m → Steps (flow rs down s) m
+reaches : (rs : List Request) (down : List (List ℕ)) (s : SceneState) (l m : Lines) → Holds (under_way rs down s) l → HasReached l m → Steps (under_way rs down s) m
 reaches [] down s l m holds h = absurd (subst (AreLinesOf []) h.front holds.up)
-reaches (r ∷ rs) down s l m holds h = by_reply h.reply refl where
-  -- the lines of the requests in flight are the front line and those behind it
-  lines : AreLinesOf (r ∷ rs) (h.line ∷ m.up)
-  lines = subst (AreLinesOf (r ∷ rs)) h.front holds.up
+reaches (r ∷ rs) down s l m holds h =
+    sends_out rs down s r m same.0 (scene_is_an_instrument.instrument.stays_good s r.id r.call holds.good lines.0.id) lines.1
+    (subst (AllByRecursion IsOneLine) (sym holds.down) holds.one)
+    (subst (λ x. MaySendOut x (Some (scene_handed s r.id r.call).reply) m.down) (sym holds.down) (subst (λ x. MaySendOut l.down x m.down) same.1 h.plays.sends)) where
+      -- the lines of the requests in flight are the front line and those behind it
+      lines : AreLinesOf (r ∷ rs) (h.line ∷ m.up)
+      lines = subst (AreLinesOf (r ∷ rs)) h.front holds.up
 
-  -- the instrument plays the front line
-  played : IsPlayed s h.line m.state h.reply
-  played = subst (λ x. IsPlayed x h.line m.state h.reply) (sym holds.state) h.played
+      -- the instrument plays the front line
+      played : IsPlayed s h.line m.state h.plays.reply
+      played = subst (λ x. IsPlayed x h.line m.state h.plays.reply) (sym holds.state) h.plays.played
 
-  -- what it makes of the line is what the instrument of the field makes of the request
-  same : (m.state ≡ (scene_handed s r.id r.call).state) × (h.reply ≡ Some (scene_handed s r.id r.call).reply)
-  same = one_reply s m.state (scene_handed s r.id r.call).state h.line h.reply (Some (scene_handed s r.id r.call).reply) played (played_as s r h.line lines.0)
-
-  -- the lemma above, by the reply: there is always one
-  by_reply : (o : Option (List ℕ)) → h.reply ≡ o → Steps (flow (r ∷ rs) down s) m
-  by_reply None e = let some = same.1 in let wrong : ⊥ = cc in absurd wrong
-  by_reply (Some reply) e =
-      sends_out rs down s reply r m.up m.down m.state (same_Some reply (scene_handed s r.id r.call).reply (sym e ∙ same.1)) same.0
-      (scene_is_an_instrument.instrument.stays_good s r.id r.call holds.good lines.0.id) lines.1 (subst (AllByRecursion IsOneLine) (sym holds.down) holds.one)
-      (subst (λ x. MaySendOut x (Some reply) m.down) (sym holds.down) (subst (λ x. MaySendOut l.down x m.down) e h.sends))
+      -- what it makes of the line is what the instrument of the field makes of the request
+      same : (m.state ≡ (scene_handed s r.id r.call).state) × (h.plays.reply ≡ Some (scene_handed s r.id r.call).reply)
+      same = one_reply s m.state (scene_handed s r.id r.call).state h.line h.plays.reply (Some (scene_handed s r.id r.call).reply) played (played_as s r h.line lines.0)
 
 -- what is in flight in the field is what is in flight on the line (`Holds`), also without the front reply in both: `down` are
 -- the replies behind it
-pub one_less : (u : UnderWay SceneState) (down : List (List ℕ)) (l : Lines) (line : List ℕ) (rest : List (List ℕ)) → Holds u l → l.down ≡ line ∷ rest → down ≡ rest
-    → Holds (flow u.up down u.state) (record l { down = rest })
-one_less u down l line rest holds front is = record { up = holds.up; down = is; one = (subst (AllByRecursion IsOneLine) front holds.one).1; state = holds.state; good = holds.good }
+pub holds_one_less : (u : UnderWay SceneState) (down : List (List ℕ)) (l : Lines) (line : List ℕ) (n : Lines) → Holds u l → TakesReply l line n → down ≡ n.down
+    → Holds (under_way u.up down u.state) n
+holds_one_less u down l line n holds takes is =
+    subst (Holds (under_way u.up down u.state)) (sym takes.others)
+    (record { up = holds.up; down = is; one = (subst (AllByRecursion IsOneLine) takes.front holds.one).1; state = holds.state; good = holds.good })
 
 -- what is in flight in the field is what is in flight on the line (`Holds`), also once the front reply is lost in both
-pub dropped : (u : UnderWay SceneState) (l : Lines) (line : List ℕ) (rest : List (List ℕ)) → Holds u l → l.down ≡ line ∷ rest → Holds (stepped u (Lose_down zero)) (record l { down = rest })
-dropped u l line rest holds front = one_less u (without zero u.down) l line rest holds front (ap (without zero) (holds.down ∙ front))
+pub holds_dropped : (u : UnderWay SceneState) (l : Lines) (line : List ℕ) (n : Lines) → Holds u l → TakesReply l line n → Holds (stepped u (Lose_down zero)) n
+holds_dropped u l line n holds takes = holds_one_less u (without zero u.down) l line n holds takes (ap (without zero) (holds.down ∙ takes.front))
 
 -- what happens on the line, and is no act, happens by steps
 pub happens : (u : UnderWay SceneState) (l m : Lines) (h : Happening) → ((act : Act) → h ≡ Acts act → ⊥) → Holds u l → Leads l h m → Steps u m
@@ -280,17 +266,17 @@ happens u l m Loses_up never holds leads =
       steps = lost.0;
       are = lost.1;
       holds = subst (λ v. Holds v m) (sym lost.2)
-          (subst (Holds (flow [] u.down u.state)) (sym leads) (record { up = tt; down = holds.down; one = holds.one; state = holds.state; good = holds.good }));
+          (subst (Holds (under_way [] u.down u.state)) (sym leads) (record { up = tt; down = holds.down; one = holds.one; state = holds.state; good = holds.good }));
     }
 happens u l m Loses_down never holds leads =
     let lost = lose_all_down u.up u.down u.state in
     record {
       steps = lost.0;
       are = lost.1;
-      holds = subst (λ v. Holds v m) (sym lost.2) (subst (Holds (flow u.up [] u.state)) (sym leads) (record { up = holds.up; down = refl; one = tt; state = holds.state; good = holds.good }));
+      holds = subst (λ v. Holds v m) (sym lost.2) (subst (Holds (under_way u.up [] u.state)) (sym leads) (record { up = holds.up; down = refl; one = tt; state = holds.state; good = holds.good }));
     }
 happens u l m Loses_front never holds leads = record {
   steps = Lose_down zero ∷ [];
   are = (tt, tt);
-  holds = subst (Holds (stepped u (Lose_down zero))) (sym leads.2) (dropped u l leads.0 m.down holds leads.1);
+  holds = holds_dropped u l leads.0 m holds leads.1;
 }

@@ -28,28 +28,6 @@ IsAskable task = (utc : ℕ) → IsAskedFitting (call_at task utc)
 abbrev pub AreAskable : List Task → Type 0
 AreAskable commands = AllByRecursion IsAskable commands
 
--- a station's run by these acts as a program of the field, where `runs` is what happens on the line in each part of the run
-abbrev pub as_program : Plan → List Task → Scope → List Act → (runs : List (Run SceneState)) → Program SceneState
-as_program plan commands scope acts runs = record { plan = plan; commands = commands; scope = scope; acts = acts; runs = runs }
-
--- a run of a station over a rehearsed line, from its first act on, is one in the field: there are runs on a line of the field,
--- over the instrument of a scene, that show the station what it saw; and the run is faithful
-pub record IsRehearsed (plan : Plan) (commands : List Task) (scope : Scope) (acts : List Act) : Type 0 where
-  pub under_way : UnderWay SceneState
-  pub runs : List (Run SceneState)
-  pub field : IsInField scene_ends KeptReplyReads scene_kept under_way (as_program plan commands scope acts runs)
-  pub faithful : IsRunFaithful scene_ends KeptReplyReads scene_kept under_way (as_program plan commands scope acts runs)
-
--- each run of a station over a rehearsed line on which nothing was in flight before, and whose instrument kept no reply then,
--- is one in the field, and so faithful, if its commands are `IsAskable`: nothing is asked of the line, of the station's moments
--- or of its plan
-abbrev pub RehearsalsAreFaithful : Type 0
-RehearsalsAreFaithful =
-    (plan : Plan) (commands : List Task) (scope : Scope) (acts : List Act) → IsOfLine acts → AreAskable commands → Runs plan commands (opening plan scope) acts
-    → IsRehearsed plan commands scope acts
-
--- Stations one after the other.
-
 -- a station that ran over a rehearsed line: its plan, its commands, its scope, and the acts of its link while it ran; and the
 -- acts after that run and before the next (`after_run`), such as a close after the output failed
 pub record RehearsedStation : Type 0 where
@@ -58,6 +36,27 @@ pub record RehearsedStation : Type 0 where
   pub scope : Scope
   pub acts : List Act
   pub after_run : List Act
+
+-- the run of a station as a program of the field, where `runs` is what happens on the line in each part of the run
+abbrev pub as_program : RehearsedStation → (runs : List (Run SceneState)) → Program SceneState
+as_program x runs = record { plan = x.plan; commands = x.commands; scope = x.scope; acts = x.acts; runs = runs }
+
+-- the run of a station over a rehearsed line, from its first act on, is one in the field: there are runs on a line of the field,
+-- over the instrument of a scene, that show the station what it saw; and the run is faithful
+pub record IsRehearsed (x : RehearsedStation) : Type 0 where
+  pub under_way : UnderWay SceneState
+  pub runs : List (Run SceneState)
+  pub field : IsInField scene_ends KeptReplyReads scene_kept under_way (as_program x runs)
+  pub faithful : IsRunFaithful scene_ends KeptReplyReads scene_kept under_way (as_program x runs)
+
+-- each run of a station over a rehearsed line on which nothing was in flight before, and whose instrument kept no reply then,
+-- is one in the field, and so faithful, if its commands are `IsAskable`: nothing is asked of the line, of the station's moments
+-- or of its plan, nor of what comes after the run
+abbrev pub RehearsalsAreFaithful : Type 0
+RehearsalsAreFaithful =
+    (x : RehearsedStation) → IsOfLine x.acts → AreAskable x.commands → Runs x.plan x.commands (opening x.plan x.scope) x.acts → IsRehearsed x
+
+-- Stations one after the other.
 
 -- the acts of the link while these stations ran, in order
 abbrev pub acts_of_all : List RehearsedStation → List Act
@@ -73,7 +72,7 @@ pub record RunsAndStops (x : RehearsedStation) : Type 0 where
 
 -- these stations as programs of the field, with what happens on the line in each of their runs: as many as there are of both
 abbrev pub programs : List RehearsedStation → List (List (Run SceneState)) → List (Program SceneState)
-programs (x ∷ xs) (rs ∷ rss) = as_program x.plan x.commands x.scope x.acts rs ∷ programs xs rss
+programs (x ∷ xs) (rs ∷ rss) = as_program x rs ∷ programs xs rss
 programs _ _ = []
 
 -- how many stations in a row have ended while they synchronized, with one more station after `n` of them: none, if that one had

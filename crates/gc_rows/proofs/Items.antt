@@ -8,25 +8,26 @@ use Rattle.gc_values.specs.Params.{quotes, quoted_after, AreSpaces, HasCommasInQ
 use Rattle.gc_values.specs.declared.fault.ValueFault.{ValueFault}
 use Rattle.gc_values.specs.declared.fault.ValueFault.TheVariants.{OpenQuote, TooMany}
 use Rattle.gc_values.proofs.ItemBytes.{total_length_next, total_length_front}
-use Rattle.gc_values.proofs.ParamLists.{IsPiece, pieces_of, params_even}
-use Rattle.gc_values.proofs.Quotes.{quotes-append, quotes-cons}
-use Rattle.gc_values.proofs.Trimming.{param_is_trimmed, trimmed_is}
+use Rattle.gc_values.proofs.ParamLists.{pieces_of, params_even}
+use Rattle.gc_values.proofs.Quotes.{IsPiece, quotes-append, quotes-cons}
+use Rattle.gc_values.proofs.Trimming.{param_is_trimmed, trimmed_from_both_ends}
 use Rattle.gc_values.specs.Pieces.{without_front_spaces, put_before, without_end_spaces}
+use Rattle.gc_texts.proofs.Logs.{IsOfBytes}
 use Rattle.gc_rows.specs.Items.{trimmed, comma_pieces, is_blank, items_of, split_items}
 use Rattle.gc_rows.specs.Laws.{ItemsAreTheGrammars}
 
 -- Spaces at the ends.
 
 -- a parameter with any spaces round it is trimmed to that parameter
-item_is : (piece item : List ℕ) → IsPadded piece item → IsParam item → trimmed piece ≡ item
-item_is piece item padded param = sym (trimmed_is piece item (param_is_trimmed piece item padded param))
+item_trimmed : (piece item : List ℕ) → IsPadded piece item → IsParam item → trimmed piece ≡ item
+item_trimmed piece item padded param = sym (trimmed_from_both_ends piece item (param_is_trimmed piece item padded param))
 
 -- pieces that are parameters with any spaces round each are trimmed to these parameters
-items_are : (ps is : List (List ℕ)) → ArePieces ps is → map trimmed ps ≡ is
-items_are [] [] are = refl
-items_are [] (i ∷ is) are = absurd are
-items_are (p ∷ ps) [] are = absurd are
-items_are (p ∷ ps) (i ∷ is) are = ap (λ t. t ∷ map trimmed ps) (item_is p i are.0 are.1) ∙ ap (λ ts. i ∷ ts) (items_are ps is are.2)
+items_trimmed : (ps is : List (List ℕ)) → ArePieces ps is → map trimmed ps ≡ is
+items_trimmed [] [] are = refl
+items_trimmed [] (i ∷ is) are = absurd are
+items_trimmed (p ∷ ps) [] are = absurd are
+items_trimmed (p ∷ ps) (i ∷ is) are = ap (λ t. t ∷ map trimmed ps) (item_trimmed p i are.0 are.1) ∙ ap (λ ts. i ∷ ts) (items_trimmed ps is are.2)
 
 -- Spaces alone.
 
@@ -99,16 +100,16 @@ odd_more quoted front b odd = by_test quoted (b == 34) odd (quotes-append front 
   by_test false false odd more = omega (arith, odd, more)
 
 -- if `quoted` says whether a number is odd, and the number is odd, `quoted` is true
-open_where : (quoted : Bool) (n : ℕ) → SaysOdd quoted n → n % 2 ≡ 1 → quoted ≡ true
-open_where true n odd one = refl
-open_where false n odd one = absurd (omega (arith, odd, one))
+open_if_odd : (quoted : Bool) (n : ℕ) → SaysOdd quoted n → n % 2 ≡ 1 → quoted ≡ true
+open_if_odd true n odd one = refl
+open_if_odd false n odd one = absurd (omega (arith, odd, one))
 
 -- where each comma of `front` and `piece` together is after an odd number of double quotes, and `quoted` says whether `front` has
 -- an odd number of them, no comma of `piece` is outside double quotes
 keeps_from : (quoted : Bool) (front piece : List ℕ) → HasCommasInQuotes (front ++ piece) → SaysOdd quoted (quotes front) → HasNoOpenComma quoted piece
 keeps_from quoted front [] keeps odd = tt
 keeps_from quoted front (b ∷ bs) keeps odd = (
-  λ comma. open_where quoted (quotes front) odd (keeps front bs (ap (λ x. front ++ x ∷ bs) comma)),
+  λ comma. open_if_odd quoted (quotes front) odd (keeps front bs (ap (λ x. front ++ x ∷ bs) comma)),
   keeps_from (quoted_after b quoted) (front ++ b ∷ []) bs (subst HasCommasInQuotes (sym (append_assoc front (b ∷ []) bs)) keeps) (odd_more quoted front b odd),
 )
 
@@ -120,32 +121,32 @@ odd_behind quoted front (b ∷ bs) odd =
     subst (λ t. SaysOdd (is_open_after (quoted_after b quoted) bs) (quotes t)) (append_assoc front (b ∷ []) bs) (odd_behind (quoted_after b quoted) (front ++ b ∷ []) bs (odd_more quoted front b odd))
 
 -- if `quoted` says whether a number is odd, and the number is even, `quoted` is false
-closed_where : (quoted : Bool) (n : ℕ) → SaysOdd quoted n → n % 2 ≡ 0 → quoted ≡ false
-closed_where true n odd even = absurd (omega (arith, odd, even))
-closed_where false n odd even = refl
+closed_if_even : (quoted : Bool) (n : ℕ) → SaysOdd quoted n → n % 2 ≡ 0 → quoted ≡ false
+closed_if_even true n odd even = absurd (omega (arith, odd, even))
+closed_if_even false n odd even = refl
 
 -- with a text put in front of an empty first piece, the first piece is that text
-first_is : (piece : List ℕ) (ps : List (List ℕ)) → before_first piece ([] ∷ ps) ≡ piece ∷ ps
-first_is [] ps = refl
-first_is (b ∷ bs) ps = ap (onto_first b) (first_is bs ps)
+front_is_first : (piece : List ℕ) (ps : List (List ℕ)) → before_first piece ([] ∷ ps) ≡ piece ∷ ps
+front_is_first [] ps = refl
+front_is_first (b ∷ bs) ps = ap (onto_first b) (front_is_first bs ps)
 
 -- a piece and a text after it are cut as the text is, with the piece in front of the first of the text's pieces
 cut_behind : (piece rest : List ℕ) → IsPiece piece → comma_pieces false (piece ++ rest) ≡ before_first piece (comma_pieces false rest)
 cut_behind piece rest is =
     pieces_with_front false piece rest (keeps_from false [] piece is.keeps refl)
-    ∙ ap (λ quoted. before_first piece (comma_pieces quoted rest)) (closed_where (is_open_after false piece) (quotes piece) (odd_behind false [] piece refl) is.even)
+    ∙ ap (λ quoted. before_first piece (comma_pieces quoted rest)) (closed_if_even (is_open_after false piece) (quotes piece) (odd_behind false [] piece refl) is.even)
 
 -- one piece or more, joined by commas, are cut into these pieces
-pieces_are : (p : List ℕ) (ps : List (List ℕ)) → AllByRecursion IsPiece (p ∷ ps) → comma_pieces false (joined (p ∷ ps)) ≡ p ∷ ps
-pieces_are p [] are = cut_behind p [] are.0 ∙ first_is p []
-pieces_are p (q ∷ qs) are =
-    cut_behind p (44 ∷ joined (q ∷ qs)) are.0 ∙ ap (λ l. before_first p ([] ∷ l)) (pieces_are q qs are.1) ∙ first_is p (q ∷ qs)
+joined_pieces : (p : List ℕ) (ps : List (List ℕ)) → AllByRecursion IsPiece (p ∷ ps) → comma_pieces false (joined (p ∷ ps)) ≡ p ∷ ps
+joined_pieces p [] are = cut_behind p [] are.0 ∙ front_is_first p []
+joined_pieces p (q ∷ qs) are =
+    cut_behind p (44 ∷ joined (q ∷ qs)) are.0 ∙ ap (λ l. before_first p ([] ∷ l)) (joined_pieces q qs are.1) ∙ front_is_first p (q ∷ qs)
 
 -- where `ps` are the parameters `i ∷ is` with any spaces round each, the pieces of `ps`, joined by commas, are these parameters
 -- once they are trimmed
 joined_items : (ps is : List (List ℕ)) (i : List ℕ) → ArePieces ps (i ∷ is) → map trimmed (comma_pieces false (joined ps)) ≡ i ∷ is
 joined_items [] is i are = absurd are
-joined_items (p ∷ ps) is i are = ap (map trimmed) (pieces_are p ps (pieces_of (p ∷ ps) (i ∷ is) are)) ∙ items_are (p ∷ ps) (i ∷ is) are
+joined_items (p ∷ ps) is i are = ap (map trimmed) (joined_pieces p ps (pieces_of (p ∷ ps) (i ∷ is) are)) ∙ items_trimmed (p ∷ ps) (i ∷ is) are
 
 -- the law: the items are those of the grammar
 pub items_are_the_grammars : ItemsAreTheGrammars
@@ -175,11 +176,7 @@ many_are_none text items are many =
     ap (λ z. cond (z && not (nat_lt 16 (length (items_of text)))) (Some (items_of text)) None) (eq-eqb (quotes text % 2) 0 (params_even text items are))
     ∙ ap (λ is. cond (not (nat_lt 16 (length is))) (Some is) None) same ∙ ap (λ z. cond (not z) (Some items) None) (lt-ltb 16 (length items) many)
 
--- Items of bytes. That a text is of bytes is said here by recursion (`IsOfBytes`), where `AreBytes` says it by places.
-
--- a text is of bytes: each of its numbers is below 256
-abbrev pub IsOfBytes : List ℕ → Type 0
-IsOfBytes text = AllByRecursion (λ b. b < 256) text
+-- Items of bytes.
 
 -- the texts are of bytes
 abbrev pub AreTextsOfBytes : List (List ℕ) → Type 0
@@ -224,8 +221,8 @@ items_bytes text are = cond_both (is_blank text) [] (map trimmed (comma_pieces f
 -- Texts one after the other.
 
 -- the first k texts, and the next one, have together at most the bytes of all
-pub bytes_below : (texts : List (List ℕ)) (k : ℕ) → k < length texts → total_length (take k texts) + length (get_or texts k []) ≤ total_length texts
-bytes_below texts k lt = omega (arith, total_length_next texts k lt, total_length_front texts (suc k))
+pub first_texts_within : (texts : List (List ℕ)) (k : ℕ) → k < length texts → total_length (take k texts) + length (get_or texts k []) ≤ total_length texts
+first_texts_within texts k lt = omega (arith, total_length_next texts k lt, total_length_front texts (suc k))
 
 -- if a text has an odd number of double quotes where e is `OpenQuote`, and more than 16 items where e is `TooMany`, and e is one
 -- of these two, the text doesn't split

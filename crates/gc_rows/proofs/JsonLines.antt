@@ -17,11 +17,11 @@ use Rattle.json.specs.Tree.{ItemsHaveNumbers, MembersHaveNumbers, items_depth, i
 use Rattle.json.proofs.Printed.Strings.{escape_byte_plain}
 use Rattle.json.proofs.Printed.Trees.{document-print}
 use Rattle.gc_rows.specs.JsonLines.{Member, Text, Number, Texts, behind_backslash, string_text, number_member, comma_where, strings_text, list_text, member_text, members_text}
-use Rattle.gc_rows.specs.Laws.{IsPlainName, IsPlainMember, texts_read, members_read, record_read, JsonLinesReadBack}
+use Rattle.gc_rows.specs.Laws.{IsPlainName, ArePlainMembers, texts_read, members_read, record_read, JsonLinesReadBack}
 use Rattle.gc_texts.specs.Logs.{escaped, AreBytes, IsPrintableByte}
 use Rattle.gc_texts.specs.Stamps.{stamp_text}
+use Rattle.gc_texts.proofs.Logs.{IsOfBytes}
 use Rattle.gc_texts.proofs.LogStamps.{escaped_prints, stamp_prints}
-use Rattle.gc_rows.proofs.Items.{IsOfBytes}
 
 -- the target, the members of the name and the procedure, appended to `old` one after the other, are `old` and then the members of
 -- a command
@@ -53,33 +53,33 @@ three_appended old a b c =
     append_assoc (old ++ a) b c ∙ append_assoc old a (b ++ c) ∙ ap (λ l. old ++ (a ++ (b ++ l))) (sym (append-nil c))
 
 -- a double quote and a backslash are escaped as a writer of JSON does it
-marked_as : (b : ℕ) → IsPrintableByte b → ((b == 34) || (b == 92)) ≡ true → behind_backslash b ≡ escape_byte b
+marked_as_json : (b : ℕ) → IsPrintableByte b → ((b == 34) || (b == 92)) ≡ true → behind_backslash b ≡ escape_byte b
 unfolding escape_byte
-marked_as b shown marked = let some : nat_lt 0 b ≡ true = lt-ltb 0 b (omega (arith, shown.0)) in rw (marked, some) refl
+marked_as_json b shown marked = let some : nat_lt 0 b ≡ true = lt-ltb 0 b (omega (arith, shown.0)) in rw (marked, some) refl
 
 -- any other printable byte is unchanged, as with a writer of JSON
-plain_as : (b : ℕ) → IsPrintableByte b → ((b == 34) || (b == 92)) ≡ false → behind_backslash b ≡ escape_byte b
-plain_as b shown plain =
+plain_as_json : (b : ℕ) → IsPrintableByte b → ((b == 34) || (b == 92)) ≡ false → behind_backslash b ≡ escape_byte b
+plain_as_json b shown plain =
     rw plain (sym (escape_byte_plain b (λ e. let bad : true ≡ false = subst (λ x. ((x == 34) || (x == 92)) ≡ false) e plain in cc)
     (λ e. let bad : true ≡ false = subst (λ x. ((x == 34) || (x == 92)) ≡ false) e plain in cc) shown.0))
 
 -- each printable byte is escaped as a writer of JSON does it
-escape_as : (b : ℕ) → IsPrintableByte b → behind_backslash b ≡ escape_byte b
-escape_as b shown = elim (cases_Bool ((b == 34) || (b == 92))) [ inl marked ↦ marked_as b shown marked | inr plain ↦ plain_as b shown plain ]
+byte_as_json : (b : ℕ) → IsPrintableByte b → behind_backslash b ≡ escape_byte b
+byte_as_json b shown = elim (cases_Bool ((b == 34) || (b == 92))) [ inl marked ↦ marked_as_json b shown marked | inr plain ↦ plain_as_json b shown plain ]
 
 -- a printable text is escaped as a writer of JSON does it
-escapes_as : (text : List ℕ) → AllByRecursion IsPrintableByte text → flat_map behind_backslash text ≡ escape text
-escapes_as [] shown = refl
-escapes_as (b ∷ bs) shown = ap (λ l. l ++ flat_map behind_backslash bs) (escape_as b shown.0) ∙ ap (λ l. escape_byte b ++ l) (escapes_as bs shown.1)
+printable_as_json : (text : List ℕ) → AllByRecursion IsPrintableByte text → flat_map behind_backslash text ≡ escape text
+printable_as_json [] shown = refl
+printable_as_json (b ∷ bs) shown = ap (λ l. l ++ flat_map behind_backslash bs) (byte_as_json b shown.0) ∙ ap (λ l. escape_byte b ++ l) (printable_as_json bs shown.1)
 
 -- bytes, once they are made printable, are escaped as a writer of JSON does it
-string_as : (bytes : List ℕ) → AreBytes bytes → flat_map behind_backslash (escaped bytes) ≡ escape (escaped bytes)
-string_as bytes are = escapes_as (escaped bytes) (recursion_from_All IsPrintableByte (escaped bytes) (escaped_prints bytes (recursion_from_All (λ b. b < 256) bytes are)))
+bytes_as_json : (bytes : List ℕ) → AreBytes bytes → flat_map behind_backslash (escaped bytes) ≡ escape (escaped bytes)
+bytes_as_json bytes are = printable_as_json (escaped bytes) (recursion_from_All IsPrintableByte (escaped bytes) (escaped_prints bytes (recursion_from_All (λ b. b < 256) bytes are)))
 
 -- a writer of JSON leaves a plain name unchanged
-name_as : (name : List ℕ) → IsPlainName name → name ≡ escape name
-name_as [] plain = refl
-name_as (b ∷ bs) plain = ap (λ l. b ∷ l) (name_as bs plain.1) ∙ ap (λ l. l ++ escape bs) (sym (escape_byte_plain b plain.0.1.0 plain.0.1.1 plain.0.0))
+name_as_json : (name : List ℕ) → IsPlainName name → name ≡ escape name
+name_as_json [] plain = refl
+name_as_json (b ∷ bs) plain = ap (λ l. b ∷ l) (name_as_json bs plain.1) ∙ ap (λ l. l ++ escape bs) (sym (escape_byte_plain b plain.0.1.0 plain.0.1.1 plain.0.0))
 
 -- a comma (44), a name in double quotes (34), a colon (58), the text of a value, further members and the end of a line are the
 -- same bytes however they are grouped
@@ -92,65 +92,65 @@ regroup name text others close =
 
 -- the bracket after the texts of a list, and what follows, are written as a writer of JSON does it; `behind` says whether a text
 -- stands before the bracket
-closed_as : (behind : Bool) (others : List Token) → codes "]" ++ print_from true others ≡ print_from behind (end_array ∷ others)
+closed_as_json : (behind : Bool) (others : List Token) → codes "]" ++ print_from true others ≡ print_from behind (end_array ∷ others)
 unfolding print_from
-closed_as true others = refl
-closed_as false others = refl
+closed_as_json true others = refl
+closed_as_json false others = refl
 
 -- a text of a list, with what comes after it, is written as a writer of JSON does it; `behind` says whether another stands
 -- before it
-text_as : (behind : Bool) (text : List ℕ) (others : List Token)
+text_as_json : (behind : Bool) (text : List ℕ) (others : List Token)
     → comma_where behind ++ ((34 ∷ (escape text ++ 34 ∷ [])) ++ print_from true others) ≡ print_from behind (Token.string text ∷ others)
 unfolding print_from
-text_as true text others = refl
-text_as false text others = refl
+text_as_json true text others = refl
+text_as_json false text others = refl
 
 -- texts of bytes in a list, its closing bracket and what follows are written as a writer of JSON does it; `behind` says whether
 -- another text stands before these
-texts_as : (behind : Bool) (texts : List (List ℕ)) (others : List Token) → AllByRecursion AreBytes texts
+texts_as_json : (behind : Bool) (texts : List (List ℕ)) (others : List Token) → AllByRecursion AreBytes texts
     → strings_text behind texts ++ (codes "]" ++ print_from true others) ≡ print_from behind (items_tokens (texts_read texts) ++ others)
-texts_as behind [] others are = closed_as behind others
-texts_as behind (text ∷ texts) others are =
+texts_as_json behind [] others are = closed_as_json behind others
+texts_as_json behind (text ∷ texts) others are =
     append_assoc (comma_where behind) (string_text text ++ strings_text true texts) (codes "]" ++ print_from true others)
     ∙ ap (λ l. comma_where behind ++ l)
     (append_assoc (string_text text) (strings_text true texts) (codes "]" ++ print_from true others)
-    ∙ ap (λ l. string_text text ++ l) (texts_as true texts others are.1)
-    ∙ ap (λ l. (34 ∷ (l ++ 34 ∷ [])) ++ print_from true (items_tokens (texts_read texts) ++ others)) (string_as text are.0))
-    ∙ text_as behind (escaped text) (items_tokens (texts_read texts) ++ others)
+    ∙ ap (λ l. string_text text ++ l) (texts_as_json true texts others are.1)
+    ∙ ap (λ l. (34 ∷ (l ++ 34 ∷ [])) ++ print_from true (items_tokens (texts_read texts) ++ others)) (bytes_as_json text are.0))
+    ∙ text_as_json behind (escaped text) (items_tokens (texts_read texts) ++ others)
 
 -- a list of texts of bytes, and what follows, are written as a writer of JSON does it
-list_as : (texts : List (List ℕ)) (others : List Token) → AllByRecursion AreBytes texts
+list_as_json : (texts : List (List ℕ)) (others : List Token) → AllByRecursion AreBytes texts
     → list_text texts ++ print_from true others ≡ print_from false (Token.begin_array ∷ (items_tokens (texts_read texts) ++ others))
 unfolding print_from
-list_as texts others are = ap (λ l. 91 ∷ l) (append_assoc (strings_text false texts) (codes "]") (print_from true others) ∙ texts_as false texts others are)
+list_as_json texts others are = ap (λ l. 91 ∷ l) (append_assoc (strings_text false texts) (codes "]") (print_from true others) ∙ texts_as_json false texts others are)
 
--- plain members (`IsPlainMember`) and the closing brace are written as a writer of JSON does it
-members_as : (members : List Member) → AllByRecursion IsPlainMember members
+-- plain members and the closing brace are written as a writer of JSON does it
+members_as_json : (members : List Member) → ArePlainMembers members
     → members_text members ++ codes "}" ≡ print_from true (members_tokens (members_read members))
 unfolding print_from
-members_as [] are = refl
-members_as (Text name bytes ∷ ms) are =
-    ap (λ l. ((((44 ∷ 34 ∷ l) ++ 34 ∷ 58 ∷ []) ++ string_text bytes) ++ members_text ms) ++ codes "}") (name_as name are.0.0)
-    ∙ ap (λ l. ((((44 ∷ 34 ∷ escape name) ++ 34 ∷ 58 ∷ []) ++ (34 ∷ (l ++ 34 ∷ []))) ++ members_text ms) ++ codes "}") (string_as bytes are.0.1)
+members_as_json [] are = refl
+members_as_json (Text name bytes ∷ ms) are =
+    ap (λ l. ((((44 ∷ 34 ∷ l) ++ 34 ∷ 58 ∷ []) ++ string_text bytes) ++ members_text ms) ++ codes "}") (name_as_json name are.0.0)
+    ∙ ap (λ l. ((((44 ∷ 34 ∷ escape name) ++ 34 ∷ 58 ∷ []) ++ (34 ∷ (l ++ 34 ∷ []))) ++ members_text ms) ++ codes "}") (bytes_as_json bytes are.0.1)
     ∙ regroup (escape name) (34 ∷ (escape (escaped bytes) ++ 34 ∷ [])) (members_text ms) (codes "}")
-    ∙ ap (λ l. 44 ∷ (((34 ∷ (escape name ++ 34 ∷ [])) ++ 58 ∷ []) ++ ((34 ∷ (escape (escaped bytes) ++ 34 ∷ [])) ++ l))) (members_as ms are.1)
-members_as (Number name digits ∷ ms) are =
-    ap (λ l. ((((44 ∷ 34 ∷ l) ++ 34 ∷ 58 ∷ []) ++ digits) ++ members_text ms) ++ codes "}") (name_as name are.0.0)
+    ∙ ap (λ l. 44 ∷ (((34 ∷ (escape name ++ 34 ∷ [])) ++ 58 ∷ []) ++ ((34 ∷ (escape (escaped bytes) ++ 34 ∷ [])) ++ l))) (members_as_json ms are.1)
+members_as_json (Number name digits ∷ ms) are =
+    ap (λ l. ((((44 ∷ 34 ∷ l) ++ 34 ∷ 58 ∷ []) ++ digits) ++ members_text ms) ++ codes "}") (name_as_json name are.0.0)
     ∙ regroup (escape name) digits (members_text ms) (codes "}")
-    ∙ ap (λ l. 44 ∷ (((34 ∷ (escape name ++ 34 ∷ [])) ++ 58 ∷ []) ++ (digits ++ l))) (members_as ms are.1)
-members_as (Texts name texts ∷ ms) are =
-    ap (λ l. ((((44 ∷ 34 ∷ l) ++ 34 ∷ 58 ∷ []) ++ list_text texts) ++ members_text ms) ++ codes "}") (name_as name are.0.0)
+    ∙ ap (λ l. 44 ∷ (((34 ∷ (escape name ++ 34 ∷ [])) ++ 58 ∷ []) ++ (digits ++ l))) (members_as_json ms are.1)
+members_as_json (Texts name texts ∷ ms) are =
+    ap (λ l. ((((44 ∷ 34 ∷ l) ++ 34 ∷ 58 ∷ []) ++ list_text texts) ++ members_text ms) ++ codes "}") (name_as_json name are.0.0)
     ∙ regroup (escape name) (list_text texts) (members_text ms) (codes "}")
-    ∙ ap (λ l. 44 ∷ (((34 ∷ (escape name ++ 34 ∷ [])) ++ 58 ∷ []) ++ (list_text texts ++ l))) (members_as ms are.1)
-    ∙ ap (λ l. 44 ∷ (((34 ∷ (escape name ++ 34 ∷ [])) ++ 58 ∷ []) ++ l)) (list_as texts (members_tokens (members_read ms)) are.0.1)
+    ∙ ap (λ l. 44 ∷ (((34 ∷ (escape name ++ 34 ∷ [])) ++ 58 ∷ []) ++ (list_text texts ++ l))) (members_as_json ms are.1)
+    ∙ ap (λ l. 44 ∷ (((34 ∷ (escape name ++ 34 ∷ [])) ++ 58 ∷ []) ++ l)) (list_as_json texts (members_tokens (members_read ms)) are.0.1)
 
 -- each number among the items of a list of texts is a number of JSON, as there is none
 texts_have_numbers : (texts : List (List ℕ)) → ItemsHaveNumbers (texts_read texts)
 texts_have_numbers [] = tt
 texts_have_numbers (text ∷ texts) = (tt, texts_have_numbers texts)
 
--- the numbers among plain members (`IsPlainMember`) are numbers of JSON
-have_numbers : (members : List Member) → AllByRecursion IsPlainMember members → MembersHaveNumbers (members_read members)
+-- the numbers among plain members are numbers of JSON
+have_numbers : (members : List Member) → ArePlainMembers members → MembersHaveNumbers (members_read members)
 have_numbers [] are = tt
 have_numbers (Text name bytes ∷ ms) are = (tt, have_numbers ms are.1)
 have_numbers (Number name digits ∷ ms) are = (are.0.1, have_numbers ms are.1)
@@ -175,11 +175,11 @@ pub printable_are_bytes : (text : List ℕ) → AllByRecursion IsPrintableByte t
 printable_are_bytes text shown = all_on IsPrintableByte (λ b. b < 256) text (λ b is. omega (arith, is.1)) shown
 
 -- the moment of a run, of at most 64 bits, is escaped as a writer of JSON does it
-started_as : (run : ℕ) → run < 2 ^ 64 → flat_map behind_backslash (escaped (stamp_text run)) ≡ escape (escaped (stamp_text run))
-started_as run below =
+moment_as_json : (run : ℕ) → run < 2 ^ 64 → flat_map behind_backslash (escaped (stamp_text run)) ≡ escape (escaped (stamp_text run))
+moment_as_json run below =
     let text = stamp_text run in
     let bytes = printable_are_bytes text (recursion_from_All IsPrintableByte text (stamp_prints run below)) in
-    escapes_as (escaped text) (recursion_from_All IsPrintableByte (escaped text) (escaped_prints text bytes))
+    printable_as_json (escaped text) (recursion_from_All IsPrintableByte (escaped text) (escaped_prints text bytes))
 
 -- a and m, and then a brace and a line feed, are the text of a, m and the brace, and then the line feed
 pub feed_apart : (a m : List ℕ) → (a ++ m) ++ codes "}\n" ≡ (a ++ (m ++ codes "}")) ++ codes "\n"
@@ -192,28 +192,28 @@ object_text run members = (codes "{\"run\":" ++ string_text (stamp_text run)) ++
 
 -- a line of JSON, whose run's moment has at most 64 bits and whose members are plain, without its line feed is what the writer of
 -- JSON writes of the object of that moment and these members
-whole_as : (run : ℕ) (members : List Member) → run < 2 ^ 64 → AllByRecursion IsPlainMember members
+object_as_json : (run : ℕ) (members : List Member) → run < 2 ^ 64 → ArePlainMembers members
     → object_text run members ≡ print (json_tokens (json.object (record_read run members)))
 unfolding print_from escape_byte
-whole_as run members below are =
-    ap (λ l. (codes "{\"run\":" ++ (34 ∷ (l ++ 34 ∷ []))) ++ (members_text members ++ codes "}")) (started_as run below)
-    ∙ ap (λ l. (codes "{\"run\":" ++ (34 ∷ (escape (escaped (stamp_text run)) ++ 34 ∷ []))) ++ l) (members_as members are)
+object_as_json run members below are =
+    ap (λ l. (codes "{\"run\":" ++ (34 ∷ (l ++ 34 ∷ []))) ++ (members_text members ++ codes "}")) (moment_as_json run below)
+    ∙ ap (λ l. (codes "{\"run\":" ++ (34 ∷ (escape (escaped (stamp_text run)) ++ 34 ∷ []))) ++ l) (members_as_json members are)
 
 -- a line of JSON, whose run's moment has at most 64 bits and whose members are plain, without its line feed reads as the object
 -- of that moment and these members
-pub reads_as : (run : ℕ) (members : List Member) → run < 2 ^ 64 → AllByRecursion IsPlainMember members
+pub object_reads_back : (run : ℕ) (members : List Member) → run < 2 ^ 64 → ArePlainMembers members
     → document (object_text run members) ≡ Some (json.object (record_read run members))
-reads_as run members below are =
+object_reads_back run members below are =
     let same = zero-max (members_depth (members_read members)) in
     let shallow = members_nest_once members in
-    ap document (whole_as run members below are) ∙ document-print (json.object (record_read run members)) (tt, have_numbers members are) (omega (arith, same, shallow))
+    ap document (object_as_json run members below are) ∙ document-print (json.object (record_read run members)) (tt, have_numbers members are) (omega (arith, same, shallow))
 
 -- the law: a line of JSON, whose run's moment has at most 64 bits and whose members are plain, reads back
 pub read_back : JsonLinesReadBack
 read_back run members below are = (
   object_text run members,
   feed_apart (codes "{\"run\":" ++ string_text (stamp_text run)) (members_text members),
-  reads_as run members below are,
+  object_reads_back run members below are,
 )
 
 -- if `mid` and then the strings of the texts from place k on are `old`, so are `mid`, the comma before text k if there is one (`behind`),

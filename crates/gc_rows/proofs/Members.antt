@@ -1,5 +1,5 @@
--- The members of a record's line: their names are plain, their texts hold bytes, and their numbers are JSON's. That is
--- `IsPlainMember`; a member of which it holds is said to read back.
+-- The members of a record's line are plain (`IsPlainMember`): their names are plain, their texts hold bytes, and their numbers
+-- are JSON's.
 use Rattle.std.proofs.Common.{zero, suc, ◌≡◌, ◌≢◌, ◌<◌, ◌≤◌, ◌^◌, ◌%◌, ◌==◌, ◌++◌, ◌∷◌, ◌∙◌, [], ℕ, ◌+◌, List, Bool, true, false, cond, Option, Some, None, IfSome, length, drop, get_or, option_and_then, refl, sym, ap, subst, arith, append-nil}
 use Rattle.std.specs.Prelude.{codes, nat_lt, not, ◌&&◌}
 use Rattle.std.specs.Char.{is_ascii_digit}
@@ -34,7 +34,7 @@ use Rattle.gc_values.proofs.OneText.{whole_text_once, decimal_text_once}
 use Rattle.gc_texts.specs.Logs.{AreBytes, IsPrintableByte}
 use Rattle.gc_texts.specs.Endings.{End, Answered, Unreadable, Elsewhere, Late, Lost, Skipped, Missed, quality_of, quality_text}
 use Rattle.gc_rows.specs.JsonLines.{Text, Number, without_zeros, sent_members, when_members, name_members, command_members, reply_members, ending_members, value_members, values_members, item_members, answer_members, quantity_members, quality_members, attempt_members, last_members}
-use Rattle.gc_rows.specs.Laws.{IsPlainName, IsPlainMember, IsReplyOfBytes, IsAnswerOfBytes, IsEndOfBytes, FitsIn64Bits, ColumnsGiveReply, RecordsHavePlainMembers}
+use Rattle.gc_rows.specs.Laws.{IsPlainName, IsPlainMember, ArePlainMembers, IsReplyOfBytes, IsAnswerOfBytes, IsEndOfBytes, FitsIn64Bits, ColumnsGiveReply, RecordsHavePlainMembers}
 use Rattle.gc_rows.specs.Quantities.{column_of, quantity_name, quantity_names}
 use Rattle.gc_texts.specs.declared.quality.Quality.TheVariants.{Fine, Warning, Refused}
 use Rattle.gc_texts.specs.Cuts.{before, behind}
@@ -46,8 +46,9 @@ use Rattle.gc_lines.proofs.Lists.{all_append}
 use Rattle.gc_values.proofs.Every.{every_weaker as all_on}
 use Rattle.gc_rows.specs.Items.{items_of, split_items}
 use Rattle.gc_rows.proofs.Columns.{reply_columns}
-use Rattle.gc_rows.proofs.Items.{IsOfBytes, AreTextsOfBytes, items_bytes}
+use Rattle.gc_rows.proofs.Items.{AreTextsOfBytes, items_bytes}
 use Rattle.gc_rows.proofs.JsonLines.{printable_are_bytes}
+use Rattle.gc_texts.proofs.Logs.{IsOfBytes}
 use Rattle.gc_texts.proofs.LogStamps.{stamp_prints}
 
 -- whether a byte may occur in a plain name: printable ASCII other than the double quote and the backslash
@@ -98,12 +99,12 @@ name_fits (name ∷ names) zero e = (and_parts (are_fit name) (all_fit names) e)
 name_fits (name ∷ names) (suc n) e = name_fits names n (and_parts (are_fit name) (all_fit names) e).1
 
 -- the name of a quantity is plain
-quantity_named : (column : ℕ) → IsPlainName (quantity_name column)
-quantity_named column = plain_name (quantity_name column) (name_fits quantity_names column refl)
+quantity_name_plain : (column : ℕ) → IsPlainName (quantity_name column)
+quantity_name_plain column = plain_name (quantity_name column) (name_fits quantity_names column refl)
 
 -- a plain name with `_text` after it is plain
-text_named : (name : List ℕ) → IsPlainName name → IsPlainName (name ++ codes "_text")
-text_named name is = all_append (λ b. (32 ≤ b) × ((b ≢ 34) × (b ≢ 92))) name (codes "_text") is (plain_name (codes "_text") refl)
+text_name_plain : (name : List ℕ) → IsPlainName name → IsPlainName (name ++ codes "_text")
+text_name_plain name is = all_append (λ b. (32 ≤ b) × ((b ≢ 34) × (b ≢ 92))) name (codes "_text") is (plain_name (codes "_text") refl)
 
 -- the text of a moment of at most 64 bits is of bytes
 stamp_bytes : (utc : ℕ) → utc < 2 ^ 64 → AreBytes (stamp_text utc)
@@ -175,9 +176,9 @@ decimal_form_number text form =
     subst IsNumber (sym form.text_is) (signed_then form.negative form.whole (46 ∷ form.fraction) form.whole_is refl (fraction_ends form.fraction form.fraction_is.are_digits form.fraction_is.some))
 
 -- digits as std has them (`AllDigits 10`) are digits as gc_values has them (`AreDigits`)
-pub digits_are : (ds : List ℕ) → AllDigits 10 ds → AreDigits ds
-digits_are [] h = tt
-digits_are (d ∷ ds) h = (digit_from_value d h.0, digits_are ds h.1)
+pub same_digits : (ds : List ℕ) → AllDigits 10 ds → AreDigits ds
+same_digits [] h = tt
+same_digits (d ∷ ds) h = (digit_from_value d h.0, same_digits ds h.1)
 
 -- one digit or more, without leading zeros (of zeros alone the last stays), are a whole part
 behind_zeros : (ds : List ℕ) → AreDigits ds → 0 < length ds → IsWholePart (without_zeros ds)
@@ -189,7 +190,7 @@ behind_zeros (b ∷ c ∷ ds) digits some =
 
 -- a code, which is one digit or more, is a number of JSON without its leading zeros (of zeros alone the last stays)
 code_number : (ds : List ℕ) → AllDigits 10 ds → 0 < length ds → IsNumber (without_zeros ds)
-code_number ds digits some = whole_number false (without_zeros ds) (behind_zeros ds (digits_are ds digits) some)
+code_number ds digits some = whole_number false (without_zeros ds) (behind_zeros ds (same_digits ds digits) some)
 
 -- the number of a fault has at most 64 bits
 fault_fits : (fault : ValueFault) → value_fault_number fault < 2 ^ 64
@@ -199,47 +200,47 @@ fault_fits OpenQuote = omega arith
 fault_fits TooMany = omega arith
 fault_fits Count = omega arith
 
--- the member that says when a command was sent, at a moment of at most 64 bits, reads back (`IsPlainMember`); if it wasn't sent,
+-- the member that says when a command was sent, at a moment of at most 64 bits, is plain; if it wasn't sent,
 -- there is no such member
-sent_are : (sent : Option ℕ) → IfSome sent (λ utc. utc < 2 ^ 64) → AllByRecursion IsPlainMember (sent_members sent)
-sent_are None h = tt
-sent_are (Some utc) h = ((plain_name (codes "sent") refl, stamp_bytes utc h), tt)
+sent_members_plain : (sent : Option ℕ) → IfSome sent (λ utc. utc < 2 ^ 64) → ArePlainMembers (sent_members sent)
+sent_members_plain None h = tt
+sent_members_plain (Some utc) h = ((plain_name (codes "sent") refl, stamp_bytes utc h), tt)
 
--- the members that say when a command was sent and ended, and which one it was, read back, if their numbers have at most 64 bits
-when_are : (when : When) → FitsIn64Bits when → AllByRecursion IsPlainMember (when_members when)
-when_are when is =
+-- the members that say when a command was sent and ended, and which one it was, are plain, if their numbers have at most 64 bits
+when_members_plain : (when : When) → FitsIn64Bits when → ArePlainMembers (when_members when)
+when_members_plain when is =
     all_append IsPlainMember (sent_members when.stamp.sent) (Text (codes "time") (stamp_text when.stamp.utc) ∷ Number (codes "cycle")
     (decimal when.stamp.cycle) ∷ Number (codes "place") (decimal when.stamp.turn.place) ∷ [])
-    (sent_are when.stamp.sent is.sent) (
+    (sent_members_plain when.stamp.sent is.sent) (
       (plain_name (codes "time") refl, stamp_bytes when.stamp.utc is.utc),
       ((plain_name (codes "cycle") refl, IsNumber-decimal when.stamp.cycle is.cycle), ((plain_name (codes "place") refl, IsNumber-decimal when.stamp.turn.place is.place), tt)),
     )
 
--- the member of a name of bytes reads back
-name_are : (name : List ℕ) → AreBytes name → AllByRecursion IsPlainMember (name_members name)
-name_are [] h = tt
-name_are (b ∷ bs) h = ((plain_name (codes "name") refl, h), tt)
+-- the member of a name of bytes is plain
+name_members_plain : (name : List ℕ) → AreBytes name → ArePlainMembers (name_members name)
+name_members_plain [] h = tt
+name_members_plain (b ∷ bs) h = ((plain_name (codes "name") refl, h), tt)
 
 -- the number of a procedure has 64 bits at most
 procedure_fits : (asked : Asked) → procedure_of asked < 2 ^ 64
 procedure_fits (Table call) = omega (arith, number_fits call)
 procedure_fits (Raw raw) = omega (arith, raw.is.bound)
 
--- the members of a command's target, its name and the procedure read back, if the name is of bytes and the target has at most 64 bits
-command_are : (command : Wish) (name : List ℕ) → AreBytes name → command.target < 2 ^ 64 → AllByRecursion IsPlainMember (command_members command name)
-command_are command name bytes target = (
+-- the members of a command's target, its name and the procedure are plain, if the name is of bytes and the target has at most 64 bits
+command_members_plain : (command : Wish) (name : List ℕ) → AreBytes name → command.target < 2 ^ 64 → ArePlainMembers (command_members command name)
+command_members_plain command name bytes target = (
   (plain_name (codes "target") refl, IsNumber-decimal command.target target),
-  all_append IsPlainMember (name_members name) (Number (codes "procedure") (decimal (procedure_of command.call)) ∷ []) (name_are name bytes)
+  all_append IsPlainMember (name_members name) (Number (codes "procedure") (decimal (procedure_of command.call)) ∷ []) (name_members_plain name bytes)
       ((plain_name (codes "procedure") refl, IsNumber-decimal (procedure_of command.call) (procedure_fits command.call)), tt),
 )
 
--- a member whose name and text pass the test `are_fit` reads back
-word_is : (name text : List ℕ) → are_fit name ≡ true → are_fit text ≡ true → IsPlainMember (Text name text)
-word_is name text named fit = (plain_name name named, All-from_recursion (λ b. b < 256) text (plain_bytes text fit))
+-- a member whose name and text pass the test `are_fit` is plain
+word_member_plain : (name text : List ℕ) → are_fit name ≡ true → are_fit text ≡ true → IsPlainMember (Text name text)
+word_member_plain name text named fit = (plain_name name named, All-from_recursion (λ b. b < 256) text (plain_bytes text fit))
 
--- the members of a reply's line of bytes read back
-reply_are : (line : List ℕ) → IsReplyOfBytes line → AllByRecursion IsPlainMember (reply_members (Some line))
-reply_are line is =
+-- the members of a reply's line of bytes are plain
+reply_members_plain : (line : List ℕ) → IsReplyOfBytes line → ArePlainMembers (reply_members (Some line))
+reply_members_plain line is =
     let say : ColumnsGiveReply line is.0 = reply_columns line is.0 is.1 in (
       (plain_name (codes "rc_com") refl, code_number (com_of line) say.rc_com.digits say.rc_com.some),
       (
@@ -248,19 +249,21 @@ reply_are line is =
       ),
     )
 
--- the members that say how a command ended read back, if its line and answer are of bytes (`IsEndOfBytes`)
-ending_are : (end : End) → IsEndOfBytes end → AllByRecursion IsPlainMember (ending_members end)
-ending_are (Answered quality (Some answer) line) is = (word_is (codes "outcome") (codes "answered") refl refl, reply_are line is.0)
-ending_are (Answered quality None line) is = (word_is (codes "outcome") (codes "answered") refl refl, reply_are line is)
-ending_are (Unreadable line fault) is =
-    (word_is (codes "outcome") (codes "unreadable") refl refl, ((plain_name (codes "fault") refl, IsNumber-decimal (value_fault_number fault) (fault_fits fault)), reply_are line is))
-ending_are (Elsewhere line) is = (word_is (codes "outcome") (codes "elsewhere") refl refl, reply_are line is)
-ending_are Late is = (word_is (codes "outcome") (codes "late") refl refl, tt)
-ending_are Lost is = (word_is (codes "outcome") (codes "lost") refl refl, tt)
-ending_are Skipped is = (word_is (codes "outcome") (codes "skipped") refl refl, tt)
-ending_are Missed is = (word_is (codes "outcome") (codes "missed") refl refl, tt)
+-- the members that say how a command ended are plain, if its line and answer are of bytes (`IsEndOfBytes`)
+ending_members_plain : (end : End) → IsEndOfBytes end → ArePlainMembers (ending_members end)
+ending_members_plain (Answered quality (Some answer) line) is = (word_member_plain (codes "outcome") (codes "answered") refl refl, reply_members_plain line is.0)
+ending_members_plain (Answered quality None line) is = (word_member_plain (codes "outcome") (codes "answered") refl refl, reply_members_plain line is)
+ending_members_plain (Unreadable line fault) is = (
+  word_member_plain (codes "outcome") (codes "unreadable") refl refl,
+  ((plain_name (codes "fault") refl, IsNumber-decimal (value_fault_number fault) (fault_fits fault)), reply_members_plain line is),
+)
+ending_members_plain (Elsewhere line) is = (word_member_plain (codes "outcome") (codes "elsewhere") refl refl, reply_members_plain line is)
+ending_members_plain Late is = (word_member_plain (codes "outcome") (codes "late") refl refl, tt)
+ending_members_plain Lost is = (word_member_plain (codes "outcome") (codes "lost") refl refl, tt)
+ending_members_plain Skipped is = (word_member_plain (codes "outcome") (codes "skipped") refl refl, tt)
+ending_members_plain Missed is = (word_member_plain (codes "outcome") (codes "missed") refl refl, tt)
 
--- what a value's members need to read back: a byte is below 256, and so is each byte of a text; of any other value nothing is
+-- what a value's members need to be plain: a byte is below 256, and so is each byte of a text; of any other value nothing is
 -- asked
 abbrev HoldsBytes : Value → Type 0
 HoldsBytes (value.Double d) = Unit {0}
@@ -270,10 +273,10 @@ HoldsBytes (value.Byte n) = n < 256
 HoldsBytes (value.Bool b) = Unit {0}
 HoldsBytes (value.Text bytes) = AreBytes bytes
 
--- the members of a number of JSON, as `digits` and as it came, read back, if their name is plain and what came is of bytes
-number_are : (name digits came : List ℕ) → IsPlainName name → IsNumber digits → IsOfBytes came
-    → AllByRecursion IsPlainMember (Number name digits ∷ Text (name ++ codes "_text") came ∷ [])
-number_are name digits came named number bytes = ((named, number), ((text_named name named, All-from_recursion (λ b. b < 256) came bytes), tt))
+-- the members of a number of JSON, as `digits` and as it came, are plain, if their name is plain and what came is of bytes
+number_members_plain : (name digits came : List ℕ) → IsPlainName name → IsNumber digits → IsOfBytes came
+    → ArePlainMembers (Number name digits ∷ Text (name ++ codes "_text") came ∷ [])
+number_members_plain name digits came named number bytes = ((named, number), ((text_name_plain name named, All-from_recursion (λ b. b < 256) came bytes), tt))
 
 -- a boolean is written as a number of JSON
 boolean_number : (b : Bool) → IsNumber (boolean_text b)
@@ -281,40 +284,42 @@ unfolding after_number
 boolean_number false = refl
 boolean_number true = refl
 
--- the members of a value read back, if their name is plain, and the value (`HoldsBytes`) and its text as it came are of bytes
-value_are : (name : List ℕ) (v : Value) (came : List ℕ) → IsPlainName name → HoldsBytes v → IsOfBytes came
-    → AllByRecursion IsPlainMember (value_members name v came)
-value_are name (value.Double d) came named is bytes =
-    number_are name (written d.digits d.scale) came named (decimal_form_number (written d.digits d.scale) ((decimal_text_once d (written d.digits d.scale)).0 refl).0) bytes
-value_are name (value.Long z) came named is bytes = number_are name (signed_text z) came named (whole_form_number (signed_text z) ((whole_text_once z (signed_text z)).0 refl).0) bytes
-value_are name (value.Short z) came named is bytes = number_are name (signed_text z) came named (whole_form_number (signed_text z) ((whole_text_once z (signed_text z)).0 refl).0) bytes
-value_are name (value.Byte n) came named is bytes = number_are name (decimal n) came named (IsNumber-decimal n (omega (arith, is))) bytes
-value_are name (value.Bool b) came named is bytes = number_are name (boolean_text b) came named (boolean_number b) bytes
-value_are name (value.Text text) came named is bytes = ((named, is), tt)
+-- the members of a value are plain, if their name is plain, and the value (`HoldsBytes`) and its text as it came are of bytes
+value_members_plain : (name : List ℕ) (v : Value) (came : List ℕ) → IsPlainName name → HoldsBytes v → IsOfBytes came
+    → ArePlainMembers (value_members name v came)
+value_members_plain name (value.Double d) came named is bytes =
+    number_members_plain name (written d.digits d.scale) came named (decimal_form_number (written d.digits d.scale) ((decimal_text_once d (written d.digits d.scale)).0 refl).0) bytes
+value_members_plain name (value.Long z) came named is bytes =
+    number_members_plain name (signed_text z) came named (whole_form_number (signed_text z) ((whole_text_once z (signed_text z)).0 refl).0) bytes
+value_members_plain name (value.Short z) came named is bytes =
+    number_members_plain name (signed_text z) came named (whole_form_number (signed_text z) ((whole_text_once z (signed_text z)).0 refl).0) bytes
+value_members_plain name (value.Byte n) came named is bytes = number_members_plain name (decimal n) came named (IsNumber-decimal n (omega (arith, is))) bytes
+value_members_plain name (value.Bool b) came named is bytes = number_members_plain name (boolean_text b) came named (boolean_number b) bytes
+value_members_plain name (value.Text text) came named is bytes = ((named, is), tt)
 
--- the members of values read back, if the values (`HoldsBytes`) and their text as it came are of bytes
-values_are : (column : ℕ) (vs : List Value) (came : List ℕ) → AllByRecursion HoldsBytes vs → IsOfBytes came
-    → AllByRecursion IsPlainMember (values_members column vs came)
-values_are column [] came hold bytes = tt
-values_are column (v ∷ vs) came hold bytes =
+-- the members of values are plain, if the values (`HoldsBytes`) and their text as it came are of bytes
+values_members_plain : (column : ℕ) (vs : List Value) (came : List ℕ) → AllByRecursion HoldsBytes vs → IsOfBytes came
+    → ArePlainMembers (values_members column vs came)
+values_members_plain column [] came hold bytes = tt
+values_members_plain column (v ∷ vs) came hold bytes =
     all_append IsPlainMember (value_members (quantity_name column) v (before 44 came)) (values_members (column + 1) vs (behind 44 came))
-    (value_are (quantity_name column) v (before 44 came) (quantity_named column) hold.0 (before_bytes 44 came bytes))
-    (values_are (column + 1) vs (behind 44 came) hold.1 (behind_bytes 44 came bytes))
+    (value_members_plain (quantity_name column) v (before 44 came) (quantity_name_plain column) hold.0 (before_bytes 44 came bytes))
+    (values_members_plain (column + 1) vs (behind 44 came) hold.1 (behind_bytes 44 came bytes))
 
 -- the values of an answer of bytes hold bytes
-answer_holds : (answer : Answer) → IsAnswerOfBytes answer → AllByRecursion HoldsBytes (answer_fields answer).values
-answer_holds Nothing is = tt
-answer_holds (Short n) is = (tt, tt)
-answer_holds (Version release version subversion) is = (tt, (tt, (tt, tt)))
-answer_holds (Long n) is = (tt, tt)
-answer_holds (Name name) is = (is.1, tt)
-answer_holds (Date d) is = (tt, is.1)
-answer_holds (Temperature t) is = (tt, tt)
-answer_holds (Place s) is = (tt, (tt, (tt, (tt, tt))))
-answer_holds (Height h) is = (tt, tt)
-answer_holds (Angles hz v) is = (tt, (tt, tt))
-answer_holds (Measured hz v distance) is = (tt, (tt, (tt, tt)))
-answer_holds (MeasuredMode hz v distance mode) is = (tt, (tt, (tt, (tt, tt))))
+answer_holds_bytes : (answer : Answer) → IsAnswerOfBytes answer → AllByRecursion HoldsBytes (answer_fields answer).values
+answer_holds_bytes Nothing is = tt
+answer_holds_bytes (Short n) is = (tt, tt)
+answer_holds_bytes (Version release version subversion) is = (tt, (tt, (tt, tt)))
+answer_holds_bytes (Long n) is = (tt, tt)
+answer_holds_bytes (Name name) is = (is.1, tt)
+answer_holds_bytes (Date d) is = (tt, is.1)
+answer_holds_bytes (Temperature t) is = (tt, tt)
+answer_holds_bytes (Place s) is = (tt, (tt, (tt, (tt, tt))))
+answer_holds_bytes (Height h) is = (tt, tt)
+answer_holds_bytes (Angles hz v) is = (tt, (tt, tt))
+answer_holds_bytes (Measured hz v distance) is = (tt, (tt, (tt, tt)))
+answer_holds_bytes (MeasuredMode hz v distance mode) is = (tt, (tt, (tt, (tt, tt))))
 
 -- of texts of bytes (`AreTextsOfBytes`) each is of bytes by places, too (`AreBytes`)
 all_texts : (texts : List (List ℕ)) → AreTextsOfBytes texts → AllByRecursion AreBytes texts
@@ -322,46 +327,46 @@ all_texts texts are =
     all_on IsOfBytes AreBytes texts
     (λ text is. All-from_recursion (λ (b : ℕ). b < 256) text is) are
 
--- the member of the items of a text of bytes reads back
-items_are : (text : List ℕ) → IsOfBytes text → AllByRecursion IsPlainMember (item_members (split_items text))
-items_are text are =
-    cond_both ((quotes text % 2 == 0) && not (nat_lt 16 (length (items_of text)))) (Some (items_of text)) None (λ items. AllByRecursion IsPlainMember (item_members items))
+-- the member of the items of a text of bytes is plain
+item_members_plain : (text : List ℕ) → IsOfBytes text → ArePlainMembers (item_members (split_items text))
+item_members_plain text are =
+    cond_both ((quotes text % 2 == 0) && not (nat_lt 16 (length (items_of text)))) (Some (items_of text)) None (λ items. ArePlainMembers (item_members items))
     (λ _. ((plain_name (codes "items") refl, all_texts (items_of text) (items_bytes text are)), tt)) (λ _. tt)
 
--- the members of an answer's quantities or items read back, if its line reads as a reply and is of bytes (`IsReplyOfBytes`), and
+-- the members of an answer's quantities or items are plain, if its line reads as a reply and is of bytes (`IsReplyOfBytes`), and
 -- the answer is as `IsAnswerOfBytes` has it
-answer_members_are : (asked : Asked) (answer : Answer) (line : List ℕ) → IsReplyOfBytes line → IsAnswerOfBytes answer
-    → AllByRecursion IsPlainMember (answer_members asked answer line)
-answer_members_are (Table call) answer line is fits = values_are (column_of call answer) (answer_fields answer).values (values_of line) (answer_holds answer fits) (values_bytes line is.2)
-answer_members_are (Raw raw) answer line is fits = items_are (values_of line) (values_bytes line is.2)
+answer_members_plain : (asked : Asked) (answer : Answer) (line : List ℕ) → IsReplyOfBytes line → IsAnswerOfBytes answer
+    → ArePlainMembers (answer_members asked answer line)
+answer_members_plain (Table call) answer line is fits = values_members_plain (column_of call answer) (answer_fields answer).values (values_of line) (answer_holds_bytes answer fits) (values_bytes line is.2)
+answer_members_plain (Raw raw) answer line is fits = item_members_plain (values_of line) (values_bytes line is.2)
 
--- the members of a command's quantities or items read back, if its line and answer are of bytes (`IsEndOfBytes`)
-quantities_are : (asked : Asked) (end : End) → IsEndOfBytes end → AllByRecursion IsPlainMember (quantity_members asked end)
-quantities_are asked (Answered quality (Some answer) line) is = answer_members_are asked answer line is.0 is.1
-quantities_are asked end is = tt
+-- the members of a command's quantities or items are plain, if its line and answer are of bytes (`IsEndOfBytes`)
+quantity_members_plain : (asked : Asked) (end : End) → IsEndOfBytes end → ArePlainMembers (quantity_members asked end)
+quantity_members_plain asked (Answered quality (Some answer) line) is = answer_members_plain asked answer line is.0 is.1
+quantity_members_plain asked end is = tt
 
--- the member of the quality of a command's answer reads back
-quality_members_are : (end : End) → AllByRecursion IsPlainMember (quality_members (quality_text (quality_of end)))
-quality_members_are (Answered Fine answer line) = (word_is (codes "quality") (codes "ok") refl refl, tt)
-quality_members_are (Answered Warning answer line) = (word_is (codes "quality") (codes "warning") refl refl, tt)
-quality_members_are (Answered Refused answer line) = (word_is (codes "quality") (codes "refused") refl refl, tt)
-quality_members_are end = tt
+-- the member of the quality of a command's answer is plain
+quality_members_plain : (end : End) → ArePlainMembers (quality_members (quality_text (quality_of end)))
+quality_members_plain (Answered Fine answer line) = (word_member_plain (codes "quality") (codes "ok") refl refl, tt)
+quality_members_plain (Answered Warning answer line) = (word_member_plain (codes "quality") (codes "warning") refl refl, tt)
+quality_members_plain (Answered Refused answer line) = (word_member_plain (codes "quality") (codes "refused") refl refl, tt)
+quality_members_plain end = tt
 
--- the members after all others read back, if the record's numbers have at most 64 bits (`FitsIn64Bits`)
-last_are : (when : When) (end : End) → FitsIn64Bits when → AllByRecursion IsPlainMember (last_members when end)
-last_are when end is =
-    all_append IsPlainMember (quality_members (quality_text (quality_of end))) (attempt_members when) (quality_members_are end)
+-- the members after all others are plain, if the record's numbers have at most 64 bits (`FitsIn64Bits`)
+last_members_plain : (when : When) (end : End) → FitsIn64Bits when → ArePlainMembers (last_members when end)
+last_members_plain when end is =
+    all_append IsPlainMember (quality_members (quality_text (quality_of end))) (attempt_members when) (quality_members_plain end)
     ((plain_name (codes "attempt") refl, IsNumber-decimal when.stamp.turn.attempt is.attempt), tt)
 
--- the law: each member of a record's line after the first reads back, if the record's numbers have at most 64 bits and its texts
+-- the law: each member of a record's line after the first is plain, if the record's numbers have at most 64 bits and its texts
 -- are of bytes
-pub have_plain_members : RecordsHavePlainMembers
-have_plain_members when name command end is bytes target ended =
+pub each_member_plain : RecordsHavePlainMembers
+each_member_plain when name command end is bytes target ended =
     let ws = when_members when in
     let hs = command_members command name in
     let es = ending_members end in
     let qs = quantity_members command.call end in
     let ls = last_members when end in
-    all_append IsPlainMember ws (hs ++ (es ++ (qs ++ ls))) (when_are when is)
-    (all_append IsPlainMember hs (es ++ (qs ++ ls)) (command_are command name bytes target)
-    (all_append IsPlainMember es (qs ++ ls) (ending_are end ended) (all_append IsPlainMember qs ls (quantities_are command.call end ended) (last_are when end is))))
+    all_append IsPlainMember ws (hs ++ (es ++ (qs ++ ls))) (when_members_plain when is)
+    (all_append IsPlainMember hs (es ++ (qs ++ ls)) (command_members_plain command name bytes target)
+    (all_append IsPlainMember es (qs ++ ls) (ending_members_plain end ended) (all_append IsPlainMember qs ls (quantity_members_plain command.call end ended) (last_members_plain when end is))))

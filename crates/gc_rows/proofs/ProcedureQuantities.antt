@@ -10,41 +10,39 @@ use Rattle.gc_catalogue.specs.declared.asked.Asked.TheVariants.{Table, Raw}
 use Rattle.gc_catalogue.specs.declared.call.Call.{Call}
 use Rattle.gc_catalogue.specs.declared.call.Call.TheVariants.{NullProc, SetPrecision, GetPrecision, ComVersion, InstrumentNo, InstrumentName, SetDate, GetDate, IntTemp, CsvVersion, DoMeasure, GetStation, SetStation, GetHeight, SetHeight, GetFace, GetAngle, SimpleMea, QuickDist, SetPrism, GetPrism, MeasDistance, Position, ChangeFace, FineAdjust}
 use Rattle.gc_texts.specs.Endings.{End, Answered}
-use Rattle.gc_rows.specs.Quantities.{column_of, column_of_long, quantity_names, quantity_text}
-use Rattle.gc_rows.specs.Records.{first_names, last_names}
-use Rattle.gc_rows.specs.Rows.{spread, answer_columns, quantity_fields, last_fields, row_fields}
+use Rattle.gc_rows.specs.Quantities.{column_of, column_of_long, quantity_text}
+use Rattle.gc_rows.specs.Rows.{spread, answer_columns, quantity_fields, last_fields}
 use Rattle.gc_rows.specs.ProcedureQuantities.{QuantitiesHaveTheirNames, RowsFillTheirColumns}
-use Rattle.gc_texts.specs.declared.wish.Wish.{Wish}
 use Rattle.gc_rows.specs.declared.when.When.{When}
 
 -- the law: the values of an answer are under the names of the quantities that its procedure returns
-pub have_their_names : QuantitiesHaveTheirNames
-have_their_names GetPrecision (Short n) is = refl
-have_their_names ComVersion (Version release version subversion) is = refl
-have_their_names InstrumentNo (Long n) is = refl
-have_their_names InstrumentName (Name name) is = refl
-have_their_names GetDate (Date d) is = refl
-have_their_names IntTemp (Temperature t) is = refl
-have_their_names CsvVersion (Version release version subversion) is = refl
-have_their_names GetStation (Place s) is = refl
-have_their_names GetHeight (Height h) is = refl
-have_their_names GetFace (Long n) is = refl
-have_their_names (GetAngle mode) (Angles hz v) is = refl
-have_their_names (SimpleMea wait mode) (Measured hz v distance) is = refl
-have_their_names QuickDist (Measured hz v distance) is = refl
-have_their_names GetPrism (Long n) is = refl
-have_their_names (MeasDistance mode) (MeasuredMode hz v distance mode') is = refl
-have_their_names NullProc Nothing is = refl
-have_their_names (SetPrecision n) Nothing is = refl
-have_their_names (SetDate d) Nothing is = refl
-have_their_names (DoMeasure command mode) Nothing is = refl
-have_their_names (SetStation s) Nothing is = refl
-have_their_names (SetHeight height) Nothing is = refl
-have_their_names (SetPrism prism) Nothing is = refl
-have_their_names (Position hz v pos_mode atr_mode dummy) Nothing is = refl
-have_their_names (ChangeFace pos_mode atr_mode dummy) Nothing is = refl
-have_their_names (FineAdjust area_hz area_v dummy) Nothing is = refl
-have_their_names call answer is = cc
+pub quantities_under_their_names : QuantitiesHaveTheirNames
+quantities_under_their_names GetPrecision (Short n) is = refl
+quantities_under_their_names ComVersion (Version release version subversion) is = refl
+quantities_under_their_names InstrumentNo (Long n) is = refl
+quantities_under_their_names InstrumentName (Name name) is = refl
+quantities_under_their_names GetDate (Date d) is = refl
+quantities_under_their_names IntTemp (Temperature t) is = refl
+quantities_under_their_names CsvVersion (Version release version subversion) is = refl
+quantities_under_their_names GetStation (Place s) is = refl
+quantities_under_their_names GetHeight (Height h) is = refl
+quantities_under_their_names GetFace (Long n) is = refl
+quantities_under_their_names (GetAngle mode) (Angles hz v) is = refl
+quantities_under_their_names (SimpleMea wait mode) (Measured hz v distance) is = refl
+quantities_under_their_names QuickDist (Measured hz v distance) is = refl
+quantities_under_their_names GetPrism (Long n) is = refl
+quantities_under_their_names (MeasDistance mode) (MeasuredMode hz v distance mode') is = refl
+quantities_under_their_names NullProc Nothing is = refl
+quantities_under_their_names (SetPrecision n) Nothing is = refl
+quantities_under_their_names (SetDate d) Nothing is = refl
+quantities_under_their_names (DoMeasure command mode) Nothing is = refl
+quantities_under_their_names (SetStation s) Nothing is = refl
+quantities_under_their_names (SetHeight height) Nothing is = refl
+quantities_under_their_names (SetPrism prism) Nothing is = refl
+quantities_under_their_names (Position hz v pos_mode atr_mode dummy) Nothing is = refl
+quantities_under_their_names (ChangeFace pos_mode atr_mode dummy) Nothing is = refl
+quantities_under_their_names (FineAdjust area_hz area_v dummy) Nothing is = refl
+quantities_under_their_names call answer is = cc
 
 -- the column of a lone whole number is one of the 24
 long_fits : (call : Call) → column_of_long call + 1 ≤ 24
@@ -95,18 +93,10 @@ quantities_fill asked end = refl
 more_fill : (when : When) (asked : Asked) (end : End) → length (quantity_fields asked end ++ last_fields when end) ≡ 26
 more_fill when asked end = length-append (quantity_fields asked end) (last_fields when end) ∙ ap (λ n. n + 2) (quantities_fill asked end)
 
--- a row without quantities has a field for each name of its header
-csv_fills : (when : When) (name : List ℕ) (command : Wish) (end : End) → length (row_fields false when name command end) ≡ length (first_names ++ last_names)
-csv_fills when name command (Answered quality answer line) = refl
-csv_fills when name command end = refl
-
--- a row with quantities has a field for each name of its header
-columns_fill : (when : When) (name : List ℕ) (command : Wish) (end : End)
-    → length (row_fields true when name command end) ≡ length (first_names ++ (quantity_names ++ last_names))
-columns_fill when name command (Answered quality answer line) =
-    ap (λ n. suc (suc (suc (suc (suc (suc (suc (suc (suc (suc (suc (suc (suc n))))))))))))) (more_fill when command.call (Answered quality answer line))
-columns_fill when name command end = refl
-
 -- the law: each row has a field for each name of its header
-pub fill_their_columns : RowsFillTheirColumns
-fill_their_columns = record { csv = csv_fills; columns = columns_fill }
+pub each_row_fills_its_columns : RowsFillTheirColumns
+each_row_fills_its_columns false when name command (Answered quality answer line) = refl
+each_row_fills_its_columns false when name command end = refl
+each_row_fills_its_columns true when name command (Answered quality answer line) =
+    ap (λ n. suc (suc (suc (suc (suc (suc (suc (suc (suc (suc (suc (suc (suc n))))))))))))) (more_fill when command.call (Answered quality answer line))
+each_row_fills_its_columns true when name command end = refl

@@ -13,7 +13,7 @@ use Rattle.csv.specs.Writing as csv
 use Rattle.csv.specs.Writing.{default_writer, fields_text, is_blank, needs_byte, row_text}
 use Rattle.csv.specs.declared.parser.State.TheVariants.{StartRecord}
 use Rattle.csv.proofs.RoundTrip.{read-write-many}
-use Rattle.gc_rows.specs.Laws.{RowsReadBack, RowsArePrintable}
+use Rattle.gc_rows.specs.Laws.{ReadsBackAs, RowsReadBack, RowsArePrintable}
 use Rattle.gc_texts.specs.Logs.{escaped, AreBytes, IsPrintable, IsPrintableByte}
 use Rattle.gc_rows.specs.Quantities.{quantity_text}
 use Rattle.gc_rows.specs.Rows.{is_special, within_quotes, csv_field, field_text, behind_comma, fields_behind_commas, row_of, spread, value_behind_comma}
@@ -108,12 +108,11 @@ same_row first second others =
     ap (λ l. (l ++ fields_behind_commas (second ∷ others)) ++ 10 ∷ []) (same_field (escaped first))
     ∙ ap (λ l. (csv.field_text default_writer (escaped first) ++ l) ++ 10 ∷ []) (same_fields (second ∷ others))
 
--- a row of two fields or more reads back as its fields, escaped, and the reader goes on with what is behind the row
-row_back : (fields : List (List ℕ)) (behind : List ℕ) → 1 < length fields
-    → next_record default_config StartRecord [] [] (row_of fields ++ behind) ≡ Some (map escaped fields, StartRecord, behind)
-row_back [] behind many = absurd (omega (arith, many))
-row_back (first ∷ []) behind many = absurd (omega (arith, many))
-row_back (first ∷ second ∷ others) behind many =
+-- a row of two fields or more reads back as its fields
+row_back : (fields : List (List ℕ)) → 1 < length fields → ReadsBackAs (row_of fields) fields
+row_back [] many behind = absurd (omega (arith, many))
+row_back (first ∷ []) many behind = absurd (omega (arith, many))
+row_back (first ∷ second ∷ others) many behind =
     ap (λ l. next_record default_config StartRecord [] [] (l ++ behind)) (same_row first second others) ∙ read-write-many (escaped first) (escaped second) (map escaped others) behind
 
 -- rows of two fields or more read back as a table of their fields, escaped
@@ -121,7 +120,7 @@ table_back : (rows : List (List (List ℕ))) → AllByRecursion (λ fields. 1 < 
     → records_from default_config (length rows) StartRecord (flat_map row_of rows) ≡ map (map escaped) rows
 unfolding records_from
 table_back [] many = refl
-table_back (fields ∷ rows) many = rw (row_back fields (flat_map row_of rows) many.0) (ap (λ l. map escaped fields ∷ l) (table_back rows many.1))
+table_back (fields ∷ rows) many = rw (row_back fields many.0 (flat_map row_of rows)) (ap (λ l. map escaped fields ∷ l) (table_back rows many.1))
 
 -- the law: rows and tables read back
 pub read_back : RowsReadBack

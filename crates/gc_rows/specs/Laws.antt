@@ -1,5 +1,5 @@
 -- Laws of the rows: this project's own, as the rows are.
-use Rattle.std.specs.Prelude.{◌≡◌, ◌≢◌, ◌<◌, ◌≤◌, ◌^◌, ℕ, List, [], ◌∷◌, ◌++◌, length, map, None, Some, IfSome, codes}
+use Rattle.std.specs.Prelude.{◌≡◌, ◌≢◌, ◌<◌, ◌≤◌, ◌^◌, ℕ, List, [], ◌∷◌, ◌++◌, length, map, true, false, None, Some, IfSome, codes}
 use Rattle.std.specs.List.{AllByRecursion, flat_map}
 use Rattle.csv.specs.Machine.{next_record}
 use Rattle.csv.specs.Reading.{default_config, records_from}
@@ -7,15 +7,14 @@ use Rattle.json.specs.Json as json
 use Rattle.json.specs.Json.{document}
 use Rattle.json.specs.Print.{IsNumber}
 use Rattle.csv.specs.declared.parser.State.TheVariants.{StartRecord}
-use Rattle.gc_texts.specs.Endings.{End, Answered, Unreadable, Elsewhere, Late, Lost, Skipped, Missed}
+use Rattle.gc_texts.specs.Endings.{End, Answered, Unreadable, Elsewhere}
 use Rattle.gc_catalogue.specs.Answers.{IsFittingAnswer}
 use Rattle.gc_catalogue.specs.declared.answer.Answer.{Answer}
 use Rattle.gc_catalogue.specs.declared.answer.Answer.TheVariants as answers
 use Rattle.gc_lines.specs.Numbers.{IsSmallNumber}
 use Rattle.gc_values.specs.Params.{IsParams}
 use Rattle.gc_lines.specs.Replies.{ReplyFields, IsReply}
-use Rattle.gc_rows.specs.Quantities.{quantity_names}
-use Rattle.gc_rows.specs.Records.{first_names, last_names, head_text}
+use Rattle.gc_rows.specs.Records.{head_text, header}
 use Rattle.gc_rows.specs.Items.{items_of}
 use Rattle.gc_rows.specs.JsonLines.{Member, Text, Number, Texts, json_line, members_after_run}
 use Rattle.gc_rows.specs.Rows.{com_of, code_of, values_of, row_of}
@@ -40,16 +39,19 @@ ColumnsAreFields = (line : List ℕ) (r : ReplyFields) → IsReply line r → Co
 abbrev pub ItemsAreTheGrammars : Type 0
 ItemsAreTheGrammars = (text : List ℕ) (items : List (List ℕ)) → IsParams text items → items_of text ≡ items
 
+-- a reader of comma-separated values gives this text back as a row of these fields, escaped, and goes on after the text
+abbrev pub ReadsBackAs : (text : List ℕ) (fields : List (List ℕ)) → Type 0
+ReadsBackAs text fields =
+    (behind : List ℕ) → next_record default_config StartRecord [] [] (text ++ behind) ≡ Some (map escaped fields, StartRecord, behind)
+
 -- rows read back by a reader of comma-separated values, whatever bytes their fields hold. `row`: a row of two fields or more
--- gives its fields, escaped, and the reader goes on after the row. `table`: rows of two fields or more give a table of their
--- fields, escaped. `names`: what comes before all records is the row of the columns' names. `once`: no two lists of bytes have
--- one escaped form, in which a field is read back
+-- reads back as its fields. `table`: rows of two fields or more give a table of their fields, escaped. `names`: what comes before
+-- all records is the row of the columns' names. `once`: no two lists of bytes have one escaped form, in which a field is read back
 pub record RowsReadBack : Type 0 where
-  pub row : (fields : List (List ℕ)) (behind : List ℕ) → 1 < length fields
-      → next_record default_config StartRecord [] [] (row_of fields ++ behind) ≡ Some (map escaped fields, StartRecord, behind)
+  pub row : (fields : List (List ℕ)) → 1 < length fields → ReadsBackAs (row_of fields) fields
   pub table : (rows : List (List (List ℕ))) → AllByRecursion (λ fields. 1 < length fields) rows
       → records_from default_config (length rows) StartRecord (flat_map row_of rows) ≡ map (map escaped) rows
-  pub names : (head_text Csv ≡ row_of (first_names ++ last_names)) × (head_text Columns ≡ row_of (first_names ++ (quantity_names ++ last_names)))
+  pub names : (head_text Csv ≡ row_of (header false)) × (head_text Columns ≡ row_of (header true))
   pub once : (xs ys : List ℕ) → AreBytes xs → AreBytes ys → escaped xs ≡ escaped ys → xs ≡ ys
 
 -- a row whose fields hold bytes is printable, before its line feed
@@ -66,6 +68,10 @@ abbrev pub IsPlainMember : Member → Type 0
 IsPlainMember (Text name bytes) = IsPlainName name × AreBytes bytes
 IsPlainMember (Number name digits) = IsPlainName name × IsNumber digits
 IsPlainMember (Texts name texts) = IsPlainName name × AllByRecursion AreBytes texts
+
+-- each of these members is plain (`IsPlainMember`)
+abbrev pub ArePlainMembers : List Member → Type 0
+ArePlainMembers members = AllByRecursion IsPlainMember members
 
 -- texts as a reader of JSON gives them back as items of a list: each a string, whose bytes are escaped as in a row
 abbrev pub texts_read : List (List ℕ) → json.Items
@@ -88,7 +94,7 @@ record_read run members = json.member (codes "run") (json.string (escaped (stamp
 -- object of that moment and these members, in their order
 abbrev pub JsonLinesReadBack : Type 0
 JsonLinesReadBack =
-    (run : ℕ) (members : List Member) → run < 2 ^ 64 → AllByRecursion IsPlainMember members
+    (run : ℕ) (members : List Member) → run < 2 ^ 64 → ArePlainMembers members
     → (text : List ℕ) × (json_line run members ≡ text ++ codes "\n") × (document text ≡ Some (json.object (record_read run members)))
 
 -- a line reads as a reply, and is of bytes, which are the numbers below 256
@@ -107,10 +113,7 @@ IsEndOfBytes (Answered quality (Some answer) line) = IsReplyOfBytes line × IsAn
 IsEndOfBytes (Answered quality None line) = IsReplyOfBytes line
 IsEndOfBytes (Unreadable line fault) = IsReplyOfBytes line
 IsEndOfBytes (Elsewhere line) = IsReplyOfBytes line
-IsEndOfBytes Late = Unit {0}
-IsEndOfBytes Lost = Unit {0}
-IsEndOfBytes Skipped = Unit {0}
-IsEndOfBytes Missed = Unit {0}
+IsEndOfBytes _ = Unit {0}
 
 -- the moments at which a record's command was sent and ended, its cycle, its place and its attempt have at most 64 bits each
 pub record FitsIn64Bits (when : When) : Type 0 where
@@ -127,4 +130,4 @@ abbrev pub RecordsHavePlainMembers : Type 0
 RecordsHavePlainMembers =
     (when : When) (name : List ℕ) (command : Wish) (end : End)
     → FitsIn64Bits when → AreBytes name → command.target < 2 ^ 64 → IsEndOfBytes end
-    → AllByRecursion IsPlainMember (members_after_run when name command end)
+    → ArePlainMembers (members_after_run when name command end)

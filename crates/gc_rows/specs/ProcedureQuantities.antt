@@ -1,14 +1,14 @@
 -- Which quantities a procedure returns, and how many fields a row has. A procedure's number and what it returns are those of the manual's
 -- procedure tables; the names are this project's own.
-use Rattle.std.specs.Prelude.{◌≡◌, ℕ, ◌+◌, ◌==◌, ◌||◌, true, false, List, [], ◌∷◌, ◌++◌, length, if◌then◌else◌, codes}
+use Rattle.std.specs.Prelude.{◌≡◌, ℕ, ◌+◌, ◌==◌, ◌||◌, Bool, List, [], ◌∷◌, ◌++◌, length, if◌then◌else◌, codes}
 use Rattle.gc_catalogue.specs.Answers.{answer_fields, IsAnswerOf}
 use Rattle.gc_catalogue.specs.Calls.{call_fields}
 use Rattle.gc_catalogue.specs.declared.answer.Answer.{Answer}
 use Rattle.gc_catalogue.specs.declared.call.Call.{Call}
 use Rattle.gc_values.specs.declared.value.Value.{Value}
 use Rattle.gc_texts.specs.Endings.{End}
-use Rattle.gc_rows.specs.Quantities.{column_of, quantity_name, quantity_names}
-use Rattle.gc_rows.specs.Records.{first_names, last_names}
+use Rattle.gc_rows.specs.Quantities.{column_of, quantity_name}
+use Rattle.gc_rows.specs.Records.{header}
 use Rattle.gc_rows.specs.Rows.{row_fields}
 use Rattle.gc_texts.specs.declared.wish.Wish.{Wish}
 use Rattle.gc_rows.specs.declared.when.When.{When}
@@ -65,8 +65,7 @@ QuantitiesHaveTheirNames =
     → names_from (column_of call answer) (answer_fields answer).values ≡ quantities_returned (call_fields call).number
 
 -- however a command ended, its row has a field for each name of the header, and no other
-pub record RowsFillTheirColumns : Type 0 where
-  pub csv : (when : When) (name : List ℕ) (command : Wish) (end : End)
-      → length (row_fields false when name command end) ≡ length (first_names ++ last_names)
-  pub columns : (when : When) (name : List ℕ) (command : Wish) (end : End)
-      → length (row_fields true when name command end) ≡ length (first_names ++ (quantity_names ++ last_names))
+abbrev pub RowsFillTheirColumns : Type 0
+RowsFillTheirColumns =
+    (columns : Bool) (when : When) (name : List ℕ) (command : Wish) (end : End)
+    → length (row_fields columns when name command end) ≡ length (header columns)

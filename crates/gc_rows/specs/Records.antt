@@ -1,6 +1,6 @@
 -- Records: how a command ended, with its moments, as a line, as a row of comma-separated values, or as a line of JSON. The words and
 -- the columns are this project's own.
-use Rattle.std.specs.Prelude.{ℕ, true, false, List, [], ◌∷◌, ◌++◌, Option, None, Some, codes}
+use Rattle.std.specs.Prelude.{ℕ, Bool, true, false, List, [], ◌∷◌, ◌++◌, Option, None, Some, codes}
 use Rattle.std.specs.Fmt.{decimal}
 use Rattle.gc_values.specs.ValueFault.{value_fault_number}
 use Rattle.gc_values.specs.declared.fault.ValueFault.{ValueFault}
@@ -58,12 +58,17 @@ first_names =
 abbrev pub last_names : List (List ℕ)
 last_names = codes "quality" ∷ codes "attempt" ∷ []
 
+-- the names of the columns of a row: with those of the quantities, if the row has columns for these (`columns`), or without them
+abbrev pub header : (columns : Bool) → List (List ℕ)
+header false = first_names ++ last_names
+header true = first_names ++ (quantity_names ++ last_names)
+
 -- what comes before all records: the names of the columns as a row, or nothing in the forms that have no columns
 abbrev pub head_text : Form → List ℕ
 head_text Lines = []
 head_text Json = []
-head_text Csv = row_of (first_names ++ last_names)
-head_text Columns = row_of (first_names ++ (quantity_names ++ last_names))
+head_text Csv = row_of (header false)
+head_text Columns = row_of (header true)
 
 -- the bytes that a file of records begins with: what comes before all records, which is nothing in the form `Lines`; or, in the form
 -- `Json`, the bytes that each line begins with

@@ -1,8 +1,7 @@
 //! Records: how a command ended, with its moments, as a line, a row of comma-separated values, or a line of JSON.
 
-ghost use Rattle.std.specs.Prelude.{◌≡◌, ℕ, ◌+◌, ◌≤◌, ◌++◌, length, option_map, OnOk, IfErr};
-ghost use Rattle.std.specs.Io.KnownBytes.{Appends};
-ghost use Rattle.gc_lines.specs.Ports.{FailsWith, TakesFront};
+ghost use Rattle.std.specs.Prelude.{◌≡◌, ℕ, ◌+◌, ◌≤◌, ◌++◌, length, option_map};
+ghost use Rattle.gc_lines.specs.Ports.{FailsWith, TakesText};
 ghost use Rattle.gc_texts.specs.Endings.{ending_seen};
 ghost use Rattle.gc_rows.specs.declared.record.TheConstants.{FAULT_ROOM, REPLY_ROOM};
 ghost use Rattle.gc_rows.specs.Records.{spaced_fault, spaced_line, ending_text, record_of, head_text, form_sign};
@@ -78,8 +77,7 @@ pub fn sign(form: Form) -> &'static [u8]
 /// failed.
 pub fn write_head<K: Sink>(sink: &mut K, form: Form) -> Result<(), usize>
     ensures failed { FailsWith result (K.failed sink.old) (K.failed sink.new) }
-    ensures ok { OnOk result (Appends (K.taken sink.old) (K.taken sink.new) (head_text form)) }
-    ensures err { IfErr result (λ n. TakesFront (K.taken sink.old) (K.taken sink.new) n (head_text form)) }
+    ensures took { TakesText (K.taken sink.old) (K.taken sink.new) result (head_text form) }
 {
     write_whole(sink, head(form))
 }
@@ -90,8 +88,7 @@ pub fn write_head<K: Sink>(sink: &mut K, form: Form) -> Result<(), usize>
 pub fn write_record<K: Sink>(sink: &mut K, form: Form, ended: EndedCommand<'_>) -> Result<(), usize>
     requires { length ended.name.now ≤ 64 }
     ensures failed { FailsWith result (K.failed sink.old) (K.failed sink.new) }
-    ensures ok { OnOk result (Appends (K.taken sink.old) (K.taken sink.new) (record_of form ended.entry)) }
-    ensures err { IfErr result (λ n. TakesFront (K.taken sink.old) (K.taken sink.new) n (record_of form ended.entry)) }
+    ensures took { TakesText (K.taken sink.old) (K.taken sink.new) result (record_of form ended.entry) }
 {
     match form {
         Form::Lines => write_whole(sink, &record_line(ended)),

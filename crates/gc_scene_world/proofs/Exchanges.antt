@@ -14,7 +14,7 @@ use Rattle.gc_scenes.proofs.Codes.{fault_bound, call_bound}
 use Rattle.gc_scenes.proofs.Turns.{one_reply}
 use Rattle.gc_scenes.specs.Rules.{fault_of}
 use Rattle.gc_scenes.specs.SceneExecution.{Played, plays, played_call, unless_faulted, counting}
-use Rattle.gc_scenes.specs.SceneReplying.{IsPlayed, answers, names_call, resent_line, again_or_played, handed_call, played_line}
+use Rattle.gc_scenes.specs.SceneReplying.{IsHanded, IsPlayed, answers, names_call, resent_line, again_or_played, handed_call, played_line}
 use Rattle.gc_scenes.specs.SceneState.{SceneState}
 use Rattle.gc_scene_world.specs.SceneRuns.{scene_handed, scene_ends}
 use Rattle.gc_scene_world.specs.SceneStages.{Notes}
@@ -30,17 +30,12 @@ plays_line : (s : SceneState) (id : ℕ) (call : Call) → id < 8 → IsFitting 
 plays_line s id call small fits =
     let q = request_of (Some id) call in
     let back = call_again (Some id) call small fits in
-    answers q (request_found (request_line (Some id) call) q back.line) (scene_handed s id call).reply (names_call call back.is_call (record { state = refl; line = refl })) refl
-
--- a request line was handed over, which left this state and this reply
-pub record IsExchanged (before : SceneState) (id : ℕ) (call : Call) (after : SceneState) (reply : List ℕ) : Type 0 where
-  pub state : after ≡ (scene_handed before id call).state
-  pub line : reply ≡ (scene_handed before id call).reply
+    answers q (request_found (request_line (Some id) call) q back.line) (scene_handed s id call).reply (names_call call back.is_asked (record { state = refl; line = refl })) refl
 
 -- where the instrument got the request line of a call with values in range and an id below 8, and its reply, if there is one (b),
--- was appended to the empty text, the line was handed over as `IsExchanged` has it
+-- was appended to the empty text, the state then and this text are those that `scene_handed` says (`IsHanded`)
 pub exchanged : (s after : SceneState) (new : List ℕ) (b : Bool) (id : ℕ) (call : Call) → id < 8 → IsFitting call
-    → AppendsAnswer (IsPlayed s (request_line (Some id) call) after) [] new b → IsExchanged s id call after new
+    → AppendsAnswer (IsPlayed s (request_line (Some id) call) after) [] new b → IsHanded (scene_handed s id call) after new
 exchanged s after new true id call small fits h =
     let one = one_reply s after (scene_handed s id call).state (request_line (Some id) call) (Some h.0) (Some (scene_handed s id call).reply) h.1 (plays_line s id call small fits) in
     record { state = one.0; line = h.2 ∙ same_Some h.0 (scene_handed s id call).reply one.1 }
@@ -95,8 +90,9 @@ unfolding plays
 same_repeats s rpc call (Some code) = refl
 same_repeats s rpc call None = refl
 
--- `execution_counted` below, for a call that was played as `p`, by whether a line is sent again for the id: `o` is that line, if
--- there is one
+-- where a request was answered by the line sent again (`o`), if there is one, or else by what was played (`p`), and the count of
+-- executions, the length of xs, changed as `Notes` says, it is the length of xs with n at its end if the request was executed,
+-- and else still that of xs
 execution_counted_by : (s : SceneState) (id : ℕ) (p : Played) (o : Option (List ℕ)) (new : ℕ) (xs : List ℕ) (n : ℕ) → resent_line s (Some id) ≡ o → p.state.repeats ≡ s.repeats
     → Notes s.repeats (kept_id s.base.kept) (kept_id (again_or_played s (Some id) p o).state.base.kept) (length xs) new
     → new ≡ length (cond (again_or_played s (Some id) p o).executed (xs ++ n ∷ []) xs)

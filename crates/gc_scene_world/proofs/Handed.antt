@@ -12,7 +12,7 @@ use Rattle.gc_scene_world.specs.SceneStages.{StageParts, AreStreamsOf, IsRemaind
 use Rattle.gc_world.specs.declared.direction.Direction.{Direction}
 use Rattle.gc_world.specs.declared.direction.Direction.TheVariants.{Up, Down}
 use Rattle.gc_world.specs.Clients.{by_ids}
-use Rattle.gc_world.specs.Directions.{deliver, delivery, lines, gone, after_cut, handed_over}
+use Rattle.gc_world.specs.Directions.{deliver, delivery, lines, to_go, after_cut, handed_over}
 use Rattle.gc_world.specs.Staging.{after_event, after_bytes}
 use Rattle.gc_world.specs.Streams.{Streams, up_texts, down_texts, remaining}
 use Rattle.gc_world.specs.World.{Request, Numbered, Wire, World, up_delivered, down_delivered, happens}
@@ -69,7 +69,7 @@ reached width d s v n h = record { now = v; shows = h; same = refl; idle = refl;
 module _ (width : ℕ) (d : Direction) (s : StageParts) (v : Streams (ById Call) SceneState) (n left : ℕ) (h : IsReached width d s v n left) where
   -- `IsReached` holds also once the front line was delivered, with `used` bytes fewer left: those of the line that were still to
   -- go, at least one, and no more than were left
-  pub reaches_next : (t : StageParts) (used : ℕ) → used ≡ remaining (gone d h.now) (lines d h.now.world.wire) → 0 < used → used ≤ left
+  pub reaches_next : (t : StageParts) (used : ℕ) → used ≡ to_go d h.now → 0 < used → used ≤ left
       → AreStreamsOf width t (after_event scene_ends width h.now (delivery d)) → IsReached width d t v n (left - used)
   reaches_next t used e some le shows =
       let one = next scene_ends (by_ids width scene_ends) d h.now left used e some le in

@@ -10,15 +10,11 @@ use Rattle.gc_world.specs.declared.event.Event.{Event}
 use Rattle.gc_world.proofs.Counts.{IsWithin}
 use Rattle.gc_world.proofs.Turns.{run_within}
 
--- none of the lists and counts of a run that `IsWithin` speaks of is above the count of its events
-played_within : (width : ℕ) (opening : SceneState) (events : List Event) → IsWithin (length events) (scene_played width opening events).wire
-played_within width opening events = run_within scene_ends width (scene_restarted opening) events
-
 -- after the first i of fewer than 2^64 events, the counts have room for event i
 pub has_room : (width : ℕ) (opening : SceneState) (events : List Event) (i : ℕ) (s : StageParts) → i < length events → length events < 2 ^ 64
     → AreStreamsOf width s (scene_streamed width opening (take i events)) → HasRoom s
 has_room width opening events i s lt few h =
-    let w = played_within width opening (take i events) in
+    let w : IsWithin (length (take i events)) (scene_played width opening (take i events)).wire = run_within scene_ends width (scene_restarted opening) (take i events) in
     let n = length-take i events in
     let up : length s.up.texts ≡ length (scene_played width opening (take i events)).wire.up =
     ap (λ (f : Flight). length f.texts) h.up ∙ length-map (scene_played width opening (take i events)).wire.up text_of in

@@ -15,10 +15,10 @@ use Rattle.gc_scene_world.specs.Lanes.{Flight}
 use Rattle.gc_scene_world.specs.SceneReports.{AreCounts}
 use Rattle.gc_scene_world.specs.SceneRuns.{scene_ends}
 use Rattle.gc_world.specs.declared.direction.Direction.{Direction}
-use Rattle.gc_world.specs.Directions.{lines, gone}
+use Rattle.gc_world.specs.Directions.{lines, gone, to_go}
 use Rattle.gc_world.specs.Sides.{IsPart}
 use Rattle.gc_world.specs.Staging.{Staging}
-use Rattle.gc_world.specs.Streams.{Streams, up_texts, down_texts, remaining}
+use Rattle.gc_world.specs.Streams.{Streams, up_texts, down_texts}
 use Rattle.gc_world.specs.World.{Request, Numbered}
 
 -- the parts of a stage of which contracts speak
@@ -58,7 +58,7 @@ staging = record { ends = scene_ends; shows = λ width s v. AreStreamsOf width (
 -- `n` is how many bytes of the front line of a direction are still to go, 0 if no line is in flight; not all bytes of the front line have
 -- gone, and none count as gone if there is no line
 pub record IsRemainder (d : Direction) (v : Streams (ById Call) SceneState) (n : ℕ) : Type 0 where
-  pub left : n ≡ remaining (gone d v) (lines d v.world.wire)
+  pub left : n ≡ to_go d v
   pub part : IsPart (gone d v) (lines d v.world.wire)
 
 -- on whatever streams the stage shows, `n` is how many bytes of the direction's front line are still to go (`IsRemainder`)

@@ -1,12 +1,12 @@
 //! Playing a list of events on a real client and the instrument of a scene.
 
-ghost use Rattle.std.specs.Prelude.{◌≡◌, ◌≤◌, IfOk};
+ghost use Rattle.std.specs.Prelude.{◌≡◌, IfOk};
+ghost use Rattle.gc_client.specs.Rule.{IsWidth};
 ghost use Rattle.gc_scene_world.specs.SceneReports.{IsSceneReport};
 ghost use Rattle.gc_scene_world.specs.SceneRuns.{scene_played};
 
 use crate::report::SceneReport;
 use crate::stage::Stage;
-use gc_client::WINDOW;
 use gc_scenes::SceneInstrument;
 use gc_world::Event;
 use std::alloc::{AllocError, Global};
@@ -33,8 +33,7 @@ pub fn play_scene(
     width: u8,
     events: &[Event],
 ) -> Result<SceneReport, AllocError>
-    requires least { 1 ≤ width }
-    requires most { width ≤ WINDOW }
+    requires { IsWidth width }
     ensures { IfOk result (λ report. IsSceneReport report (scene_played width instrument events.now).wire) }
 {
     let mut stage = Stage::new(alloc, instrument, width);

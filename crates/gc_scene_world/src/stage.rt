@@ -6,6 +6,7 @@
 //! one requires room in its counts. Who changes one of them changes the other.
 
 ghost use Rattle.std.specs.Prelude.{◌≡◌, ◌↔◌, ◌+◌, ◌<◌, ◌≤◌, ◌^◌, ◌++◌, [], OnOk, IsTrue};
+ghost use Rattle.gc_client.specs.Rule.{IsWidth};
 ghost use Rattle.gc_world.specs.declared.event.Event.{Event};
 ghost use Rattle.gc_world.specs.Directions.{bytes, delivery};
 ghost use Rattle.gc_world.specs.Staging.{streams_at_start, ShowsSome, Follows, FollowsBytes, HasMoreThan};
@@ -40,8 +41,7 @@ pub struct Stage {
 impl Stage {
     /// The stage before the first event: the instrument is restarted, and the client is new.
     pub fn new(alloc: Global, mut instrument: SceneInstrument, width: u8) -> Stage
-        requires least { 1 ≤ width }
-        requires most { width ≤ WINDOW }
+        requires { IsWidth width }
         ensures { staging.shows width result (streams_at_start scene_ends instrument) }
     {
         instrument.restart();

@@ -1,5 +1,5 @@
 -- What the code of shifts computes, in whole numbers that 128 bits hold.
-use Rattle.std.proofs.Common.{◌≡◌, ℕ, ◌*◌, ◌^◌, ◌≤◌, Bool, true, false, nat_le, ℤ, pos, ◌+ℤ◌, ◌*ℤ◌, unsigned_abs, refl, sym, ap, ◌∙◌, subst, arith}
+use Rattle.std.proofs.Common.{◌≡◌, ℕ, ◌*◌, ◌^◌, ◌≤◌, Bool, true, false, ℤ, pos, ◌+ℤ◌, ◌*ℤ◌, unsigned_abs, refl, sym, ap, ◌∙◌, subst, arith}
 use borrow.Author.Tests.{leb-true, le-leb}
 use Rattle.std.proofs.lemmas.Bool.{false≢true}
 use Rattle.std.proofs.lemmas.Int.{ints}
@@ -13,7 +13,7 @@ use Rattle.gc_values.proofs.NearLemmas.{as_i128, as_i128_same}
 use Rattle.gc_values.proofs.Rounded.{exact_rounds}
 use Rattle.gc_values.proofs.RoundedDecimals.{signed-unsigned_abs}
 use Rattle.gc_values.proofs.Signs.{signed-mul}
-use Rattle.gc_scenes.specs.Shifting.{of_units, shifted}
+use Rattle.gc_scenes.specs.Shifting.{are_in_range, of_units, shifted}
 
 -- two decimals with the value of z units are equal
 one_decimal : (z : ℤ) (d e : Decimal) → SameValue d.digits d.scale z 24 → SameValue e.digits e.scale z 24 → d ≡ e
@@ -26,21 +26,19 @@ signed_same : (b : Bool) (m n k j : ℕ) → n * k ≡ m * j → signed b n *ℤ
 signed_same b m n k j e = signed-mul b n k ∙ ap (signed b) e ∙ sym (signed-mul b m j)
 
 -- the decimal that `of_units` makes of z units that are in range has the value of z units
-units_value : (z : ℤ) (h : nat_le (unsigned_abs z) (10 ^ 13 * 10 ^ 24) ≡ true) (d : Decimal)
-    → SameValue (of_units true z h d).digits (of_units true z h d).scale z 24
+units_value : (z : ℤ) (h : are_in_range z ≡ true) (d : Decimal) → SameValue (of_units true z h d).digits (of_units true z h d).scale z 24
 units_value z h d =
     let m = unsigned_abs z in
     let w = stripped_is m 24 in
     signed_same (is_negative z) m (stripped m 24).digits (10 ^ 24) (10 ^ (stripped m 24).places) (sym w.same) ∙ ap (λ (x : ℤ). x *ℤ pos (10 ^ (stripped m 24).places)) (signed-unsigned_abs z)
 
 -- a decimal with the value of z units, which are in range, is the one that `of_units` gives
-made_by : (b : Bool) (z : ℤ) (h : nat_le (unsigned_abs z) (10 ^ 13 * 10 ^ 24) ≡ b) (d moved : Decimal)
-    → SameValue moved.digits moved.scale z 24 → IsInRange z 24 → moved ≡ of_units b z h d
+made_by : (b : Bool) (z : ℤ) (h : are_in_range z ≡ b) (d moved : Decimal) → SameValue moved.digits moved.scale z 24 → IsInRange z 24 → moved ≡ of_units b z h d
 made_by true z h d moved same within = one_decimal z moved (of_units true z h d) same (units_value z h d)
 made_by false z h d moved same within = absurd (false≢true (sym h ∙ le-leb (unsigned_abs z) (10 ^ 13 * 10 ^ 24) within))
 
 -- where z units are out of range, `of_units` leaves the decimal as it is
-not_made : (b : Bool) (z : ℤ) (h : nat_le (unsigned_abs z) (10 ^ 13 * 10 ^ 24) ≡ b) (d : Decimal) → (IsInRange z 24 → ⊥) → d ≡ of_units b z h d
+not_made : (b : Bool) (z : ℤ) (h : are_in_range z ≡ b) (d : Decimal) → (IsInRange z 24 → ⊥) → d ≡ of_units b z h d
 not_made true z h d out = absurd (out (leb-true (unsigned_abs z) (10 ^ 13 * 10 ^ 24) h))
 not_made false z h d out = refl
 

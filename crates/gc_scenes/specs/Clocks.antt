@@ -1,5 +1,5 @@
 -- A clock that runs from the date that it was set to: this project's own, by the Gregorian calendar.
-use Rattle.std.specs.Prelude.{ℕ, ℤ, pos, suc, zero, ◌+◌, ◌-◌, ◌*◌, ◌/◌, ◌%◌, ◌+ℤ◌, nat_le, int_le, unsigned_abs, if◌then◌else◌}
+use Rattle.std.specs.Prelude.{ℕ, ℤ, pos, suc, zero, ◌+◌, ◌-◌, ◌*◌, ◌/◌, ◌%◌, ◌+ℤ◌, nat_lt, int_le, unsigned_abs, if◌then◌else◌}
 use Rattle.gc_catalogue.specs.Calendar.{month_days}
 use Rattle.gc_catalogue.specs.declared.call.DateTime.{DateTime}
 use Rattle.gc_scenes.specs.declared.clock.Clock.{Clock}
@@ -12,8 +12,8 @@ next_year year = if int_le (pos 9999) year then year else year +ℤ pos 1
 -- counts as its last
 abbrev pub next_day : DateTime → DateTime
 next_day d =
-    if nat_le (d.day + 1) (month_days (unsigned_abs d.year) d.month) then record d { day = d.day + 1 }
-    else (if nat_le (d.month + 1) 12 then record d { day = 1; month = d.month + 1 } else record d { day = 1; month = 1; year = next_year d.year })
+    if nat_lt d.day (month_days (unsigned_abs d.year) d.month) then record d { day = d.day + 1 }
+    else (if nat_lt d.month 12 then record d { day = 1; month = d.month + 1 } else record d { day = 1; month = 1; year = next_year d.year })
 
 -- the date this many days later, at the same time of day
 abbrev pub days_on : (days : ℕ) → DateTime → DateTime

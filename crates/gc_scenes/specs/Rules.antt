@@ -1,6 +1,6 @@
 -- What each rule of a scene does to targets, to requests and to answers: this project's own. A look is a measurement or a search.
 -- `rpc` is a procedure's number.
-use Rattle.std.specs.Prelude.{ℕ, ◌+◌, ◌-◌, ◌==◌, ◌&&◌, not, Bool, true, false, List, [], ◌∷◌, Option, Some, None, nat_le, if◌then◌else◌, min, find, map, option_map}
+use Rattle.std.specs.Prelude.{ℕ, ◌+◌, ◌-◌, ◌==◌, ◌&&◌, not, Bool, true, false, List, [], ◌∷◌, Option, Some, None, nat_le, nat_lt, if◌then◌else◌, min, find, map, option_map}
 use Rattle.gc_values.specs.Decimals.{units}
 use Rattle.gc_values.specs.declared.decimal.Decimal.{Decimal}
 use Rattle.gc_catalogue.specs.declared.answer.Answer.{Answer}
@@ -55,7 +55,7 @@ drifted s ps = map (moved s) ps
 -- whether the fault is due at the next request of this procedure: the fault is one of the procedure, and the procedure's requests
 -- so far, `met` of them, are at least `after`, and fewer than `after` + `times`
 abbrev pub is_due : (rpc : ℕ) → Fault → Bool
-is_due rpc f = (f.rpc == rpc) && (nat_le f.after f.met && nat_le (f.met - f.after + 1) f.times)
+is_due rpc f = (f.rpc == rpc) && (nat_le f.after f.met && nat_lt (f.met - f.after) f.times)
 
 -- the return code with which the first fault that is due answers the next request of this procedure; none if none is due
 abbrev pub fault_of : (rpc : ℕ) → List Fault → Option ℕ

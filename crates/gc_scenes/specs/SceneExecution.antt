@@ -52,8 +52,9 @@ heading there other = there
 abbrev pub is_turned_for : SceneState → Call → Bool
 is_turned_for s asked = is_turned s.ways (heading s.base.pointing asked)
 
--- how the telescope meets targets at this call: in its look or, if it is no look, in the last one (number 0 before the first), from
--- where it points before the call, in the face in which the call looks for a target
+-- how the telescope meets targets at this call. The number of the look is the count of looks after the call, so a call that is no
+-- look has that of the last one, or 0 before the first. The telescope is where it points before the call, and in the face in which
+-- the call looks for a target
 abbrev pub sight_at : SceneState → Call → Sight
 sight_at s asked = record { turned = is_turned_for s asked; look = look_of s.ways.aims s.looks asked; there = s.base.pointing }
 

@@ -1,7 +1,8 @@
 -- What serving with a scene's instrument writes, and how it ends: this project's own.
 use Rattle.std.specs.Prelude.{ℕ, List, Option, Result}
-use Rattle.gc_lines.specs.Answering.{Ports, HasEnded, AnswersGiven}
+use Rattle.gc_lines.specs.Answering.{AnswersFrames, IsRunOverPorts, Ports}
 use Rattle.gc_lines.specs.AnsweringLines.{AnswersLines}
+use Rattle.gc_lines.specs.Frames.{frames}
 use Rattle.gc_lines.specs.declared.frame.Frame.{Frame}
 use Rattle.gc_lines.specs.declared.served.Served.{Served}
 use Rattle.gc_lines.specs.declared.served.ServeFault.{ServeFault}
@@ -14,10 +15,6 @@ abbrev pub PlaysFrame : (before : SceneState) → Frame → (after : SceneState)
 PlaysFrame before frame after text = AnswersLines IsPlayed before frame after text
 
 -- serving in at most `most` reads led the instrument from the state `from` to `to` and the ports from `old` to `new`, and had
--- this result
-pub record IsSceneServing (from to : SceneState) (old new : Ports) (most : ℕ) (result : Result Served ServeFault) : Type 0 where
-  -- the frames of the bytes that the source gave were answered, and the sink took the replies: how far, `AnswersGiven` says by
-  -- the result
-  pub serves : AnswersGiven PlaysFrame from to old new result
-  -- why the run ended, and what that says of the ports, as `HasEnded` has it
-  pub ended : HasEnded old new most result
+-- this result: the frames of the bytes that the source gave were answered, and the sink took the replies, as `AnswersFrames` says
+abbrev pub IsSceneServing : (from to : SceneState) → (old new : Ports) → (most : ℕ) → Result Served ServeFault → Type 0
+IsSceneServing from to old new most result = IsRunOverPorts (λ given. AnswersFrames PlaysFrame from to (frames given)) old new most result

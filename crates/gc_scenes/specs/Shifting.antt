@@ -6,8 +6,12 @@ use Rattle.gc_values.specs.Zeros.{stripped}
 use Rattle.gc_values.specs.declared.decimal.Decimal.{Decimal}
 use Rattle.gc_scenes.specs.ShiftedFacts.{few, in_range, canonical}
 
+-- whether z units of 10^-24 are in a decimal's range
+abbrev pub are_in_range : ℤ → Bool
+are_in_range z = nat_le (unsigned_abs z) (10 ^ 13 * 10 ^ 24)
+
 -- the decimal of z units of 10^-24 if these are in range (`fits`), and else `d`
-abbrev pub of_units : (fits : Bool) (z : ℤ) → nat_le (unsigned_abs z) (10 ^ 13 * 10 ^ 24) ≡ fits → (d : Decimal) → Decimal
+abbrev pub of_units : (fits : Bool) (z : ℤ) → are_in_range z ≡ fits → (d : Decimal) → Decimal
 of_units true z h d = record {
   digits = signed (is_negative z) (stripped (unsigned_abs z) 24).digits;
   scale = (stripped (unsigned_abs z) 24).places;
@@ -19,7 +23,7 @@ of_units false z h d = d
 
 -- the decimal plus z units of 10^-24, exactly; if the sum is out of a decimal's range, it is the decimal itself
 unfoldable pub shifted : Decimal → ℤ → Decimal
-shifted d z = of_units (nat_le (unsigned_abs (units d +ℤ z)) (10 ^ 13 * 10 ^ 24)) (units d +ℤ z) refl d
+shifted d z = of_units (are_in_range (units d +ℤ z)) (units d +ℤ z) refl d
 
 -- the generator's number after x, from 0 to 2^32 - 1
 abbrev pub next : ℕ → ℕ

@@ -74,7 +74,9 @@ fn carry_out(instrument: &mut Instrument, call: &Call, answer: &mut Answer) -> u
     rc
 }
 
-// Carries out a call whose outcome no way and no running clock changes, but for the face.
+// As `carry_out`, of a call that no way and no running clock changes (`is_unchanged_by_ways`): in `acted_faceless` the outcome of such
+// a call is that of the execution table. It is a function of its own so that this is proved once, for all these calls. The face is
+// left to `set_face_by_angle`.
 fn carry_out_unchanged(instrument: &mut Instrument, call: &Call, answer: &mut Answer) -> u16
     requires { is_unchanged_by_ways call.now ≡ true }
     ensures { (ways : Ways) (now : Option DateTime) → Gives (acted_faceless ways now instrument.old call.now) instrument.new result answer.new }

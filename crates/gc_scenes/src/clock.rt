@@ -38,11 +38,11 @@ fn next_day(date: DateTime) -> DateTime
     ensures { result ≡ next_day date }
 {
     let mut after = date;
-    if u64::from(date.day) + 1
-        <= month_days(u64::from(date.year.unsigned_abs()), u64::from(date.month))
+    if u64::from(date.day)
+        < month_days(u64::from(date.year.unsigned_abs()), u64::from(date.month))
     {
         after.day = date.day + 1;
-    } else if u16::from(date.month) + 1 <= 12 {
+    } else if date.month < 12 {
         after.day = 1;
         after.month = date.month + 1;
     } else {

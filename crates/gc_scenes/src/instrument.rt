@@ -173,14 +173,26 @@ impl SceneInstrument {
         self.ways.is_turned(&heading(self.base.pointing(), call))
     }
 
-    // How the telescope meets targets at this call: in its look or, if it is no look, in the last one (number 0 before the first), from
-    // where it points before the call, in the face in which the call looks for a target.
+    // The number of looks after this call: measurements and searches are counted, up to the greatest number of 32 bits.
+    fn look_of(&self, call: &Call) -> u32
+        ensures { result ≡ look_of self.now.ways.aims self.now.looks call.now }
+    {
+        if is_measurement(call) || is_search(self.ways.aims, call) {
+            self.looks.saturating_add(1)
+        } else {
+            self.looks
+        }
+    }
+
+    // How the telescope meets targets at this call. The number of the look is the count of looks after the call, so a call that is no
+    // look has that of the last one, or 0 before the first. The telescope is where it points before the call, and in the face in which
+    // the call looks for a target.
     fn sight_at(&self, call: &Call) -> Sight
         ensures { result ≡ sight_at self.now call.now }
     {
         Sight {
             turned: self.is_turned_for(call),
-            look: look_of(self.ways.aims, self.looks, call),
+            look: self.look_of(call),
             there: self.base.pointing(),
         }
     }
@@ -207,16 +219,33 @@ impl SceneInstrument {
         rc
     }
 
+    // The clock after a call that had this return code. If the instrument has a clock that runs, a call that sets the date, and isn't
+    // refused, starts it from that date; else it stays as it was.
+    fn clock_after(&self, call: &Call, rc: u16) -> Option<Clock>
+        ensures { result ≡ clock_after self.now.ways.clock self.now.moment call.now rc self.now.clock }
+    {
+        if !self.ways.clock {
+            return self.clock;
+        }
+        match call {
+            Call::SetDate(date) if rc == 0 => Some(Clock {
+                set: *date,
+                at: self.moment,
+            }),
+            _ => self.clock,
+        }
+    }
+
     // Notes that a call was carried out with this sight and had this return code: its look counts, after a measurement each target that
     // isn't hidden and lies exactly where the telescope pointed has moved by its drift, and setting the date may start the clock.
     fn note_act(&mut self, sight: &Sight, call: &Call, rc: u16)
         ensures { self.new ≡ noting sight.now call.now rc self.old }
     {
+        self.clock = self.clock_after(call, rc);
         if is_measurement(call) {
             self.prisms = drifted(sight, self.prisms.as_slice());
         }
         self.looks = sight.look;
-        self.clock = clock_after(self.ways.clock, self.moment, call, rc, self.clock);
     }
 
     /// Executes a call that no fault answers, and returns the return code. An answer is written into `answer`, which stays
@@ -317,40 +346,6 @@ fn heading(there: Pointing, call: &Call) -> Pointing
     match call {
         Call::Position { hz, v, .. } => Pointing { hz: *hz, v: *v },
         _ => there,
-    }
-}
-
-// The clock after a call at this moment that had this return code. If the instrument has a clock that `runs`, a call that sets the date,
-// and isn't refused, starts it from that date; else it stays as it was.
-fn clock_after(runs: bool, moment: u64, call: &Call, rc: u16, clock: Option<Clock>) -> Option<Clock>
-    ensures { result ≡ clock_after runs moment call.now rc clock }
-{
-    if !runs {
-        return clock;
-    }
-    match call {
-        Call::SetDate(date) => {
-            if rc == 0 {
-                Some(Clock {
-                    set: *date,
-                    at: moment,
-                })
-            } else {
-                clock
-            }
-        }
-        _ => clock,
-    }
-}
-
-// The number of looks after this call: measurements and searches are counted, up to the greatest number of 32 bits.
-fn look_of(aims: bool, looks: u32, call: &Call) -> u32
-    ensures { result ≡ look_of aims looks call.now }
-{
-    if is_measurement(call) || is_search(aims, call) {
-        looks.saturating_add(1)
-    } else {
-        looks
     }
 }
 

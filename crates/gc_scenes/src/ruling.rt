@@ -37,9 +37,7 @@ impl Fault {
     pub(crate) fn is_due(&self, rpc: u16) -> bool
         ensures { result ≡ is_due rpc self.now }
     {
-        self.rpc == rpc
-            && self.after <= self.met
-            && u64::from(self.met - self.after) + 1 <= u64::from(self.times)
+        self.rpc == rpc && self.after <= self.met && self.met - self.after < self.times
     }
 
     /// The fault after one more request of this procedure, which it counts if the procedure is its own. The count goes up to 2^32 - 1, and
@@ -47,17 +45,11 @@ impl Fault {
     pub(crate) fn met_once(&self, rpc: u16) -> Fault
         ensures { result ≡ met_once rpc self.now }
     {
+        let mut fault = *self;
         if self.rpc == rpc {
-            Fault {
-                rpc: self.rpc,
-                rc: self.rc,
-                after: self.after,
-                times: self.times,
-                met: self.met.saturating_add(1),
-            }
-        } else {
-            *self
+            fault.met = self.met.saturating_add(1);
         }
+        fault
     }
 }
 

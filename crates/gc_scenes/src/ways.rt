@@ -109,7 +109,7 @@ impl Ways {
 fn is_in_face_two(v: &Decimal) -> bool
     ensures { result ≡ is_in_face_two v.now }
 {
-    !(v.units() <= HALF_TURN)
+    HALF_TURN < v.units()
 }
 
 /// The face of the telescope at this vertical angle.
@@ -176,8 +176,8 @@ fn difference(one: &Decimal, other: &Decimal) -> i128
     one.units() - other.units()
 }
 
-// How far a target is from where the telescope points, in units: the greater of the differences of the two angles, of which that of the
-// horizontal ones is taken the shorter way round the circle.
+// How far a target is from where the telescope points, in units: the difference of the horizontal angles, the shorter way round
+// the circle, or that of the vertical ones, whichever is greater.
 fn apart(there: &Pointing, target: &Target) -> u128
     ensures { result ≡ apart there.now target.now }
 {

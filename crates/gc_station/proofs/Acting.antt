@@ -26,6 +26,7 @@ use Rattle.gc_station.specs.Model.{Model, with_progress, with_moment, with_rest,
 use Rattle.gc_station.proofs.Invariant.{is_bare, is_done, says_done}
 use Rattle.gc_station.proofs.Meets.{hears_settles_oldest}
 use Rattle.gc_station.proofs.Midway.{Sound, ledger_at, PhaseFits, PhaseFitsAt, Mid, sound_moment, sound_settles, MidAt}
+use Rattle.gc_station.proofs.Turns.{phase_by}
 use Rattle.gc_station.proofs.Walk.{asked_along, came_along, closed_along}
 use Rattle.gc_station.proofs.Facts.{finished_so}
 
@@ -54,12 +55,11 @@ pub mid_put : (plan : Plan) (commands : List Task) (requests : ℕ) (f : Model �
 mid_put plan commands requests f s (Cut bytes n) mid = mid_fail plan commands (f s) (cause.Write requests n) refl mid
 mid_put plan commands requests f s act mid = mid
 
--- the phase after a lost connection or a failed attempt is over as done if `done`, else a pause if `some` (a try is left, or none
--- is needed), and else over for `why`. It is `PhaseFits`, if `why` isn't `Done`, no bytes of a line are kept, and nothing is left to
--- be sent where `done`
-failure_phase_fits : (why : Cause) (left unsent : ℕ) (rest : List ℕ) (marks : List (Option Mark)) (done some : Bool) → is_done why ≡ false → rest ≡ [] → (done ≡ true → (left ≡ 0) × (unsent ≡ 0))
-    → PhaseFits (if done then Over cause.Done else if some then Pausing else Over why) left unsent rest marks
-failure_phase_fits why left unsent rest marks true some other none finished = record { empty = λ e. cc; finished = λ e. let it = finished refl in (it.0, it.1, inl refl) }
+-- the phase after a lost connection or a failed attempt (`phase_by`) is `PhaseFits`, if `why` isn't `Done`, no bytes of a line
+-- are kept, and nothing is left to be sent where all is done
+failure_phase_fits : (why : Cause) (left unsent : ℕ) (rest : List ℕ) (marks : List (Option Mark)) (done again : Bool) → is_done why ≡ false → rest ≡ [] → (done ≡ true → (left ≡ 0) × (unsent ≡ 0))
+    → PhaseFits (phase_by done again why) left unsent rest marks
+failure_phase_fits why left unsent rest marks true again other none finished = record { empty = λ e. cc; finished = λ e. let it = finished refl in (it.0, it.1, inl refl) }
 failure_phase_fits why left unsent rest marks false true other none finished = record { empty = λ e. none; finished = λ e. cc }
 failure_phase_fits why left unsent rest marks false false other none finished = record { empty = λ e. cc; finished = λ e. absurd (both_ways (is_done why) other e) }
 

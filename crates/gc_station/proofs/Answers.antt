@@ -1,7 +1,7 @@
 -- Each record is of its very request: an answer came after it, with its id, and in time; a late reply came too late; and a lost
 -- one is lost for a cause. Each act preserves `IsHonest` (of `Waiting`): the outstanding requests were put among the acts, and
 -- the records are true. An act is one call on the link, with its result.
-use Rattle.std.proofs.Common.{◌≡◌, inl, inr, ℕ, ◌+◌, ◌%◌, ◌<◌, ◌≤◌, Bool, true, false, List, [], ◌∷◌, ◌++◌, length, drop, if◌then◌else◌, Option, Some, None, refl, sym, ap, ◌∙◌, subst, arith, append_assoc, append-nil, length-append}
+use Rattle.std.proofs.Common.{◌≡◌, inl, inr, ℕ, ◌+◌, ◌%◌, ◌<◌, ◌≤◌, Bool, true, false, List, [], ◌∷◌, ◌++◌, length, drop, Option, Some, None, refl, sym, ap, ◌∙◌, subst, arith, append_assoc, append-nil, length-append}
 use Rattle.std.specs.List.{AllByRecursion}
 use Rattle.gc_catalogue.specs.declared.asked.Asked.{Asked}
 use Rattle.gc_catalogue.specs.declared.asked.Asked.TheVariants.{Table}
@@ -12,7 +12,6 @@ use Rattle.gc_client.proofs.Digits.{sending}
 use Rattle.gc_texts.specs.declared.wish.Wish.{Wish}
 use Rattle.gc_texts.specs.Tasks.{call_at}
 use Rattle.gc_texts.specs.declared.tasks.Task.{Task}
-use Rattle.gc_texts.specs.Endings.{Skipped, Missed}
 use Rattle.gc_station.specs.declared.mark.Mark.{Mark}
 use Rattle.gc_station.specs.declared.plan.Plan.{Plan}
 use Rattle.gc_links.specs.declared.link.Moment.{Moment}
@@ -21,18 +20,18 @@ use Rattle.gc_station.specs.declared.progress.Action.TheVariants as actions
 use Rattle.gc_station.specs.declared.progress.Progress.{Progress}
 use Rattle.gc_station.specs.declared.progress.Until.{Until}
 use Rattle.gc_station.specs.declared.progress.Upcoming.{Upcoming}
-use Rattle.gc_links.specs.Acts.{Act, Told, Untold, Put, Cut, Gave, Silent, Ended, Broke, Closed, Opened, Unopened}
-use Rattle.gc_station.specs.Answers.{ReadsBefore, first_deadline, deadline_after, AnswerIsJustified}
+use Rattle.gc_links.specs.Acts.{Act, Told, Untold, Put, Cut, Gave, Silent, Ended, Broke, Opened, Unopened}
+use Rattle.gc_station.specs.Answers.{first_deadline, deadline_after, AnswerIsJustified}
 use Rattle.gc_station.specs.Ends.{LateIsJustified, LostIsJustified}
 use Rattle.gc_station.specs.Deciding.{later}
 use Rattle.gc_station.specs.Quiet.{IsAsking}
-use Rattle.gc_station.specs.Progressing.{turned, moment_noted, early_noted, cycle_begun, skipped, attempts_left_out, unsent_at, cleared, null_sent, renewed, sent, request_noted, loses_all, setup_sent}
+use Rattle.gc_station.specs.Progressing.{turned, moment_noted, early_noted, cycle_begun, skipped, attempts_left_out, unsent_at, cleared, null_sent, resynchronized, sent, request_noted, loses_all, setup_sent}
 use Rattle.gc_station.specs.Marks.{commands_in, unsent_as}
 use Rattle.gc_station.specs.Reasons.{HoldsBefore}
 use Rattle.gc_station.specs.Records.{Record}
 use Rattle.gc_station.specs.Runs.{state_after, OfEachRecord}
-use Rattle.gc_station.specs.ActKinds.{Puts, ReadsClock, IsOpening, ReadsLink}
-use Rattle.gc_station.specs.Model.{Model, opening, action_at, waiting_of, next_request_text, null_text, first_text, with_progress, is_heard, client_sent, asks_first, asks_next, after_pass, with_more_passes, next_left_out, with_listed, listed_after_skip, with_more_records, unsent_record, first_unsent_record, after_clock, after_put, after_open, after_read, Performs, moved, Runs, cycle_length, place_to_send, text_or_null, asks_setup, null_request, request_or_null, asks_for}
+use Rattle.gc_station.specs.ActKinds.{moment_in, Puts, ReadsClock, IsOpening, ReadsLink}
+use Rattle.gc_station.specs.Model.{Model, opening, action_at, waiting_of, next_request_text, null_text, first_text, with_progress, is_heard, client_sent, asks_first, asks_next, after_pass, with_more_passes, next_left_out, with_listed, listed_after_skip, with_more_records, unsent_record, end_unsent, first_unsent_record, after_clock, after_put, after_open, after_read, Performs, moved, Runs, cycle_length, place_to_send, text_or_null, asks_setup, null_request, request_or_null, asks_for}
 use Rattle.gc_station.specs.NextCommand.{mark_next, place_next, upcoming_after, mark_setup}
 use Rattle.gc_station.proofs.EachRun.{invariant_holds}
 use Rattle.gc_station.proofs.Outs.{prepare_cycle, prepare_place, send_cycle, send_place, sending_asks}
@@ -42,7 +41,7 @@ use Rattle.gc_station.proofs.Going.{after_all-append}
 use Rattle.gc_station.proofs.Growing.{losing_records}
 use Rattle.gc_station.proofs.Lists.{all_append, all_on, AllRisingAt, rising_more}
 use Rattle.gc_station.proofs.Losing.{losing_honest}
-use Rattle.gc_station.proofs.Waiting.{Stayed, StillWaits, IsJustified, Honest, IsHonest, Marked, asked_more, asked_as, asked_among, stays_still, all_true_more, honest_untold, honest_told}
+use Rattle.gc_station.proofs.Waiting.{TimedOutAsRead, StillWaits, IsJustified, Honest, IsHonest, Marked, asked_more, asked_as, asked_among, as_read_without_moment, all_true_more, honest_without_moment, honest_after_moment}
 use Rattle.gc_station.proofs.Pieces.{piece_honest}
 use Rattle.gc_station.specs.Scopes.{Scope}
 use Rattle.gc_station.proofs.Midway.{with_sent, sent_with_room}
@@ -50,10 +49,10 @@ use Rattle.gc_station.proofs.Midway.{with_sent, sent_with_room}
 -- A request is sent.
 
 -- an act that puts bytes reads no moment
-puts_still : (bytes : List ℕ) (act : Act) → Puts bytes act → (d : ℕ) → ReadsBefore d act
-puts_still bytes (Put out) o d = tt
-puts_still bytes (Cut out n) o d = tt
-puts_still bytes act o d = absurd o
+puts_read_none : (bytes : List ℕ) (act : Act) → Puts bytes act → moment_in act ≡ None
+puts_read_none bytes (Put out) o = refl
+puts_read_none bytes (Cut out n) o = refl
+puts_read_none bytes act o = absurd o
 
 -- `IsHonest` holds after a write, whole or cut, if it holds after a whole one
 put_honest : (plan : Plan) (commands : List Task) (scope : Scope) (acts : List Act) (requests : ℕ) (f : Model → Model) (t : Model) (act : Act)
@@ -63,7 +62,7 @@ put_honest plan commands scope acts requests f t act h = h
 
 -- a command that isn't sent is neither answered nor late nor lost, so its record is true
 unsent_true : (plan : Plan) (commands : List Task) (scope : Scope) (all : List Act) (missed : Bool) (utc : ℕ) (mark : Mark) (command : Wish)
-    → IsJustified plan commands scope all (unsent_as utc mark command (if missed then Missed else Skipped))
+    → IsJustified plan commands scope all (unsent_as utc mark command (end_unsent missed))
 unsent_true plan commands scope all true utc mark command = record { answered = λ line e. cc; late = λ e. cc; lost = λ e. cc }
 unsent_true plan commands scope all false utc mark command = record { answered = λ line e. cc; late = λ e. cc; lost = λ e. cc }
 
@@ -77,10 +76,6 @@ skips_first_true plan commands scope all p m mark (task ∷ others) = (unsent_tr
 skips_true : (plan : Plan) (commands : List Task) (scope : Scope) (all : List Act) (p : Progress) (act : Act) → AllByRecursion (IsJustified plan commands scope all) (unsent_record plan commands p act)
 skips_true plan commands scope all p (Told m) = skips_first_true plan commands scope all p m (mark_next plan commands p) (drop (place_next commands p) commands)
 skips_true plan commands scope all p act = tt
-
--- a close reads no moment
-close_still : (act : Act) → act ≡ Closed → (d : ℕ) → ReadsBefore d act
-close_still act is d = subst (λ (x : Act). ReadsBefore d x) (sym is) tt
 
 -- One act more.
 
@@ -143,9 +138,9 @@ module _ (plan : Plan) (commands : List Task) (scope : Scope) (acts : List Act) 
             (rising_more (StillWaits plan commands scope acts c.next (length ws)) W 0 0 (length acts) (length ws) ws marks asked mark end fine.paired from
             (λ n j p y low w.
             let below : j < length ws = omega (arith, low) in (
-              asked_among plan commands scope acts Stayed n j _ p y w,
-              asked_as plan commands scope (acts ++ act ∷ []) Stayed n j j _ _ p y
-                  (λ above. above) (ids.others j below) (asked_more plan commands scope acts act Stayed Stayed n j _ p y (stays_still act (puts_still _ act r.puts)) w),
+              asked_among plan commands scope acts TimedOutAsRead n j _ p y w,
+              asked_as plan commands scope (acts ++ act ∷ []) TimedOutAsRead n j j _ _ p y
+                  (λ above. above) (ids.others j below) (asked_more plan commands scope acts act TimedOutAsRead TimedOutAsRead n j _ p y (as_read_without_moment act (puts_read_none _ act r.puts)) w),
             )) h.waiting (asked_here act target call deadline mark fine r));
         written = h.written;
       }
@@ -156,7 +151,7 @@ module _ (plan : Plan) (commands : List Task) (scope : Scope) (acts : List Act) 
       → (marked : Marked plan commands scope acts mark) → (room : length here.client.waiting < 7) → (there : drop (place_to_send plan commands here) commands ≡ left)
       → (puts : Puts (first_text mark.sent here.client left) act)
       → HonestAfter act (with_progress (sent next) (asks_first mark left (with_progress turned here)))
-  first_honest act next [] mark fine h is room at puts = honest_untold plan commands scope acts act _ _ _ (puts_still [] act puts) h
+  first_honest act next [] mark fine h is room at puts = honest_without_moment plan commands scope acts act _ _ _ (puts_read_none [] act puts) h
   first_honest act next (task ∷ others) mark fine h is room at puts =
       let s = here in
       let limit = deadline_after plan commands scope acts in
@@ -201,8 +196,8 @@ module _ (plan : Plan) (commands : List Task) (scope : Scope) (acts : List Act) 
 
   -- an act that reads the clock preserves `IsHonest`
   clock_honest : (act : Act) (f : Moment → Progress → Progress) (s : Model) → HonestBefore act s → ReadsClock act → HonestAfter act (after_clock f (with_progress turned s) act)
-  clock_honest (Told m) f s h o = honest_told plan commands scope acts (Told m) m.elapsed _ _ _ (λ d low. low) (λ d past. past) h
-  clock_honest Untold f s h o = honest_untold plan commands scope acts Untold _ _ _ (λ d. tt) h
+  clock_honest (Told m) f s h o = honest_after_moment plan commands scope acts (Told m) m _ _ _ refl h
+  clock_honest Untold f s h o = honest_without_moment plan commands scope acts Untold _ _ _ refl h
   clock_honest act f s h o = absurd o
 
   -- an act that leaves attempts out preserves `IsHonest`
@@ -217,20 +212,20 @@ module _ (plan : Plan) (commands : List Task) (scope : Scope) (acts : List Act) 
 
   -- an attempt to connect preserves `IsHonest`
   open_honest : (act : Act) (s : Model) → HonestBefore act s → IsOpening act → HonestAfter act (after_open plan (with_progress turned s) act)
-  open_honest Opened s h o = honest_untold plan commands scope acts Opened _ _ _ (λ d. tt) h
-  open_honest Unopened s h o = honest_untold plan commands scope acts Unopened _ _ _ (λ d. tt) h
+  open_honest Opened s h o = honest_without_moment plan commands scope acts Opened _ _ _ refl h
+  open_honest Unopened s h o = honest_without_moment plan commands scope acts Unopened _ _ _ refl h
   open_honest act s h o = absurd o
 
   -- a read preserves `IsHonest`, whatever came of it. `tail` are the records that the loss of what is outstanding adds after it
   read_honest : (until : Until) (act : Act) (tail : List Record) → Invariant plan commands here → HonestBefore act here → ReadsLink act
       → (state_after plan commands scope (acts ++ act ∷ [])).records ≡ (after_read plan until (with_progress turned here) act).records ++ tail
       → HonestAfter act (after_read plan until (with_progress turned here) act)
-  read_honest until Untold tail fine h o ends = honest_untold plan commands scope acts Untold _ _ _ (λ d. tt) h
+  read_honest until Untold tail fine h o ends = honest_without_moment plan commands scope acts Untold _ _ _ refl h
   read_honest until (Gave bytes m) tail fine h o ends =
       piece_honest plan commands scope acts bytes m (is_heard here.progress.phase) here.progress.word tail ends (record { digit = fine.digit; few = fine.window }) h
-  read_honest until (Silent m) tail fine h o ends = honest_told plan commands scope acts (Silent m) m.elapsed _ _ _ (λ d low. low) (λ d past. past) h
-  read_honest until Ended tail fine h o ends = honest_untold plan commands scope acts Ended _ _ _ (λ d. tt) h
-  read_honest until Broke tail fine h o ends = honest_untold plan commands scope acts Broke _ _ _ (λ d. tt) h
+  read_honest until (Silent m) tail fine h o ends = honest_after_moment plan commands scope acts (Silent m) m _ _ _ refl h
+  read_honest until Ended tail fine h o ends = honest_without_moment plan commands scope acts Ended _ _ _ refl h
+  read_honest until Broke tail fine h o ends = honest_without_moment plan commands scope acts Broke _ _ _ refl h
   read_honest until act tail fine h o ends = absurd o
 
   -- an act of the action that is next, whose conditions hold, preserves `IsHonest`, before what is outstanding is lost. `tail`
@@ -240,16 +235,17 @@ module _ (plan : Plan) (commands : List Task) (scope : Scope) (acts : List Act) 
       → (ends : (state_after plan commands scope (acts ++ act ∷ [])).records ≡ (moved plan commands action (with_progress turned here) act).records ++ tail)
       → HonestAfter act (moved plan commands action (with_progress turned here) act)
   moved_honest actions.ReadClock act tail fine h is needs o ends = clock_honest act (λ m p. early_noted plan (commands_in here.marks) (moment_noted m p)) here h o
-  moved_honest actions.Renew act tail fine h is needs o ends = clock_honest act (λ m p. early_noted plan 0 (renewed plan m p)) here h o
+  moved_honest actions.Renew act tail fine h is needs o ends = clock_honest act (λ m p. early_noted plan 0 (resynchronized plan m p)) here h o
   moved_honest actions.Begin act tail fine h is needs o ends = clock_honest act (cycle_begun plan (cycle_length plan commands)) here h o
   moved_honest actions.Open act tail fine h is needs o ends = open_honest act here h o
   moved_honest actions.Clear act tail fine h is needs o ends =
       let s = here in
-      put_honest plan commands scope (acts ++ act ∷ []) _ (with_progress cleared) (with_progress turned s) act (honest_untold plan commands scope acts act _ _ _ (puts_still (10 ∷ []) act o) h)
+      put_honest plan commands scope (acts ++ act ∷ []) _ (with_progress cleared) (with_progress turned s) act
+      (honest_without_moment plan commands scope acts act _ _ _ (puts_read_none (10 ∷ []) act o) h)
   moved_honest actions.Ask act tail fine h is needs o ends =
       let s = here in
       put_honest plan commands scope (acts ++ act ∷ []) _ (with_progress (null_sent plan)) (with_progress turned s) act
-      (honest_untold plan commands scope acts act _ _ _ (puts_still (null_text s.progress.word) act o) h)
+      (honest_without_moment plan commands scope acts act _ _ _ (puts_read_none (null_text s.progress.word) act o) h)
   moved_honest actions.Prepare act tail fine h is needs o ends =
       let s = here in
       put_honest plan commands scope (acts ++ act ∷ []) _ (λ (x : Model). with_progress (setup_sent plan) (asks_setup plan commands x)) (with_progress turned s) act
@@ -280,7 +276,7 @@ module _ (plan : Plan) (commands : List Task) (scope : Scope) (acts : List Act) 
       put_honest plan commands scope (acts ++ act ∷ []) _ (λ (x : Model). with_progress request_noted (asks_for (null_request plan) x)) (with_progress turned s) act
       (null_honest act request_noted fine h needs.4.1 (λ above. subst IsAsking (sym is) tt) o)
   moved_honest (actions.Read until) act tail fine h is needs o ends = read_honest until act tail fine h o ends
-  moved_honest (actions.Close why) act tail fine h is needs o ends = honest_untold plan commands scope acts act _ _ _ (close_still act o) h
+  moved_honest (actions.Close why) act tail fine h is needs o ends = honest_without_moment plan commands scope acts act _ _ _ (ap moment_in o) h
   moved_honest (actions.Stop why) act tail fine h is needs o ends = absurd o
 
 -- acts of a run preserve `IsHonest`

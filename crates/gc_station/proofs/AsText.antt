@@ -11,11 +11,11 @@ use Rattle.gc_catalogue.specs.declared.answer.Reading.{Reading}
 use Rattle.gc_catalogue.specs.declared.asked.Asked.{Asked}
 use Rattle.gc_client.specs.Rule
 use Rattle.gc_client.specs.Rule.{heard, hears, restarts}
-use Rattle.gc_texts.specs.Endings.{Answered, Elsewhere, Skipped, Missed}
+use Rattle.gc_texts.specs.Endings.{Answered, Elsewhere}
 use Rattle.gc_texts.specs.Nears.{is_elsewhere}
 use Rattle.gc_texts.specs.declared.near.Expected.{Expected}
 use Rattle.gc_texts.specs.declared.tasks.Task.{Task}
-use Rattle.gc_texts.proofs.Placing.{near_unless_elsewhere, elsewhere_is}
+use Rattle.gc_texts.proofs.Placing.{near_unless_elsewhere, elsewhere_has_place}
 use Rattle.gc_links.specs.Acts.{Act, Told, Gave, Cut}
 use Rattle.gc_links.specs.declared.link.Moment.{Moment}
 use Rattle.gc_station.specs.Marks.{record_of, records_of, end_of}
@@ -84,7 +84,7 @@ module _ (plan : Plan) (commands : List Task) (scope : Scope) where
         (ap (λ o. is_elsewhere o answer) (sym stands) ∙ ended_near scope.reads mark.expected x.call line x.outcome quality answer e) toward),
     (λ task line at e.
         let away = ended_away scope.reads mark.expected x.call line x.outcome e in
-        let is = elsewhere_is mark.expected.near away.0 away.2 in
+        let is = elsewhere_has_place mark.expected.near away.0 away.2 in
         let near_there = near_as_text mark placed ∙ ap (λ (k : Expected). k.near) (expected_there commands mark.place task at) in
         let there = codes_as_text mark placed ∙ ap (λ (k : Expected). k.accepted) (expected_there commands mark.place task at) in
         record {
@@ -102,8 +102,8 @@ module _ (plan : Plan) (commands : List Task) (scope : Scope) where
   )
 
   -- once a cycle has begun, the mark of the next command of a cycle is `ExpectsAsText`
-  next_placed : (p : Progress) → 0 < cycles_begun plan p → ExpectsAsText (Some (mark_next plan commands p))
-  next_placed p many =
+  next_expects : (p : Progress) → 0 < cycles_begun plan p → ExpectsAsText (Some (mark_next plan commands p))
+  next_expects p many =
       let expected = expected_first (drop (place_next commands p) commands) in
       ap (λ (b : Bool). expected_as b expected.turn.attempt expected) (sym (not_none (cycles_begun plan p) many))
 
@@ -176,7 +176,7 @@ module _ (plan : Plan) (commands : List Task) (scope : Scope) where
   next_keeps s many k =
       let mark = mark_next plan commands s.progress in
       first_along KeepsToText mark (drop (place_next commands s.progress) commands) s
-      (λ task. asks_keeps (request_for mark task) s (next_placed s.progress many) k) k
+      (λ task. asks_keeps (request_for mark task) s (next_expects s.progress many) k) k
 
   -- `KeepsToText` is preserved by the send of the next command of the setup
   setup_keeps : (s : Model) → KeepsToText s → KeepsToText (asks_setup plan commands s)
@@ -187,7 +187,7 @@ module _ (plan : Plan) (commands : List Task) (scope : Scope) where
 
   -- whether a rule names the end of a command that isn't sent is the same without a code and with the code of that end
   unsent_named : (again : Again) (call : Asked) (missed : Bool)
-      → repeats_after again None (if missed then Missed else Skipped) ≡ repeats_after again (code_of_end scope.reads call (if missed then Missed else Skipped)) (if missed then Missed else Skipped)
+      → repeats_after again None (end_unsent missed) ≡ repeats_after again (code_of_end scope.reads call (end_unsent missed)) (end_unsent missed)
   unsent_named again call true = refl
   unsent_named again call false = refl
 
@@ -211,10 +211,10 @@ module _ (plan : Plan) (commands : List Task) (scope : Scope) where
   skips_listed b p m [] many some = absurd (omega (arith, some))
   skips_listed b p m (task ∷ others) many some =
       let mark = mark_next plan commands p in
-      let end = end_unsent p in
+      let end = end_unsent p.missed in
       ap (λ x. (if nat_eq mark.expected.turn.link 0 then false else b) || x)
       (unsent_named mark.expected.again task.command.call p.missed
-      ∙ ap (λ (k : Expected). repeats_after k.again (code_of_end scope.reads task.command.call end) end) (next_placed p many))
+      ∙ ap (λ (k : Expected). repeats_after k.again (code_of_end scope.reads task.command.call end) end) (next_expects p many))
 
   -- if this action sends the next command of a cycle, or records it without sending it, a cycle has begun, and there is such a
   -- command
@@ -238,7 +238,7 @@ module _ (plan : Plan) (commands : List Task) (scope : Scope) where
       record {
         reads = k.reads;
         marks = k.marks;
-        records = all_append IsAsItsText s.records _ k.records (skips_keeps p m (mark_next plan commands p) left (next_placed p some.0));
+        records = all_append IsAsItsText s.records _ k.records (skips_keeps p m (mark_next plan commands p) left (next_expects p some.0));
         listed = skips_listed s.listed p m left some.0 some.1 ∙ ap (λ b. any_listed scope.reads commands b rs) k.listed ∙ sym (any_append scope.reads commands s.records rs false);
       }
   moved_keeps actions.Skip s act some k = record {

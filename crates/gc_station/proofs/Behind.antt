@@ -97,18 +97,18 @@ settled_and_waiting x one =
     omega (arith, a, b, d, e)
 
 -- `IsAtMostBehind` is preserved if settlements are added, whatever client is left
-within_more : (x : Course Asked) (more : List (Settlement Asked)) (client : ById Asked) (b : ℕ) → IsAtMostBehind x b
+at_most_more : (x : Course Asked) (more : List (Settlement Asked)) (client : ById Asked) (b : ℕ) → IsAtMostBehind x b
     → IsAtMostBehind (record { sent = x.sent; settlements = x.settlements ++ more; client = client }) b
-within_more x more client b (inl few) = inl few
-within_more x more client b (inr (k, s, at, replied, near)) = inr (k, s, get_more x.settlements more k s at, replied, near)
+at_most_more x more client b (inl few) = inl few
+at_most_more x more client b (inr (k, s, at, replied, near)) = inr (k, s, get_more x.settlements more k s at, replied, near)
 
 -- `IsAtMostBehind` is preserved by a send, with the count one higher, whether the client refuses the send (`None`) or not
-within_sent : (x : Course Asked) (target : ℕ) (call : Asked) (o : Option (Sending (ById Asked))) (b : ℕ) → IsAtMostBehind x b → IsAtMostBehind (sent_on x target call o) (b + 1)
-within_sent x target call None b (inl few) = inl (omega (arith, few))
-within_sent x target call None b (inr (k, s, at, replied, near)) = inr (k, s, at, replied, omega (arith, near))
-within_sent x target call (Some sending) b (inl few) =
+at_most_sent : (x : Course Asked) (target : ℕ) (call : Asked) (o : Option (Sending (ById Asked))) (b : ℕ) → IsAtMostBehind x b → IsAtMostBehind (sent_on x target call o) (b + 1)
+at_most_sent x target call None b (inl few) = inl (omega (arith, few))
+at_most_sent x target call None b (inr (k, s, at, replied, near)) = inr (k, s, at, replied, omega (arith, near))
+at_most_sent x target call (Some sending) b (inl few) =
     let more = length-append x.sent (record { target = target; call = call } ∷ []) in inl (omega (arith, more, few))
-within_sent x target call (Some sending) b (inr (k, s, at, replied, near)) =
+at_most_sent x target call (Some sending) b (inr (k, s, at, replied, near)) =
     let more = length-append x.sent (record { target = target; call = call } ∷ []) in inr (k, s, at, replied, omega (arith, more, near))
 
 -- if `one_more_in_window` of a number is below seven, so is the number, and the former is the number plus 1
@@ -121,12 +121,12 @@ counts_step : (x : Course Asked) (b : ℕ) (step : Step Asked) → AccountsForSe
     → CountsBehind (course_after WINDOW x step) (behind_step x.client b step)
 counts_step x b (Send target call deadline) one h low =
     let is = one_more_is b low in
-    subst (λ (n : ℕ). IsAtMostBehind (course_after WINDOW x (Send target call deadline)) n) (sym is.1) (within_sent x target call (sends WINDOW x.client target call deadline) b (h is.0))
+    subst (λ (n : ℕ). IsAtMostBehind (course_after WINDOW x (Send target call deadline)) n) (sym is.1) (at_most_sent x target call (sends WINDOW x.client target call deadline) b (h is.0))
 counts_step x b (Hear line) one h low = by_test (ends_with_table (hears x.client line (heard line)).settlements) refl low where
   -- the lemma above, by whether the last request that the line settles is a call of the table (`t`)
   by_test : (t : Bool) → ends_with_table (hears x.client line (heard line)).settlements ≡ t → (if t then length (hears x.client line (heard line)).client.waiting else b) < 7
       → IsAtMostBehind (course_after WINDOW x (Hear line)) (if t then length (hears x.client line (heard line)).client.waiting else b)
-  by_test false e low = let y = hears x.client line (heard line) in within_more x y.settlements y.client b (h low)
+  by_test false e low = let y = hears x.client line (heard line) in at_most_more x y.settlements y.client b (h low)
   by_test true e low =
       let y = hears x.client line (heard line) in
       let last = ends_replied x.client line (heard line) e in
@@ -135,7 +135,7 @@ counts_step x b (Hear line) one h low = by_test (ends_with_table (hears x.client
       let all = settled_and_waiting (course_after WINDOW x (Hear line)) one in
       inr (k, last.last, get_behind x.settlements y.settlements k (length y.settlements - 1) refl ∙ last.at, last.replied, omega (arith, many, all, last.some))
 counts_step x b (Expire now) one h low = h low
-counts_step x b Restart one h low = within_more x (restarts x.client).settlements (restarts x.client).client b (h low)
+counts_step x b Restart one h low = at_most_more x (restarts x.client).settlements (restarts x.client).client b (h low)
 
 -- the course from x over the steps `first` and then `later` is that over `later`, from the course from x over `first` on
 pub course_append : (width : ℕ) (first later : List (Step Asked)) (x : Course Asked) → course width x (first ++ later) ≡ course width (course width x first) later

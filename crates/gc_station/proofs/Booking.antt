@@ -24,7 +24,7 @@ use Rattle.gc_station.specs.Records.{Record}
 use Rattle.gc_station.specs.Requests.{of_command}
 use Rattle.gc_station.specs.Deciding.{later}
 use Rattle.gc_station.specs.Model.{client_sent, sent_to}
-use Rattle.gc_station.specs.Parts.{SyncStep, Part, only_sync_steps, only_steps, nothing, joined, request_part, MarkAsks, MarksAsk, went_out, sent_of, timeless, course_at, client_stepped, client_after}
+use Rattle.gc_station.specs.Parts.{SyncStep, Part, only_sync_steps, only_steps, idle_part, parts_joined, request_part, MarkAsks, MarksAsk, went_out, sent_of, timeless, course_at, client_stepped, client_after}
 use Rattle.gc_station.proofs.Lists.{all_append, all_at}
 use Rattle.gc_station.proofs.Records.{answer_along, records-none, records-append}
 use Rattle.std.proofs.lemmas.List.Elements.{filter-append}
@@ -261,7 +261,7 @@ module _ (reads : Asked → List ℕ → Reading) (commands : List Task) where
 
   -- where part p takes a client to c1, and part q takes c1 to c2 (`Books`), p joined with q takes it to c2
   pub books_both : (c c1 c2 : ById Asked) (ms ms1 ms2 : List (Option Mark)) (rs rs1 rs2 : List Record) (p q : Part)
-      → Books c ms rs p c1 ms1 rs1 → Books c1 ms1 rs1 q c2 ms2 rs2 → Books c ms rs (joined p q) c2 ms2 rs2
+      → Books c ms rs p c1 ms1 rs1 → Books c1 ms1 rs1 q c2 ms2 rs2 → Books c ms rs (parts_joined p q) c2 ms2 rs2
   books_both c c1 c2 ms ms1 ms2 rs rs1 rs2 p q h g =
       let at = client_after c p.steps in
       let g' : Wrote ms1 rs1 q.marks (settled_by at q.steps) (sent_by at q.steps) ms2 rs2 =
@@ -286,7 +286,7 @@ module _ (reads : Asked → List ℕ → Reading) (commands : List Task) where
   }
 
   -- a part in which nothing happens leaves the client, the marks and the records
-  pub books_nothing : (c : ById Asked) (ms : List (Option Mark)) (rs : List Record) → Books c ms rs nothing c ms rs
+  pub books_nothing : (c : ById Asked) (ms : List (Option Mark)) (rs : List Record) → Books c ms rs idle_part c ms rs
   books_nothing c ms rs = record { client = refl; wrote = wrote_none ms rs }
 
   -- steps of a synchronization leave the client, the marks and the records

@@ -1,7 +1,7 @@
 -- What each action's act does to the place in a cycle and to the fields on chains: it leaves them, breaks the chain, goes on to
 -- the next command, leaves out attempts, or begins a cycle. And which actions leave the connection open. An act is one call on
 -- the link, with its result.
-use Rattle.std.proofs.Common.{◌≡◌, ◌⊎◌, inl, inr, ℕ, ◌-◌, Bool, true, false, List, [], refl, sym, ap, ◌∙◌, subst}
+use Rattle.std.proofs.Common.{◌≡◌, ◌⊎◌, inl, inr, ℕ, ◌-◌, true, false, List, [], refl, sym, ap, ◌∙◌, subst}
 use Rattle.gc_texts.specs.declared.tasks.Task.{Task}
 use Rattle.gc_station.specs.declared.cause.Cause.{Cause}
 use Rattle.gc_station.specs.declared.cause.Cause.TheVariants as cause
@@ -26,26 +26,17 @@ pub record Still (p q : Progress) : Type 0 where
   pub next_is_chained : q.next_is_chained ≡ p.next_is_chained
   pub chain_unbroken : q.chain_unbroken ≡ true → p.chain_unbroken ≡ true
 
--- q is in the same cycle as p, with one command fewer left (none, if none was); and `next_is_chained` says whether the next one
--- of q waits for the answer of the one before it
-pub record Next (next_is_chained : Bool) (p q : Progress) : Type 0 where
+-- q is in the same cycle as p, with `count` commands fewer left, or none; and whether the next one of q waits for the answer of
+-- the one before it is what `is_chained_after` says
+pub record GoesOnBy (count : ℕ) (commands : List Task) (p q : Progress) : Type 0 where
   pub left : q.left ≡ p.left
-  pub unsent : q.unsent ≡ p.unsent - 1
+  pub unsent : q.unsent ≡ p.unsent - count
   pub missed : q.missed ≡ p.missed
-  pub chained : q.next_is_chained ≡ next_is_chained
+  pub chained : q.next_is_chained ≡ is_chained_after count commands p
 
 -- q is at the beginning of a cycle of `count` commands: all are unsent, and no chain goes on
 pub record AtCycleStart (count : ℕ) (q : Progress) : Type 0 where
   pub unsent : q.unsent ≡ count
-  pub chain_unbroken : q.chain_unbroken ≡ false
-
--- q is in the same cycle as p, with the further attempts of a chain left out that the next command of p begins; no chain goes on,
--- and whether the next one of q waits for the answer of the one before it is what `is_chained_after` says
-pub record Past (commands : List Task) (p q : Progress) : Type 0 where
-  pub left : q.left ≡ p.left
-  pub unsent : q.unsent ≡ p.unsent - p.next_others
-  pub missed : q.missed ≡ p.missed
-  pub chained : q.next_is_chained ≡ is_chained_after p.next_others commands p
   pub chain_unbroken : q.chain_unbroken ≡ false
 
 -- what an act of an action does to the fields on chains, from p to q: it leaves them, breaks the chain, goes on to the next
@@ -53,9 +44,9 @@ pub record Past (commands : List Task) (p q : Progress) : Type 0 where
 abbrev pub ChangesChain : Plan → List Task → Action → (p q : Progress) → Type 0
 ChangesChain plan commands Begin p q = Still p q ⊎ AtCycleStart (cycle_length plan commands) q
 ChangesChain plan commands Renew p q = Still p q ⊎ (Still p q × (q.chain_unbroken ≡ false))
-ChangesChain plan commands Send p q = Next (is_chained_after 1 commands p) p q
-ChangesChain plan commands Skip p q = Still p q ⊎ (Next (is_chained_after 1 commands p) p q × (q.chain_unbroken ≡ false))
-ChangesChain plan commands Pass p q = Still p q ⊎ Past commands p q
+ChangesChain plan commands Send p q = GoesOnBy 1 commands p q
+ChangesChain plan commands Skip p q = Still p q ⊎ (GoesOnBy 1 commands p q × (q.chain_unbroken ≡ false))
+ChangesChain plan commands Pass p q = Still p q ⊎ (GoesOnBy p.next_others commands p q × (q.chain_unbroken ≡ false))
 ChangesChain plan commands Prepare p q = Still p q × (q.chain_unbroken ≡ false)
 ChangesChain plan commands (Close why) p q = Still p q × (q.chain_unbroken ≡ false)
 ChangesChain plan commands _ p q = Still p q
@@ -92,13 +83,13 @@ moved_steps plan commands Open s act = (broken s.progress _ refl refl refl refl 
 moved_steps plan commands Prepare s (Cut bytes n) = broken s.progress _ refl refl refl refl refl
 moved_steps plan commands Prepare s act = broken s.progress _ refl refl refl refl refl
 moved_steps plan commands Send s (Cut bytes n) =
-    subst (λ (x : Model). Next (is_chained_after 1 commands s.progress) s.progress (failing (cause.Write (commands_before plan commands s.progress) n) x.progress)) (is_sent plan commands s)
+    subst (λ (x : Model). GoesOnBy 1 commands s.progress (failing (cause.Write (commands_before plan commands s.progress) n) x.progress)) (is_sent plan commands s)
     (record { left = refl; unsent = refl; missed = refl; chained = refl })
 moved_steps plan commands Send s act =
-    subst (λ (x : Model). Next (is_chained_after 1 commands s.progress) s.progress x.progress) (is_sent plan commands s) (record { left = refl; unsent = refl; missed = refl; chained = refl })
+    subst (λ (x : Model). GoesOnBy 1 commands s.progress x.progress) (is_sent plan commands s) (record { left = refl; unsent = refl; missed = refl; chained = refl })
 moved_steps plan commands Skip s (Told m) = inr (record { left = refl; unsent = refl; missed = refl; chained = refl }, refl)
 moved_steps plan commands Skip s act = inl (still s.progress _ refl refl refl refl refl)
-moved_steps plan commands Pass s (Told m) = inr (record { left = refl; unsent = refl; missed = refl; chained = refl; chain_unbroken = refl })
+moved_steps plan commands Pass s (Told m) = inr (record { left = refl; unsent = refl; missed = refl; chained = refl }, refl)
 moved_steps plan commands Pass s act = inl (still s.progress _ refl refl refl refl refl)
 moved_steps plan commands (Close why) s act =
     closed_along (λ (q : Progress). Still s.progress q × (q.chain_unbroken ≡ false)) plan (waiting_of (with_rest [] s)) why s.progress

@@ -31,11 +31,11 @@ use Rattle.gc_station.specs.Records.{Record}
 use Rattle.gc_station.specs.Runs.{state_after}
 use Rattle.gc_station.specs.Scopes.{Scope}
 use Rattle.gc_station.specs.Model.{Model, Performs, Runs, opening, action_at, waiting_of, ended, with_progress, moved, after, after_all, cycle_length}
-use Rattle.gc_station.specs.NextCommand.{place_next, commands_left, cycles_begun, first_is_chained, is_chained_after}
+use Rattle.gc_station.specs.NextCommand.{place_next, commands_left, cycles_begun, first_is_chained}
 use Rattle.gc_station.proofs.Answers.{answers_true}
 use Rattle.gc_station.proofs.Counts.{ended_progress, ended_passes}
-use Rattle.gc_station.proofs.Each.{row_settled, sent_next, row}
-use Rattle.gc_station.proofs.Interleaving.{ComesBefore, before_not_after, drop_past, interleave_all, interleave_last, sent_before}
+use Rattle.gc_station.proofs.Each.{row_settled, reached_next, row}
+use Rattle.gc_station.proofs.Interleaving.{ComesBefore, before_not_after, drop_past, interleave_all, interleave_last, reached_before}
 use Rattle.gc_station.proofs.EachRun.{invariant_holds}
 use Rattle.gc_station.proofs.Row.{last_of_cycle, of_text_last}
 use Rattle.gc_station.proofs.Facts.{action_for}
@@ -45,7 +45,7 @@ use Rattle.gc_station.proofs.Lists.{all_append}
 use Rattle.gc_station.proofs.Nearly.{as_listed}
 use Rattle.gc_station.proofs.Walk.{moved_changed}
 use Rattle.gc_station.proofs.Words.{begun_kept}
-use Rattle.gc_station.proofs.ChainSteps.{Still, Next, AtCycleStart, Past, ChangesChain, broken, moved_steps, stays_open}
+use Rattle.gc_station.proofs.ChainSteps.{Still, GoesOnBy, AtCycleStart, ChangesChain, broken, moved_steps, stays_open}
 
 -- What holds of each of some acts.
 
@@ -119,12 +119,13 @@ still_chained plan commands p q k before above =
 next_place : (commands : List Task) (p q : Progress) → q.unsent ≡ p.unsent - 1 → 0 < p.unsent → p.unsent ≤ length commands → place_next commands q ≡ place_next commands p + 1
 next_place commands p q less some within = omega (arith, less, some, within)
 
--- after a command that was sent, or recorded without being sent, `next_is_chained` is what the text says of the next command, or
--- true in a missed cycle
-next_chained : (commands : List Task) (p q : Progress) → Next (is_chained_after 1 commands p) p q → place_next commands q ≡ place_next commands p + 1
-    → q.next_is_chained ≡ waits_for_answer commands q
-next_chained commands p q n at =
-    n.chained ∙ ap (λ (b : Bool). b || first_is_chained (drop (place_next commands p + 1) commands)) (sym n.missed) ∙ ap (λ (k : ℕ). q.missed || first_is_chained (drop k commands)) (sym at)
+-- once commands had their turn (`GoesOnBy`), `next_is_chained` is what the text says of the next command, or true in a missed
+-- cycle, if no more were unsent than `commands` has
+next_chained : (count : ℕ) (commands : List Task) (p q : Progress) → GoesOnBy count commands p q → p.unsent ≤ length commands → q.next_is_chained ≡ waits_for_answer commands q
+next_chained count commands p q on within =
+    on.chained ∙ ap (λ (b : Bool). b || first_is_chained (drop (place_next commands p + count) commands)) (sym on.missed)
+    ∙ ap (λ (xs : List Task). q.missed || first_is_chained xs) (drop_past commands p.unsent count within)
+    ∙ ap (λ (n : ℕ). q.missed || first_is_chained (drop (length commands - n) commands)) (sym on.unsent)
 
 -- `LeavesNothingOut` is preserved by the loss of what is outstanding, at the end of an act
 ended_leaves_nothing_out : (s t : Model) → LeavesNothingOut s t → LeavesNothingOut s (ended t)
@@ -169,13 +170,13 @@ ends_well (r ∷ rs) e = last_one r rs e
 all_last : {A : Type 0} (P : A → Type 0) (xs : List A) (x : A) → AllByRecursion P (xs ++ x ∷ []) → P x
 all_last P xs x all = (all_behind P xs (x ∷ []) all).0
 
--- as `sent_next`, where it is known only that a command is left: in a cycle, the commands that had their turn, with the next one
--- after them, are those that had their turn one place later
-last_sent : (plan : Plan) (commands : List Task) (cycle place : ℕ) (left : List Task) → drop place commands ≡ left → 0 < length left → 0 < cycle
+-- as `reached_next`, where it is known only that a command is left: in a cycle, the commands that had their turn, with the next
+-- one after them, are those that had their turn one place later
+reached_last : (plan : Plan) (commands : List Task) (cycle place : ℕ) (left : List Task) → drop place commands ≡ left → 0 < length left → 0 < cycle
     → plan.setup ≤ place
     → (task : Task) × (commands_reached plan.setup commands cycle place ++ requests cycle place (of_task task ∷ []) ≡ commands_reached plan.setup commands cycle (place + 1))
-last_sent plan commands cycle place [] at some many within = absurd (omega (arith, some))
-last_sent plan commands cycle place (task ∷ others) at some many within = (task, sent_next plan.setup commands cycle place task others at within many)
+reached_last plan commands cycle place [] at some many within = absurd (omega (arith, some))
+reached_last plan commands cycle place (task ∷ others) at some many within = (task, reached_next plan.setup commands cycle place task others at within many)
 
 -- What every run keeps of the chain where it is.
 
@@ -269,35 +270,21 @@ module _ (plan : Plan) (commands : List Task) (scope : Scope) where
       let none : place_next commands q ≤ plan.setup = omega (arith, a.unsent) in
       record { next_is_chained = λ above. absurd (omega (arith, none, above)); chain_unbroken = λ e. absurd (both_ways q.chain_unbroken a.chain_unbroken e) }
 
-  -- `ChainIsRight` holds after a command is recorded without being sent (`Next`, with the chain broken), if one was unsent, and
-  -- no more were than `commands` has
-  chain_skipped : (acts : List Act) (p q : Progress) → Next (is_chained_after 1 commands p) p q → q.chain_unbroken ≡ false → 0 < p.unsent
-      → p.unsent ≤ length commands → ChainIsRight acts q
-  chain_skipped acts p q n broken some within =
-      let place_is = next_place commands p q n.unsent some within in
-      record { next_is_chained = λ above. next_chained commands p q n place_is; chain_unbroken = λ e. absurd (both_ways q.chain_unbroken broken e) }
-
-  -- `ChainIsRight` holds after the further attempts of a chain are left out (`Past`), if no more commands were unsent than
-  -- `commands` has
-  chain_past : (acts : List Act) (p q : Progress) → Past commands p q → p.unsent ≤ length commands → ChainIsRight acts q
-  chain_past acts p q k within =
-      record {
-        next_is_chained = λ above.
-            k.chained ∙ ap (λ (b : Bool). b || first_is_chained (drop (place_next commands p + p.next_others) commands)) (sym k.missed)
-            ∙ ap (λ (xs : List Task). q.missed || first_is_chained xs) (drop_past commands p.unsent p.next_others within)
-            ∙ ap (λ (n : ℕ). q.missed || first_is_chained (drop (length commands - n) commands)) (sym k.unsent);
-        chain_unbroken = λ e. absurd (both_ways q.chain_unbroken k.chain_unbroken e);
-      }
+  -- `ChainIsRight` holds after commands had their turn without being sent (`GoesOnBy`, with the chain broken), if no more were
+  -- unsent than `commands` has
+  chain_unsent : (acts : List Act) (count : ℕ) (p q : Progress) → GoesOnBy count commands p q → q.chain_unbroken ≡ false → p.unsent ≤ length commands → ChainIsRight acts q
+  chain_unsent acts count p q on broken within =
+      record { next_is_chained = λ above. next_chained count commands p q on within; chain_unbroken = λ e. absurd (both_ways q.chain_unbroken broken e) }
 
   -- `ChainIsRight` holds after a command of a cycle is sent, if one was unsent, and no more were than `commands` has; given
   -- that, if a chain goes on after the act, the station has synchronized
   chain_sent : (acts : List Act) (act : Act) (p q : Progress) → (here : p ≡ turned (at acts).progress) → (there : (at (acts ++ act ∷ [])).progress ≡ q)
       → (sends : action_at plan (at acts) ≡ Send) → (begins : q.chain_unbroken ≡ true → has_begun q ≡ true)
-      → (goes_on : Next (is_chained_after 1 commands p) p q) → (some : 0 < p.unsent) → (within : p.unsent ≤ length commands) → ChainIsRight (acts ++ act ∷ []) q
+      → (goes_on : GoesOnBy 1 commands p q) → (some : 0 < p.unsent) → (within : p.unsent ≤ length commands) → ChainIsRight (acts ++ act ∷ []) q
   chain_sent acts act p q here there is begins n some within =
       let place_is = next_place commands p q n.unsent some within in
       record {
-        next_is_chained = λ above. next_chained commands p q n place_is;
+        next_is_chained = λ above. next_chained 1 commands p q n within;
         chain_unbroken = λ e. record {
           before = acts;
           request = act;
@@ -339,12 +326,12 @@ module _ (plan : Plan) (commands : List Task) (scope : Scope) where
       chain_still acts act _ q there k begins (stays_open plan commands Skip (at acts) act o (λ why e. cc))
       (λ e. let both : Skip ≡ Prepare = sym is ∙ e in cc) h
   chain_moved acts act Skip w q is needs o there begins (inr n) h =
-      chain_skipped (acts ++ act ∷ []) (turned (at acts).progress) q n.0 n.1 needs.2 (few_unsent acts)
+      chain_unsent (acts ++ act ∷ []) 1 (turned (at acts).progress) q n.0 n.1 (few_unsent acts)
   chain_moved acts act Pass w q is needs o there begins (inl k) h =
       chain_still acts act _ q there k begins (stays_open plan commands Pass (at acts) act o (λ why e. cc))
       (λ e. let both : Pass ≡ Prepare = sym is ∙ e in cc) h
   chain_moved acts act Pass w q is needs o there begins (inr k) h =
-      chain_past (acts ++ act ∷ []) (turned (at acts).progress) q k (few_unsent acts)
+      chain_unsent (acts ++ act ∷ []) (at acts).progress.next_others (turned (at acts).progress) q k.0 k.1 (few_unsent acts)
   chain_moved acts act Prepare w q is needs o there begins k h = chain_closed acts (acts ++ act ∷ []) _ q k.0 k.1 h
   chain_moved acts act (Close why) w q is needs o there begins k h = chain_closed acts (acts ++ act ∷ []) _ q k.0 k.1 h
   chain_moved acts act (Stop why) w q is needs o there begins k h = absurd o
@@ -441,7 +428,7 @@ module _ (plan : Plan) (commands : List Task) (scope : Scope) where
         let cycle = cycles_begun plan b.progress in
         let left : 0 < length (drop place commands) = let n = length-drop place commands in omega (arith, n, some, before.unsent) in
         let within : plan.setup ≤ place = omega (arith, some, before.unsent) in
-        let sent = last_sent plan commands cycle place (drop place commands) refl left many within in
+        let sent = reached_last plan commands cycle place (drop place commands) refl left many within in
         let b_passes = b.passes in
         let there : commands_reached plan.setup commands (cycles_begun plan s.progress) (place_next commands s.progress) ≡ commands_reached plan.setup commands cycle (place + 1) =
         ap (λ (n : ℕ). commands_reached plan.setup commands n (place_next commands s.progress)) w.cycle ∙ ap (λ (n : ℕ). commands_reached plan.setup commands cycle n) w.place in
@@ -454,7 +441,7 @@ module _ (plan : Plan) (commands : List Task) (scope : Scope) where
         (ap (of_text commands) (row_settled s.marks s.client.waiting s.records settled)) fine.each)) in
         let front = interleave_all (ComesBefore cycle place) (of_text commands (row b.marks b.client.waiting b.records)) b_passes
         (commands_reached plan.setup commands cycle place) before.each
-        (sent_before plan.setup commands cycle place within) in
+        (reached_before plan.setup commands cycle place within) in
         let kept = interleave_last one (of_text commands (map of_record s.records)) b_passes (commands_reached plan.setup commands cycle place) all
         (λ xs e. before_not_after cycle cycle place place (all_last (ComesBefore cycle place) xs one (subst (AllByRecursion (ComesBefore cycle place)) e front)) (inr (refl, omega arith))) in
         let split = map-append of_record l.earlier (l.answer ∷ []) in

@@ -15,7 +15,7 @@ use Rattle.gc_station.specs.declared.plan.Plan.{Plan}
 use Rattle.gc_station.specs.declared.cause.Cause.{Cause}
 use Rattle.gc_station.specs.declared.cause.Cause.TheVariants as cause
 use Rattle.gc_station.specs.declared.progress.Phase.{Phase}
-use Rattle.gc_station.specs.declared.progress.Phase.TheVariants.{Pausing, Draining, Ready, Closing, Over, Down}
+use Rattle.gc_station.specs.declared.progress.Phase.TheVariants.{Draining, Ready, Closing, Over, Down}
 use Rattle.gc_station.specs.declared.progress.Action.{Action}
 use Rattle.gc_station.specs.declared.progress.Action.TheVariants as action
 use Rattle.gc_station.specs.declared.progress.Progress.{Progress}
@@ -36,7 +36,7 @@ use Rattle.gc_station.proofs.Facts.{action_for, finished_so}
 use Rattle.gc_station.proofs.Invariant.{Invariant, says_done}
 use Rattle.gc_station.proofs.Going.{after_all-append, runs_front, runs_behind}
 use Rattle.gc_station.proofs.Walk.{asked_along, came_along, quieted_along, model_sent, HoldsAfterPut, walk}
-use Rattle.gc_station.proofs.Turns.{again_down, closed_down}
+use Rattle.gc_station.proofs.Turns.{phase_by, again_down, closed_down}
 use Rattle.gc_station.specs.Scopes.{Scope}
 
 -- the cause for which a phase closes the connection or ends the run, if it does
@@ -100,11 +100,11 @@ no_try_left : (spared : Bool) (tries : ℕ) → spared || nat_lt 0 tries ≡ fal
 no_try_left true tries e = cc
 no_try_left false tries e = (refl, grind (arith, nat_tests, e))
 
--- if the phase after a lost connection or a failed attempt ends the run, the cause is as `EndsAtFailure` says. `done`: nothing is
--- left to be sent and none is outstanding; `some`: a try is left, or none is needed
-again_ends : (plan : Plan) (other c : Cause) (n : ℕ) (p : Progress) (done some : Bool) → is_finished n p ≡ done → (is_spared plan other p || nat_lt 0 p.tries) ≡ some
-    → cause_in (if done then Over cause.Done else if some then Pausing else Over other) ≡ Some c → EndsAtFailure plan p n other c
-again_ends plan other c n p true some finished tries e = inl (cc, finished_so n p finished)
+-- if the phase after a lost connection or a failed attempt (`phase_by`) ends the run, the cause is as `EndsAtFailure` says.
+-- `done`: nothing is left to be sent and none is outstanding; `again`: a try is left, or none is needed
+again_ends : (plan : Plan) (other c : Cause) (n : ℕ) (p : Progress) (done again : Bool) → is_finished n p ≡ done → (is_spared plan other p || nat_lt 0 p.tries) ≡ again
+    → cause_in (phase_by done again other) ≡ Some c → EndsAtFailure plan p n other c
+again_ends plan other c n p true again finished tries e = inl (cc, finished_so n p finished)
 again_ends plan other c n p false true finished tries e = cc
 again_ends plan other c n p false false finished tries e = let none = no_try_left (is_spared plan other p) p.tries tries in inr (cc, finished, none.0, none.1)
 
@@ -276,9 +276,9 @@ pub needs_of : (plan : Plan) (s : Model) (next : Action) → action_at plan s �
 needs_of plan s next is = subst (λ (o : Action). HoldsBefore plan s.progress (waiting_of s) o) is (action_for plan s.progress (waiting_of s))
 
 -- a connection is closed for being done only if no command is left to be sent, and none is outstanding
-pub done_sent : (plan : Plan) (commands : List Task) (scope : Scope) (acts : List Act) → action_at plan (state_after plan commands scope acts) ≡ action.Close cause.Done
+pub done_is_finished : (plan : Plan) (commands : List Task) (scope : Scope) (acts : List Act) → action_at plan (state_after plan commands scope acts) ≡ action.Close cause.Done
     → IsFinished (commands_in (state_after plan commands scope acts).marks) (state_after plan commands scope acts).progress
-done_sent plan commands scope acts is = by_needs (needs_of plan (state_after plan commands scope acts) (action.Close cause.Done) is).1 where
+done_is_finished plan commands scope acts is = by_needs (needs_of plan (state_after plan commands scope acts) (action.Close cause.Done) is).1 where
   -- the lemma above, by the condition of that close: the phase says so, or nothing is left
   by_needs : (((state_after plan commands scope acts).progress.phase ≡ Closing cause.Done)
       ⊎ IsAtItsEnd plan (state_after plan commands scope acts).progress (waiting_of (state_after plan commands scope acts)) cause.Done)
@@ -307,7 +307,7 @@ decided_last plan commands scope acts c runs e = by_last (none_or_last acts) whe
         last,
         some.2,
         subst (λ (phase : Phase). Decided plan s phase c last) (sym behind)
-            (after_decided plan commands s last c split.1 (done_sent plan commands scope earlier) (ap cause_in (sym behind) ∙ e)),
+            (after_decided plan commands s last c split.1 (done_is_finished plan commands scope earlier) (ap cause_in (sym behind) ∙ e)),
       )
 
 -- if the phase says that the connection is to be closed for `why`, the last act shows that cause (`Shows`)

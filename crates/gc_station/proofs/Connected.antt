@@ -18,7 +18,7 @@ use Rattle.gc_station.specs.declared.progress.Until.{Until}
 use Rattle.gc_links.specs.Acts.{Act, Told, Put, Gave, Silent, Opened}
 use Rattle.gc_station.specs.Deciding.{is_up, is_past, is_quiet}
 use Rattle.gc_station.specs.Marks.{commands_in}
-use Rattle.gc_station.specs.Progressing.{turned, moment_noted, cycle_begun, skipped, attempts_left_out, opened, cleared, request_noted, null_sent, renewed, sent, early_noted, time_passed, quieted, is_idle, drained, setup_sent}
+use Rattle.gc_station.specs.Progressing.{turned, moment_noted, cycle_begun, skipped, attempts_left_out, opened, cleared, request_noted, null_sent, resynchronized, sent, early_noted, time_passed, quieted, is_idle, drained, setup_sent}
 use Rattle.gc_station.specs.Model.{Model, next_request_text, null_text, first_text, waiting_of, piece_at, with_progress, Performs, moved, cycle_length, text_or_null, opening, action_at, Runs}
 use Rattle.gc_station.specs.NextCommand.{commands_before, commands_left, upcoming_after}
 use Rattle.gc_station.specs.Runs.{state_after}
@@ -66,7 +66,7 @@ Silenced plan F until m p acts =
 -- outcome that leaves a connection in use
 abbrev pub OnLine : Plan → List Task → (Progress → List Act → Type 0) → Action → Model → List Act → Type 0
 OnLine plan commands F actions.ReadClock s acts = (m : Moment) → F (early_noted plan (commands_in s.marks) (moment_noted m s.progress)) (acts ++ Told m ∷ [])
-OnLine plan commands F actions.Renew s acts = (m : Moment) → F (early_noted plan 0 (renewed plan m s.progress)) (acts ++ Told m ∷ [])
+OnLine plan commands F actions.Renew s acts = (m : Moment) → F (early_noted plan 0 (resynchronized plan m s.progress)) (acts ++ Told m ∷ [])
 OnLine plan commands F actions.Begin s acts = (m : Moment) → F (cycle_begun plan (cycle_length plan commands) m s.progress) (acts ++ Told m ∷ [])
 OnLine plan commands F actions.Open s acts = (m : Moment) → F (opened s.progress) (acts ++ Opened ∷ [])
 OnLine plan commands F actions.Clear s acts = (m : Moment) → F (cleared s.progress) (acts ++ Put (10 ∷ []) ∷ [])

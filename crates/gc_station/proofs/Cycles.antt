@@ -11,7 +11,7 @@ use Rattle.gc_links.specs.declared.link.Moment.{Moment}
 use Rattle.gc_station.specs.Chains.{IsChained}
 use Rattle.gc_station.specs.Cycles.{ClockRises, due_after, BeginsAt, BeginsLate, LastBegan, CyclesBeginWhenDue, SentOnlyInTime}
 use Rattle.gc_station.specs.Deciding.{is_due}
-use Rattle.gc_station.specs.Progressing.{turned, moment_noted, cycle_begun, cycle_start, failing, time_passed, quieted, closed}
+use Rattle.gc_station.specs.Progressing.{turned, moment_noted, cycle_begun, cycle_start, lateness, failing, time_passed, quieted, closed}
 use Rattle.gc_station.specs.Reasons.{HoldsBefore, MayGo}
 use Rattle.gc_station.specs.Runs.{state_after}
 use Rattle.gc_station.specs.Scopes.{Scope}
@@ -30,6 +30,7 @@ use Rattle.gc_station.specs.Silences.{latest}
 use Rattle.gc_station.proofs.Interleaving.{drop_past}
 use Rattle.gc_station.proofs.Closings.{runs_split, needs_of}
 use Rattle.gc_station.proofs.Always.{always, progress_after_act}
+use Rattle.gc_station.proofs.ChainSteps.{GoesOnBy}
 use Rattle.gc_station.proofs.EachRun.{invariant_holds}
 use Rattle.gc_station.proofs.Facts.{action_for, begin_due, or_second, and_second}
 use Rattle.gc_station.proofs.Invariant.{Invariant}
@@ -162,115 +163,118 @@ module _ (plan : Plan) (commands : List Task) (scope : Scope) (some : 0 < plan.e
         by_chain (inl missed) place_is same = inl (same ∙ missed)
         by_chain (inr (above, is)) place_is same = inr (subst (λ (x : ℕ). plan.setup < x) (sym place_is) above, ap (λ (x : ℕ). first_is_chained (drop x commands)) place_is ∙ is)
 
-  -- `Begun` is preserved by an act with which the next `count` commands of the cycle had their turn, at least one, if the clock
-  -- doesn't go back and the act reads moments as `Ticks` says. Before the act a command was unsent, and no more than a cycle has;
-  -- after it no chain goes on if the cycle is missed, and whether the next command waits for the answer of the one before it is
-  -- what `is_chained_after` says
-  pub begun_next : (acts : List Act) (act : Act) (count : ℕ) (p q : Progress) (left : q.left ≡ p.left) (unsent : q.unsent ≡ p.unsent - count) (missed : q.missed ≡ p.missed) (due : q.due ≡ p.due)
-      (next_is_chained : q.next_is_chained ≡ is_chained_after count commands p) (more : 0 < count) (chain_unbroken : p.missed ≡ true → q.chain_unbroken ≡ false)
-      (ticks : Ticks p act q) (rises : ClockRises p.moment.elapsed (act ∷ [])) (here : 0 < p.unsent) (within : p.unsent ≤ cycle_length plan commands) → Begun acts p
-      → Begun (acts ++ act ∷ []) q
-  begun_next acts act count p q left unsent missed due next_is_chained more chain_unbroken t rises here within (inl none) = let nothing = none.1 in absurd (omega (arith, nothing, here))
-  begun_next acts act count p q left unsent missed due next_is_chained more chain_unbroken t rises here within (inr c) =
+  -- `Begun` is preserved by an act with which the next `count` commands of the cycle had their turn (`GoesOnBy`), at least one,
+  -- if the clock doesn't go back and the act reads moments as `Ticks` says. Before the act a command was unsent, and no more than
+  -- a cycle has; after it no chain goes on if the cycle is missed
+  pub begun_next : (acts : List Act) (act : Act) (count : ℕ) (p q : Progress) (goes_on : GoesOnBy count commands p q) (due : q.due ≡ p.due)
+      (more : 0 < count) (broken : p.missed ≡ true → q.chain_unbroken ≡ false) (ticks : Ticks p act q) (rises : ClockRises p.moment.elapsed (act ∷ []))
+      (here : 0 < p.unsent) (within : p.unsent ≤ cycle_length plan commands) → Begun acts p → Begun (acts ++ act ∷ []) q
+  begun_next acts act count p q on due more broken t rises here within (inl none) = let nothing = none.1 in absurd (omega (arith, nothing, here))
+  begun_next acts act count p q on due more broken t rises here within (inr c) =
+      let unsent = on.unsent in
       let above : plan.setup < place_next commands q = omega (arith, unsent, here, within, more) in
       let others : drop (place_next commands p + count) commands ≡ drop (place_next commands q) commands =
       drop_past commands p.unsent count (omega (arith, within)) ∙ ap (λ (x : ℕ). drop (length commands - x) commands) (sym unsent) in
-      inr (cycling_on acts act p q left missed due t rises
-      (λ was. (next_is_chained ∙ or_left p.missed (first_is_chained (drop (place_next commands p + count) commands)) was, chain_unbroken was))
-      (λ e. by_missed p.missed refl (sym next_is_chained ∙ e) above others) c) where
+      inr (cycling_on acts act p q on.left on.missed due t rises
+      (λ was. (on.chained ∙ or_left p.missed (first_is_chained (drop (place_next commands p + count) commands)) was, broken was))
+      (λ e. by_missed p.missed refl (sym on.chained ∙ e) above others) c) where
         -- what makes the new next command wait: its cycle is missed (`true`), or the text chains it
         by_missed : (b : Bool) → p.missed ≡ b → is_chained_after count commands p ≡ true → plan.setup < place_next commands q
             → drop (place_next commands p + count) commands ≡ drop (place_next commands q) commands → WaitsForAnswer q
-        by_missed true is e above others = inl (missed ∙ is)
+        by_missed true is e above others = inl (on.missed ∙ is)
         by_missed false is e above others =
             inr (above, ap first_is_chained (sym others) ∙ or_second p.missed (first_is_chained (drop (place_next commands p + count) commands)) e is)
 
-  -- of the acts up to the one that begins a cycle at the moment m, `BeginsAt` holds
-  pub begins_here : (acts : List Act) (m : Moment) (n : ℕ) → action_at plan (at acts) ≡ actions.Begin
-      → cycles_begun plan (at acts).progress ≡ n → BeginsAt plan commands scope (acts ++ Told m ∷ []) n m
-  begins_here acts m n is number = record { before = acts; behind = []; order = refl; begins = is; number = number }
+  -- after these acts the next one reads the clock at the moment m and begins a cycle, before which as many began as by p
+  abbrev pub BeginsNow : List Act → Moment → Progress → Type 0
+  BeginsNow acts m p = BeginsAt plan commands scope (acts ++ Told m ∷ []) (cycles_begun plan p) m
+
+  -- if a cycle is begun next, `BeginsNow` holds of the progress by then
+  begins_now : (acts : List Act) (m : Moment) → action_at plan (at acts) ≡ actions.Begin → BeginsNow acts m (at acts).progress
+  begins_now acts m is = record { before = acts; behind = []; order = refl; begins = is; number = refl }
 
   -- what is known of a cycle that is begun at the moment m: `earlier` cycles came before it, and the moment that counts as its
-  -- beginning (`start`) is its due moment, and isn't later than m
+  -- beginning (`cycle_start`) is its due moment, and isn't later than m
   pub record Start (acts : List Act) (m : Moment) (p : Progress) : Type 0 where
     pub earlier : ℕ
-    pub start : ℕ
-    pub is : cycle_start plan m p ≡ start
-    pub past : start ≤ m.elapsed
+    pub past : cycle_start plan m p ≤ m.elapsed
     pub number : cycles_begun plan p ≡ earlier
-    pub late : BeginsLate plan commands scope (acts ++ Told m ∷ []) earlier m (m.elapsed - start)
+    pub late : BeginsLate plan commands scope (acts ++ Told m ∷ []) earlier m (lateness plan m p)
 
   -- `Cycling` holds after the act that begins a cycle at the moment m, if a cycle was left, and the cycle has a `Start`
   pub begins_cycle : (acts : List Act) (m : Moment) (p : Progress) → (unbegun : 0 < p.left) → (within : p.left ≤ plan.cycles) → Start acts m p
       → Cycling (acts ++ Told m ∷ []) (cycle_begun plan (cycle_length plan commands) m p)
   begins_cycle acts m p left within x =
-      let is = x.is in
       let past = x.past in
       let number = x.number in
+      let began : cycle_start plan m p + (m.elapsed - cycle_start plan m p) ≡ m.elapsed = omega (arith, past) in
       record {
         earlier = x.earlier;
         moment = m;
-        late = m.elapsed - x.start;
+        late = lateness plan m p;
         begins = x.late;
         count = omega (arith, number, left, within);
         fewer = omega (arith, left, within);
-        began = omega (arith, is, past);
-        past = omega (arith, is, past);
-        missed = and_second (nat_lt 0 plan.every) (nat_le plan.every (m.elapsed - cycle_start plan m p)) (lt-ltb 0 plan.every some) ∙ ap (λ (x : ℕ). nat_le plan.every (m.elapsed - x)) is;
-        due = ap (λ (x : ℕ). m.utc - (m.elapsed - x)) is;
+        began = began;
+        past = past;
+        missed = and_second (nat_lt 0 plan.every) (nat_le plan.every (lateness plan m p)) (lt-ltb 0 plan.every some);
+        due = refl;
         held = λ e. (e, refl);
         chained = λ e. inl e;
       }
 
   -- the first cycle has a `Start`: it is due at the moment at which it begins
-  pub start_first : (acts : List Act) (m : Moment) (p : Progress) → action_at plan (at acts) ≡ actions.Begin
-      → cycles_begun plan (at acts).progress ≡ cycles_begun plan p
-      → p.left ≡ plan.cycles → Start acts m p
-  start_first acts m p is same all =
+  pub start_first : (acts : List Act) (m : Moment) (p : Progress) → BeginsNow acts m p → p.left ≡ plan.cycles → Start acts m p
+  start_first acts m p begins all =
       let none : cycles_begun plan p ≡ 0 = omega (arith, all) in
-      let here = begins_here acts m 0 is (same ∙ none) in
+      let here = subst (λ (n : ℕ). BeginsAt plan commands scope (acts ++ Told m ∷ []) n m) none begins in
+      let start : cycle_start plan m p ≡ m.elapsed =
+      cond-true (nat_eq p.left plan.cycles || nat_eq plan.every 0) _ _ (or_left (nat_eq p.left plan.cycles) (nat_eq plan.every 0) (eq-eqb p.left plan.cycles all)) in
+      let grid : m.elapsed + (m.elapsed - cycle_start plan m p) ≡ m.elapsed = omega (arith, start) in
       record {
         earlier = 0;
-        start = m.elapsed;
-        is = cond-true (nat_eq p.left plan.cycles || nat_eq plan.every 0) _ _ (or_left (nat_eq p.left plan.cycles) (nat_eq plan.every 0) (eq-eqb p.left plan.cycles all));
-        past = omega arith;
+        past = omega (arith, start);
         number = none;
-        late = record { first = m; first_begins = here; begins = here; grid = omega arith };
+        late = record { first = m; first_begins = here; begins = here; grid = grid };
       }
 
   -- a later cycle that begins when it is due, if the clock doesn't go back, has a `Start`: it is due `every` milliseconds after
   -- the one before it was due, and begins then or later
-  pub start_more : (acts : List Act) (m : Moment) (p : Progress) → (begins : action_at plan (at acts) ≡ actions.Begin)
-      → (same : cycles_begun plan (at acts).progress ≡ cycles_begun plan p)
+  pub start_more : (acts : List Act) (m : Moment) (p : Progress) → BeginsNow acts m p
       → (due : is_due plan p ≡ true) → (rises : ClockRises p.moment.elapsed (Told m ∷ [])) → Cycling acts p → Start acts m p
-  start_more acts m p is same due rises c =
+  start_more acts m p begins due rises c =
       let few = c.fewer in
       let past = c.past in
       let before = c.began in
-      let grid = c.begins.grid in
+      let last_grid = c.begins.grid in
       let apart : nat_eq p.left plan.cycles ≡ false = ne_eqb p.left plan.cycles (λ e. omega (arith, e, few)) in
       let never : nat_eq plan.every 0 ≡ false = ne_eqb plan.every 0 (λ e. omega (arith, e, some)) in
       let long : plan.every ≤ p.moment.elapsed - p.began = leb-true plan.every (p.moment.elapsed - p.began)
       (sym (cond-false (nat_eq p.left plan.cycles) true (nat_le plan.every (p.moment.elapsed - p.began)) apart) ∙ due) in
       let now = rises.0 in
       let most = rises.1 in
-      let here = begins_here acts m (suc c.earlier) is (same ∙ c.count) in
-      let last : due_after c.begins.first.elapsed plan.every c.earlier ≡ p.began = omega (arith, grid, before) in
+      let here = subst (λ (n : ℕ). BeginsAt plan commands scope (acts ++ Told m ∷ []) n m) c.count begins in
+      let last : due_after c.begins.first.elapsed plan.every c.earlier ≡ p.began = omega (arith, last_grid, before) in
+      let start : cycle_start plan m p ≡ p.began + plan.every =
+      cond-false (nat_eq p.left plan.cycles || nat_eq plan.every 0) _ _ (or_from (nat_eq p.left plan.cycles) (nat_eq plan.every 0) apart never) ∙ omega (arith, long, past, now, most) in
+      let grid : (due_after c.begins.first.elapsed plan.every c.earlier + plan.every) + (m.elapsed - cycle_start plan m p) ≡ m.elapsed = omega (arith, start, last, long, past, now) in
       record {
         earlier = suc c.earlier;
-        start = p.began + plan.every;
-        is = cond-false (nat_eq p.left plan.cycles || nat_eq plan.every 0) _ _ (or_from (nat_eq p.left plan.cycles) (nat_eq plan.every 0) apart never) ∙ omega (arith, long, past, now, most);
-        past = omega (arith, long, past, now);
+        past = omega (arith, start, long, past, now);
         number = c.count;
-        late = record { first = c.begins.first; first_begins = at_more acts (Told m ∷ []) 0 c.begins.first c.begins.first_begins; begins = here; grid = omega (arith, last, long, past, now) };
+        late = record {
+          first = c.begins.first;
+          first_begins = at_more acts (Told m ∷ []) 0 c.begins.first c.begins.first_begins;
+          begins = here;
+          grid = grid;
+        };
       }
 
   -- a cycle that begins when it is due, the first or a further one, has a `Start`, if the clock doesn't go back
-  pub starts : (acts : List Act) (m : Moment) (p : Progress) → (begins : action_at plan (at acts) ≡ actions.Begin)
-      → (same : cycles_begun plan (at acts).progress ≡ cycles_begun plan p)
+  pub starts : (acts : List Act) (m : Moment) (p : Progress) → BeginsNow acts m p
       → (due : is_due plan p ≡ true) → (rises : ClockRises p.moment.elapsed (Told m ∷ [])) → Begun acts p → Start acts m p
-  starts acts m p is same due rises (inl none) = start_first acts m p is same none.0
-  starts acts m p is same due rises (inr c) = start_more acts m p is same due rises c
+  starts acts m p begins due rises (inl none) = start_first acts m p begins none.0
+  starts acts m p begins due rises (inr c) = start_more acts m p begins due rises c
 
   -- Acts.
 
@@ -327,7 +331,11 @@ module _ (plan : Plan) (commands : List Task) (scope : Scope) (some : 0 < plan.e
   on_moved acts actions.Begin act is o fine needs h =
       let s = with_progress turned (at acts) in
       walk plan commands (KeepsBegunOf acts s.progress) actions.Begin s act o (
-        λ m. (refl, λ rises. inr (begins_cycle acts m s.progress needs.4 fine.left (starts acts m s.progress is refl (begin_due plan (at acts).progress (waiting_of (at acts)) is) rises h))),
+        λ m. (
+          refl,
+          λ rises. inr (begins_cycle acts m s.progress needs.4 fine.left
+              (starts acts m s.progress (begins_now acts m is) (begin_due plan (at acts).progress (waiting_of (at acts)) is) rises h)),
+        ),
         λ n. begun_after_failure acts s Untold cause.Clock h (refl, refl),
       )
   on_moved acts actions.Open act is o fine needs h =
@@ -341,8 +349,16 @@ module _ (plan : Plan) (commands : List Task) (scope : Scope) (some : 0 < plan.e
       let s = with_progress turned (at acts) in
       let free = not_missed acts s.progress (waiting_of (at acts)) needs.2 needs.4 h in
       walk plan commands (KeepsBegunOf acts s.progress) actions.Send s act o (
-        λ m. (refl, λ rises. begun_next acts _ 1 s.progress _ refl refl refl refl refl (omega arith) (λ e. absurd (both_ways s.progress.missed free e)) (refl, refl) rises needs.2 fine.unsent h),
-        λ n. (refl, λ rises. begun_next acts _ 1 s.progress _ refl refl refl refl refl (omega arith) (λ e. absurd (both_ways s.progress.missed free e)) (refl, refl) rises needs.2 fine.unsent h),
+        λ m. (
+          refl,
+          λ rises. begun_next acts _ 1 s.progress _ (record { left = refl; unsent = refl; missed = refl; chained = refl }) refl (omega arith)
+              (λ e. absurd (both_ways s.progress.missed free e)) (refl, refl) rises needs.2 fine.unsent h,
+        ),
+        λ n. (
+          refl,
+          λ rises. begun_next acts _ 1 s.progress _ (record { left = refl; unsent = refl; missed = refl; chained = refl }) refl (omega arith)
+              (λ e. absurd (both_ways s.progress.missed free e)) (refl, refl) rises needs.2 fine.unsent h,
+        ),
       )
   on_moved acts actions.Prepare act is o fine needs h =
       let s = with_progress turned (at acts) in
@@ -353,7 +369,11 @@ module _ (plan : Plan) (commands : List Task) (scope : Scope) (some : 0 < plan.e
   on_moved acts actions.Skip act is o fine needs h =
       let s = with_progress turned (at acts) in
       walk plan commands (KeepsBegunOf acts s.progress) actions.Skip s act o (
-        λ m. (refl, λ rises. begun_next acts (Told m) 1 s.progress _ refl refl refl refl refl (omega arith) (λ e. refl) (refl, refl) rises needs.2 fine.unsent h),
+        λ m. (
+          refl,
+          λ rises. begun_next acts (Told m) 1 s.progress _ (record { left = refl; unsent = refl; missed = refl; chained = refl }) refl (omega arith)
+              (λ e. refl) (refl, refl) rises needs.2 fine.unsent h,
+        ),
         λ n. begun_after_failure acts s Untold cause.Clock h (refl, refl),
       )
   on_moved acts actions.Pass act is o fine needs h =
@@ -361,8 +381,8 @@ module _ (plan : Plan) (commands : List Task) (scope : Scope) (some : 0 < plan.e
       walk plan commands (KeepsBegunOf acts s.progress) actions.Pass s act o (
         λ m. (
           refl,
-          λ rises. begun_next acts (Told m) s.progress.next_others s.progress _ refl refl refl refl refl needs.4 (λ e. refl)
-              (refl, refl) rises needs.2 fine.unsent h,
+          λ rises. begun_next acts (Told m) s.progress.next_others s.progress _ (record { left = refl; unsent = refl; missed = refl; chained = refl })
+              refl needs.4 (λ e. refl) (refl, refl) rises needs.2 fine.unsent h,
         ),
         λ n. begun_after_failure acts s Untold cause.Clock h (refl, refl),
       )
@@ -466,8 +486,8 @@ module _ (plan : Plan) (commands : List Task) (scope : Scope) (some : 0 < plan.e
       let s = at acts in
       let split = runs_split plan commands (opening plan scope) acts later (Told m) runs in
       let old = begun_if_clock_rises acts split.0 (rises_front 0 acts (Told m) rises) in
-      let x = starts acts m s.progress is refl (begin_due plan s.progress (waiting_of s) is) (rises_here acts (Told m) rises old.0) old.1 in
-      (m.elapsed - x.start, subst (λ (k : ℕ). BeginsLate plan commands scope (acts ++ Told m ∷ []) k m (m.elapsed - x.start)) (sym x.number) x.late)
+      let x = starts acts m s.progress (begins_now acts m is) (begin_due plan s.progress (waiting_of s) is) (rises_here acts (Told m) rises old.0) old.1 in
+      (lateness plan m s.progress, subst (λ (k : ℕ). BeginsLate plan commands scope (acts ++ Told m ∷ []) k m (lateness plan m s.progress)) (sym x.number) x.late)
 
 -- the law: a cycle begins at or after its due moment, where cycles have due moments and the clock doesn't go back
 pub begin_when_due : CyclesBeginWhenDue

@@ -1,6 +1,5 @@
 -- The records and the outstanding commands are, in order, the commands that had their turn, but for those of attempts that were
--- left out, whatever the link does. (`sent` stands for these commands, whether they were sent or recorded without being sent.) A
--- mark says which command an outstanding request is of, or `None` of a null procedure.
+-- left out, whatever the link does. A mark says which command an outstanding request is of, or `None` of a null procedure.
 use Rattle.std.proofs.Common.{◌≡◌, ℕ, zero, suc, ◌+◌, ◌-◌, ◌<◌, ◌≤◌, nat_eq, List, [], ◌∷◌, ◌++◌, length, take, drop, map, Option, Some, None, ◌⊎◌, inl, inr, refl, sym, ap, ◌∙◌, arith, append_assoc, append-nil, take-add, not, if◌then◌else◌}
 use Rattle.std.proofs.lemmas.List.{length-map, length-drop, length-take, map-append, take_all, drop_all, drop-append-le}
 use Rattle.gc_catalogue.specs.declared.answer.Reading.{Reading}
@@ -89,18 +88,18 @@ abbrev pub row : List (Option Mark) → List (Pending Asked) → List Record →
 row ms ws rs = map of_record rs ++ still_waiting ms ws
 
 -- the records `rs`, and after them the outstanding commands (the requests `ws` with their marks `ms`), are of the requests
--- `sent`, as far as they are of a cycle, and as the text has them
+-- `kept`, as far as they are of a cycle, and as the text has them
 abbrev pub EachIs : List Task → List (Option Mark) → List (Pending Asked) → List Record → List RunRequest → Type 0
-EachIs commands ms ws rs sent = of_text commands (row ms ws rs) ≡ sent
+EachIs commands ms ws rs kept = of_text commands (row ms ws rs) ≡ kept
 
 -- a moment, at which requests may time out, leaves the row
 pub row_moment : (ms : List (Option Mark)) (ws : List (Pending Asked)) (rs : List Record) (m : ℕ) → row ms (map (expired m) ws) rs ≡ row ms ws rs
 row_moment ms ws rs m = ap (λ xs. map of_record rs ++ xs) (waiting_marked ms (map (expired m) ws) ∙ ap (marked ms) (expired_parts m ws) ∙ sym (waiting_marked ms ws))
 
 -- a moment, at which requests may time out, preserves `EachIs`
-pub each_moment : (commands : List Task) (ms : List (Option Mark)) (ws : List (Pending Asked)) (rs : List Record) (sent : List RunRequest) (m : ℕ)
-    → EachIs commands ms ws rs sent → EachIs commands ms (map (expired m) ws) rs sent
-each_moment commands ms ws rs sent m h = ap (of_text commands) (row_moment ms ws rs m) ∙ h
+pub each_moment : (commands : List Task) (ms : List (Option Mark)) (ws : List (Pending Asked)) (rs : List Record) (kept : List RunRequest) (m : ℕ)
+    → EachIs commands ms ws rs kept → EachIs commands ms (map (expired m) ws) rs kept
+each_moment commands ms ws rs kept m h = ap (of_text commands) (row_moment ms ws rs m) ∙ h
 
 -- if no command is outstanding, the row is that of the records alone
 pub row_settled : (ms : List (Option Mark)) (ws : List (Pending Asked)) (rs : List Record) → commands_in ms ≡ 0 → row ms ws rs ≡ map of_record rs
@@ -132,9 +131,9 @@ row_settles reads utc ms ws left ss rs parts =
 
 -- settlements of the oldest requests preserve `EachIs`
 pub each_settles : (reads : Asked → List ℕ → Reading) (commands : List Task) (utc : ℕ) (ms : List (Option Mark)) (ws left : List (Pending Asked)) (ss : List (Settlement Asked)) (rs : List Record)
-    (sent : List RunRequest) → map of_settled ss ++ map of_pending left ≡ map of_pending ws
-    → EachIs commands ms ws rs sent → EachIs commands (drop (length ss) ms) left (rs ++ records_of reads utc ms ss) sent
-each_settles reads commands utc ms ws left ss rs sent parts h = ap (of_text commands) (row_settles reads utc ms ws left ss rs parts) ∙ h
+    (kept : List RunRequest) → map of_settled ss ++ map of_pending left ≡ map of_pending ws
+    → EachIs commands ms ws rs kept → EachIs commands (drop (length ss) ms) left (rs ++ records_of reads utc ms ss) kept
+each_settles reads commands utc ms ws left ss rs kept parts h = ap (of_text commands) (row_settles reads utc ms ws left ss rs parts) ∙ h
 
 -- where each outstanding request has a mark: if one more request is outstanding after the others, its command, if it has one, is
 -- added after the outstanding commands
@@ -147,14 +146,14 @@ more_waiting ms ws m p paired =
     ∙ marked_more ms asked m (of_pending p) count ∙ ap (λ xs. xs ++ marked (m ∷ []) (of_pending p ∷ [])) (sym (waiting_marked ms ws))
 
 -- a null procedure that is sent preserves `EachIs`, where each outstanding request has a mark
-pub each_null : (commands : List Task) (ms : List (Option Mark)) (ws : List (Pending Asked)) (p : Pending Asked) (rs : List Record) (sent : List RunRequest) → length ms ≡ length ws
-    → EachIs commands ms ws rs sent → EachIs commands (ms ++ None ∷ []) (ws ++ p ∷ []) rs sent
-each_null commands ms ws p rs sent paired h = ap (λ xs. of_text commands (map of_record rs ++ xs)) (more_waiting ms ws None p paired ∙ append-nil (still_waiting ms ws)) ∙ h
+pub each_null : (commands : List Task) (ms : List (Option Mark)) (ws : List (Pending Asked)) (p : Pending Asked) (rs : List Record) (kept : List RunRequest) → length ms ≡ length ws
+    → EachIs commands ms ws rs kept → EachIs commands (ms ++ None ∷ []) (ws ++ p ∷ []) rs kept
+each_null commands ms ws p rs kept paired h = ap (λ xs. of_text commands (map of_record rs ++ xs)) (more_waiting ms ws None p paired ∙ append-nil (still_waiting ms ws)) ∙ h
 
 -- a command of the setup (its mark has the cycle 0) that is sent preserves `EachIs`, where each outstanding request has a mark
-pub each_prepared : (commands : List Task) (mark : Mark) (ms : List (Option Mark)) (ws : List (Pending Asked)) (p : Pending Asked) (rs : List Record) (sent : List RunRequest) → mark.cycle ≡ 0
-    → length ms ≡ length ws → EachIs commands ms ws rs sent → EachIs commands (ms ++ Some mark ∷ []) (ws ++ p ∷ []) rs sent
-each_prepared commands mark ms ws p rs sent none paired h =
+pub each_prepared : (commands : List Task) (mark : Mark) (ms : List (Option Mark)) (ws : List (Pending Asked)) (p : Pending Asked) (rs : List Record) (kept : List RunRequest) → mark.cycle ≡ 0
+    → length ms ≡ length ws → EachIs commands ms ws rs kept → EachIs commands (ms ++ Some mark ∷ []) (ws ++ p ∷ []) rs kept
+each_prepared commands mark ms ws p rs kept none paired h =
     let front = map of_record rs in
     let waits = still_waiting ms ws in
     let one = of_waiting mark p in
@@ -169,11 +168,11 @@ none_taken setup place commands e = let many = length-take place commands in dro
 
 -- from a place after the setup on, in a cycle that has begun: the commands that had their turn, with the next `count` ones after
 -- them, are those that had their turn at a place `count` further on, or at the end of the list if that is nearer
-pub sent_past : (setup : ℕ) (commands : List Task) (begun place count place' : ℕ) → setup ≤ place → place ≤ length commands → 0 < begun
+pub reached_past : (setup : ℕ) (commands : List Task) (begun place count place' : ℕ) → setup ≤ place → place ≤ length commands → 0 < begun
     → (place' ≡ place + count) ⊎ ((place' ≡ length commands) × (length commands ≤ place + count))
     → commands_reached setup commands begun place ++ requests begun place (map of_task (take count (drop place commands))) ≡ commands_reached setup commands begun place'
-sent_past setup commands zero place count place' low within some at = absurd (omega (arith, some))
-sent_past setup commands (suc n) place count place' low within some at =
+reached_past setup commands zero place count place' low within some at = absurd (omega (arith, some))
+reached_past setup commands (suc n) place count place' low within some at =
     let front = drop setup (take place commands) in
     let taken = map of_task front in
     let more = map of_task (take count (drop place commands)) in
@@ -193,13 +192,13 @@ sent_past setup commands (suc n) place count place' low within some at =
 
 -- at a place after the setup, in a cycle that has begun: the commands that had their turn, with the next one after them, are
 -- those that had their turn one place later
-pub sent_next : (setup : ℕ) (commands : List Task) (begun place : ℕ) (task : Task) (others : List Task) → drop place commands ≡ task ∷ others → setup ≤ place → 0 < begun
+pub reached_next : (setup : ℕ) (commands : List Task) (begun place : ℕ) (task : Task) (others : List Task) → drop place commands ≡ task ∷ others → setup ≤ place → 0 < begun
     → commands_reached setup commands begun place ++ requests begun place (of_task task ∷ []) ≡ commands_reached setup commands begun (place + 1)
-sent_next setup commands begun place task others at within some =
+reached_next setup commands begun place task others at within some =
     let next : take 1 (drop place commands) ≡ task ∷ [] = ap (take 1) at in
     let left : length commands - place ≡ length (task ∷ others) = sym (length-drop place commands) ∙ ap length at in
     ap (λ (ts : List Task). commands_reached setup commands begun place ++ requests begun place (map of_task ts)) (sym next)
-    ∙ sent_past setup commands begun place 1 (place + 1) within (omega (arith, left)) some (inl refl)
+    ∙ reached_past setup commands begun place 1 (place + 1) within (omega (arith, left)) some (inl refl)
 
 -- `EachIs` holds of the requests `kept`; and the next command of a cycle is `task`
 module _ (commands : List Task) (ms : List (Option Mark)) (ws : List (Pending Asked)) (rs : List Record) (task : Task) (others : List Task) (kept : List RunRequest)
@@ -237,13 +236,13 @@ module _ (commands : List Task) (ms : List (Option Mark)) (ws : List (Pending As
       ∙ ap (λ xs. xs ++ listed) (ap (of_text commands) (sym (row_settled ms ws rs none)) ∙ h)
 
 -- at the end of a cycle, all commands of the cycles so far had their turn
-pub sent_whole : (setup : ℕ) (commands : List Task) (begun place : ℕ) → place ≡ length commands → commands_reached setup commands begun place ≡ all_cycles setup commands begun
-sent_whole setup commands zero place e = refl
-sent_whole setup commands (suc n) place e = ap (λ xs. all_cycles setup commands n ++ requests (suc n) setup (map of_task (drop setup xs)))
+pub reached_whole : (setup : ℕ) (commands : List Task) (begun place : ℕ) → place ≡ length commands → commands_reached setup commands begun place ≡ all_cycles setup commands begun
+reached_whole setup commands zero place e = refl
+reached_whole setup commands (suc n) place e = ap (λ xs. all_cycles setup commands n ++ requests (suc n) setup (map of_task (drop setup xs)))
     (ap (λ m. take m commands) e ∙ take_all (length commands) commands (omega arith))
 
 -- at the beginning of a cycle, all commands of the cycles before it had their turn
-pub sent_none : (setup : ℕ) (commands : List Task) (begun next place : ℕ) → next ≡ suc begun → place ≤ setup → commands_reached setup commands next place ≡ all_cycles setup commands begun
-sent_none setup commands begun next place is none =
+pub reached_none : (setup : ℕ) (commands : List Task) (begun next place : ℕ) → next ≡ suc begun → place ≤ setup → commands_reached setup commands next place ≡ all_cycles setup commands begun
+reached_none setup commands begun next place is none =
     ap (λ n. commands_reached setup commands n place) is
     ∙ ap (λ xs. all_cycles setup commands begun ++ requests (suc begun) setup (map of_task xs)) (none_taken setup place commands none) ∙ append-nil (all_cycles setup commands begun)

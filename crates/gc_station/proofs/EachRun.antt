@@ -25,7 +25,7 @@ use Rattle.gc_links.specs.Acts.{Act, Told}
 use Rattle.gc_station.specs.Deciding.{later, has_begun, is_up}
 use Rattle.gc_station.specs.EachOnce.{EachOnce, Interleave, RunRequest, commands_reached, of_record, all_cycles, of_text, AreRecordedOnce, reached}
 use Rattle.gc_station.specs.Marks.{commands_in}
-use Rattle.gc_station.specs.Progressing.{turned, moment_noted, unsent_at, early_noted, cycle_begun, skipped, attempts_left_out, cleared, request_noted, null_sent, renewed, sent, is_over, is_over_in, setup_sent}
+use Rattle.gc_station.specs.Progressing.{turned, moment_noted, unsent_at, early_noted, cycle_begun, skipped, attempts_left_out, cleared, request_noted, null_sent, resynchronized, sent, is_over, is_over_in, setup_sent}
 use Rattle.gc_station.specs.Reasons.{HoldsBefore}
 use Rattle.gc_station.specs.Records.{Record}
 use Rattle.gc_station.specs.Runs.{state_after}
@@ -33,7 +33,7 @@ use Rattle.gc_station.specs.Tasked.{EachRecordIsOfItsTask}
 use Rattle.gc_station.specs.Model.{Model, opening, action_at, waiting_of, with_progress, asks_first, asks_next, next_left_out, with_more_passes, with_listed, listed_after_skip, after_pass, with_more_records, end_unsent, unsent_record, first_unsent_record, after_clock, moved, after, after_all, cycle_length, asks_setup, request_for, null_request, request_or_null, asks_for}
 use Rattle.gc_station.specs.NextCommand.{place_next, commands_left, expected_first, mark_next, upcoming_after, mark_setup, cycles_begun}
 use Rattle.gc_station.proofs.Acting.{mid_fail, mid_moment, mid_clock, mid_put, mid_open, mid_close, mid_read}
-use Rattle.gc_station.proofs.Each.{row_empty, sent_whole}
+use Rattle.gc_station.proofs.Each.{row_empty, reached_whole}
 use Rattle.gc_station.proofs.Facts.{action_for}
 use Rattle.gc_station.proofs.Invariant.{Invariant, is_bare, says_done}
 use Rattle.gc_station.proofs.Midway.{ledger_at, PhaseFits, Mid, mid_of, sound_null, sound_sent, sound_skipped, sound_passed, sound_begun, invariant_ended, sound_prepared}
@@ -122,8 +122,8 @@ module _ (plan : Plan) (commands : List Task) (next : Upcoming) (s : Model) wher
       absurd (omega (arith, n, some, sound.unsents))
   mid_skips m (task ∷ others) at is some none mid =
       let p = s.progress in (
-        sound_skipped plan commands (ledger_at s p) (unsent_at m p) (end_unsent p)
-            (mark_next plan commands p).expected.turn task others none some at (unsent_end p.missed) mid.0,
+        sound_skipped plan commands (ledger_at s p) (unsent_at m p) (end_unsent p.missed)
+            (mark_next plan commands p).expected task others none some at (unsent_end p.missed) mid.0,
         ready_fits p.phase p.left (p.unsent - 1) s.rest s.marks is,
       )
 
@@ -165,7 +165,7 @@ mid_moved plan commands s action.ReadClock act fine is =
     let t = with_progress turned s in mid_clock plan commands (λ m p. early_noted plan (commands_in t.marks) (moment_noted m p)) t act (mid_of plan commands s fine)
     (λ m. mid_of plan commands s fine)
 mid_moved plan commands s action.Renew act fine is =
-    let t = with_progress turned s in mid_clock plan commands (λ m p. early_noted plan 0 (renewed plan m p)) t act (mid_of plan commands s fine) (λ m. mid_of plan commands s fine)
+    let t = with_progress turned s in mid_clock plan commands (λ m p. early_noted plan 0 (resynchronized plan m p)) t act (mid_of plan commands s fine) (λ m. mid_of plan commands s fine)
 mid_moved plan commands s action.Begin act fine is =
     let t = with_progress turned s in
     let mid = mid_of plan commands s fine in
@@ -275,7 +275,7 @@ each_once plan commands scope acts =
           let cycles : cycles_begun plan s.progress ≡ plan.cycles = omega (arith, none.0) in
           let place : place_next commands s.progress ≡ length commands = omega (arith, none.1) in
           subst (λ (xs : List RunRequest). Interleave (of_text commands (map of_record s.records)) s.passes xs)
-          (sent_whole plan.setup commands (cycles_begun plan s.progress) (place_next commands s.progress) place ∙ ap (all_cycles plan.setup commands) cycles) it.1;
+          (reached_whole plan.setup commands (cycles_begun plan s.progress) (place_next commands s.progress) place ∙ ap (all_cycles plan.setup commands) cycles) it.1;
     }
 
 -- each record after any acts is of its task

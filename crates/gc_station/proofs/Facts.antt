@@ -96,10 +96,14 @@ Wakes p _ = Unit {0}
 abbrev Holds : Plan → Progress → Waiting → Action → Type 0
 Holds plan p w next = HoldsBefore plan p w next × Timely plan p next × Wakes p next
 
--- a station is in its cycles: it is `Awake`, has synchronized, and isn't preparing
-record IsMeasuring (plan : Plan) (p : Progress) (w : Waiting) : Type 0 where
+-- a station is at work: it is `Awake`, and has synchronized
+record IsAtWork (p : Progress) : Type 0 where
   awake : Awake p
   begun : has_begun p ≡ true
+
+-- a station is in its cycles: it is at work, and isn't preparing
+record IsMeasuring (plan : Plan) (p : Progress) (w : Waiting) : Type 0 where
+  work : IsAtWork p
   set_up : is_preparing plan p w ≡ false
 
 -- in the phase `Ready` there is a connection
@@ -114,15 +118,15 @@ awake_reads p (now, is) = (now, λ c. let other : Ready ≡ Clearing = sym is �
 abbrev SevenIfAllTimedOut : Waiting → Type 0
 SevenIfAllTimedOut w = w.current ≡ 0 → WINDOW ≤ w.all
 
--- for a station that is `Awake` and has synchronized, `Holds` is true of `action_waiting`, if nothing may be sent
+-- for a station at work, `Holds` is true of `action_waiting`, if nothing may be sent
 -- (`NothingMayGo`), and seven requests are outstanding if all have timed out
-waiting_for : (plan : Plan) (p : Progress) (w : Waiting) → Awake p → has_begun p ≡ true → NothingMayGo plan p w → SevenIfAllTimedOut w → Holds plan p w (action_waiting plan p w)
-waiting_for plan p w awake begun nothing full =
+waiting_for : (plan : Plan) (p : Progress) (w : Waiting) → IsAtWork p → NothingMayGo plan p w → SevenIfAllTimedOut w → Holds plan p w (action_waiting plan p w)
+waiting_for plan p w work nothing full =
     let P = Holds plan p w in
-    let up = awake_up p awake in
-    cond_both (is_dead plan p w) (action.Close cause.Dead) _ P (λ d. ((up, inr (nothing, d)), tt, inr awake))
+    let up = awake_up p work.awake in
+    cond_both (is_dead plan p w) (action.Close cause.Dead) _ P (λ d. ((up, inr (nothing, d)), tt, inr work.awake))
     (λ d. cond_both (nat_eq w.current 0) action.Renew (action.Read Limit) P
-    (λ e. let none = eqb-true w.current 0 e in ((awake.1, begun, none, full none), tt, awake)) (λ e. (tt, awake_reads p awake, tt)))
+    (λ e. let none = eqb-true w.current 0 e in ((work.awake.1, work.begun, none, full none), tt, work.awake)) (λ e. (tt, awake_reads p work.awake, tt)))
 
 -- at least one request may be in flight
 some_wide : (plan : Plan) → 0 < width_of plan
@@ -134,29 +138,29 @@ no_room_full plan w (inl e) none = let few : width_of plan ≤ w.current = ltb-f
 no_room_full plan w (inr e) none = ltb-false w.all WINDOW e
 
 -- `action_room` is the action o if there is room for a request, and the action of a station that waits if there is none. For a
--- station that is `Awake` and has synchronized, `Holds` is true of it, if `Holds` is true of o where there is room
-room_for : (plan : Plan) (p : Progress) (w : Waiting) (o : Action) → Awake p → has_begun p ≡ true → (HasRoomToAsk plan w → Holds plan p w o) → Holds plan p w (action_room plan p w o)
-room_for plan p w o awake begun step =
+-- station at work, `Holds` is true of it, if `Holds` is true of o where there is room
+room_for : (plan : Plan) (p : Progress) (w : Waiting) (o : Action) → IsAtWork p → (HasRoomToAsk plan w → Holds plan p w o) → Holds plan p w (action_room plan p w o)
+room_for plan p w o work step =
     cond_both (has_room_to_ask plan w) o _ (Holds plan p w) (λ e. step (room_there plan w e))
-    (λ e. let none = and_cases (nat_lt w.current (width_of plan)) (nat_lt w.all WINDOW) e in waiting_for plan p w awake begun (no_room plan p w none) (no_room_full plan w none))
+    (λ e. let none = and_cases (nat_lt w.current (width_of plan)) (nat_lt w.all WINDOW) e in waiting_for plan p w work (no_room plan p w none) (no_room_full plan w none))
 
--- for a station that is `Awake` and has synchronized, `Holds` is true of `action_next` with the action o, if it is true of o
+-- for a station at work, `Holds` is true of `action_next` with the action o, if it is true of o
 -- where there is room and the count `behind` is below seven, and a null procedure is wanted where that count isn't
-next_as : (plan : Plan) (p : Progress) (w : Waiting) (o : Action) → (awake : Awake p) → (begun : has_begun p ≡ true) → (near : p.behind < WINDOW → HasRoomToAsk plan w → Holds plan p w o)
+next_as : (plan : Plan) (p : Progress) (w : Waiting) (o : Action) → (work : IsAtWork p) → (near : p.behind < WINDOW → HasRoomToAsk plan w → Holds plan p w o)
     → (far : WINDOW ≤ p.behind → WantsNull plan p w) → Holds plan p w (action_next plan p w o)
-next_as plan p w o awake begun near far =
+next_as plan p w o work near far =
     let P = Holds plan p w in
-    cond_both (nat_lt p.behind WINDOW) _ _ P (λ below. room_for plan p w o awake begun (near (ltb-true p.behind WINDOW below)))
+    cond_both (nat_lt p.behind WINDOW) _ _ P (λ below. room_for plan p w o work (near (ltb-true p.behind WINDOW below)))
     (λ above. let many = ltb-false p.behind WINDOW above in cond_both (nat_eq w.current 0) _ _ P
-    (λ given. room_for plan p w action.Flush awake begun (λ room. ((awake.1, begun, far many, eqb-true w.current 0 given, room), tt, awake)))
+    (λ given. room_for plan p w action.Flush work (λ room. ((work.awake.1, work.begun, far many, eqb-true w.current 0 given, room), tt, work.awake)))
     (λ current. let under = some_left w.current current in
-    waiting_for plan p w awake begun (inr (inr (inr (inr (inl (many, under)))))) (λ none. absurd (omega (arith, none, under)))))
+    waiting_for plan p w work (inr (inr (inr (inr (inl (many, under)))))) (λ none. absurd (omega (arith, none, under)))))
 
 -- for a station in its cycles (`IsMeasuring`), `Holds` is true of `action_next` with `Send` if a command is unsent, it may be
 -- sent (`MayGo`, `MayRetry`), and it goes on with its chain if the end of the run was asked for
 next_for : (plan : Plan) (p : Progress) (w : Waiting) → IsMeasuring plan p w → 0 < p.unsent → MayGo p w → MayRetry p w → StaysInItsChain p → Holds plan p w (action_next plan p w action.Send)
 next_for plan p w m some may retry stays =
-    next_as plan p w action.Send m.awake m.begun (λ near room. ((m.awake.1, m.begun, some, room, may, near, retry, stays, m.set_up), tt, m.awake)) (λ many. inr (inl (some, may), many))
+    next_as plan p w action.Send m.work (λ near room. ((m.work.awake.1, m.work.begun, some, room, may, near, retry, stays, m.set_up), tt, m.work.awake)) (λ many. inr (inl (some, may), many))
 
 -- If the end of the run was asked for.
 
@@ -165,8 +169,8 @@ abbrev IsInChainIfStopping : Progress → Type 0
 IsInChainIfStopping p = p.stops ≡ true → (0 < p.unsent) × (p.next_is_chained ≡ true) × (p.preparing ≡ false)
 
 -- where `IsInChainIfStopping` holds, if no command is left, the end of the run wasn't asked for
-none_asked : (p : Progress) → IsInChainIfStopping p → p.unsent ≡ 0 → p.stops ≡ false
-none_asked p only none = false_from_ne_true p.stops (λ stops. let some = (only stops).0 in absurd (omega (arith, none, some)))
+not_asked_to_stop : (p : Progress) → IsInChainIfStopping p → p.unsent ≡ 0 → p.stops ≡ false
+not_asked_to_stop p only none = false_from_ne_true p.stops (λ stops. let some = (only stops).0 in absurd (omega (arith, none, some)))
 
 -- if there is a connection, the station has synchronized, the end of the run was asked for, and neither does the run end nor is a
 -- further chain held back, the station isn't between two chains (`between`). `none` says that no request is in flight, and `some`
@@ -197,8 +201,8 @@ midway n chained prepares e = by_test (nat_eq n 0) chained prepares refl e where
 
 -- if there is a connection, the station has synchronized, the run doesn't end, and no further chain is held back,
 -- `IsInChainIfStopping` holds
-goes_only : (p : Progress) (w : Waiting) → is_up p.phase ≡ true → has_begun p ≡ true → is_stopping p w ≡ false → is_held_back p w ≡ false → IsInChainIfStopping p
-goes_only p w up begun goes free stops =
+in_chain_if_stopping : (p : Progress) (w : Waiting) → is_up p.phase ≡ true → has_begun p ≡ true → is_stopping p w ≡ false → is_held_back p w ≡ false → IsInChainIfStopping p
+in_chain_if_stopping p w up begun goes free stops =
     midway p.unsent p.next_is_chained p.preparing
     (not_between p.stops (is_up p.phase) (has_begun p) (nat_eq w.current 0) (is_between_chains p) (nat_lt 0 w.current) up begun goes free (above_none w.current) stops)
 
@@ -226,18 +230,18 @@ resting_so p w e = by_tests (is_up p.phase) (has_begun p) (nat_eq w.current 0) (
   by_tests true true false between u b n t f = cc
 
 -- if there is a connection, there is one to be closed for any cause
-has_one : (why : Cause) (p : Progress) → is_up p.phase ≡ true → HasConnectionFor why p
-has_one cause.Stale p up = tt
-has_one cause.Stopped p up = tt
-has_one why p up = up
+has_connection_for : (why : Cause) (p : Progress) → is_up p.phase ≡ true → HasConnectionFor why p
+has_connection_for cause.Stale p up = tt
+has_connection_for cause.Stopped p up = tt
+has_connection_for why p up = up
 
--- for a station that is `Awake` and has synchronized, `Holds` is true of `action_waiting`, if a further chain is held back
-held_back_for : (plan : Plan) (p : Progress) (w : Waiting) → Awake p → has_begun p ≡ true → is_held_back p w ≡ true → Holds plan p w (action_waiting plan p w)
-held_back_for plan p w awake begun held =
+-- for a station at work, `Holds` is true of `action_waiting`, if a further chain is held back
+held_back_for : (plan : Plan) (p : Progress) (w : Waiting) → IsAtWork p → is_held_back p w ≡ true → Holds plan p w (action_waiting plan p w)
+held_back_for plan p w work held =
     let it = and_parts (p.stops && is_between_chains p) (nat_lt 0 w.current) held in
     let asked = and_parts p.stops (is_between_chains p) it.0 in
     let under : 0 < w.current = ltb-true 0 w.current it.1 in
-    waiting_for plan p w awake begun (inr (inr (inr (inr (inr (asked.0, between_so p.unsent p.next_is_chained p.preparing asked.1, under)))))) (λ none. absurd (omega (arith, none, under)))
+    waiting_for plan p w work (inr (inr (inr (inr (inr (asked.0, between_so p.unsent p.next_is_chained p.preparing asked.1, under)))))) (λ none. absurd (omega (arith, none, under)))
 
 -- for a station in its cycles (`IsMeasuring`), `Holds` is true of `action_done` if no command of the cycle is unsent or
 -- outstanding, and the end of the run wasn't asked for
@@ -245,9 +249,9 @@ done_for : (plan : Plan) (p : Progress) (w : Waiting) → IsMeasuring plan p w �
     → Holds plan p w (action_done plan p)
 done_for plan p w m sent settled unasked =
     let P = Holds plan p w in
-    cond_both (nat_eq p.left 0) (action.Close cause.Done) _ P (λ e. ((awake_up p m.awake, inr (eqb-true p.left 0 e, sent, settled)), tt, tt))
+    cond_both (nat_eq p.left 0) (action.Close cause.Done) _ P (λ e. ((awake_up p m.work.awake, inr (eqb-true p.left 0 e, sent, settled)), tt, tt))
     (λ e. cond_both (is_due plan p) action.Begin (action.Read Due) P
-    (λ d. ((m.awake.1, m.begun, sent, settled, some_left p.left e, unasked, m.set_up), d, tt)) (λ d. (tt, awake_reads p m.awake, tt)))
+    (λ d. ((m.work.awake.1, m.work.begun, sent, settled, some_left p.left e, unasked, m.set_up), d, tt)) (λ d. (tt, awake_reads p m.work.awake, tt)))
 
 -- if no command may be sent before those that are outstanding are settled (`IsHeld`), one is unsent, and it begins no further
 -- attempt, that one is chained
@@ -264,7 +268,7 @@ again_for plan p w m some settled more stays =
     cond_both (w.listed && not p.next_is_chained) _ action.Pass (Holds plan p w)
     (λ e. let it = and_parts w.listed (not p.next_is_chained) e in
     next_for plan p w m some (inl (not-true p.next_is_chained it.1)) (inr (settled, it.0)) stays)
-    (λ e. ((m.awake.1, m.begun, some, settled, more, by_test (and_cases w.listed (not p.next_is_chained) e), m.set_up), tt, tt)) where
+    (λ e. ((m.work.awake.1, m.work.begun, some, settled, more, by_test (and_cases w.listed (not p.next_is_chained) e), m.set_up), tt, tt)) where
       -- why the attempt is left out, by which of the two tests fails
       by_test : ((w.listed ≡ false) ⊎ (not p.next_is_chained ≡ false)) → (w.listed ≡ false) ⊎ (p.next_is_chained ≡ true)
       by_test (inl none) = inl none
@@ -275,11 +279,11 @@ again_for plan p w m some settled more stays =
 settled_for : (plan : Plan) (p : Progress) (w : Waiting) → IsMeasuring plan p w → IsHeld p → (settled : w.commands ≡ 0) → IsInChainIfStopping p → Holds plan p w (action_settled plan p w)
 settled_for plan p w m held settled only =
     let P = Holds plan p w in
-    cond_both (nat_eq p.unsent 0) _ _ P (λ e. done_for plan p w m (eqb-true p.unsent 0 e) settled (none_asked p only (eqb-true p.unsent 0 e)))
+    cond_both (nat_eq p.unsent 0) _ _ P (λ e. done_for plan p w m (eqb-true p.unsent 0 e) settled (not_asked_to_stop p only (eqb-true p.unsent 0 e)))
     (λ e. cond_both (nat_lt 0 p.next_others) _ _ P (λ more. again_for plan p w m (some_left p.unsent e) settled (ltb-true 0 p.next_others more) (λ stops. (only stops).1))
     (λ first. let none = none_left p.next_others first in cond_both (may_go p w) _ action.Skip P
     (λ well. let it = and_parts w.well p.chain_unbroken well in next_for plan p w m (some_left p.unsent e) (inr (settled, it.0, it.1)) (inl none) (λ stops. (only stops).1))
-    (λ broken. ((m.awake.1, m.begun, some_left p.unsent e, settled, held_is_chained p held e none, broken, m.set_up), tt, tt))))
+    (λ broken. ((m.work.awake.1, m.work.begun, some_left p.unsent e, settled, held_is_chained p held e none, broken, m.set_up), tt, tt))))
 
 -- for a station in its cycles (`IsMeasuring`), `Holds` is true of `action_sent` if no command may be sent before all that were
 -- sent are settled (`IsHeld`), and a chain goes on if the end of the run was asked for
@@ -288,9 +292,9 @@ sent_for plan p w m held only =
     let P = Holds plan p w in
     cond_both (nat_eq w.commands 0) _ _ P (λ e. settled_for plan p w m held (eqb-true w.commands 0 e) only)
     (λ e. cond_both (nat_eq w.current 0) _ _ P
-    (λ given. room_for plan p w action.Flush m.awake m.begun (λ room. ((m.awake.1, m.begun, inl (inl held, some_left w.commands e), eqb-true w.current 0 given, room), tt, m.awake)))
+    (λ given. room_for plan p w action.Flush m.work (λ room. ((m.work.awake.1, m.work.begun, inl (inl held, some_left w.commands e), eqb-true w.current 0 given, room), tt, m.work.awake)))
     (λ some. let many = some_left w.current some in
-    waiting_for plan p w m.awake m.begun (inr (inr (inr (inl (inl held, some_left w.commands e, many))))) (λ none. absurd (omega (arith, none, many)))))
+    waiting_for plan p w m.work (inr (inr (inr (inl (inl held, some_left w.commands e, many))))) (λ none. absurd (omega (arith, none, many)))))
 
 -- if no command is left, or the next one is sent only once all are settled, `IsHeld` holds
 held_so : (p : Progress) → (nat_lt 0 p.unsent && not (waits_for_all p)) ≡ false → IsHeld p
@@ -333,45 +337,45 @@ finished_so count p e =
     let sent = and_parts (nat_eq p.left 0) (nat_eq p.unsent 0) it.0 in
     (eqb-true p.left 0 sent.0, eqb-true p.unsent 0 sent.1, eqb-true count 0 it.1)
 
--- for a station that is `Awake` and has synchronized, `Holds` is true of `action_next` with `Prepare`, if the next command of the
+-- for a station at work, `Holds` is true of `action_next` with `Prepare`, if the next command of the
 -- setup may be sent (`MayPrepare`), and the end of the run wasn't asked for
-prepare_for : (plan : Plan) (p : Progress) (w : Waiting) → Awake p → has_begun p ≡ true → p.stops ≡ false → MayPrepare plan p w → Holds plan p w (action_next plan p w action.Prepare)
-prepare_for plan p w awake begun unasked may =
-    next_as plan p w action.Prepare awake begun (λ near room. ((awake.1, begun, may, room, near, unasked), tt, awake)) (λ many. inr (inr may, many))
+prepare_for : (plan : Plan) (p : Progress) (w : Waiting) → IsAtWork p → p.stops ≡ false → MayPrepare plan p w → Holds plan p w (action_next plan p w action.Prepare)
+prepare_for plan p w work unasked may =
+    next_as plan p w action.Prepare work (λ near room. ((work.awake.1, work.begun, may, room, near, unasked), tt, work.awake)) (λ many. inr (inr may, many))
 
--- for a station that is `Awake` and has synchronized, `Holds` is true of `action_next_of_setup`, if it is preparing, the next
+-- for a station at work, `Holds` is true of `action_next_of_setup`, if it is preparing, the next
 -- command of the setup is the first or those before it are settled and answered well, and the end of the run wasn't asked for
-next_of_setup_for : (plan : Plan) (p : Progress) (w : Waiting) → (awake : Awake p) → (begun : has_begun p ≡ true) → (unasked : p.stops ≡ false) → (preparing : is_preparing plan p w ≡ true)
+next_of_setup_for : (plan : Plan) (p : Progress) (w : Waiting) → (work : IsAtWork p) → (unasked : p.stops ≡ false) → (preparing : is_preparing plan p w ≡ true)
     → (turn : (p.prepared ≡ 0) ⊎ ((w.commands ≡ 0) × (w.well ≡ true)))
     → Holds plan p w (action_next_of_setup plan p w)
-next_of_setup_for plan p w awake begun unasked on first =
-    cond_both (nat_lt p.prepared plan.setup) _ (action.Read Limit) (Holds plan p w) (λ e. prepare_for plan p w awake begun unasked (on, ltb-true p.prepared plan.setup e, first))
-    (λ e. (tt, awake_reads p awake, tt))
+next_of_setup_for plan p w work unasked on first =
+    cond_both (nat_lt p.prepared plan.setup) _ (action.Read Limit) (Holds plan p w) (λ e. prepare_for plan p w work unasked (on, ltb-true p.prepared plan.setup e, first))
+    (λ e. (tt, awake_reads p work.awake, tt))
 
--- for a station that is `Awake` and has synchronized, `Holds` is true of `action_preparing`, if it is preparing, and the end of
+-- for a station at work, `Holds` is true of `action_preparing`, if it is preparing, and the end of
 -- the run wasn't asked for
-preparing_for : (plan : Plan) (p : Progress) (w : Waiting) → Awake p → has_begun p ≡ true → p.stops ≡ false → is_preparing plan p w ≡ true → Holds plan p w (action_preparing plan p w)
-preparing_for plan p w awake begun unasked on =
+preparing_for : (plan : Plan) (p : Progress) (w : Waiting) → IsAtWork p → p.stops ≡ false → is_preparing plan p w ≡ true → Holds plan p w (action_preparing plan p w)
+preparing_for plan p w work unasked on =
     let P = Holds plan p w in
-    cond_both (is_finished w.commands p) (action.Close cause.Done) _ P (λ none. ((awake_up p awake, inr (finished_so w.commands p none)), tt, tt))
-    (λ more. cond_both (is_idle plan p) (action.Read Due) _ P (λ idle. (tt, awake_reads p awake, tt))
-    (λ busy. cond_both (nat_eq p.prepared 0) _ _ P (λ e. next_of_setup_for plan p w awake begun unasked on (inl (eqb-true p.prepared 0 e)))
+    cond_both (is_finished w.commands p) (action.Close cause.Done) _ P (λ none. ((awake_up p work.awake, inr (finished_so w.commands p none)), tt, tt))
+    (λ more. cond_both (is_idle plan p) (action.Read Due) _ P (λ idle. (tt, awake_reads p work.awake, tt))
+    (λ busy. cond_both (nat_eq p.prepared 0) _ _ P (λ e. next_of_setup_for plan p w work unasked on (inl (eqb-true p.prepared 0 e)))
     (λ sent. cond_both (nat_eq w.commands 0) _ _ P
-    (λ e. cond_both w.well _ (action.Close cause.SetUp) P (λ well. next_of_setup_for plan p w awake begun unasked on (inr (eqb-true w.commands 0 e, well)))
-    (λ ill. ((awake_up p awake, inr (on, some_left p.prepared sent, eqb-true w.commands 0 e, ill)), tt, tt)))
+    (λ e. cond_both w.well _ (action.Close cause.SetUp) P (λ well. next_of_setup_for plan p w work unasked on (inr (eqb-true w.commands 0 e, well)))
+    (λ ill. ((awake_up p work.awake, inr (on, some_left p.prepared sent, eqb-true w.commands 0 e, ill)), tt, tt)))
     (λ waiting. cond_both (nat_eq w.current 0) _ _ P
-    (λ given. room_for plan p w action.Flush awake begun (λ room.
-    ((awake.1, begun, inl (inr (on, some_left p.prepared sent), some_left w.commands waiting), eqb-true w.current 0 given, room), tt, awake)))
+    (λ given. room_for plan p w action.Flush work (λ room.
+    ((work.awake.1, work.begun, inl (inr (on, some_left p.prepared sent), some_left w.commands waiting), eqb-true w.current 0 given, room), tt, work.awake)))
     (λ some. let many = some_left w.current some in
-    waiting_for plan p w awake begun (inr (inr (inr (inl (inr (on, some_left p.prepared sent), some_left w.commands waiting, many))))) (λ none. absurd (omega (arith, none, many))))))))
+    waiting_for plan p w work (inr (inr (inr (inl (inr (on, some_left p.prepared sent), some_left w.commands waiting, many))))) (λ none. absurd (omega (arith, none, many))))))))
 
--- for a station that is `Awake` and has synchronized, `Holds` is true of `action_begun`, unless the run ends because that was
+-- for a station at work, `Holds` is true of `action_begun`, unless the run ends because that was
 -- asked for (`is_stopping`)
-begun_for : (plan : Plan) (p : Progress) (w : Waiting) → Awake p → has_begun p ≡ true → is_stopping p w ≡ false → Holds plan p w (action_begun plan p w)
-begun_for plan p w awake begun goes =
-    cond_both (is_held_back p w) (action_waiting plan p w) _ (Holds plan p w) (λ held. held_back_for plan p w awake begun held)
-    (λ free. let only = goes_only p w (awake_up p awake) begun goes free in cond_both (is_preparing plan p w) _ _ (Holds plan p w)
-    (λ on. preparing_for plan p w awake begun (unasked only (and_parts p.preparing _ on).0) on) (λ done. cycle_for plan p w (record { awake = awake; begun = begun; set_up = done }) only)) where
+begun_for : (plan : Plan) (p : Progress) (w : Waiting) → IsAtWork p → is_stopping p w ≡ false → Holds plan p w (action_begun plan p w)
+begun_for plan p w work goes =
+    cond_both (is_held_back p w) (action_waiting plan p w) _ (Holds plan p w) (λ held. held_back_for plan p w work held)
+    (λ free. let only = in_chain_if_stopping p w (awake_up p work.awake) work.begun goes free in cond_both (is_preparing plan p w) _ _ (Holds plan p w)
+    (λ on. preparing_for plan p w work (unasked only (and_parts p.preparing _ on).0) on) (λ done. cycle_for plan p w (record { work = work; set_up = done }) only)) where
       -- while the setup isn't done, the end of the run wasn't asked for
       unasked : IsInChainIfStopping p → p.preparing ≡ true → p.stops ≡ false
       unasked only on = false_from_ne_true p.stops (λ stops. let ready = (only stops).2 in let both : true ≡ false = sym on ∙ ready in cc)
@@ -389,7 +393,7 @@ beginning_for plan p w awake begun =
 -- for a station that is `Awake`, `Holds` is true of `action_ready`, unless the run ends because that was asked for
 -- (`is_stopping`)
 ready_for : (plan : Plan) (p : Progress) (w : Waiting) → Awake p → is_stopping p w ≡ false → Holds plan p w (action_ready plan p w)
-ready_for plan p w awake goes = cond_both (has_begun p) _ _ (Holds plan p w) (λ begun. begun_for plan p w awake begun goes) (λ begun. beginning_for plan p w awake begun)
+ready_for plan p w awake goes = cond_both (has_begun p) _ _ (Holds plan p w) (λ begun. begun_for plan p w (record { awake = awake; begun = begun }) goes) (λ begun. beginning_for plan p w awake begun)
 
 -- a close for which the phase is set already is as `Wakes` says
 closing_wakes : (p : Progress) (why : Cause) → p.phase ≡ Closing why → Wakes p (action.Close why)
@@ -404,7 +408,7 @@ of_phase_for plan Pausing p w is now goes = (tt, (now, λ c. let other : Pausing
 of_phase_for plan Clearing p w is now goes = (is, tt, tt)
 of_phase_for plan Draining p w is now goes = (tt, (now, λ c. let other : Draining ≡ Clearing = sym is ∙ c in cc), tt)
 of_phase_for plan Ready p w is now goes = ready_for plan p w (now, is) goes
-of_phase_for plan (Closing why) p w is now goes = ((has_one why p (ap is_up is), inl is), tt, closing_wakes p why is)
+of_phase_for plan (Closing why) p w is now goes = ((has_connection_for why p (ap is_up is), inl is), tt, closing_wakes p why is)
 of_phase_for plan (Over why) p w is now goes = ((ap is_up is, inl is), tt, tt)
 
 -- `Holds` is true of `action_without_turns` if all turns are used up
@@ -424,7 +428,7 @@ on_for plan p w =
 
 -- `Holds` is true of `action_in` in each phase
 in_for : (plan : Plan) (phase : Phase) (p : Progress) (w : Waiting) → p.phase ≡ phase → Holds plan p w (action_in phase plan p w)
-in_for plan (Closing why) p w is = ((has_one why p (ap is_up is), inl is), tt, closing_wakes p why is)
+in_for plan (Closing why) p w is = ((has_connection_for why p (ap is_up is), inl is), tt, closing_wakes p why is)
 in_for plan (Over why) p w is = ((ap is_up is, inl is), tt, tt)
 in_for plan phase p w is = on_for plan p w
 

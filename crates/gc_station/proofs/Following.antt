@@ -13,7 +13,7 @@ use Rattle.gc_station.specs.declared.plan.Plan.{Plan}
 use Rattle.gc_links.specs.Acts.{Act}
 use Rattle.gc_station.specs.Deciding.{has_begun}
 use Rattle.gc_station.specs.Marks.{records_of}
-use Rattle.gc_station.specs.Parts.{SyncStep, Part, nothing, joined, part_of_act, in_front, parts_of, sent_of}
+use Rattle.gc_station.specs.Parts.{SyncStep, Part, idle_part, parts_joined, part_of_act, in_front, parts_of, sent_of}
 use Rattle.gc_station.specs.Progressing.{turned, loses_all}
 use Rattle.gc_station.specs.Records.{Record}
 use Rattle.gc_station.specs.Model.{Model, action_at, waiting_of, with_progress, moved, losing, after, after_all, Runs, ended}
@@ -27,7 +27,7 @@ use Rattle.gc_station.proofs.Readings.{moved_reads, losing_reads}
 use Rattle.gc_station.proofs.Records.{records-none}
 
 -- three parts joined are the same, whether the first two are joined first or the last two
-pub joined_assoc : (p q r : Part) → joined (joined p q) r ≡ joined p (joined q r)
+pub joined_assoc : (p q r : Part) → parts_joined (parts_joined p q) r ≡ parts_joined p (parts_joined q r)
 joined_assoc p q r =
     ap (λ (sync_steps : List SyncStep). record { sync_steps = sync_steps; steps = (p.steps ++ q.steps) ++ r.steps; marks = (p.marks ++ q.marks) ++ r.marks }) (append_assoc p.sync_steps q.sync_steps r.sync_steps)
     ∙ ap (λ (steps : List (Step Asked)). record { sync_steps = p.sync_steps ++ (q.sync_steps ++ r.sync_steps); steps = steps; marks = (p.marks ++ q.marks) ++ r.marks }) (append_assoc p.steps q.steps r.steps)
@@ -41,12 +41,12 @@ module _ (reads : Asked → List ℕ → Reading) (commands : List Task) where
   BooksInParts c ms rs [] end = ⊥
   BooksInParts c ms rs (p ∷ []) end = Books reads commands c ms rs p end.client end.marks (sent_of end.records)
   BooksInParts c ms rs (p ∷ q ∷ ps) end =
-      (records : List Record) × Books reads commands c ms rs (joined p restarting) fresh [] records × BooksInParts fresh [] records (q ∷ ps) end
+      (records : List Record) × Books reads commands c ms rs (parts_joined p restarting) fresh [] records × BooksInParts fresh [] records (q ∷ ps) end
 
   -- if the part p and a restart lead to a new client, no marks and the records `mid` (`Books`), and `BooksInParts` holds of the
   -- parts `ps` from there on, it holds of p and the parts after it
   follows_cut : (c : ById Asked) (ms : List (Option Mark)) (rs mid : List Record) (p : Part) (ps : List Part) (end : Model)
-      → Books reads commands c ms rs (joined p restarting) fresh [] mid → BooksInParts fresh [] mid ps end → BooksInParts c ms rs (p ∷ ps) end
+      → Books reads commands c ms rs (parts_joined p restarting) fresh [] mid → BooksInParts fresh [] mid ps end → BooksInParts c ms rs (p ∷ ps) end
   follows_cut c ms rs mid p [] end h g = absurd g
   follows_cut c ms rs mid p (q ∷ ps) end h g = (mid, h, g)
 
@@ -57,7 +57,7 @@ module _ (reads : Asked → List ℕ → Reading) (commands : List Task) where
   follows_on c c1 ms ms1 rs rs1 p [] end h g = absurd g
   follows_on c c1 ms ms1 rs rs1 p (q ∷ []) end h g = books_both reads commands c c1 end.client ms ms1 end.marks rs rs1 (sent_of end.records) p q h g
   follows_on c c1 ms ms1 rs rs1 p (q ∷ next ∷ ps) end h g =
-      let both = books_both reads commands c c1 fresh ms ms1 [] rs rs1 g.0 p (joined q restarting) h g.1 in
+      let both = books_both reads commands c c1 fresh ms ms1 [] rs rs1 g.0 p (parts_joined q restarting) h g.1 in
       (g.0, subst (λ (x : Part). Books reads commands c ms rs x fresh [] g.0) (sym (joined_assoc p q restarting)) both, g.2)
 
 -- After an act.
@@ -83,19 +83,19 @@ losing_none t false is = refl
 -- if the client is new, nothing is outstanding, so the part in which nothing happens leads to the marks and the records after the
 -- loss of what is outstanding
 leads_idle : (reads : Asked → List ℕ → Reading) (commands : List Task) (c : ById Asked) (ms : List (Option Mark)) (rs : List Record) (utc : ℕ) → c ≡ fresh
-    → Books reads commands c ms (sent_of rs) nothing fresh (drop (length (map lost c.waiting)) ms) (sent_of (rs ++ records_of reads utc ms (map lost c.waiting)))
+    → Books reads commands c ms (sent_of rs) idle_part fresh (drop (length (map lost c.waiting)) ms) (sent_of (rs ++ records_of reads utc ms (map lost c.waiting)))
 leads_idle reads commands c ms rs utc is =
-    subst (λ (d : ById Asked). Books reads commands d ms (sent_of rs) nothing fresh (drop (length (map lost d.waiting)) ms) (sent_of (rs ++ records_of reads utc ms (map lost d.waiting)))) (sym is)
-    (subst (λ (l : List Record). Books reads commands fresh ms (sent_of rs) nothing fresh ms (sent_of l))
+    subst (λ (d : ById Asked). Books reads commands d ms (sent_of rs) idle_part fresh (drop (length (map lost d.waiting)) ms) (sent_of (rs ++ records_of reads utc ms (map lost d.waiting)))) (sym is)
+    (subst (λ (l : List Record). Books reads commands fresh ms (sent_of rs) idle_part fresh ms (sent_of l))
     (sym (ap (λ l. rs ++ l) (records-none reads utc ms) ∙ append-nil rs)) (books_nothing reads commands fresh ms (sent_of rs)))
 
 -- if the client is new, a loss of what is outstanding leads on by the part in which nothing happens
-idle_lost : (commands : List Task) (t : Model) (all : Bool) → t.client ≡ fresh → Leads commands t nothing (losing all t)
+idle_lost : (commands : List Task) (t : Model) (all : Bool) → t.client ≡ fresh → Leads commands t idle_part (losing all t)
 idle_lost commands t true is = leads_idle t.reads commands t.client t.marks t.records t.progress.moment.utc is
 idle_lost commands t false is = books_nothing t.reads commands t.client t.marks (sent_of t.records)
 
 -- a part with nothing after it is that part
-joined_nothing : (p : Part) → joined p nothing ≡ p
+joined_nothing : (p : Part) → parts_joined p idle_part ≡ p
 joined_nothing p =
     ap (λ (sync_steps : List SyncStep). record { sync_steps = sync_steps; steps = p.steps ++ []; marks = p.marks ++ [] }) (append-nil p.sync_steps)
     ∙ ap (λ (steps : List (Step Asked)). record { sync_steps = p.sync_steps; steps = steps; marks = p.marks ++ [] }) (append-nil p.steps)
@@ -112,8 +112,8 @@ module _ (plan : Plan) (commands : List Task) (reads : Asked → List ℕ → Re
   leads_to_ended s p t same is h =
       let u = ended t in
       subst (λ (x : Part). LeadsBy reads commands s x u) (joined_nothing p)
-      (books_both reads commands s.client t.client u.client s.marks t.marks u.marks (sent_of s.records) (sent_of t.records) (sent_of u.records) p nothing h
-      (leads_by reads commands t nothing u same (idle_lost commands t (loses_all t.progress) is)))
+      (books_both reads commands s.client t.client u.client s.marks t.marks u.marks (sent_of s.records) (sent_of t.records) (sent_of u.records) p idle_part h
+      (leads_by reads commands t idle_part u same (idle_lost commands t (loses_all t.progress) is)))
 
   -- an act leads from the model s to t, before what is outstanding is lost, by its part p; while the station synchronizes, by p
   -- also to the model after the loss. `Invariant` holds after the act, and each outstanding request of t has a mark
@@ -144,8 +144,8 @@ module _ (plan : Plan) (commands : List Task) (reads : Asked → List ℕ → Re
       let lost_here = leads_by reads commands t restarting u a.same_reads (leads_lost commands t (loses_all t.progress) l a.paired) in
       let both = books_both reads commands s.client t.client u.client s.marks t.marks u.marks (sent_of s.records) (sent_of t.records) (sent_of u.records) p restarting a.led lost_here in
       follows_cut reads commands s.client s.marks (sent_of s.records) (sent_of u.records) p ps end
-      (subst (λ (ms : List (Option Mark)). Books reads commands s.client s.marks (sent_of s.records) (joined p restarting) fresh ms (sent_of u.records)) none
-      (subst (λ (c : ById Asked). Books reads commands s.client s.marks (sent_of s.records) (joined p restarting) c u.marks (sent_of u.records)) new both))
+      (subst (λ (ms : List (Option Mark)). Books reads commands s.client s.marks (sent_of s.records) (parts_joined p restarting) fresh ms (sent_of u.records)) none
+      (subst (λ (c : ById Asked). Books reads commands s.client s.marks (sent_of s.records) (parts_joined p restarting) c u.marks (sent_of u.records)) new both))
       (subst (λ (ms : List (Option Mark)). BooksInParts reads commands fresh ms (sent_of u.records) ps end) none
       (subst (λ (c : ById Asked). BooksInParts reads commands c u.marks (sent_of u.records) ps end) new others))
 

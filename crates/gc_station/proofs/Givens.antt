@@ -7,20 +7,17 @@ use Rattle.gc_texts.specs.declared.tasks.Task.{Task}
 use Rattle.gc_station.specs.declared.plan.Plan.{Plan}
 use Rattle.gc_station.specs.declared.progress.Action.{Action}
 use Rattle.gc_station.specs.declared.progress.Action.TheVariants as actions
-use Rattle.gc_links.specs.Acts.{Act, Gave, Closed}
-use Rattle.gc_station.specs.Given.{bytes_heard_with, bytes_heard_from, bytes_heard}
+use Rattle.gc_links.specs.Acts.{Act, Gave}
+use Rattle.gc_station.specs.Given.{bytes_by, bytes_heard_with, bytes_heard_from, bytes_heard}
 use Rattle.gc_station.specs.Progressing.{turned, loses_all}
 use Rattle.gc_station.specs.Runs.{state_after}
 use Rattle.gc_station.specs.Model.{Model, opening, action_at, with_progress, with_rest, lines_completed, after_piece, is_heard, Performs, moved, losing, after, after_all, Runs}
 use Rattle.gc_station.proofs.Walk.{lines_along, losing_along, walk, piece_before}
 use Rattle.gc_station.specs.Scopes.{Scope}
 
--- the bytes of an unfinished line that are kept after an act, by whether bytes are heard and by the bytes kept before it (the
--- last argument)
-abbrev pub rest_with : Bool → Act → List ℕ → List ℕ
-rest_with heard (Gave piece m) rest = if heard then rest_behind rest piece else rest
-rest_with heard Closed rest = []
-rest_with heard act rest = rest
+-- the bytes of an unfinished line that are kept after an act, if `rest` were kept before it
+abbrev pub rest_with : (heard : Bool) → Act → (rest : List ℕ) → List ℕ
+rest_with heard act rest = bytes_by rest_behind heard act rest
 
 -- after a piece that is heard, the bytes of a line that are kept are those that `rest_behind` gives, of the bytes kept before and
 -- the piece; after one that isn't heard, they are those kept before

@@ -21,7 +21,7 @@ use Rattle.gc_station.specs.declared.progress.Action.TheVariants as action
 use Rattle.gc_station.specs.declared.progress.Progress.{Progress}
 use Rattle.gc_station.specs.Behind.{IsNearTheTable, CommandsAreSentNearTheTable}
 use Rattle.gc_station.specs.Deciding.{has_begun, is_none_left}
-use Rattle.gc_station.specs.Parts.{Part, joined, put_part, first_request_part, heard_steps, client_part, sync_part, part_of_act, in_front, parts_of, client_after}
+use Rattle.gc_station.specs.Parts.{Part, parts_joined, put_part, first_request_part, heard_steps, client_part, sync_part, part_of_act, in_front, parts_of, client_after}
 use Rattle.gc_station.specs.Progressing.{one_more_in_window, turned, time_passed, loses_all}
 use Rattle.gc_station.specs.Reasons.{HoldsBefore}
 use Rattle.gc_station.specs.Model.{Model, SendsCommand, opening, action_at, waiting_of, is_heard, with_progress, with_rest, line_came, lines_came, lines_completed, after_piece, moved, losing, after, Performs, Runs, ended}
@@ -230,7 +230,7 @@ module _ (plan : Plan) (commands : List Task) (s : Model) (o : Action) (act : Ac
   as_many = marks_ask_length commands p.marks (sent_by s.client p.steps) led.wrote.sent ∙ ap (λ (c : ById Asked). length (sent_by c p.steps)) client
 
   -- `IsSentNear` holds of the act's part joined with a part q, if it holds of q after the steps of the act
-  joined_near : (q : Part) → IsSentNear (done ++ p.steps) q → IsSentNear done (joined p q)
+  joined_near : (q : Part) → IsSentNear (done ++ p.steps) q → IsSentNear done (parts_joined p q)
   joined_near q h front later target call deadline mark e at = by_case (split p.steps q.steps front (Send target call deadline) later e) where
     -- the lemma above, whether the command is sent at the act or after it
     by_case : Splits p.steps q.steps front (Send target call deadline) later → IsNearTheTable (course_of (done ++ front))

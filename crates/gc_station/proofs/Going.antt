@@ -47,8 +47,8 @@ on_then action claim other step on = step on
 -- a turn in which an act performs `action`
 module _ (plan : Plan) (commands : List Task) (action : Action) (text : Record → List ℕ) (told told' : Option (List Act)) (taken taken' : Option (List ℕ)) where
   -- a turn is an act and then, if the station has to, the loss of what is outstanding. If the act was made (`Makes`), and the
-  -- loss wrote its records or the book failed at one of them (`ComesTo`), the whole turn was made, or the book failed in it
-  -- (`Made`)
+  -- loss wrote its records or the book failed at one of them (`RefinesOrTookPart`), the whole turn was made, or the book failed
+  -- in it (`Made`)
   pub makes_step : {X E : Type 0} (taken'' : Option (List ℕ)) (station mid new : Station) (p : Progress) (result : Result X E)
       → p ≡ turned station.progress → Does plan commands action (as_seen told text taken (record station { progress = p })) (as_seen told' text taken' mid)
       → KeepsToModel ended text taken' taken'' mid new result → Steps plan commands action (as_seen told text taken station) (as_seen told' text taken'' new) result

@@ -39,7 +39,7 @@ use Rattle.gc_station.specs.Marks.{commands_in, records_of, last_well, fresh_aft
 use Rattle.gc_station.specs.Progressing.{behind_noted, line_noted, bytes_noted, early_noted, after_failure, closed, failing, lines_synchronizing, line_synchronizing}
 use Rattle.gc_station.specs.Records.{Record, Grew, texts_of, WritesPart, WritesBy}
 use Rattle.gc_station.specs.Model.{Model, Performs, line_came, lines_came, lines_completed, lines_taken, with_rest, with_progress, with_moment, waiting_of, settles, piece_came}
-use Rattle.gc_station.specs.Stations.{waiting_of_station, Refines, Took, TookPart, ComesTo, Makes, ReadsMoment, DropsMarks, as_seen, station_expiring}
+use Rattle.gc_station.specs.Stations.{waiting_of_station, Refines, Took, TookPart, RefinesOrTookPart, Makes, ReadsMoment, DropsMarks, as_seen, station_expiring}
 use Rattle.gc_station.specs.Scopes.{AreReadings, ForEachReadings}
 use Rattle.gc_station.specs.Tallies.{nothing_yet, tallied}
 use Rattle.gc_station.specs.Writing.{recorded_after}
@@ -105,44 +105,43 @@ pub record HeardSoFar (begun : Bool) (text : Record → List ℕ) (start taken :
 abbrev pub after_frame : (begun : Bool) (rest : List ℕ) → Frame → Model → Model
 after_frame begun rest frame s = lines_taken begun (option_to_list (line_in frame)) (with_rest rest s)
 
--- the lemma `frame_first`, once the station has synchronized
-came_first : (s : Model) (left later rest : List ℕ) (frame : Frame)
-    → frames_behind s.rest left ≡ completed frame ++ frames_behind rest later → rest_behind s.rest left ≡ rest_behind rest later
-    → piece_came true left s ≡ piece_came true later (after_frame true rest frame s)
-came_first s left later rest frame seen rests =
-    let line = option_to_list (line_in frame) in
-    let lines : lines_completed s.rest left ≡ line ++ lines_completed rest later = ap (filter_map line_in) seen ∙ lines_split frame (frames_behind rest later) in
-    let end = rest_behind rest later in
-    ap (λ xs. lines_came (with_rest (rest_behind s.rest left) s) xs) lines
-    ∙ ap (λ r. lines_came (with_rest r s) (line ++ lines_completed rest later)) rests
-    ∙ lines_came-append (with_rest end s) line (lines_completed rest later)
-    ∙ ap (λ x. lines_came x (lines_completed rest later)) (lines_rest (with_rest rest s) end line)
-    ∙ sym (ap (λ r. lines_came (with_rest (rest_behind r later) (lines_came (with_rest rest s) line)) (lines_completed r later)) (rest_kept rest line)) where
-      -- lines that are heard leave the bytes since the last line feed
-      rest_kept : (rest : List ℕ) (line : List (List ℕ)) → (lines_came (with_rest rest s) line).rest ≡ rest
-      rest_kept rest line = ap (λ (x : Model). x.rest) (lines_rest s rest line)
+-- what isn't heard yet of a piece, `left`, begins with `frame` (`seen`); `later` comes after it, with the bytes `rest` kept
+-- (`rests`)
+module _ (s : Model) (left later rest : List ℕ) (frame : Frame) (seen : frames_behind s.rest left ≡ completed frame ++ frames_behind rest later)
+    (rests : rest_behind s.rest left ≡ rest_behind rest later) where
+  -- the line of the frame, if it is one
+  abbrev first_line : List (List ℕ)
+  first_line = option_to_list (line_in frame)
 
--- the lemma `frame_first`, while the station synchronizes
-asked_first : (s : Model) (left later rest : List ℕ) (frame : Frame)
-    → frames_behind s.rest left ≡ completed frame ++ frames_behind rest later → rest_behind s.rest left ≡ rest_behind rest later
-    → piece_came false left s ≡ piece_came false later (after_frame false rest frame s)
-asked_first s left later rest frame seen rests =
-    let line = option_to_list (line_in frame) in
-    let lines : lines_completed s.rest left ≡ line ++ lines_completed rest later = ap (filter_map line_in) seen ∙ lines_split frame (frames_behind rest later) in
-    ap (λ r. shown r (lines_synchronizing s.progress (lines_completed s.rest left))) rests
-    ∙ ap (λ xs. shown (rest_behind rest later) (lines_synchronizing s.progress xs)) lines
-    ∙ ap (shown (rest_behind rest later)) (lines_synchronizing-append s.progress line (lines_completed rest later)) where
-      -- the model s with these bytes kept of a line, and this progress
-      shown : List ℕ → Progress → Model
-      shown r p = record s { rest = r; progress = p }
+  -- the lines that `left` completes are that line, and then those that `later` completes
+  lines_first : lines_completed s.rest left ≡ first_line ++ lines_completed rest later
+  lines_first = ap (filter_map line_in) seen ∙ lines_split frame (frames_behind rest later)
 
--- hearing what is left of a piece is hearing the line of its first frame, if that is a line, and then what comes after that frame
--- (`later`)
-pub frame_first : (begun : Bool) (s : Model) (left later rest : List ℕ) (frame : Frame)
-    → frames_behind s.rest left ≡ completed frame ++ frames_behind rest later → rest_behind s.rest left ≡ rest_behind rest later
-    → piece_came begun left s ≡ piece_came begun later (after_frame begun rest frame s)
-frame_first true s left later rest frame seen rests = came_first s left later rest frame seen rests
-frame_first false s left later rest frame seen rests = asked_first s left later rest frame seen rests
+  -- once the station has synchronized, to hear `left` is to hear the line of the frame, and then `later`
+  came_first : piece_came true left s ≡ piece_came true later (after_frame true rest frame s)
+  came_first =
+      let end = rest_behind rest later in
+      ap (λ xs. lines_came (with_rest (rest_behind s.rest left) s) xs) lines_first
+      ∙ ap (λ r. lines_came (with_rest r s) (first_line ++ lines_completed rest later)) rests
+      ∙ lines_came-append (with_rest end s) first_line (lines_completed rest later)
+      ∙ ap (λ x. lines_came x (lines_completed rest later)) (lines_rest (with_rest rest s) end first_line)
+      ∙ sym (ap (λ r. lines_came (with_rest (rest_behind r later) (lines_came (with_rest rest s) first_line)) (lines_completed r later))
+      (ap (λ (x : Model). x.rest) (lines_rest s rest first_line)))
+
+  -- while the station synchronizes, to hear `left` is to hear the line of the frame, and then `later`
+  asked_first : piece_came false left s ≡ piece_came false later (after_frame false rest frame s)
+  asked_first =
+      ap (λ r. shown r (lines_synchronizing s.progress (lines_completed s.rest left))) rests
+      ∙ ap (λ xs. shown (rest_behind rest later) (lines_synchronizing s.progress xs)) lines_first
+      ∙ ap (shown (rest_behind rest later)) (lines_synchronizing-append s.progress first_line (lines_completed rest later)) where
+        -- the model s with these bytes kept of a line, and this progress
+        shown : List ℕ → Progress → Model
+        shown r p = record s { rest = r; progress = p }
+
+  -- to hear `left` is to hear the line of its first frame, if that is a line, and then `later`
+  frame_first : (begun : Bool) → piece_came begun left s ≡ piece_came begun later (after_frame begun rest frame s)
+  frame_first true = came_first
+  frame_first false = asked_first
 
 -- a piece was heard but for `left` (`HeardSoFar`), of which the first `used` bytes are the next frame; after that the book has taken
 -- `taken'`
@@ -160,14 +159,14 @@ module _ (begun : Bool) (text : Record → List ℕ) (start taken taken' : Optio
     stands = more.0;
     wrote = more.1;
     grown = grew_then s.records h.now.records _ h.grown (taken_records begun (with_rest t.now h.now) (option_to_list (line_in frame)));
-    goes = sym (frame_first begun h.now left (drop used left) t.now frame t.seen t.rests) ∙ h.goes;
+    goes = sym (frame_first h.now left (drop used left) t.now frame t.seen t.rests begun) ∙ h.goes;
   }
 
   -- if the book failed at the frame's line, it failed at a record of the whole piece
   pub hearing_part : TookPart text h.now.records start taken' mid → TookPart text s.records start taken' (piece_came begun piece s)
   hearing_part part are =
       let later = drop used left in
-      let whole : piece_came begun later mid ≡ piece_came begun piece s = sym (frame_first begun h.now left later t.now frame t.seen t.rests) ∙ h.goes in
+      let whole : piece_came begun later mid ≡ piece_came begun piece s = sym (frame_first h.now left later t.now frame t.seen t.rests begun) ∙ h.goes in
       let more = taken_records begun (with_rest (rest_behind mid.rest later) mid) (lines_completed mid.rest later) in
       let same : mid.reads ≡ (piece_came begun piece s).reads =
       sym (taken_reads begun (with_rest (rest_behind mid.rest later) mid) (lines_completed mid.rest later)) ∙ ap (λ (x : Model). x.reads) whole in
@@ -251,31 +250,30 @@ pub record Between (old mid : Station) (ids : ById Asked) : Type 0 where
 abbrev pub UpdatesRecorded : (mid new : Station) → List (Settlement Asked) → Type 0
 UpdatesRecorded mid new xs = ForEachReadings (λ reads. new.recorded ≡ recorded_after mid.progress.moment mid.marks.items xs reads mid.recorded)
 
--- Let the station `old` be as the model s, and its client have settled requests as x says (`Between`); `xs` are these
--- settlements.
-module _ (text : Record → List ℕ) (old mid : Station) (s : Model) (x : Settled Asked (ById Asked)) (xs : List (Settlement Asked)) where
+-- the station `old` is as the model s; its client has settled requests as x says (`Between`), and `xs` are these settlements
+module _ (text : Record → List ℕ) (old mid : Station) (s : Model) (x : Settled Asked (ById Asked)) (xs : List (Settlement Asked)) (stands : Refines old s)
+    (between : Between old mid x.client) (same : xs ≡ x.settlements) where
   -- the records of these settlements, which the station is to write
   abbrev to_write : List Record
   to_write = records_of s.reads mid.progress.moment.utc mid.marks.items xs
 
   -- these records are those that the model has for the settlements
-  records_same : Refines old s → Between old mid x.client → xs ≡ x.settlements → to_write ≡ records_of s.reads s.progress.moment.utc s.marks x.settlements
-  records_same stands between same =
+  records_same : to_write ≡ records_of s.reads s.progress.moment.utc s.marks x.settlements
+  records_same =
       ap (λ (p : Progress). records_of s.reads p.moment.utc mid.marks.items xs) (between.progress ∙ stands.progress)
       ∙ ap (λ (ms : List (Option Mark)). records_of s.reads s.progress.moment.utc ms xs) (ap (λ ms. ms.items) between.marks ∙ stands.marks)
       ∙ ap (records_of s.reads s.progress.moment.utc s.marks) same
 
   -- if these records were written, counted and noted, and the marks of the settlements taken out, the station is as the model
   -- after the settlements (`new`), and the book has taken the records of that model
-  pub settles_ok : (new : Station) (n : ℕ) (start taken' : Option (List ℕ)) → (stands : Refines old s) → (between : Between old mid x.client) → (same : xs ≡ x.settlements)
-      → (many : n ≡ length x.settlements) → (paired : StayPaired s.marks x)
+  pub settles_ok : (new : Station) (n : ℕ) (start taken' : Option (List ℕ)) → (many : n ≡ length x.settlements) → (paired : StayPaired s.marks x)
       → (wrote : AreReadings s.reads → Appends start taken' (texts_of text (s.records ++ to_write))) → (takes : DropsMarks mid new n)
       → (notes : UpdatesRecorded mid new xs) → Refines new (settles x s) × Took text start taken' (settles x s)
-  settles_ok new n start taken' stands between e many paired wrote is notes =
+  settles_ok new n start taken' many paired wrote is notes =
       let added : List Record = to_write in
       let kept : AreReadings s.reads → new.recorded ≡ recorded_after mid.progress.moment mid.marks.items xs s.reads old.recorded =
       λ are. notes s.reads are ∙ ap (recorded_after mid.progress.moment mid.marks.items xs s.reads) between.recorded in
-      let records = records_same stands between e in (
+      let records = records_same in (
         record {
           progress = ap (λ (n : Station). n.progress) is ∙ between.progress ∙ stands.progress;
           ids = ap (λ (n : Station). n.client.ids) is ∙ between.ids_are;
@@ -288,7 +286,7 @@ module _ (text : Record → List ℕ) (old mid : Station) (s : Model) (x : Settl
           well = λ are. ap (λ (r : Recorded). r.well) (kept are) ∙ ap (λ b. last_well b added) (stands.well are)
               ∙ sym (last-append false s.records added) ∙ ap (λ rs. last_well false (s.records ++ rs)) records;
           listed = λ are. ap (λ (r : Recorded). r.listed) (kept are) ∙ ap (λ b. listed_by s.reads b mid.marks.items xs) (stands.listed are)
-              ∙ ap (λ (ms : List (Option Mark)). listed_by s.reads s.listed ms xs) (ap (λ ms. ms.items) between.marks ∙ stands.marks) ∙ ap (listed_by s.reads s.listed s.marks) e;
+              ∙ ap (λ (ms : List (Option Mark)). listed_by s.reads s.listed ms xs) (ap (λ ms. ms.items) between.marks ∙ stands.marks) ∙ ap (listed_by s.reads s.listed s.marks) same;
           fresh = λ are. ap (λ (r : Recorded). r.fresh) (kept are) ∙ ap (λ f. fresh_after mid.progress.moment.elapsed f added) (stands.fresh are)
               ∙ ap (λ (p : Progress). fresh_after p.moment.elapsed s.fresh added) (between.progress ∙ stands.progress)
               ∙ ap (fresh_after s.progress.moment.elapsed s.fresh) records;
@@ -297,17 +295,16 @@ module _ (text : Record → List ℕ) (old mid : Station) (s : Model) (x : Settl
       )
 
   -- if the book failed at one of these records, it took the earlier records of the model and a part of the others
-  pub settles_part : (start taken' : Option (List ℕ)) → Refines old s → Between old mid x.client → xs ≡ x.settlements
+  pub settles_part : (start taken' : Option (List ℕ))
       → (AreReadings s.reads → WritesPart text s.records (s.records ++ to_write) start taken') → TookPart text s.records start taken' (settles x s)
-  settles_part start taken' stands between e wrote are = subst (λ (rs : List Record). WritesPart text s.records (s.records ++ rs) start taken') (records_same stands between e) (wrote are)
+  settles_part start taken' wrote are = subst (λ (rs : List Record). WritesPart text s.records (s.records ++ rs) start taken') records_same (wrote are)
 
   -- as `settles_ok` and `settles_part` together, by whether the book took all records (`Ok`) or failed at one (`Err`)
-  pub settles_either : {X E : Type 0} (new : Station) (n : ℕ) (start taken' : Option (List ℕ)) (result : Result X E) → (stands : Refines old s) → (between : Between old mid x.client)
-      → (same : xs ≡ x.settlements) → (many : n ≡ length x.settlements) → (paired : StayPaired s.marks x)
+  pub settles_either : {X E : Type 0} (new : Station) (n : ℕ) (start taken' : Option (List ℕ)) (result : Result X E) → (many : n ≡ length x.settlements) → (paired : StayPaired s.marks x)
       → (wrote : AreReadings s.reads → WritesBy text s.records (s.records ++ to_write) start taken' result) → (takes : OnOk result (DropsMarks mid new n))
-      → (notes : OnOk result (UpdatesRecorded mid new xs)) → ComesTo text s.records new start taken' (settles x s) result
-  settles_either new n start taken' (Ok r) stands between e many paired wrote is notes = settles_ok new n start taken' stands between e many paired wrote is notes
-  settles_either new n start taken' (Err r) stands between e many paired wrote is notes = settles_part start taken' stands between e wrote
+      → (notes : OnOk result (UpdatesRecorded mid new xs)) → RefinesOrTookPart text s.records new start taken' (settles x s) result
+  settles_either new n start taken' (Ok r) many paired wrote is notes = settles_ok new n start taken' many paired wrote is notes
+  settles_either new n start taken' (Err r) many paired wrote is notes = settles_part start taken' wrote
 
 -- a link that recorded the acts `xs` and then the acts `ys` recorded `xs ++ ys`
 pub tells_more : (a b c : Option (List Act)) (xs ys : List Act) → AddsActs a b xs → AddsActs b c ys → AddsActs a c (xs ++ ys)

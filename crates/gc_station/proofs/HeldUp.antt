@@ -82,8 +82,8 @@ settle_tables zero line (p ∷ ps) low all = all.0
 settle_tables (suc k) line (p ∷ ps) low all = settle_tables k line ps (omega (arith, low)) all.1
 
 -- `one_more_in_window` of a number below seven is that number plus 1
-more_is : (n : ℕ) → n < 7 → one_more_in_window n ≡ n + 1
-more_is n low = cond-true (nat_lt n WINDOW) (n + 1) n (lt-ltb n WINDOW low)
+one_more_below : (n : ℕ) → n < 7 → one_more_in_window n ≡ n + 1
+one_more_below n low = cond-true (nat_lt n WINDOW) (n + 1) n (lt-ltb n WINDOW low)
 
 -- a send of a call of the table preserves `Level`, whether the window is full (`full`), so that the send is refused, or not
 level_sent : (c : ById Asked) (b target : ℕ) (call : Asked) (deadline : ℕ) → is_of_table call ≡ true → Level c b → (full : Bool) → nat_eq (length c.waiting) 7 ≡ full
@@ -98,7 +98,7 @@ level_sent c b target call deadline table h false e =
     record {
       tables = all_append IsTableCall c.waiting (pending_of target call deadline ∷ []) h.tables (table, tt);
       few = omega (arith, more, low);
-      same = ap one_more_in_window h.same ∙ more_is (length c.waiting) low ∙ sym more;
+      same = ap one_more_in_window h.same ∙ one_more_below (length c.waiting) low ∙ sym more;
     } where
       -- a number that is at most seven, and isn't seven, is below seven
       less : (n : ℕ) → n ≤ 7 → nat_eq n 7 ≡ false → n < 7

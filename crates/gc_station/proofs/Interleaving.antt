@@ -97,9 +97,9 @@ cycles_before setup commands (suc n) place =
       later r (inr same) = inl (omega (arith, same.0))
 
 -- all that had its turn is before the next place
-pub sent_before : (setup : ℕ) (commands : List Task) (cycle place : ℕ) → setup ≤ place → AllByRecursion (ComesBefore cycle place) (commands_reached setup commands cycle place)
-sent_before setup commands zero place low = tt
-sent_before setup commands (suc n) place low =
+pub reached_before : (setup : ℕ) (commands : List Task) (cycle place : ℕ) → setup ≤ place → AllByRecursion (ComesBefore cycle place) (commands_reached setup commands cycle place)
+reached_before setup commands zero place low = tt
+reached_before setup commands (suc n) place low =
     all_append (ComesBefore (suc n) place) (all_cycles setup commands n) (requests (suc n) setup (map of_task (drop setup (take place commands)))) (cycles_before setup commands n place)
     (all_on _ (ComesBefore (suc n) place) (requests (suc n) setup (map of_task (drop setup (take place commands))))
     (λ r h. inr (h.0, few r.place h.1)) (requests_below (suc n) setup (map of_task (drop setup (take place commands))))) where

@@ -17,7 +17,7 @@ use Rattle.gc_station.specs.Chains.{IsLinked}
 use Rattle.gc_station.specs.Deciding.{has_begun}
 use Rattle.gc_station.specs.EachOnce.{IsFurther}
 use Rattle.gc_station.specs.Links.{AreChained, IsBefore, WasAnsweredWell, IsAnsweredEarlier, ChainsStay, MarksGoOn, parts}
-use Rattle.gc_station.specs.Parts.{Part, joined, first_request_part, client_part, sync_part, part_of_act, ends_part, in_front, parts_of, mark_of}
+use Rattle.gc_station.specs.Parts.{Part, parts_joined, first_request_part, client_part, sync_part, part_of_act, ends_part, in_front, parts_of, mark_of}
 use Rattle.gc_station.specs.Runs.{state_after}
 use Rattle.gc_station.specs.Scopes.{Scope}
 use Rattle.gc_station.specs.ActKinds.{Puts}
@@ -117,14 +117,14 @@ HasMark ps i mark = (part : Part) × (slice_get ps i ≡ Some part) × (m : ℕ)
 first_has : (p : Part) (ends : Bool) (ps : List Part) (mark : Mark) → slice_get p.marks 0 ≡ Some (Some mark) → HasMark (in_front p ends ps) 0 mark
 first_has p true ps mark e = (p, refl, 0, e)
 first_has p false [] mark e = (p, refl, 0, e)
-first_has p false (q ∷ ps) mark e = (joined p q, refl, 0, get_more p.marks q.marks 0 (Some mark) e)
+first_has p false (q ∷ ps) mark e = (parts_joined p q, refl, 0, get_more p.marks q.marks 0 (Some mark) e)
 
 -- if part i has a request with a mark, it still has it once another part is joined to the front of the first one
 on_has : (p : Part) (qs : List Part) (i : ℕ) (mark : Mark) → HasMark qs i mark → HasMark (in_front p false qs) i mark
 on_has p [] i mark h = absurd (none-some h.0 h.1)
 on_has p (y ∷ qs) zero mark h =
     let same : h.0 ≡ y = sym (same_Some y h.0 h.1) in
-    (joined p y, refl, length p.marks + h.2, get_behind p.marks y.marks (length p.marks + h.2) h.2 refl ∙ subst (λ (x : Part). slice_get x.marks h.2 ≡ Some (Some mark)) same h.3)
+    (parts_joined p y, refl, length p.marks + h.2, get_behind p.marks y.marks (length p.marks + h.2) h.2 refl ∙ subst (λ (x : Part). slice_get x.marks h.2 ≡ Some (Some mark)) same h.3)
 on_has p (y ∷ qs) (suc i) mark h = h
 
 -- `ps` are the parts of some first acts, and `qs` those of all acts. If the part of `qs` at the place of the last part of `ps`
@@ -207,7 +207,7 @@ module _ (plan : Plan) (commands : List Task) (scope : Scope) where
   one_back : (acts : List Act) (a : ℕ) → (runs : Runs plan commands (opening plan scope) acts) → (sends : action_at plan (at acts) ≡ Send)
       → (place : place_next commands (at acts).progress ≡ a + 1) → IsLinkedStill plan commands scope acts → AnsweredInPart acts (cycles_begun plan (at acts).progress) a
   one_back acts a runs next place (l, keeps, no_setup) =
-      let t = l.in_time in
+      let t = l.in_time.reply in
       let b = at l.before in
       let some_cycle = (invariant_holds plan commands scope l.before).begun (needs_of plan b Send l.sends).2 in
       let own : l.answer.cycle ≡ cycles_begun plan b.progress = l.own_cycle in

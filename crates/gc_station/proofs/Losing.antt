@@ -9,7 +9,6 @@ use Rattle.gc_catalogue.specs.declared.asked.Asked.{Asked}
 use Rattle.gc_client.specs.declared.pending.Pending.{Pending}
 use Rattle.gc_client.specs.Ids.{id_of}
 use Rattle.gc_client.specs.Rule.{ById, Settlement, Answered, Late, Lost, lost}
-use Rattle.gc_texts.specs.declared.wish.Wish.{Wish}
 use Rattle.gc_texts.specs.declared.tasks.Task.{Task}
 use Rattle.gc_station.specs.declared.cause.Cause.{Cause}
 use Rattle.gc_station.specs.declared.cause.Cause.TheVariants as cause
@@ -30,8 +29,7 @@ use Rattle.gc_station.specs.Progressing.{turned, sent, failing, is_over, is_over
 use Rattle.gc_station.specs.Reasons.{HoldsBefore}
 use Rattle.gc_station.specs.Records.{Record}
 use Rattle.gc_station.specs.Runs.{state_after}
-use Rattle.gc_station.specs.ActKinds.{Puts}
-use Rattle.gc_station.specs.Model.{Model, opening, action_at, waiting_of, next_request_text, Performs, with_progress, asks_next, after_put, moved, losing, ended, after, SendsCommand, IsSending, asks_setup}
+use Rattle.gc_station.specs.Model.{Model, opening, action_at, waiting_of, Performs, with_progress, asks_next, after_put, moved, losing, ended, after, SendsCommand, IsSending, asks_setup}
 use Rattle.gc_station.specs.NextCommand.{upcoming_after}
 use Rattle.gc_station.proofs.Counts.{ended_progress}
 use Rattle.gc_station.proofs.Facts.{action_for, or_first}
@@ -39,8 +37,8 @@ use Rattle.gc_station.proofs.Invariant.{Invariant}
 use Rattle.gc_station.proofs.Going.{after_all-append}
 use Rattle.gc_station.proofs.Growing.{moved_grew}
 use Rattle.gc_station.proofs.Lists.{all_append, all_split, CutOf, AtEnd, Before, cut_at, rising_all}
-use Rattle.gc_station.proofs.Meets.{IsRecordOf, all_records_at, was_answered, was_late}
-use Rattle.gc_station.proofs.Waiting.{WasAsked, Stayed, StillWaits, IsJustified, IsHonest}
+use Rattle.gc_station.proofs.Meets.{IsRecordOf, is_record_of, own_request, all_records_at, was_answered, was_late}
+use Rattle.gc_station.proofs.Waiting.{WasAsked, TimedOutAsRead, StillWaits, IsJustified, IsHonest}
 use Rattle.gc_station.proofs.Parting.{keeps_action}
 use Rattle.gc_station.proofs.Walk.{is_sent, moved_changed}
 use Rattle.gc_station.proofs.Words.{renews_only, renews_needs}
@@ -117,12 +115,11 @@ pub record LostOf (plan : Plan) (commands : List Task) (scope : Scope) (acts : L
   pub id : ℕ
   pub pending : Pending Asked
   pub is : x ≡ lost pending
-  pub asked : WasAsked plan commands scope acts Stayed number at id pending mark
+  pub asked : WasAsked plan commands scope acts TimedOutAsRead number at id pending mark
 
--- the record is of the settlement of a command that is lost (`LostOf`), with the cycle, place and moment of its mark
+-- the record is of the settlement of a command that is lost (`LostOf`)
 abbrev IsLostRecord : Plan → List Task → Scope → List Act → Record → Type 0
-IsLostRecord plan commands scope acts r = (mark : Mark) × (y : Settlement Asked) × (r.cycle ≡ mark.cycle) × (r.place ≡ mark.place) × (r.sent ≡ Some mark.sent)
-    × IsRecordOf r y × LostOf plan commands scope acts y (Some mark)
+IsLostRecord plan commands scope acts r = (mark : Mark) × (y : Settlement Asked) × IsRecordOf r mark y × LostOf plan commands scope acts y (Some mark)
 
 -- An act, made after some acts of a run.
 
@@ -179,16 +176,16 @@ module _ (plan : Plan) (commands : List Task) (scope : Scope) (acts : List Act) 
       → (ends : (state_after plan commands scope all).records ≡ (s.records ++ news) ++ (earlier ++ r ∷ later)) → IsLostRecord plan commands scope all r
       → IsJustified plan commands scope all r
   lost_justified r news earlier later loses why ends it = record {
-    answered = λ line e. absurd (not_answered line (sym outcome ∙ was_answered r it.1 it.5 line e));
-    late = λ e. absurd (not_late (sym outcome ∙ was_late r it.1 it.5 e));
+    answered = λ line e. absurd (not_answered line (sym outcome ∙ was_answered r it.0 it.1 it.2 line e));
+    late = λ e. absurd (not_late (sym outcome ∙ was_late r it.0 it.1 it.2 e));
     lost = λ e. on (cut_at acts a.before a.between act a.request a.order);
   } where
     -- the settlement is of a request that is lost
     x : LostOf plan commands scope all it.1 (Some it.0)
-    x = it.6
+    x = it.3
 
     -- that request was put among the acts
-    a : WasAsked plan commands scope all Stayed x.number x.at x.id x.pending (Some it.0)
+    a : WasAsked plan commands scope all TimedOutAsRead x.number x.at x.id x.pending (Some it.0)
     a = x.asked
 
     -- the outcome is that it is lost
@@ -217,7 +214,6 @@ module _ (plan : Plan) (commands : List Task) (scope : Scope) (acts : List Act) 
         let sends : IsSending plan s = subst (λ (xs : List Act). IsSending plan (state_after plan commands scope xs)) (sym same) (a.its it.0 refl).sends in
         absurd (both_ways (loses_all t.progress) (sending_loses_none plan commands s act sends) loses)
     on (Before between at rest) =
-        let its = a.its it.0 refl in
         record {
           act = act;
           its = record {
@@ -226,14 +222,7 @@ module _ (plan : Plan) (commands : List Task) (scope : Scope) (acts : List Act) 
             between = between;
             behind = [];
             order = a.order ∙ ap (λ xs. a.before ++ a.request ∷ xs) rest;
-            own = record {
-              sends = its.sends;
-              cycle = it.2 ∙ its.cycle;
-              place = it.3 ∙ its.place;
-              sent = it.4 ∙ ap Some its.sent;
-              put = subst (λ (y : Asked). Puts (next_request_text (state_after plan commands scope a.before).client y) a.request)
-                  (sym (ap (λ (y : Wish). y.call) it.5.command ∙ ap (λ (y : Settlement Asked). y.call) x.is)) a.put;
-            };
+            own = own_request plan commands scope all TimedOutAsRead x.number x.at x.id x.pending it.0 r it.1 it.2 (sym (ap (λ (y : Settlement Asked). y.call) x.is)) a;
             written = subst (λ (xs : List Act). IsWrittenAt plan commands scope xs act r) at here;
           };
           shown = inr (subst (λ (xs : List Act). Resynchronizes plan (state_after plan commands scope xs) act ⊎ IsLast plan commands scope xs act []) at why);
@@ -257,7 +246,7 @@ module _ (plan : Plan) (commands : List Task) (scope : Scope) (acts : List Act) 
     of_lost : AllByRecursion (IsLostRecord plan commands scope all) written
     of_lost =
         all_records_at (λ (k : ℕ). LostOf plan commands scope all) (IsLostRecord plan commands scope all) t.reads t.progress.moment.utc 0 (map lost t.client.waiting) t.marks
-        (λ i x mark is. (mark, x, refl, refl, refl, record { reads = t.reads; expected = mark.expected; command = refl; ended = refl }, is))
+        (λ i x mark is. (mark, x, is_record_of t.reads t.progress.moment.utc mark x, is))
         (rising_all (StillWaits plan commands scope all t.client.next (length t.client.waiting)) (λ (k : ℕ). LostOf plan commands scope all) lost 0 0 t.client.waiting t.marks
         (λ n j p mark w. record { number = n; at = j; id = id_of t.client j; pending = p; is = refl; asked = w }) h.waiting)
 

@@ -9,7 +9,7 @@ use Rattle.gc_lines.specs.Assembler.{StandsFor}
 use Rattle.gc_catalogue.specs.declared.asked.Asked.{Asked}
 use Rattle.gc_client.specs.declared.window.TheConstants.{WINDOW}
 use Rattle.gc_client.specs.Rule.{ById, send_unless_full}
-use Rattle.gc_texts.specs.Endings.{End, Skipped, Missed}
+use Rattle.gc_texts.specs.Endings.{End}
 use Rattle.gc_texts.specs.declared.tasks.Task.{Task}
 use Rattle.gc_links.specs.declared.link.Moment.{Moment}
 use Rattle.gc_station.specs.declared.mark.Mark.{Mark}
@@ -133,7 +133,7 @@ setup_text plan client mark (task ∷ others) = refl
 -- if `list` begins with `task`, and the two marks are equal, the record of `task` as missed or skipped (`end`), with the moment
 -- of `unsent_at`, is the one record that the model adds (`first_unsent_record`)
 pub skips_as : (p : Progress) (m : Moment) (mark mark' : Mark) (utc : ℕ) (end : End) (list : List Task) (task : Task) (others : List Task)
-    → list ≡ task ∷ others → mark ≡ mark' → utc ≡ unsent_at m p → end ≡ end_unsent p
+    → list ≡ task ∷ others → mark ≡ mark' → utc ≡ unsent_at m p → end ≡ end_unsent p.missed
     → unsent_as utc mark task.command end ∷ [] ≡ first_unsent_record p m mark' list
 skips_as p m mark mark' utc end list task others is e at ends =
     ap (λ (u : ℕ). unsent_as u mark task.command end ∷ []) at
@@ -142,26 +142,26 @@ skips_as p m mark mark' utc end list task others is e at ends =
     ∙ sym (ap (first_unsent_record p m mark') is)
 
 -- neither ending of a command that isn't sent, as missed or as skipped, is that of one that was answered well
-pub unwell_end : (missed : Bool) → is_well (if missed then Missed else Skipped) ≡ false
+pub unwell_end : (missed : Bool) → is_well (end_unsent missed) ≡ false
 unwell_end true = refl
 unwell_end false = refl
 
 -- what is noted of the first command of `list`, which isn't sent, if the two marks are equal: its record is counted, and it
 -- wasn't answered well
 pub noted_unsent : (p : Progress) (m : Moment) (mark mark' : Mark) (end : End) (list : List Task) (task : Task) (others : List Task) (r : Recorded)
-    → list ≡ task ∷ others → mark ≡ mark' → end ≡ end_unsent p
+    → list ≡ task ∷ others → mark ≡ mark' → end ≡ end_unsent p.missed
     → noted mark m.elapsed None end r
-    ≡ recorded_unsent (first_unsent_record p m mark' list) (listed_after r.listed mark'.expected None (end_unsent p)) r
+    ≡ recorded_unsent (first_unsent_record p m mark' list) (listed_after r.listed mark'.expected None (end_unsent p.missed)) r
 noted_unsent p m mark mark' end list task others r is e ends =
     ap (λ (x : Mark). noted x m.elapsed None end r) e
     ∙ ap (λ (x : End). noted mark' m.elapsed None x r) ends
     ∙ ap (λ (b : Bool). record {
-      tally = counted_in mark'.cycle mark'.expected.turn (end_unsent p) r.tally;
+      tally = counted_in mark'.cycle mark'.expected.turn (end_unsent p.missed) r.tally;
       well = b;
-      listed = listed_after r.listed mark'.expected None (end_unsent p);
+      listed = listed_after r.listed mark'.expected None (end_unsent p.missed);
       fresh = if b then m.elapsed else r.fresh;
     }) (unwell_end p.missed)
-    ∙ sym (ap (λ (left : List Task). recorded_unsent (first_unsent_record p m mark' left) (listed_after r.listed mark'.expected None (end_unsent p)) r) is)
+    ∙ sym (ap (λ (left : List Task). recorded_unsent (first_unsent_record p m mark' left) (listed_after r.listed mark'.expected None (end_unsent p.missed)) r) is)
 
 -- after the record of the first of the commands in `list`, of which there is one, as not sent, the last command wasn't answered
 -- well

@@ -14,7 +14,7 @@ use Rattle.gc_station.specs.declared.progress.Action.TheVariants as action
 use Rattle.gc_station.specs.declared.station.sending.Outgoing.{Outgoing}
 use Rattle.gc_links.specs.Acts.{Act, Put, Cut, Closed}
 use Rattle.gc_station.specs.Deciding.{later, has_begun}
-use Rattle.gc_station.specs.Parts.{Asks, Part, only_sync_steps, nothing, request_part, first_request_part, put_part, sync_part}
+use Rattle.gc_station.specs.Parts.{Asks, Part, only_sync_steps, idle_part, request_part, first_request_part, put_part, sync_part}
 use Rattle.gc_station.specs.Reasons.{HoldsBefore}
 use Rattle.gc_station.specs.ActKinds.{Puts, ReadsClock, IsOpening, ReadsLink}
 use Rattle.gc_station.specs.Model.{Model, action_at, waiting_of, next_request_text, null_text, first_text, Performs, text_or_null, request_for, null_request, request_or_null}
@@ -32,9 +32,13 @@ pub record IsSent (s : Model) (bytes : List ℕ) (p : Part) : Type 0 where
   pub text : bytes ≡ next_request_text s.client call
   pub room : length s.client.waiting < 7
 
--- these bytes are a line feed, and nothing happens in the part p; or they are the line of a request whose part is p
-abbrev pub IsPut : Model → List ℕ → Part → Type 0
-IsPut s bytes p = ((bytes ≡ 10 ∷ []) × (p ≡ nothing)) ⊎ IsSent s bytes p
+-- these bytes are a line feed, and nothing happens in the part p
+abbrev pub IsLineFeed : List ℕ → Part → Type 0
+IsLineFeed bytes p = (bytes ≡ 10 ∷ []) × (p ≡ idle_part)
+
+-- once the station has synchronized: these bytes are a line feed, or the line of a request whose part is p
+abbrev pub IsPutByClient : Model → List ℕ → Part → Type 0
+IsPutByClient s bytes p = IsLineFeed bytes p ⊎ IsSent s bytes p
 
 -- the bytes that an act puts, whole or in part; none by any other act
 abbrev pub put_by : Act → Option (List ℕ)
@@ -54,10 +58,10 @@ never_puts (Put out) bytes e h = elim h [ inl a ↦ a | inr b ↦ elim b [ inl c
 never_puts (Cut out count) bytes e h = elim h [ inl a ↦ a | inr b ↦ elim b [ inl c ↦ c | inr d ↦ elim d [ inl f ↦ f | inr g ↦ cc ] ] ]
 never_puts act bytes e h = cc
 
--- while the station synchronizes: these bytes are a line feed, and nothing happens in the part p; or they are the null
--- procedure of the first id that isn't answered, and p is one step, `Asks`
-abbrev pub IsPutSynchronizing : Model → List ℕ → Part → Type 0
-IsPutSynchronizing s bytes p = ((bytes ≡ 10 ∷ []) × (p ≡ nothing)) ⊎ ((bytes ≡ null_text s.progress.word) × (p ≡ only_sync_steps (Asks ∷ [])))
+-- while the station synchronizes: these bytes are a line feed; or they are the null procedure of the first id that isn't
+-- answered, and the part p is one step, `Asks`
+abbrev pub IsPutBySync : Model → List ℕ → Part → Type 0
+IsPutBySync s bytes p = IsLineFeed bytes p ⊎ ((bytes ≡ null_text s.progress.word) × (p ≡ only_sync_steps (Asks ∷ [])))
 
 -- the part of an act of the action `Ask` that puts bytes is one step, `Asks`
 asked_step : (s : Model) (act : Act) (bytes : List ℕ) → put_by act ≡ Some bytes → sync_part s action.Ask act ≡ only_sync_steps (Asks ∷ [])
@@ -93,9 +97,9 @@ module _ (plan : Plan) (commands : List Task) where
   setup_put s [] bytes room e = request_put s (null_request plan) bytes room e
   setup_put s (task ∷ others) bytes room e = request_put s (request_for (mark_setup commands s.progress) task) bytes room e
 
-  -- once the station has synchronized, the bytes that an act of this action puts are as `IsPut` says of the action's part
+  -- once the station has synchronized, the bytes that an act of this action puts are as `IsPutByClient` says of the action's part
   put_by_action : (s : Model) (o : Action) (act : Act) (bytes : List ℕ) → Invariant plan commands s → (needs : HoldsBefore plan s.progress (waiting_of s) o)
-      → (performs : Performs commands s o act) → (puts : put_by act ≡ Some bytes) → (begun : has_begun s.progress ≡ true) → IsPut s bytes (put_part plan commands s o)
+      → (performs : Performs commands s o act) → (puts : put_by act ≡ Some bytes) → (begun : has_begun s.progress ≡ true) → IsPutByClient s bytes (put_part plan commands s o)
   put_by_action s action.Clear act bytes fine is obeys e begun = inl (puts_same (10 ∷ []) bytes act e obeys, refl)
   put_by_action s action.Ask act bytes fine is obeys e begun = absurd (both_ways (has_begun s.progress) is.1 begun)
   put_by_action s action.Renew act bytes fine is obeys e begun = absurd (never_puts act bytes e (inl obeys))
@@ -115,14 +119,14 @@ module _ (plan : Plan) (commands : List Task) where
   put_by_action s (action.Close why) act bytes fine is obeys e begun = absurd (never_puts act bytes e (inr (inr (inr obeys))))
   put_by_action s (action.Stop why) act bytes fine is obeys e begun = absurd obeys
 
-  -- once the station has synchronized, the bytes that an act of a run puts are as `IsPut` says of its part
+  -- once the station has synchronized, the bytes that an act of a run puts are as `IsPutByClient` says of its part
   pub put_is : (s : Model) (act : Act) (bytes : List ℕ) → Invariant plan commands s → Performs commands s (action_at plan s) act → put_by act ≡ Some bytes
-      → has_begun s.progress ≡ true → IsPut s bytes (put_part plan commands s (action_at plan s))
+      → has_begun s.progress ≡ true → IsPutByClient s bytes (put_part plan commands s (action_at plan s))
   put_is s act bytes fine obeys e begun = put_by_action s (action_at plan s) act bytes fine (action_for plan s.progress (waiting_of s)) obeys e begun
 
-  -- while the station synchronizes, the bytes that an act of this action puts are as `IsPutSynchronizing` says of its part
+  -- while the station synchronizes, the bytes that an act of this action puts are as `IsPutBySync` says of its part
   asked_by_action : (s : Model) (o : Action) (act : Act) (bytes : List ℕ) → HoldsBefore plan s.progress (waiting_of s) o → Performs commands s o act
-      → put_by act ≡ Some bytes → has_begun s.progress ≡ false → IsPutSynchronizing s bytes (sync_part s o act)
+      → put_by act ≡ Some bytes → has_begun s.progress ≡ false → IsPutBySync s bytes (sync_part s o act)
   asked_by_action s action.Clear act bytes is obeys e begins = inl (puts_same (10 ∷ []) bytes act e obeys, refl)
   asked_by_action s action.Ask act bytes is obeys e begins = inr (puts_same (null_text s.progress.word) bytes act e obeys, asked_step s act bytes e)
   asked_by_action s action.Flush act bytes is obeys e begins = absurd (both_ways (has_begun s.progress) begins is.1)
@@ -138,7 +142,7 @@ module _ (plan : Plan) (commands : List Task) where
   asked_by_action s (action.Close why) act bytes is obeys e begins = absurd (never_puts act bytes e (inr (inr (inr obeys))))
   asked_by_action s (action.Stop why) act bytes is obeys e begins = absurd obeys
 
-  -- while the station synchronizes, the bytes that an act of a run puts are as `IsPutSynchronizing` says of its part
+  -- while the station synchronizes, the bytes that an act of a run puts are as `IsPutBySync` says of its part
   pub asked_is : (s : Model) (act : Act) (bytes : List ℕ) → Performs commands s (action_at plan s) act → put_by act ≡ Some bytes
-      → has_begun s.progress ≡ false → IsPutSynchronizing s bytes (sync_part s (action_at plan s) act)
+      → has_begun s.progress ≡ false → IsPutBySync s bytes (sync_part s (action_at plan s) act)
   asked_is s act bytes obeys e begins = asked_by_action s (action_at plan s) act bytes (action_for plan s.progress (waiting_of s)) obeys e begins

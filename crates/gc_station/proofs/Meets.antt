@@ -13,6 +13,7 @@ use Rattle.gc_client.specs.Ids.{id_at_place, IsWithinLimits, id_of}
 use Rattle.gc_client.specs.Rule.{ById, Outcome, Settlement, Settled, Answered, Late, Lost, place_in, settled_by_line, settle, hears, settles_at}
 use Rattle.gc_client.proofs.Digits.{settling}
 use Rattle.gc_client.proofs.OneForOne.{length-settle}
+use Rattle.gc_texts.specs.declared.wish.Wish.{Wish}
 use Rattle.gc_texts.specs.declared.tasks.Task.{Task}
 use Rattle.gc_texts.specs.Endings.{End, line_of}
 use Rattle.gc_texts.specs.Endings as ends
@@ -23,9 +24,13 @@ use Rattle.gc_station.specs.declared.plan.Plan.{Plan}
 use Rattle.gc_links.specs.Acts.{Act}
 use Rattle.gc_station.specs.Marks.{answer_as, end_of, command_of, record_of, records_of}
 use Rattle.gc_station.specs.Records.{Record}
+use Rattle.gc_station.specs.Runs.{state_after}
+use Rattle.gc_station.specs.ActKinds.{Puts}
+use Rattle.gc_station.specs.Answers.{IsOwnRequest}
+use Rattle.gc_station.specs.Model.{next_request_text}
 use Rattle.gc_station.proofs.Lists.{AllAt, AllRisingAt, RisingAt, rising_on, rising_drop, rising_at}
 use Rattle.gc_station.proofs.Records.{answer_along}
-use Rattle.gc_station.proofs.Waiting.{StayedAt, StillWaitsAt, asked_as}
+use Rattle.gc_station.proofs.Waiting.{WasAsked, TimedOutAsReadBy, StillWaitsAt, asked_as}
 use Rattle.gc_station.specs.Scopes.{Scope}
 
 -- an id was heard, and this is the place (`place_in`) of the outstanding request that has it, if one has
@@ -167,15 +172,37 @@ left_waits plan commands scope acts first now c x marks l w all =
     let below : n + j < length c.waiting = omega (arith, low, many) in
     let ids : id_of d j ≡ id_of c (n + j) =
     ap (λ (y : ℕ). id_at_place y (length d.waiting) j) l.next ∙ ap (λ (y : ℕ). id_at_place c.next y j) many ∙ settling c.next (length c.waiting) w.few n j below in
-    (asked_as plan commands scope acts (StayedAt now) number (n + j) j _ _ p mark (λ above. omega (arith, above)) ids wait.0, subst (λ (i : ℕ). Ids.Waits first i) (sym ids) wait.1)) marked
+    (asked_as plan commands scope acts (TimedOutAsReadBy now) number (n + j) j _ _ p mark (λ above. omega (arith, above)) ids wait.0, subst (λ (i : ℕ). Ids.Waits first i) (sym ids) wait.1)) marked
 
--- a record is of this settlement: it has its command, and its ending by some function that reads replies and by what some mark
--- expects
-pub record IsRecordOf (r : Record) (x : Settlement Asked) : Type 0 where
-  pub reads : Asked → List ℕ → Reading
-  pub expected : Expected
+-- a record is of this settlement, of the request with this mark: it has the cycle, the place and the moment of the mark, and the
+-- settlement's command and ending, by some function that reads replies
+pub record IsRecordOf (r : Record) (mark : Mark) (x : Settlement Asked) : Type 0 where
+  pub cycle : r.cycle ≡ mark.cycle
+  pub place : r.place ≡ mark.place
+  pub sent : r.sent ≡ Some mark.sent
   pub command : r.command ≡ command_of x
-  pub ended : r.end ≡ end_of reads expected x.call x.outcome
+  pub reads : Asked → List ℕ → Reading
+  pub ended : r.end ≡ end_of reads mark.expected x.call x.outcome
+
+-- the record that `record_of` gives is of its settlement and mark
+pub is_record_of : (reads : Asked → List ℕ → Reading) (utc : ℕ) (mark : Mark) (x : Settlement Asked) → IsRecordOf (record_of reads utc mark x) mark x
+is_record_of reads utc mark x = record { cycle = refl; place = refl; sent = refl; command = refl; reads = reads; ended = refl }
+
+-- if a record is of the settlement of a request that was put among these acts (`WasAsked`), the act that put it writes the
+-- record's own request
+pub own_request : (plan : Plan) (commands : List Task) (scope : Scope) (acts : List Act) (S : Bool → ℕ → List Act → Type 0) (number at id : ℕ) (p : Pending Asked) (mark : Mark)
+    (r : Record) (x : Settlement Asked) → IsRecordOf r mark x → p.call ≡ x.call → (s : WasAsked plan commands scope acts S number at id p (Some mark))
+    → IsOwnRequest plan commands (state_after plan commands scope s.before) s.request r
+own_request plan commands scope acts S number at id p mark r x of_it asks s =
+    let its = s.its mark refl in
+    record {
+      sends = its.sends;
+      cycle = of_it.cycle ∙ its.cycle;
+      place = of_it.place ∙ its.place;
+      sent = of_it.sent ∙ ap Some its.sent;
+      put = subst (λ (y : Asked). Puts (next_request_text (state_after plan commands scope s.before).client y) s.request)
+          (asks ∙ sym (ap (λ (y : Wish). y.call) of_it.command)) s.put;
+    }
 
 -- the ending by a reply in time has the reply's line, whatever it says
 pub answer_line : (expected : Expected) (x y : Reading) (line : List ℕ) → line_of (answer_as expected x y line) ≡ Some line
@@ -204,16 +231,16 @@ lost_so reads expected call Late e = cc
 lost_so reads expected call Lost e = refl
 
 -- if the ending of a record has a line, its settlement is an answer by that line
-pub was_answered : (r : Record) (x : Settlement Asked) → IsRecordOf r x → (l : List ℕ) → line_of r.end ≡ Some l → x.outcome ≡ Answered l
-was_answered r x is l e = answered_so is.reads is.expected x.call x.outcome l (ap line_of (sym is.ended) ∙ e)
+pub was_answered : (r : Record) (mark : Mark) (x : Settlement Asked) → IsRecordOf r mark x → (l : List ℕ) → line_of r.end ≡ Some l → x.outcome ≡ Answered l
+was_answered r mark x is l e = answered_so is.reads mark.expected x.call x.outcome l (ap line_of (sym is.ended) ∙ e)
 
 -- the settlement of a late record is late
-pub was_late : (r : Record) (x : Settlement Asked) → IsRecordOf r x → r.end ≡ ends.Late → x.outcome ≡ Late
-was_late r x is e = late_so is.reads is.expected x.call x.outcome (sym is.ended ∙ e)
+pub was_late : (r : Record) (mark : Mark) (x : Settlement Asked) → IsRecordOf r mark x → r.end ≡ ends.Late → x.outcome ≡ Late
+was_late r mark x is e = late_so is.reads mark.expected x.call x.outcome (sym is.ended ∙ e)
 
 -- the settlement of a lost record is lost
-pub was_lost : (r : Record) (x : Settlement Asked) → IsRecordOf r x → r.end ≡ ends.Lost → x.outcome ≡ Lost
-was_lost r x is e = lost_so is.reads is.expected x.call x.outcome (sym is.ended ∙ e)
+pub was_lost : (r : Record) (mark : Mark) (x : Settlement Asked) → IsRecordOf r mark x → r.end ≡ ends.Lost → x.outcome ≡ Lost
+was_lost r mark x is e = lost_so is.reads mark.expected x.call x.outcome (sym is.ended ∙ e)
 
 -- where Q of a settlement, at whatever place, and of its mark, if it has one, gives R of its record, and Q holds of these
 -- settlements and marks, one for one, with places from j on, R holds of all their records

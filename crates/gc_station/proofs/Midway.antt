@@ -15,7 +15,6 @@ use Rattle.gc_client.specs.Rule.{ById, Settlement, expires, expired, fresh, lost
 use Rattle.gc_client.specs.OneForOne.{of_settled, of_pending}
 use Rattle.gc_client.proofs.OneForOne.{expired_parts, lost_parts}
 use Rattle.gc_client.proofs.Lists.{head_of_drop}
-use Rattle.gc_texts.specs.declared.turn.Turn.{Turn}
 use Rattle.gc_texts.specs.declared.near.Expected.{Expected}
 use Rattle.gc_texts.specs.Tasks.{call_at}
 use Rattle.gc_texts.specs.declared.tasks.Task.{Task}
@@ -27,14 +26,14 @@ use Rattle.gc_station.specs.declared.progress.Progress.{Progress}
 use Rattle.gc_station.specs.Deciding.{has_begun, is_up}
 use Rattle.gc_station.specs.EachOnce.{of_text, Interleave, RunRequest, requests, of_task, commands_reached}
 use Rattle.gc_station.proofs.Interleaving.{interleave_more, interleave_past}
-use Rattle.gc_station.specs.Marks.{commands_in, records_of}
+use Rattle.gc_station.specs.Marks.{commands_in, records_of, unsent_as}
 use Rattle.gc_station.specs.Progressing.{is_over_in, is_over, loses_all}
 use Rattle.gc_station.specs.Parts.{MarksAsk, MarkAsks, went_out}
 use Rattle.gc_station.specs.Records.{Record}
 use Rattle.gc_station.specs.Reasons.{IsFinished}
 use Rattle.gc_station.specs.Tasked.{IsOfItsTask}
 use Rattle.gc_station.specs.Model.{Model, client_sent, losing, ended, cycle_length}
-use Rattle.gc_station.proofs.Each.{each_moment, each_settles, each_null, each_sent, each_skipped, sent_past, sent_next, sent_whole, sent_none, each_prepared, row}
+use Rattle.gc_station.proofs.Each.{each_moment, each_settles, each_null, each_sent, each_skipped, reached_past, reached_next, reached_whole, reached_none, each_prepared, row}
 use Rattle.gc_station.proofs.Invariant.{Invariant, is_bare, says_done}
 use Rattle.gc_station.proofs.Lists.{all_append}
 use Rattle.gc_station.proofs.Tasked.{marks_ask_more, marks_ask_settled, settled_tasked, unsent_tasked}
@@ -198,14 +197,14 @@ sound_null plan commands b target call deadline room is sound =
       tasked = sound.tasked;
     })
 
--- the mark of the cycle's next command in the ledger b, if it is sent at the moment `utc`
-abbrev pub next_mark : Plan → List Task → Ledger → (utc : ℕ) → Expected → Mark
-next_mark plan commands b utc expected = record { cycle = plan.cycles - b.left; place = length commands - b.unsent; sent = utc; expected = expected }
+-- the mark of the cycle's next command in the ledger b, at the moment `utc`
+abbrev pub ledger_mark : Plan → List Task → Ledger → (utc : ℕ) → Expected → Mark
+ledger_mark plan commands b utc expected = record { cycle = plan.cycles - b.left; place = length commands - b.unsent; sent = utc; expected = expected }
 
 -- to send the cycle's next command, `task`, for which there is room, preserves `Sound`, with one command fewer unsent
 pub sound_sent : (plan : Plan) (commands : List Task) (b : Ledger) (utc deadline : ℕ) (expected : Expected) (task : Task) (others : List Task)
     → length b.client.waiting < 7 → 0 < b.unsent → drop (length commands - b.unsent) commands ≡ task ∷ others → Sound plan commands b
-    → Sound plan commands (with_request (record b { unsent = b.unsent - 1 }) task.command.target (call_at task utc) deadline (Some (next_mark plan commands b utc expected)))
+    → Sound plan commands (with_request (record b { unsent = b.unsent - 1 }) task.command.target (call_at task utc) deadline (Some (ledger_mark plan commands b utc expected)))
 sound_sent plan commands b utc deadline expected task others room some at sound =
     let p = pending_of task.command.target (call_at task utc) deadline in
     let begun = plan.cycles - b.left in
@@ -221,7 +220,7 @@ sound_sent plan commands b utc deadline expected task others room some at sound 
     let each : Interleave (of_text commands (row (b.marks ++ Some mark ∷ []) (b.client.waiting ++ p ∷ []) b.records)) b.passes
     (commands_reached plan.setup commands begun (place + 1)) =
     subst (λ (xs : List RunRequest). Interleave (of_text commands (row (b.marks ++ Some mark ∷ []) (b.client.waiting ++ p ∷ []) b.records)) b.passes xs)
-    (sent_next plan.setup commands begun place task others at within many)
+    (reached_next plan.setup commands begun place task others at within many)
     (interleave_by_equal _ _ _ _ (each_sent commands b.marks b.client.waiting b.records task others kept refl mark p sound.paired at refl many)
     (interleave_more kept b.passes (commands_reached plan.setup commands begun place) one sound.each)) in
     subst (λ (c : ById Asked). Sound plan commands (record b { unsent = b.unsent - 1; client = c; marks = b.marks ++ Some mark ∷ [] }))
@@ -259,20 +258,16 @@ sound_prepared plan commands b deadline mark task room none at sound =
       tasked = sound.tasked;
     })
 
--- the record of the cycle's next command in the ledger b, `task`, with the ending `end` of a command that isn't sent
-abbrev pub unsent_next : Plan → List Task → Ledger → (utc : ℕ) → End → Turn → Task → Record
-unsent_next plan commands b utc end turn task =
-    record { sent = None; utc = utc; cycle = plan.cycles - b.left; place = length commands - b.unsent; turn = turn; command = task.command; end = end }
-
 -- to record the cycle's next command, `task`, with an ending of one that isn't sent, while no command is outstanding, preserves
 -- `Sound`, with one command fewer unsent
-pub sound_skipped : (plan : Plan) (commands : List Task) (b : Ledger) (utc : ℕ) (end : End) (turn : Turn) (task : Task) (others : List Task)
+pub sound_skipped : (plan : Plan) (commands : List Task) (b : Ledger) (utc : ℕ) (end : End) (expected : Expected) (task : Task) (others : List Task)
     → (none : commands_in b.marks ≡ 0) → (some : 0 < b.unsent) → (there : drop (length commands - b.unsent) commands ≡ task ∷ others) → (out : went_out end ≡ false)
-    → Sound plan commands b → Sound plan commands (record b { unsent = b.unsent - 1; records = b.records ++ unsent_next plan commands b utc end turn task ∷ [] })
-sound_skipped plan commands b utc end turn task others none some at out sound =
+    → Sound plan commands b → Sound plan commands (record b { unsent = b.unsent - 1; records = b.records ++ unsent_as utc (ledger_mark plan commands b utc expected) task.command end ∷ [] })
+sound_skipped plan commands b utc end expected task others none some at out sound =
     let begun = plan.cycles - b.left in
     let place = length commands - b.unsent in
-    let r : Record = record { sent = None; utc = utc; cycle = begun; place = place; turn = turn; command = task.command; end = end } in
+    let mark = ledger_mark plan commands b utc expected in
+    let r : Record = unsent_as utc mark task.command end in
     let below = sound.begun some in
     let many : 0 < begun = omega (arith, below) in
     let place_is : length commands - (b.unsent - 1) ≡ place + 1 = omega (arith, some, sound.unsents) in
@@ -287,11 +282,11 @@ sound_skipped plan commands b utc end turn task others none some at out sound =
           let kept = of_text commands (row b.marks b.client.waiting b.records) in
           let one = requests begun place (of_task task ∷ []) in
           subst (λ (xs : List RunRequest). Interleave (of_text commands (row b.marks b.client.waiting (b.records ++ r ∷ []))) b.passes xs)
-          (sent_next plan.setup commands begun place task others at (omega (arith, some, sound.unsents)) many ∙ ap (λ (n : ℕ). commands_reached plan.setup commands begun n) (sym place_is))
+          (reached_next plan.setup commands begun place task others at (omega (arith, some, sound.unsents)) many ∙ ap (λ (n : ℕ). commands_reached plan.setup commands begun n) (sym place_is))
           (interleave_by_equal _ _ _ _ (each_skipped commands b.marks b.client.waiting b.records task others kept refl begun place r none at refl many)
           (interleave_more kept b.passes (commands_reached plan.setup commands begun place) one sound.each));
       own = sound.own;
-      tasked = all_append (IsOfItsTask commands) b.records _ sound.tasked (unsent_tasked commands utc begun place turn end task (head_of_drop commands place task others at) out, tt);
+      tasked = all_append (IsOfItsTask commands) b.records _ sound.tasked (unsent_tasked commands utc mark end task (head_of_drop commands place task others at) out, tt);
     }
 
 -- to leave out the next `count` commands of the cycle, or all that are unsent if they are fewer, preserves `Sound`, with as many
@@ -317,7 +312,7 @@ sound_passed plan commands b count some sound =
       window = sound.window;
       digit = sound.digit;
       each = subst (λ (xs : List RunRequest). Interleave kept (b.passes ++ past) xs)
-          (sent_past plan.setup commands begun place count (length commands - (b.unsent - count)) (omega (arith, some, sound.unsents)) (omega (arith, sound.unsents)) many
+          (reached_past plan.setup commands begun place count (length commands - (b.unsent - count)) (omega (arith, some, sound.unsents)) (omega (arith, sound.unsents)) many
           (by_count (nat_lt b.unsent count) refl)) (interleave_past kept b.passes (commands_reached plan.setup commands begun place) past sound.each);
       own = sound.own;
       tasked = sound.tasked;
@@ -342,8 +337,8 @@ sound_begun plan commands b none some sound =
       window = sound.window;
       digit = sound.digit;
       each = subst (λ (xs : List RunRequest). Interleave (of_text commands (row b.marks b.client.waiting b.records)) b.passes xs)
-          (sent_whole plan.setup commands (plan.cycles - b.left) (length commands - b.unsent) (omega (arith, none))
-          ∙ sym (sent_none plan.setup commands (plan.cycles - b.left) (plan.cycles - (b.left - 1)) (length commands - (cycle_length plan commands))
+          (reached_whole plan.setup commands (plan.cycles - b.left) (length commands - b.unsent) (omega (arith, none))
+          ∙ sym (reached_none plan.setup commands (plan.cycles - b.left) (plan.cycles - (b.left - 1)) (length commands - (cycle_length plan commands))
           (omega (arith, some, lefts)) (omega arith))) sound.each;
       own = sound.own;
       tasked = sound.tasked;

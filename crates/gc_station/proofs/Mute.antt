@@ -41,7 +41,7 @@ use Rattle.gc_station.proofs.Silences.{LastTells, awake_last, not_closing, end_h
 use Rattle.gc_station.proofs.Invariant.{Invariant}
 use Rattle.gc_station.proofs.Walk.{asked_along, came_along}
 use Rattle.gc_station.specs.Scopes.{Scope}
-use Rattle.gc_station.proofs.ReplyLines.{lines_moment, Alive, lines_alive, AliveAsked, asked_alive}
+use Rattle.gc_station.proofs.ReplyLines.{lines_moment, AliveWith, Alive, lines_alive, AliveAsked, asked_alive}
 use Rattle.gc_station.proofs.Ticking.{latest_more}
 
 -- whether a reply line is waited for on the connection: the station has synchronized (no id of `word` is left), or a null
@@ -203,12 +203,10 @@ module _ (plan : Plan) (commands : List Task) (scope : Scope) where
   abbrev IsMutedAt : Progress → List Act → Type 0
   IsMutedAt p acts = IsMuted p.asked p.alive p.moment.elapsed acts
 
-  -- after the acts, at which the progress is p, these lines came at the moment m, after which it is q: none of them is a reply,
-  -- and q goes on with the silence before them; or one is, and q begins a silence at m, in which no request was sent yet
+  -- after the acts, at which the progress is p, these lines came at the moment m, after which it is q (`AliveWith`): if none of
+  -- them is a reply, there was a silence before them; if one is, q begins a silence at m, in which no request was sent yet
   abbrev SilentOver : List (List ℕ) → Moment → List Act → (p q : Progress) → Type 0
-  SilentOver lines m acts p q =
-      (AllByRecursion IsNoReply lines × (q.alive ≡ min p.alive m.elapsed) × (q.asked ≡ p.asked) × IsMutedAt p acts)
-      ⊎ ((q.alive ≡ m.elapsed) × (q.asked ≡ false))
+  SilentOver lines m acts p q = AliveWith (IsMutedAt p acts) lines (moment_noted m p) q
 
   -- What each act leaves.
 
@@ -265,7 +263,7 @@ module _ (plan : Plan) (commands : List Task) (scope : Scope) where
         lines = lines_completed s.rest bytes
 
         -- `SilentOver` holds of these lines
-        by_lines : Alive mid lines (lines_came mid lines).progress → SilentOver lines m acts s.progress (lines_came mid lines).progress
+        by_lines : Alive lines mid.progress (lines_came mid lines).progress → SilentOver lines m acts s.progress (lines_came mid lines).progress
         by_lines (inl none) = inl (none.0, none.1, none.2, h (sought_begun s.progress.word s.progress.again s.progress.asked (ap is_none_left e)))
         by_lines (inr now) = inr now
   ready_mute s bytes m acts (first ∷ others) e rest h so = heard_mute s bytes m acts q rest
@@ -283,10 +281,10 @@ module _ (plan : Plan) (commands : List Task) (scope : Scope) where
         q = lines_synchronizing mid.progress lines
 
         -- `SilentOver` holds of these lines
-        by_lines : AliveAsked mid.progress lines q → SilentOver lines m acts s.progress q
+        by_lines : AliveAsked lines mid.progress q → SilentOver lines m acts s.progress q
         by_lines (inl none) =
             let same : is_sought s.progress.word s.progress.again s.progress.asked ≡ is_sought q.word q.again q.asked =
-            ap (λ w. is_sought w s.progress.again s.progress.asked) (sym none.3) ∙ ap (λ n. is_sought q.word n s.progress.asked) (sym none.4) ∙ ap (λ b. is_sought q.word q.again b) (sym none.2) in
+            ap (λ w. is_sought w s.progress.again s.progress.asked) (sym none.3.0) ∙ ap (λ n. is_sought q.word n s.progress.asked) (sym none.3.1) ∙ ap (λ b. is_sought q.word q.again b) (sym none.2) in
             inl (none.0, none.1, none.2, h (same ∙ so))
         by_lines (inr now) = inr now
 

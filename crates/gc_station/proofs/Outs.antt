@@ -17,8 +17,8 @@ pub send_done : (plan : Plan) (s : Model) → action_at plan s ≡ Send → is_p
 send_done plan s is = (needs_of plan s Send is).8
 
 -- if a command of the setup is next, the setup isn't done
-pub prepare_on : (plan : Plan) (s : Model) → action_at plan s ≡ Prepare → is_preparing plan s.progress (waiting_of s) ≡ true
-prepare_on plan s is = (needs_of plan s Prepare is).2.0
+pub prepare_not_done : (plan : Plan) (s : Model) → action_at plan s ≡ Prepare → is_preparing plan s.progress (waiting_of s) ≡ true
+prepare_not_done plan s is = (needs_of plan s Prepare is).2.0
 
 -- if a command of a cycle is next, the cycle of what is sent is the number of cycles begun
 pub send_cycle : (plan : Plan) (s : Model) → action_at plan s ≡ Send → cycle_to_send plan s ≡ cycles_begun plan s.progress
@@ -30,11 +30,11 @@ send_place plan commands s is = ap (λ (b : Bool). if b then s.progress.prepared
 
 -- if a command of the setup is next, the cycle of what is sent is 0
 pub prepare_cycle : (plan : Plan) (s : Model) → action_at plan s ≡ Prepare → cycle_to_send plan s ≡ 0
-prepare_cycle plan s is = ap (λ (b : Bool). if b then 0 else cycles_begun plan s.progress) (prepare_on plan s is)
+prepare_cycle plan s is = ap (λ (b : Bool). if b then 0 else cycles_begun plan s.progress) (prepare_not_done plan s is)
 
 -- if a command of the setup is next, the place of what is sent is the setup's next place
 pub prepare_place : (plan : Plan) (commands : List Task) (s : Model) → action_at plan s ≡ Prepare → place_to_send plan commands s ≡ s.progress.prepared
-prepare_place plan commands s is = ap (λ (b : Bool). if b then s.progress.prepared else place_next commands s.progress) (prepare_on plan s is)
+prepare_place plan commands s is = ap (λ (b : Bool). if b then s.progress.prepared else place_next commands s.progress) (prepare_not_done plan s is)
 
 -- if a command is sent whose cycle is above 0, the action is `Send`
 pub sends_of_cycle : (plan : Plan) (s : Model) → IsSending plan s → 0 < cycle_to_send plan s → action_at plan s ≡ Send

@@ -7,7 +7,7 @@ use Rattle.std.proofs.lemmas.Option.{same_Some}
 use Rattle.gc_texts.specs.declared.tasks.Task.{Task}
 use Rattle.gc_station.specs.declared.plan.Plan.{Plan}
 use Rattle.gc_links.specs.Acts.{Act}
-use Rattle.gc_station.specs.Parts.{Part, joined, nothing, part_of_act, ends_part, in_front, parts_of}
+use Rattle.gc_station.specs.Parts.{Part, parts_joined, idle_part, part_of_act, ends_part, in_front, parts_of}
 use Rattle.gc_station.specs.Model.{Model, action_at, after}
 use Rattle.gc_station.proofs.Following.{joined_assoc}
 
@@ -33,7 +33,7 @@ some_parts plan commands s (act ∷ acts) =
 abbrev pub IsFront : (ps qs : List Part) → Type 0
 IsFront [] qs = ⊥
 IsFront (p ∷ ps) [] = ⊥
-IsFront (p ∷ []) (q ∷ qs) = (more : Part) × (q ≡ joined p more)
+IsFront (p ∷ []) (q ∷ qs) = (more : Part) × (q ≡ parts_joined p more)
 IsFront (p ∷ next ∷ ps) (q ∷ qs) = (q ≡ p) × IsFront (next ∷ ps) qs
 
 -- `IsFront` is preserved if the same part is put before both lists
@@ -42,18 +42,18 @@ front_more p b [] qs h = absurd h
 front_more p true (x ∷ ps) [] h = absurd h
 front_more p false (x ∷ ps) [] h = absurd h
 front_more p true (x ∷ ps) (y ∷ qs) h = (refl, h)
-front_more p false (x ∷ []) (y ∷ qs) h = (h.0, ap (joined p) h.1 ∙ sym (joined_assoc p x h.0))
-front_more p false (x ∷ next ∷ ps) (y ∷ qs) h = (ap (joined p) h.0, h.1)
+front_more p false (x ∷ []) (y ∷ qs) h = (h.0, ap (parts_joined p) h.1 ∙ sym (joined_assoc p x h.0))
+front_more p false (x ∷ next ∷ ps) (y ∷ qs) h = (ap (parts_joined p) h.0, h.1)
 
 -- the part in which nothing happens, alone, is a front of any parts that have a part `p` put before them (`in_front`)
-front_none : (p : Part) (ends : Bool) (ps : List Part) → IsFront (nothing ∷ []) (in_front p ends ps)
+front_none : (p : Part) (ends : Bool) (ps : List Part) → IsFront (idle_part ∷ []) (in_front p ends ps)
 front_none p true ps = (p, refl)
 front_none p false [] = (p, refl)
-front_none p false (q ∷ ps) = (joined p q, refl)
+front_none p false (q ∷ ps) = (parts_joined p q, refl)
 
 -- the parts of the first acts are a front of the parts of all
 pub front_parts : (plan : Plan) (commands : List Task) (s : Model) (xs ys : List Act) → IsFront (parts_of plan commands s xs) (parts_of plan commands s (xs ++ ys))
-front_parts plan commands s [] [] = (nothing, refl)
+front_parts plan commands s [] [] = (idle_part, refl)
 front_parts plan commands s [] (act ∷ ys) =
     front_none (part_of_act plan commands s (action_at plan s) act) (ends_part plan commands s act) (parts_of plan commands (after plan commands s act) ys)
 front_parts plan commands s (act ∷ xs) ys =
@@ -62,10 +62,10 @@ front_parts plan commands s (act ∷ xs) ys =
     (front_parts plan commands (after plan commands s act) xs ys)
 
 -- if `ps` are a front of `qs`, the last part of `ps`, at place i, is the front of the part of `qs` at the same place
-pub front_last : (ps qs : List Part) (i : ℕ) (p q : Part) → IsFront ps qs → length ps ≡ suc i → slice_get ps i ≡ Some p → slice_get qs i ≡ Some q → (more : Part) × (q ≡ joined p more)
+pub front_last : (ps qs : List Part) (i : ℕ) (p q : Part) → IsFront ps qs → length ps ≡ suc i → slice_get ps i ≡ Some p → slice_get qs i ≡ Some q → (more : Part) × (q ≡ parts_joined p more)
 front_last [] qs i p q h size e f = absurd h
 front_last (x ∷ ps) [] i p q h size e f = absurd h
-front_last (x ∷ []) (y ∷ qs) zero p q h size e f = (h.0, sym (same_Some y q f) ∙ h.1 ∙ ap (λ r. joined r h.0) (same_Some x p e))
+front_last (x ∷ []) (y ∷ qs) zero p q h size e f = (h.0, sym (same_Some y q f) ∙ h.1 ∙ ap (λ r. parts_joined r h.0) (same_Some x p e))
 front_last (x ∷ []) (y ∷ qs) (suc i) p q h size e f = absurd (omega (arith, size))
 front_last (x ∷ next ∷ ps) (y ∷ qs) zero p q h size e f = absurd (omega (arith, size))
 front_last (x ∷ next ∷ ps) (y ∷ qs) (suc i) p q h size e f = front_last (next ∷ ps) qs i p q h.1 (omega (arith, size)) e f

@@ -20,7 +20,7 @@ use Rattle.gc_station.specs.declared.progress.Progress.{Progress}
 use Rattle.gc_station.specs.declared.progress.Until.{Until}
 use Rattle.gc_links.specs.Acts.{Act, Told, Gave}
 use Rattle.gc_station.specs.Deciding.{has_begun, is_none_left}
-use Rattle.gc_station.specs.Parts.{SyncStep, Part, only_sync_steps, only_steps, nothing, put_part, first_request_part, heard_steps, client_part, sync_part, part_of_act, sent_of, request_part}
+use Rattle.gc_station.specs.Parts.{SyncStep, Part, only_sync_steps, only_steps, idle_part, put_part, first_request_part, heard_steps, client_part, sync_part, part_of_act, sent_of, request_part}
 use Rattle.gc_station.specs.Progressing.{turned}
 use Rattle.gc_station.specs.Reasons.{HoldsBefore}
 use Rattle.gc_station.specs.Records.{Record}
@@ -124,7 +124,7 @@ module _ (plan : Plan) (commands : List Task) where
   unsent_add_none rs more none = filter-append _ rs more ∙ ap (λ xs. sent_of rs ++ xs) none ∙ append-nil (sent_of rs)
 
   -- a model leads to itself by the part in which nothing happens
-  none_booked : (s : Model) → Leads commands s nothing s
+  none_booked : (s : Model) → Leads commands s idle_part s
   none_booked s = books_nothing s.reads commands s.client s.marks (sent_of s.records)
 
   -- a moment leads on by the step that reads it
@@ -154,7 +154,7 @@ module _ (plan : Plan) (commands : List Task) where
       walk plan commands (LeadsSo action.Skip s) action.Skip (with_progress turned s) act obeys (
         λ m. subst (λ (rs : List Record). books (only_steps (Expire m.elapsed ∷ [])) (expires s.client m.elapsed) s.marks rs)
             (sym (unsent_add_none s.records (unsent_record plan commands (turned s.progress) (Told m)) (skips_unsent (with_progress turned s) m))) (moment_booked s m),
-        λ n. subst (λ (rs : List Record). books nothing s.client s.marks rs) (sym (unsent_add_none s.records [] refl)) (none_booked s),
+        λ n. subst (λ (rs : List Record). books idle_part s.client s.marks rs) (sym (unsent_add_none s.records [] refl)) (none_booked s),
       )
   leads_synchronized s (action.Read until) act fine is obeys begun =
       walk plan commands (LeadsSo (action.Read until) s) (action.Read until) (with_progress turned s) act obeys

@@ -2,12 +2,12 @@
 -- failed. A close is spared if no connection is wanted then: it takes no try. `after_failure` is the progress after a failure,
 -- and `pause_after plan n` the pause after n failures in a row. An act is one call on the link, with its result. Times are in
 -- milliseconds.
-use Rattle.std.proofs.Common.{◌≡◌, ◌⊎◌, inl, inr, ℕ, zero, suc, ◌+◌, ◌-◌, ◌*◌, ◌<◌, ◌≤◌, ◌||◌, Bool, true, false, List, nat_lt, min, max, refl, ap, ◌∙◌, arith, ◌&&◌, not}
+use Rattle.std.proofs.Common.{◌≡◌, ◌⊎◌, inl, inr, ℕ, zero, suc, ◌+◌, ◌-◌, ◌*◌, ◌<◌, ◌≤◌, ◌||◌, Bool, true, false, List, nat_lt, max, refl, ap, ◌∙◌, arith, ◌&&◌, not}
 use Rattle.std.proofs.lemmas.Bool.{lt-ltb, le-ltb, cond-true, cond-false, and_from, not_from_false}
 use Rattle.gc_texts.specs.declared.tasks.Task.{Task}
 use Rattle.gc_links.specs.Acts.{Act}
 use Rattle.gc_station.specs.Deciding.{later}
-use Rattle.gc_station.specs.Pauses.{doubled, pause_after, LeavesTries, HasTriesAndPause, TriesAndPausesAreCounted}
+use Rattle.gc_station.specs.Pauses.{doubled, pause_within, pause_after, LeavesTries, HasTriesAndPause, TriesAndPausesAreCounted}
 use Rattle.gc_station.specs.Progressing.{is_finished, is_spared, after_failure, bytes_noted, gives_back}
 use Rattle.gc_station.specs.Model.{Model, moved}
 use Rattle.gc_station.specs.declared.cause.Cause.{Cause}
@@ -22,8 +22,8 @@ use Rattle.gc_station.specs.declared.progress.Waiting.{Waiting}
 use Rattle.gc_station.proofs.Turns.{phase_by}
 use Rattle.gc_station.proofs.Walk.{moved_changed}
 
--- twice a pause of 0, cut to a minute and then raised to the quiet time, is the pause after a first failure
-twice_none : (quiet : ℕ) → max (min (min (0 + 0) 18446744073709551615) 60000) quiet ≡ max (min quiet 60000) quiet
+-- twice a pause of 0, bounded (`pause_within`), is the pause after a first failure
+twice_none : (quiet : ℕ) → pause_within quiet (later 0 0) ≡ pause_within quiet quiet
 twice_none quiet = omega arith
 
 -- a time that is doubled n times is no shorter
@@ -31,13 +31,12 @@ doubled_least : (n time : ℕ) → time ≤ doubled n time
 doubled_least zero time = omega arith
 doubled_least (suc n) time = let least = doubled_least n time in omega (arith, least)
 
--- a pause is bounded by cutting it to a minute and then raising it to the quiet time. If d is at least the quiet time, twice the
--- bounded d, bounded again, is twice d, bounded
-twice_more : (d quiet : ℕ) → quiet ≤ d → max (min (min (max (min d 60000) quiet + max (min d 60000) quiet) 18446744073709551615) 60000) quiet ≡ max (min (2 * d) 60000) quiet
+-- if d is at least the quiet time, twice the bounded d, bounded again (`pause_within`), is twice d, bounded
+twice_more : (d quiet : ℕ) → quiet ≤ d → pause_within quiet (later (pause_within quiet d) (pause_within quiet d)) ≡ pause_within quiet (2 * d)
 twice_more d quiet least = omega (arith, least)
 
--- twice the pause after n failures, bounded, is the one after n + 1
-twice : (plan : Plan) (n : ℕ) → max (min (later (pause_after plan n) (pause_after plan n)) 60000) plan.quiet ≡ pause_after plan (suc n)
+-- twice the pause after n failures, bounded (`pause_within`), is the one after n + 1
+twice : (plan : Plan) (n : ℕ) → pause_within plan.quiet (later (pause_after plan n) (pause_after plan n)) ≡ pause_after plan (suc n)
 twice plan zero = twice_none plan.quiet
 twice plan (suc n) = twice_more (doubled n plan.quiet) plan.quiet (doubled_least n plan.quiet)
 
@@ -45,8 +44,8 @@ twice plan (suc n) = twice_more (doubled n plan.quiet) plan.quiet (doubled_least
 failure_lengthens_pause : (plan : Plan) (count n : ℕ) (why : Cause) (p : Progress) → is_spared plan why p ≡ false → p.pause ≡ pause_after plan n
     → (after_failure plan count why p).pause ≡ pause_after plan (suc n)
 failure_lengthens_pause plan count n why p e is =
-    cond-false (is_spared plan why p) (max p.pause plan.quiet) (max (min (later p.pause p.pause) 60000) plan.quiet) e
-    ∙ ap (λ x. max (min (later x x) 60000) plan.quiet) is ∙ twice plan n
+    cond-false (is_spared plan why p) (max p.pause plan.quiet) (pause_within plan.quiet (later p.pause p.pause)) e
+    ∙ ap (λ x. pause_within plan.quiet (later x x)) is ∙ twice plan n
 
 -- a failure that isn't spared takes one try, if at least one is left
 takes : (plan : Plan) (count : ℕ) (why : Cause) (p : Progress) → is_spared plan why p ≡ false → 0 < p.tries → (after_failure plan count why p).tries + 1 ≡ p.tries
@@ -65,9 +64,8 @@ ends_without_try : (plan : Plan) (count : ℕ) (why : Cause) (p : Progress) → 
     → ((after_failure plan count why p).phase ≡ phase.Over cause.Done) ⊎ ((after_failure plan count why p).phase ≡ phase.Over why)
 ends_without_try plan count why p e none = over_by (is_finished count p) (is_spared plan why p) (nat_lt 0 p.tries) why e (le-ltb 0 p.tries (omega (arith, none)))
 
--- a pause that was made from d, cut to a minute and then raised to the quiet time, is the same once it is raised to the quiet
--- time again
-spared_stays : (d quiet : ℕ) → max (max (min d 60000) quiet) quiet ≡ max (min d 60000) quiet
+-- a bounded pause (`pause_within`) is the same once it is raised to the quiet time again
+spared_stays : (d quiet : ℕ) → max (pause_within quiet d) quiet ≡ pause_within quiet d
 spared_stays d quiet = omega arith
 
 -- a spared close takes no try, and leaves the pause as it is, if that is the pause after n + 1 failures
@@ -75,12 +73,12 @@ spared : (plan : Plan) (count n : ℕ) (why : Cause) (p : Progress) → is_spare
     → HasTriesAndPause (after_failure plan count why p) p.tries (pause_after plan (suc n))
 spared plan count n why p e is = (
   cond-true (is_spared plan why p) p.tries (p.tries - 1) e,
-  cond-true (is_spared plan why p) (max p.pause plan.quiet) (max (min (later p.pause p.pause) 60000) plan.quiet) e
+  cond-true (is_spared plan why p) (max p.pause plan.quiet) (pause_within plan.quiet (later p.pause p.pause)) e
       ∙ ap (λ x. max x plan.quiet) is ∙ spared_stays (doubled n plan.quiet) plan.quiet,
 )
 
 -- if there was no pause, the pause that a spared close makes, the quiet time, is the one after a first failure
-spared_none : (quiet : ℕ) → max 0 quiet ≡ max (min quiet 60000) quiet
+spared_none : (quiet : ℕ) → max 0 quiet ≡ pause_within quiet quiet
 spared_none quiet = omega arith
 
 -- a spared close takes no try, and makes a pause of 0 that of one failure
@@ -88,7 +86,7 @@ spared_first : (plan : Plan) (count : ℕ) (why : Cause) (p : Progress) → is_s
     → HasTriesAndPause (after_failure plan count why p) p.tries (pause_after plan 1)
 spared_first plan count why p e is = (
   cond-true (is_spared plan why p) p.tries (p.tries - 1) e,
-  cond-true (is_spared plan why p) (max p.pause plan.quiet) (max (min (later p.pause p.pause) 60000) plan.quiet) e
+  cond-true (is_spared plan why p) (max p.pause plan.quiet) (pause_within plan.quiet (later p.pause p.pause)) e
       ∙ ap (λ x. max x plan.quiet) is ∙ spared_none plan.quiet,
 )
 

@@ -1,7 +1,7 @@
 -- The lines of the piece that an act brings, heard one by one: the outstanding requests were put among the acts before
 -- (`StillWaitsAt` of `Waiting`), and each record that is written is true (`IsJustified`). An act is one call on the link, with its
 -- result. `HonestSoFar` says both of the model after some of the lines.
-use Rattle.std.proofs.Common.{◌≡◌, inl, inr, ℕ, ◌<◌, ◌≤◌, Bool, true, false, List, [], ◌∷◌, ◌++◌, length, Option, Some, refl, sym, ap, ◌∙◌, subst, arith, append_assoc, append-nil}
+use Rattle.std.proofs.Common.{◌≡◌, inl, ℕ, ◌<◌, Bool, true, false, List, [], ◌∷◌, ◌++◌, length, Option, Some, refl, sym, ap, ◌∙◌, subst, arith, append_assoc, append-nil}
 use Rattle.std.specs.List.{AllByRecursion}
 use Rattle.gc_lines.specs.Frames.{rest_behind}
 use Rattle.gc_catalogue.specs.declared.answer.Reading.{Reading}
@@ -10,25 +10,23 @@ use Rattle.gc_client.specs.declared.pending.Pending.{Pending}
 use Rattle.gc_client.specs.Ids.{Waits, IsWithinLimits, id_of}
 use Rattle.gc_client.specs.Rule.{ById, Settlement, heard, hears}
 use Rattle.gc_client.proofs.Digits.{id_back, heard_digit}
-use Rattle.gc_texts.specs.declared.wish.Wish.{Wish}
 use Rattle.gc_texts.specs.declared.tasks.Task.{Task}
 use Rattle.gc_station.specs.declared.mark.Mark.{Mark}
 use Rattle.gc_station.specs.declared.plan.Plan.{Plan}
 use Rattle.gc_links.specs.declared.link.Moment.{Moment}
 use Rattle.gc_links.specs.Acts.{Act, Gave}
-use Rattle.gc_station.specs.Answers.{ReadsBefore, Completes, IsAnsweredIn, IsOwnRequest, IsRecordedBy, IsWrittenAt}
-use Rattle.gc_station.specs.Ends.{ReadsAtOrPast, OneReadsPast, IsLateIn, IsOvertaken}
+use Rattle.gc_station.specs.Answers.{ReadsBefore, Completes, IsRepliedIn, IsAnsweredIn, IsOwnRequest, IsRecordedBy, IsWrittenAt}
+use Rattle.gc_station.specs.Ends.{OneReadsPast, IsLateIn, IsOvertaken}
 use Rattle.gc_station.specs.Marks.{records_of}
 use Rattle.gc_station.specs.Quiet.{IsAsking}
-use Rattle.gc_station.specs.Progressing.{moment_noted}
 use Rattle.gc_station.specs.Records.{Record}
 use Rattle.gc_station.specs.Runs.{state_after}
 use Rattle.gc_station.specs.ActKinds.{Puts}
 use Rattle.gc_station.specs.Model.{Model, action_at, next_request_text, with_rest, line_came, lines_came, lines_completed, after_piece}
 use Rattle.gc_station.proofs.Growing.{lines_records}
 use Rattle.gc_station.proofs.Lists.{all_append, all_split, cuts_on, AllRisingAt}
-use Rattle.gc_station.proofs.Meets.{HasPlace, EndedBy, heard_ended, hears_settles_oldest, left_window, left_waits, all_records_at, IsRecordOf, was_answered, was_late, was_lost}
-use Rattle.gc_station.proofs.Waiting.{WasAsked, StayedAt, StillWaitsAt, IsJustified, IsHonest, past_more, past_here, expired_waits, expired_window, behind_moment, honest_told}
+use Rattle.gc_station.proofs.Meets.{HasPlace, EndedBy, heard_ended, hears_settles_oldest, left_window, left_waits, all_records_at, IsRecordOf, is_record_of, own_request, was_answered, was_late, was_lost}
+use Rattle.gc_station.proofs.Waiting.{WasAsked, TimedOutAsRead, TimedOutAsReadBy, StillWaitsAt, IsJustified, IsHonest, as_read_after_moment, still_wait_at_moment, expired_window, still_wait_after_moment, honest_after_moment}
 use Rattle.gc_station.specs.Scopes.{Scope}
 use Rattle.gc_station.proofs.Walk.{piece_before}
 
@@ -44,28 +42,15 @@ id_heard c line at next w has is =
     let back = id_back c.next (length c.waiting) has.id w.digit w.few (heard_digit line has.id has.has) in
     has.has ∙ ap Some (sym back ∙ ap (λ (k : ℕ). id_of c k) (sym has.is) ∙ is)
 
--- b is whether a request with the deadline d has timed out at the moment `now`, after these acts (`StayedAt`). If it hasn't, d
--- is later than `now`, and than each moment that the acts read
-in_time : (now d : ℕ) (b : Bool) (acts : List Act) → b ≡ false → StayedAt now b d acts → AllByRecursion (ReadsBefore d) acts × (now < d)
-in_time now d true acts is both = cc
-in_time now d false acts is both = both
-
--- `acts` are those since a request with the deadline d was sent, and `act` is the next one, which reads a moment at or past d if
--- `now` is one. If the request has timed out by `now` (b is true), one of these acts, `act` included, reads such a moment
-too_late : (now d : ℕ) (b : Bool) (acts : List Act) (act : Act) → b ≡ true → (d ≤ now → ReadsAtOrPast d act) → StayedAt now b d acts → OneReadsPast d (acts ++ act ∷ [])
-too_late now d true acts act is past (inl moment_noted) = past_more d acts (act ∷ []) moment_noted
-too_late now d true acts act is past (inr reached) = past_here d acts act (past reached)
-too_late now d false acts act is past both = cc
-
 module _ (plan : Plan) (commands : List Task) (scope : Scope) (acts : List Act) where
   -- the model after these acts
   abbrev state : List Act → Model
   state acts = state_after plan commands scope acts
 
-  -- this record is of a request that the line settles (`EndedBy`), with the cycle, the place and the moment of its mark
+  -- this record is of a request that the line settles (`EndedBy`)
   abbrev IsRecorded : (now : ℕ) → ById Asked → (line : List ℕ) → Record → Type 0
   IsRecorded now c line r =
-      (at : ℕ) × (mark : Mark) × (x : Settlement Asked) × (r.cycle ≡ mark.cycle) × (r.place ≡ mark.place) × (r.sent ≡ Some mark.sent) × IsRecordOf r x
+      (at : ℕ) × (mark : Mark) × (x : Settlement Asked) × IsRecordOf r mark x
       × EndedBy (StillWaitsAt plan commands scope acts (state acts).client now c.next (length c.waiting)) c (heard line) line at x (Some mark)
 
   -- where `StillWaitsAt` holds of the requests that wait, with their marks, each record of a line is of a request that the line
@@ -76,7 +61,7 @@ module _ (plan : Plan) (commands : List Task) (scope : Scope) (acts : List Act) 
   line_written reads now utc c marks line waits =
       let W = StillWaitsAt plan commands scope acts (state acts).client now c.next (length c.waiting) in
       all_records_at (EndedBy W c (heard line) line) (IsRecorded now c line) reads utc 0 (hears c line (heard line)).settlements marks
-      (λ i y mark ended. (i, mark, y, refl, refl, refl, record { reads = reads; expected = mark.expected; command = refl; ended = refl }, ended)) (heard_ended W c marks line (heard line) waits)
+      (λ i y mark ended. (i, mark, y, is_record_of reads utc mark y, ended)) (heard_ended W c marks line (heard line) waits)
 
   module _ (piece : List ℕ) (m : Moment) where
     -- the acts, and the one that brings the piece
@@ -100,9 +85,9 @@ module _ (plan : Plan) (commands : List Task) (scope : Scope) (acts : List Act) 
       limits : IsWithinLimits c
 
     -- the request p, which waits at the place `at` of the client c, was put among the acts (`WasAsked`), after `number` others;
-    -- and `StayedAt` holds since, at the moment of the piece
+    -- and `TimedOutAsReadBy` holds since, at the moment of the piece
     abbrev WasPut : ById Asked → (number at : ℕ) → Pending Asked → Option Mark → Type 0
-    WasPut c number at p mark = WasAsked plan commands scope acts (StayedAt m.elapsed) number at (id_of c at) p mark
+    WasPut c number at p mark = WasAsked plan commands scope acts (TimedOutAsReadBy m.elapsed) number at (id_of c at) p mark
 
     -- `acts` are the acts `before`, then `request`, then `between`; `request` is the very request of the record r; and r was
     -- written at the act after `acts`, which brought the piece
@@ -115,30 +100,22 @@ module _ (plan : Plan) (commands : List Task) (scope : Scope) (acts : List Act) 
     abbrev RecordsAre : (news earlier : List Record) → Record → (later more : List Record) → Type 0
     RecordsAre news earlier r later more = (state up_to_piece).records ≡ (((state acts).records ++ news) ++ (earlier ++ r ∷ later)) ++ more
 
-    -- a record that the piece wrote, of the request with this mark, is `WrittenDown`: that request was put before, and is the
-    -- record's own
-    written_down : (c : ById Asked) (number at : ℕ) (p : Pending Asked) (mark : Mark) (r : Record) (news earlier later more : List Record)
-        → (cycle : r.cycle ≡ mark.cycle) → (place : r.place ≡ mark.place) → (sent : r.sent ≡ Some mark.sent) → (asks : p.call ≡ r.command.call)
+    -- a record that the piece wrote, of the settlement of the request with this mark, is `WrittenDown`: that request was put
+    -- before, and is the record's own
+    written_down : (c : ById Asked) (number at : ℕ) (p : Pending Asked) (mark : Mark) (r : Record) (x : Settlement Asked) (news earlier later more : List Record)
+        → IsRecordOf r mark x → (asks : p.call ≡ x.call)
         → (s : WasPut c number at p (Some mark)) → RecordsAre news earlier r later more → WrittenDown s.before s.request s.between r
-    written_down c number at p mark r news earlier later more cycle place sent asks s ends =
-        let its = s.its mark refl in
-        record {
-          order = ap (λ xs. xs ++ Gave piece m ∷ []) s.order ∙ append_assoc s.before (s.request ∷ s.between) (Gave piece m ∷ []);
-          own = record {
-            sends = its.sends;
-            cycle = cycle ∙ its.cycle;
-            place = place ∙ its.place;
-            sent = sent ∙ ap Some its.sent;
-            put = subst (λ (y : Asked). Puts (next_request_text (state s.before).client y) s.request) asks s.put;
-          };
-          written = record {
-            earlier = news ++ earlier;
-            later = later ++ more;
-            written = ap (λ (xs : List Act). (state (xs ++ Gave piece m ∷ [])).records) (sym s.order) ∙ ends
-                ∙ regroup (state acts).records news earlier r later more
-                ∙ ap (λ (xs : List Act). (state xs).records ++ ((news ++ earlier) ++ r ∷ (later ++ more))) s.order;
-          };
-        }
+    written_down c number at p mark r x news earlier later more of_it asks s ends = record {
+      order = ap (λ xs. xs ++ Gave piece m ∷ []) s.order ∙ append_assoc s.before (s.request ∷ s.between) (Gave piece m ∷ []);
+      own = own_request plan commands scope acts (TimedOutAsReadBy m.elapsed) number at (id_of c at) p mark r x of_it asks s;
+      written = record {
+        earlier = news ++ earlier;
+        later = later ++ more;
+        written = ap (λ (xs : List Act). (state (xs ++ Gave piece m ∷ [])).records) (sym s.order) ∙ ends
+            ∙ regroup (state acts).records news earlier r later more
+            ∙ ap (λ (xs : List Act). (state xs).records ++ ((news ++ earlier) ++ r ∷ (later ++ more))) s.order;
+      };
+    }
 
     -- a record that is `WrittenDown` is recorded by the read that gave the piece
     abbrev recorded_by : (before : List Act) (request : Act) (between : List Act) (r : Record) → WrittenDown before request between r
@@ -155,22 +132,30 @@ module _ (plan : Plan) (commands : List Task) (scope : Scope) (acts : List Act) 
       is = sym (ap (λ (xs : List Act). lines_completed (state xs).rest piece) order) ∙ sym l.split;
     }
 
+    -- a record that is `WrittenDown`, of a request that was put before, is as `IsRepliedIn` says of a line of the piece that has
+    -- the request's id
+    abbrev replied : (c : ById Asked) (line : List ℕ) (number at : ℕ) (p : Pending Asked) (mark : Option Mark) (r : Record) → IsLineOfPiece c line
+        → (s : WasPut c number at p mark) → WrittenDown s.before s.request s.between r → HasPlace c (heard line) at → IsRepliedIn plan commands scope up_to_piece r line
+    replied c line number at p mark r l s down has = record {
+      piece = piece;
+      moment = m;
+      its = recorded_by s.before s.request s.between r down;
+      came = completes c line s.before s.request s.between l s.order;
+      id = id_heard c line at _ l.limits has s.id;
+    }
+
     -- a record that is `WrittenDown`, of the request with this mark, is as `IsAnsweredIn` says of the line y, if that is the
     -- line of the piece that has the request's id, and the request hasn't timed out
     answered : (c : ById Asked) (line y : List ℕ) (number at : ℕ) (p : Pending Asked) (mark : Mark) (r : Record) → IsLineOfPiece c line
         → (s : WasPut c number at p (Some mark)) → WrittenDown s.before s.request s.between r → y ≡ line → p.given_up ≡ false → HasPlace c (heard line) at
         → IsAnsweredIn plan commands scope up_to_piece r y
     answered c line y number at p mark r l s down same given has =
-        let both = in_time m.elapsed p.deadline p.given_up s.between given s.stays in
-        record {
-          piece = piece;
-          moment = m;
-          its = recorded_by s.before s.request s.between r down;
+        let both : AllByRecursion (ReadsBefore p.deadline) s.between × (m.elapsed < p.deadline) = subst (λ (b : Bool). TimedOutAsReadBy m.elapsed b p.deadline s.between) given s.stays in
+        subst (λ z. IsAnsweredIn plan commands scope up_to_piece r z) (sym same) (record {
+          reply = replied c line number at p (Some mark) r l s down has;
           waits = subst (λ (d : ℕ). AllByRecursion (ReadsBefore d) s.between) (s.deadline mark refl) both.0;
           in_time = subst (λ (d : ℕ). m.elapsed < d) (s.deadline mark refl) both.1;
-          came = subst (λ z. Completes (state (s.before ++ s.request ∷ s.between)).rest piece z) (sym same) (completes c line s.before s.request s.between l s.order);
-          id = ap heard same ∙ id_heard c line at _ l.limits has s.id;
-        }
+        })
 
     -- a record that is `WrittenDown`, of the request with this mark, is as `IsLateIn` says, if a line of the piece has the
     -- request's id, and the request has timed out
@@ -178,14 +163,11 @@ module _ (plan : Plan) (commands : List Task) (scope : Scope) (acts : List Act) 
         → (s : WasPut c number at p (Some mark)) → WrittenDown s.before s.request s.between r → p.given_up ≡ true → HasPlace c (heard line) at
         → IsLateIn plan commands scope up_to_piece r
     late c line number at p mark r l s down given has = record {
-      piece = piece;
-      moment = m;
-      its = recorded_by s.before s.request s.between r down;
-      too_late = subst (λ (d : ℕ). OneReadsPast d (s.between ++ Gave piece m ∷ [])) (s.deadline mark refl)
-          (too_late m.elapsed p.deadline p.given_up s.between (Gave piece m) given (λ reached. reached) s.stays);
       line = line;
-      came = completes c line s.before s.request s.between l s.order;
-      id = id_heard c line at _ l.limits has s.id;
+      reply = replied c line number at p (Some mark) r l s down has;
+      too_late = subst (λ (d : ℕ). OneReadsPast d (s.between ++ Gave piece m ∷ [])) (s.deadline mark refl)
+          (subst (λ (b : Bool). TimedOutAsRead b p.deadline (s.between ++ Gave piece m ∷ [])) given
+          (as_read_after_moment (Gave piece m) m refl p.given_up p.deadline s.between s.stays));
     }
 
     -- if a line of the piece has the id of a request q that waits, and that was put after the request p, p is overtaken at the
@@ -225,15 +207,15 @@ module _ (plan : Plan) (commands : List Task) (scope : Scope) (acts : List Act) 
     line_true c line r news earlier later more l ends it =
         let at = it.0 in
         let mark = it.1 in
-        let of_it = it.6 in
-        let x = it.7 in
+        let of_it = it.3 in
+        let x = it.4 in
         let s = x.holds.0 in
-        let down = written_down c x.number at x.pending mark r news earlier later more it.3 it.4 it.5 (x.asks ∙ sym (ap (λ (y : Wish). y.call) of_it.command)) s ends in
+        let down = written_down c x.number at x.pending mark r it.2 news earlier later more of_it x.asks s ends in
         record {
-          answered = λ y e. let a = x.answered y (was_answered r it.2 of_it y e) in answered c line y x.number at x.pending mark r l s down a.0 a.1 a.2;
-          late = λ e. let a = x.late (was_late r it.2 of_it e) in late c line x.number at x.pending mark r l s down a.0 a.1;
+          answered = λ y e. let a = x.answered y (was_answered r mark it.2 of_it y e) in answered c line y x.number at x.pending mark r l s down a.0 a.1 a.2;
+          late = λ e. let a = x.late (was_late r mark it.2 of_it e) in late c line x.number at x.pending mark r l s down a.0 a.1;
           lost = λ e.
-              let a = x.lost (was_lost r it.2 of_it e) in
+              let a = x.lost (was_lost r mark it.2 of_it e) in
               let f = a.found in
               let above : x.number < f.number = f.least in
               record {
@@ -275,7 +257,7 @@ module _ (plan : Plan) (commands : List Task) (scope : Scope) (acts : List Act) 
     -- once the lines of a piece were heard, `IsHonest` holds after the act that brought it
     behind_piece : (x : Model) → HonestSoFar x → IsHonest plan commands scope up_to_piece up_to_piece x
     behind_piece x h = record {
-      waiting = behind_moment plan commands scope acts (Gave piece m) (state acts).client m.elapsed _ _ x.client.waiting x.marks (λ d low. low) (λ d past. past) h.waiting;
+      waiting = still_wait_after_moment plan commands scope acts (Gave piece m) (state acts).client m _ _ x.client.waiting x.marks refl h.waiting;
       written = h.written;
     }
 
@@ -286,16 +268,16 @@ module _ (plan : Plan) (commands : List Task) (scope : Scope) (acts : List Act) 
         → IsWithinLimits (state acts).client → IsHonest plan commands scope acts up_to_piece (state acts)
         → IsHonest plan commands scope up_to_piece up_to_piece (after_piece heard word piece (piece_before m (state acts)))
     piece_honest false word tail ends window h =
-        let s = state acts in honest_told plan commands scope acts (Gave piece m) m.elapsed s.client s.marks s.records (λ d low. low) (λ d past. past) h
+        let s = state acts in honest_after_moment plan commands scope acts (Gave piece m) m s.client s.marks s.records refl h
     piece_honest true (asked ∷ others) tail ends window h =
-        let s = state acts in honest_told plan commands scope acts (Gave piece m) m.elapsed s.client s.marks s.records (λ d low. low) (λ d past. past) h
+        let s = state acts in honest_after_moment plan commands scope acts (Gave piece m) m s.client s.marks s.records refl h
     piece_honest true [] tail ends window h =
         let s = state acts in
         behind_piece _
         (hear_all [] (lines_completed s.rest piece) (with_rest (rest_behind s.rest piece) (piece_before m s)) tail refl ends
         (record {
           window = expired_window s.client m.elapsed window;
-          waiting = expired_waits plan commands scope acts m.elapsed s.client s.marks h.waiting;
+          waiting = still_wait_at_moment plan commands scope acts m.elapsed s.client s.marks h.waiting;
           written = h.written;
           news = [];
           grew = sym (append-nil s.records);

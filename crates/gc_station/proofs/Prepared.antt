@@ -211,9 +211,13 @@ module _ (plan : Plan) (commands : List Task) (scope : Scope) where
   SetupFits true zero acts = Unit {0}
   SetupFits true (suc j) acts = IsBegun acts × SentAfterPrepared j acts
 
-  -- `SetupFits` holds for the fields of the station after these acts, or the run is over
+  -- `SetupFits`, by the fields of the station after these acts
+  abbrev SetupFitsAt : List Act → Type 0
+  SetupFitsAt acts = SetupFits (at acts).progress.preparing (at acts).progress.prepared acts
+
+  -- `SetupFitsAt` holds, or the run is over
   abbrev SetupFitsNow : List Act → Type 0
-  SetupFitsNow acts = (is_over_in (at acts).progress.phase ≡ true) ⊎ SetupFits (at acts).progress.preparing (at acts).progress.prepared acts
+  SetupFitsNow acts = (is_over_in (at acts).progress.phase ≡ true) ⊎ SetupFitsAt acts
 
   -- where `SetupFits` holds, and the setup, which has at least one command, is done, the station has synchronized, and each
   -- command of the setup was answered well
@@ -277,10 +281,10 @@ module _ (plan : Plan) (commands : List Task) (scope : Scope) where
     begins o is obeys other begun = ap has_begun (progress_after o is) ∙ begun_other plan commands s o act obeys other begun
 
     -- after an act that closes no connection, changes neither field nor the row, and after which a station is synchronized that
-    -- was before, `SetupFitsNow` holds if `SetupFits` held before the act
+    -- was before, `SetupFitsNow` holds if `SetupFitsAt` held before the act
     fits_unchanged : (o : Action) → (is_next : action_at plan s ≡ o) → (stays_begun : has_begun s.progress ≡ true → IsBegun (acts ++ act ∷ [])) → (keeps : KeepsOpen act)
         → (same_flag : (t o).progress.preparing ≡ s.progress.preparing) → (same_place : (t o).progress.prepared ≡ s.progress.prepared) → (same_row : dispatch_row (t o) ≡ dispatch_row s)
-        → SetupFits s.progress.preparing s.progress.prepared acts → SetupFitsNow (acts ++ act ∷ [])
+        → SetupFitsAt acts → SetupFitsNow (acts ++ act ∷ [])
     fits_unchanged o is begin keeps b k same h =
         inr (fits_kept s.progress.preparing (at (acts ++ act ∷ [])).progress.preparing s.progress.prepared (at (acts ++ act ∷ [])).progress.prepared acts act
         (ap (λ (p : Progress). p.preparing) (progress_after o is) ∙ b) (ap (λ (p : Progress). p.prepared) (progress_after o is) ∙ k) keeps begin (row_after o is ∙ same) h)
@@ -292,20 +296,19 @@ module _ (plan : Plan) (commands : List Task) (scope : Scope) where
         (subst (λ (c : Bool). SetupFits c 0 (acts ++ act ∷ [])) (sym (ap (λ (p : Progress). p.preparing) (progress_after o is) ∙ b ∙ lt-ltb 0 plan.setup some)) tt))
 
     -- after an act that gives a command of a cycle its turn, which only happens once the setup is done, `SetupFitsNow` holds, if
-    -- `SetupFits` held before it
+    -- `SetupFitsAt` held before it
     fits_once_done : (o : Action) → (is_next : action_at plan s ≡ o) → (performs : Performs commands s o act) → (other : o ≡ action.Renew → ⊥) → (keeps : KeepsOpen act)
         → (over : (t o).progress.preparing ≡ false)
-        → (done : is_preparing plan s.progress (waiting_of s) ≡ false) → SetupFits s.progress.preparing s.progress.prepared acts → SetupFitsNow (acts ++ act ∷ [])
+        → (done : is_preparing plan s.progress (waiting_of s) ≡ false) → SetupFitsAt acts → SetupFitsNow (acts ++ act ∷ [])
     fits_once_done o is obeys other keeps b done h =
         let it = prepared_if_done some s.progress.preparing s.progress.prepared acts h done in
         let on = begins o is obeys other it.0 in
         inr (subst (λ (c : Bool). SetupFits c (at (acts ++ act ∷ [])).progress.prepared (acts ++ act ∷ []))
         (sym (ap (λ (p : Progress). p.preparing) (progress_after o is) ∙ b)) (on, prepared_more plan.setup acts act keeps on it.1))
 
-    -- after an act that sends a command of the setup, `SetupFitsNow` holds, if `SetupFits` held before it
+    -- after an act that sends a command of the setup, `SetupFitsNow` holds, if `SetupFitsAt` held before it
     fits_sent : action_at plan s ≡ action.Prepare → Performs commands s action.Prepare act → HoldsBefore plan s.progress (waiting_of s) action.Prepare
-        → SetupFits s.progress.preparing s.progress.prepared acts
-        → SetupFitsNow (acts ++ act ∷ [])
+        → SetupFitsAt acts → SetupFitsNow (acts ++ act ∷ [])
     fits_sent is obeys needs h =
         let k = s.progress.prepared in
         let may = needs.2 in
@@ -327,9 +330,9 @@ module _ (plan : Plan) (commands : List Task) (scope : Scope) where
         (subst (λ (c : Bool). SetupFits c (suc k) (acts ++ act ∷ [])) (sym same) (on, part)))
 
   module _ (some : 0 < plan.setup) (within : plan.setup ≤ length commands) (acts : List Act) where
-    -- after an act of any action, `SetupFitsNow` holds if `SetupFits` held before it
+    -- after an act of any action, `SetupFitsNow` holds if `SetupFitsAt` held before it
     fits_after : (o : Action) (act : Act) → action_at plan (at acts) ≡ o → Performs commands (at acts) o act → HoldsBefore plan (at acts).progress (waiting_of (at acts)) o
-        → SetupFits (at acts).progress.preparing (at acts).progress.prepared acts → SetupFitsNow (acts ++ act ∷ [])
+        → SetupFitsAt acts → SetupFitsNow (acts ++ act ∷ [])
     fits_after action.Prepare act is obeys needs h = fits_sent some within acts act is obeys needs h
     fits_after action.Send act is obeys needs h =
         fits_once_done some within acts act action.Send is obeys (λ e. cc) (stays_open plan commands action.Send (at acts) act obeys (λ why e. cc))

@@ -18,14 +18,18 @@ use Rattle.gc_station.proofs.Walk.{lines_along}
 pub lines_moment : (s : Model) (lines : List (List ℕ)) → (lines_came s lines).progress.moment ≡ s.progress.moment
 lines_moment s lines = lines_along (λ (t : Model). t.progress.moment ≡ s.progress.moment) (λ t line e. e) s lines refl
 
--- for lines that the client hears, from the model to this progress: none of them is a reply, and `alive` and `asked` stay as in
--- the model; or one is, so that `alive` is the moment read last, and no request was sent since
-abbrev pub Alive : Model → List (List ℕ) → Progress → Type 0
-Alive s lines p = (AllByRecursion IsNoReply lines × (p.alive ≡ s.progress.alive) × (p.asked ≡ s.progress.asked)) ⊎ ((p.alive ≡ s.progress.moment.elapsed) × (p.asked ≡ false))
+-- over these lines, from the progress p to q: none of them is a reply, `alive` and `asked` stay, and `Besides` holds; or one is,
+-- so that `alive` is the moment read last, and no request was sent since
+abbrev pub AliveWith : (Besides : Type 0) → List (List ℕ) → (p q : Progress) → Type 0
+AliveWith Besides lines p q = (AllByRecursion IsNoReply lines × (q.alive ≡ p.alive) × (q.asked ≡ p.asked) × Besides) ⊎ ((q.alive ≡ p.moment.elapsed) × (q.asked ≡ false))
+
+-- `AliveWith`, for lines that the client hears
+abbrev pub Alive : List (List ℕ) → (p q : Progress) → Type 0
+Alive lines p q = AliveWith (Unit {0}) lines p q
 
 -- `Alive` holds after lines that the client hears
-pub lines_alive : (s : Model) (lines : List (List ℕ)) → Alive s lines (lines_came s lines).progress
-lines_alive s [] = inl (tt, refl, refl)
+pub lines_alive : (s : Model) (lines : List (List ℕ)) → Alive lines s.progress (lines_came s lines).progress
+lines_alive s [] = inl (tt, refl, refl, tt)
 lines_alive s (line ∷ others) = on (is_reply line) refl (lines_alive (line_came s line) others) where
   -- where the line is a reply (`true`), `alive` is this moment; otherwise it stays
   here : (b : Bool) → is_reply line ≡ b → (line_came s line).progress.alive ≡ (if b then s.progress.moment.elapsed else s.progress.alive)
@@ -36,10 +40,11 @@ lines_alive s (line ∷ others) = on (is_reply line) refl (lines_alive (line_cam
   asks b e = ap (λ (x : Bool). if x then false else s.progress.asked) e
 
   -- if `Alive` holds of the other lines after this one, it holds of this line and the others
-  on : (b : Bool) → is_reply line ≡ b → Alive (line_came s line) others (lines_came (line_came s line) others).progress → Alive s (line ∷ others) (lines_came (line_came s line) others).progress
+  on : (b : Bool) → is_reply line ≡ b → Alive others (line_came s line).progress (lines_came (line_came s line) others).progress
+      → Alive (line ∷ others) s.progress (lines_came (line_came s line) others).progress
   on b e (inr now) = inr now
   on true e (inl none) = inr (none.1 ∙ here true e, none.2 ∙ asks true e)
-  on false e (inl none) = inl ((e, none.0), none.1 ∙ here false e, none.2 ∙ asks false e)
+  on false e (inl none) = inl ((e, none.0), none.1 ∙ here false e, none.2 ∙ asks false e, tt)
 
 -- a line that doesn't read as a reply has no id
 no_reply : (line : List ℕ) → is_reply line ≡ false → heard line ≡ None
@@ -59,15 +64,14 @@ again_same : (word : List ℕ) (id : Option ℕ) (again : ℕ) → id ≡ None �
 again_same [] id again e = refl
 again_same (asked ∷ others) id again e = ap (λ (i : Option ℕ). if is_answered (asked ∷ others) i then 0 else again) e
 
--- as `Alive`, for lines that the synchronization hears, from one progress to another: if none of them is a reply, the ids that
--- are left (`word`) and the next null procedure's moment (`again`) stay, too
-abbrev pub AliveAsked : Progress → List (List ℕ) → Progress → Type 0
-AliveAsked p lines q =
-    (AllByRecursion IsNoReply lines × (q.alive ≡ p.alive) × (q.asked ≡ p.asked) × (q.word ≡ p.word) × (q.again ≡ p.again)) ⊎ ((q.alive ≡ p.moment.elapsed) × (q.asked ≡ false))
+-- `AliveWith`, for lines that the synchronization hears: if none of them is a reply, the ids that are left (`word`) and the next
+-- null procedure's moment (`again`) stay, too
+abbrev pub AliveAsked : List (List ℕ) → (p q : Progress) → Type 0
+AliveAsked lines p q = AliveWith ((q.word ≡ p.word) × (q.again ≡ p.again)) lines p q
 
 -- `AliveAsked` holds after lines that the synchronization hears
-pub asked_alive : (p : Progress) (lines : List (List ℕ)) → AliveAsked p lines (lines_synchronizing p lines)
-asked_alive p [] = inl (tt, refl, refl, refl, refl)
+pub asked_alive : (p : Progress) (lines : List (List ℕ)) → AliveAsked lines p (lines_synchronizing p lines)
+asked_alive p [] = inl (tt, refl, refl, (refl, refl))
 asked_alive p (line ∷ others) = on (is_reply line) refl (asked_alive (line_synchronizing p line) others) where
   -- the progress after all lines
   q : Progress
@@ -82,9 +86,9 @@ asked_alive p (line ∷ others) = on (is_reply line) refl (asked_alive (line_syn
   asks b e = ap (λ (x : Bool). if x then false else p.asked) e
 
   -- if `AliveAsked` holds of the other lines after this one, it holds of this line and the others
-  on : (b : Bool) → is_reply line ≡ b → AliveAsked (line_synchronizing p line) others q → AliveAsked p (line ∷ others) q
+  on : (b : Bool) → is_reply line ≡ b → AliveAsked others (line_synchronizing p line) q → AliveAsked (line ∷ others) p q
   on b e (inr now) = inr now
   on true e (inl none) = inr (none.1 ∙ here true e, none.2 ∙ asks true e)
   on false e (inl none) =
       let silent = no_reply line e in
-      inl ((e, none.0), none.1 ∙ here false e, none.2 ∙ asks false e, none.3 ∙ left_same p.word (heard line) silent, none.4 ∙ again_same p.word (heard line) p.again silent)
+      inl ((e, none.0), none.1 ∙ here false e, none.2 ∙ asks false e, (none.3.0 ∙ left_same p.word (heard line) silent, none.3.1 ∙ again_same p.word (heard line) p.again silent))

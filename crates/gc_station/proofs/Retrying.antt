@@ -46,19 +46,13 @@ module _ (plan : Plan) (commands : List Task) (scope : Scope) where
       let at : place_next commands q ≡ place_next commands p = ap (λ (n : ℕ). length commands - n) unsent in
       (λ above. others ∙ h.0 (subst (λ (n : ℕ). plan.setup < n) at above) ∙ ap (λ (n : ℕ). others_in (drop n commands)) (sym at), λ none. others ∙ h.1 (subst (λ (n : ℕ). n ≤ plan.setup) at none))
 
-  -- `OthersFit` holds once the next command, of which there was one, had its turn, if no more were unsent than a cycle has
-  others_after_turn : (p q : Progress) → q.unsent ≡ p.unsent - 1 → q.next_others ≡ others_after 1 commands p → 0 < p.unsent → p.unsent ≤ cycle_length plan commands → OthersFit q
-  others_after_turn p q unsent others some within =
-      let at : place_next commands p + 1 ≡ place_next commands q = omega (arith, unsent, some, within) in
-      (λ above. others ∙ ap (λ (n : ℕ). others_in (drop n commands)) at, λ none. absurd (omega (arith, at, none, some, within)))
-
-  -- `OthersFit` holds once further attempts were left out, if commands were unsent, and no more than a cycle has
-  others_after_pass : (p q : Progress) → (unsent : q.unsent ≡ p.unsent - p.next_others) → (others : q.next_others ≡ others_after p.next_others commands p) → (some : 0 < p.unsent)
-      → (more : 0 < p.next_others)
-      → (within : p.unsent ≤ cycle_length plan commands) → OthersFit q
-  others_after_pass p q unsent others some more within =
-      let at : drop (place_next commands p + p.next_others) commands ≡ drop (place_next commands q) commands =
-      drop_past commands p.unsent p.next_others (omega (arith, within)) ∙ ap (λ (n : ℕ). drop (length commands - n) commands) (sym unsent) in
+  -- `OthersFit` holds once the next `count` commands, at least one, had their turn, if some were unsent, and no more than a cycle
+  -- has
+  others_after_turns : (count : ℕ) (p q : Progress) → (unsent : q.unsent ≡ p.unsent - count) → (others : q.next_others ≡ others_after count commands p) → (some : 0 < p.unsent)
+      → (more : 0 < count) → (within : p.unsent ≤ cycle_length plan commands) → OthersFit q
+  others_after_turns count p q unsent others some more within =
+      let at : drop (place_next commands p + count) commands ≡ drop (place_next commands q) commands =
+      drop_past commands p.unsent count (omega (arith, within)) ∙ ap (λ (n : ℕ). drop (length commands - n) commands) (sym unsent) in
       (λ above. others ∙ ap others_in at, λ none. absurd (omega (arith, unsent, some, more, within, none)))
 
   -- `OthersFit` holds at the beginning of a cycle
@@ -78,12 +72,12 @@ module _ (plan : Plan) (commands : List Task) (scope : Scope) where
       let t = with_progress turned s in
       let q = failing (cause.Write (commands_before plan commands t.progress) n) (model_sent plan commands t).progress in
       subst (λ (x : Model). OthersFit (failing (cause.Write (commands_before plan commands t.progress) n) x.progress)) (is_sent plan commands t)
-      (others_after_turn s.progress q refl refl needs.2 within)
+      (others_after_turns 1 s.progress q refl refl needs.2 (omega arith) within)
   moved_others actions.Send s w act needs within h =
       let t = with_progress turned s in
-      subst (λ (x : Model). OthersFit x.progress) (is_sent plan commands t) (others_after_turn s.progress (model_sent plan commands t).progress refl refl needs.2 within)
-  moved_others actions.Skip s w (Told m) needs within h = others_after_turn s.progress (progress_after actions.Skip s (Told m)) refl refl needs.2 within
-  moved_others actions.Pass s w (Told m) needs within h = others_after_pass s.progress (progress_after actions.Pass s (Told m)) refl refl needs.2 needs.4 within
+      subst (λ (x : Model). OthersFit x.progress) (is_sent plan commands t) (others_after_turns 1 s.progress (model_sent plan commands t).progress refl refl needs.2 (omega arith) within)
+  moved_others actions.Skip s w (Told m) needs within h = others_after_turns 1 s.progress (progress_after actions.Skip s (Told m)) refl refl needs.2 (omega arith) within
+  moved_others actions.Pass s w (Told m) needs within h = others_after_turns s.progress.next_others s.progress (progress_after actions.Pass s (Told m)) refl refl needs.2 needs.4 within
   moved_others actions.Begin s w act needs within h = others_kept s.progress (progress_after actions.Begin s act) refl refl h
   moved_others actions.Skip s w act needs within h = others_kept s.progress (progress_after actions.Skip s act) refl refl h
   moved_others actions.Pass s w act needs within h = others_kept s.progress (progress_after actions.Pass s act) refl refl h

@@ -14,7 +14,7 @@ use Rattle.gc_station.specs.declared.progress.Action.TheVariants.{Send, Flush, P
 use Rattle.gc_links.specs.Acts.{Act, Put, Cut}
 use Rattle.gc_station.specs.Deciding.{has_begun}
 use Rattle.gc_station.specs.Links.{RecordsStay}
-use Rattle.gc_station.specs.Parts.{Part, nothing, joined, request_part, first_request_part, put_part, client_part, sync_part, part_of_act, ends_part, in_front, parts_of}
+use Rattle.gc_station.specs.Parts.{Part, idle_part, parts_joined, request_part, first_request_part, put_part, client_part, sync_part, part_of_act, ends_part, in_front, parts_of}
 use Rattle.gc_station.specs.Progressing.{turned, loses_all}
 use Rattle.gc_station.specs.Runs.{state_after}
 use Rattle.gc_station.proofs.Outs.{SendsMarked}
@@ -125,10 +125,10 @@ pub record SentAt (plan : Plan) (commands : List Task) (s : Model) (acts : List 
   pub last : length (parts_of plan commands s before) ≡ suc i
   pub count : length so_far.marks ≡ n
 
--- where a part p is joined to the first of these parts, q, the first is then p and q in one (`joined`)
-pub joined_at : (p : Part) (ps : List Part) (q : Part) → slice_get ps 0 ≡ Some q → slice_get (in_front p false ps) 0 ≡ Some (joined p q)
+-- where a part p is joined to the first of these parts, q, the first is then p and q in one (`parts_joined`)
+pub joined_at : (p : Part) (ps : List Part) (q : Part) → slice_get ps 0 ≡ Some q → slice_get (in_front p false ps) 0 ≡ Some (parts_joined p q)
 joined_at p [] q e = absurd (none-some q e)
-joined_at p (x ∷ ps) q e = ap (λ y. Some (joined p y)) (same_Some x q e)
+joined_at p (x ∷ ps) q e = ap (λ y. Some (parts_joined p y)) (same_Some x q e)
 
 -- the parts after the first stay at their places where a part is joined to the first
 pub joined_on : (p : Part) (ps : List Part) (i : ℕ) (q : Part) → slice_get ps (suc i) ≡ Some q → slice_get (in_front p false ps) (suc i) ≡ Some q
@@ -158,7 +158,7 @@ module _ (plan : Plan) (commands : List Task) where
       → slice_get (part_at s act).marks n ≡ Some (Some mark) → Sent s (act ∷ acts) 0 n mark
   sent_here s act acts n mark e =
       let h = act_part_sends plan commands s (action_at plan s) act n mark e in
-      record { before = []; act = act; rest = acts; order = refl; its = h.1; so_far = nothing; of_parts = refl; last = refl; count = sym h.0 }
+      record { before = []; act = act; rest = acts; order = refl; its = h.1; so_far = idle_part; of_parts = refl; last = refl; count = sym h.0 }
 
   -- if the acts after the first one send the command with this mark (`h`), all acts send it as request n of part i, where that is
   -- the last part of the first act and of those before `h.act`, and has n requests so far
@@ -196,8 +196,8 @@ module _ (plan : Plan) (commands : List Task) where
       let ps = parts_of plan commands (next s act) h.before in
       let size : length (p.marks ++ h.so_far.marks) ≡ length p.marks + length h.so_far.marks = length-append p.marks h.so_far.marks in
       let count : length h.so_far.marks ≡ k = h.count in
-      one_before s act acts 0 n 0 k mark (joined p h.so_far) h
-      (subst (λ b. slice_get (in_front p b ps) 0 ≡ Some (joined p h.so_far)) (sym is) (joined_at p ps h.so_far h.of_parts))
+      one_before s act acts 0 n 0 k mark (parts_joined p h.so_far) h
+      (subst (λ b. slice_get (in_front p b ps) 0 ≡ Some (parts_joined p h.so_far)) (sym is) (joined_at p ps h.so_far h.of_parts))
       (subst (λ b. length (in_front p b ps) ≡ 1) (sym is) (joined_length p ps 0 h.last)) (omega (arith, size, count, at))
 
   -- if no part ends with the first act, a command that the acts after it send in a later part than the first is at the same place
@@ -223,7 +223,7 @@ module _ (plan : Plan) (commands : List Task) where
   sent_by s act acts false [] (suc i) n part mark is again e f = absurd (none-some part e)
   sent_by s act acts false (q ∷ ps) zero n part mark is again e f =
       let p = part_at s act in
-      elim (get_split p.marks q.marks n (Some mark) (subst (λ (x : Part). slice_get x.marks n ≡ Some (Some mark)) (sym (same_Some (joined p q) part e)) f)) [
+      elim (get_split p.marks q.marks n (Some mark) (subst (λ (x : Part). slice_get x.marks n ≡ Some (Some mark)) (sym (same_Some (parts_joined p q) part e)) f)) [
         | inl l ↦ sent_here s act acts n mark l
         | inr r ↦ sent_on s act acts n r.0 mark is r.1 (again 0 r.0 q refl r.2)
       ]
@@ -232,7 +232,7 @@ module _ (plan : Plan) (commands : List Task) where
   -- a request of a command in a run's parts was sent among the run's acts
   pub sent_at : (s : Model) (acts : List Act) (i n : ℕ) (part : Part) (mark : Mark) → slice_get (parts_of plan commands s acts) i ≡ Some part
       → slice_get part.marks n ≡ Some (Some mark) → Sent s acts i n mark
-  sent_at s [] zero n part mark e f = absurd (none-some (Some mark) (subst (λ (p : Part). slice_get p.marks n ≡ Some (Some mark)) (sym (same_Some nothing part e)) f))
+  sent_at s [] zero n part mark e f = absurd (none-some (Some mark) (subst (λ (p : Part). slice_get p.marks n ≡ Some (Some mark)) (sym (same_Some idle_part part e)) f))
   sent_at s [] (suc i) n part mark e f = absurd (none-some part e)
   sent_at s (act ∷ acts) i n part mark e f =
       sent_by s act acts (ends_part plan commands s act) (parts_of plan commands (next s act) acts) i n part mark refl

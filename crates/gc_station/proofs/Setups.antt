@@ -24,7 +24,7 @@ use Rattle.gc_station.specs.Runs.{state_after}
 use Rattle.gc_station.specs.Scopes.{Scope}
 use Rattle.gc_station.specs.Model.{Model, opening, action_at, waiting_of, is_heard, asks_first, after_piece, line_came, losing, moved, piece_at, first_unsent_record, with_progress, with_moment, with_rest, after, after_all, request_or_null, asks_for}
 use Rattle.gc_station.specs.NextCommand.{cycles_begun, place_next, commands_left, mark_next, mark_setup}
-use Rattle.gc_station.specs.Setups.{Dispatch, dispatch_of_record, dispatch_of_mark, dispatches_of, of_setup, sent_first, setup_sent_at, setup_sent_by, EachSetUpOnce, GoOn, AreInOrder, SetUpsGoOn, dispatch_row}
+use Rattle.gc_station.specs.Setups.{Dispatch, dispatch_of_record, dispatch_of_mark, dispatches_of, of_setup, sent_first, setup_sent_at, setup_sent_by, EachSetUpOnce, IsNextAfter, GoOn, AreInOrder, SetUpsGoOn, dispatch_row}
 use Rattle.gc_station.proofs.Counts.{ended_progress}
 use Rattle.gc_station.proofs.EachRun.{invariant_all, invariant_opening, invariant_holds, stopped}
 use Rattle.gc_station.proofs.Facts.{action_for, not_none}
@@ -237,10 +237,9 @@ pub prepares : (plan : Plan) (commands : List Task) (s : Model) (act : Act)
 prepares plan commands s (Cut bytes n) = (refl, refl)
 prepares plan commands s act = (refl, refl)
 
--- the next command of the setup, at the progress p, goes after x: it is at the place after x in the same attempt, or the first of
--- the next attempt
+-- the next command of the setup, at the progress p, goes after x (`IsNextAfter`)
 abbrev IsNext : Dispatch → Progress → Type 0
-IsNext x p = ((p.attempt ≡ x.attempt) × (p.prepared ≡ x.place + 1)) ⊎ ((p.attempt ≡ later x.attempt 1) × (p.prepared ≡ 0))
+IsNext x p = IsNextAfter x (record { cycle = 0; place = p.prepared; attempt = p.attempt; sent = None })
 
 -- if the setup starts again, its first command is next, and goes after x, if the one that was next did
 restarted_next : (x : Dispatch) (p q : Progress) → q.attempt ≡ next_attempt p → q.prepared ≡ 0 → IsNext x p → IsNext x q

@@ -34,7 +34,7 @@ use Rattle.gc_station.specs.Scopes.{Scope}
 use Rattle.gc_station.specs.Stopping.{least_moment, asked_after, IsNotWell, NoneWellSince, ClosesStale, StopsAtItsClose, EndsOnceStale, GoesOnInItsChain, ClosesBetweenChains}
 use Rattle.gc_station.specs.Quiet.{IsListening, HasLast}
 use Rattle.gc_station.proofs.Always.{always, always_of_progress}
-use Rattle.gc_station.proofs.Closings.{cause_in, no_cause_shown, Decided, after_decided, runs_split, stopped_for, needs_of, done_sent}
+use Rattle.gc_station.proofs.Closings.{cause_in, no_cause_shown, Decided, after_decided, runs_split, stopped_for, needs_of, done_is_finished}
 use Rattle.gc_station.proofs.Counts.{ended_progress}
 use Rattle.gc_station.proofs.Going.{after_all-append, runs_behind}
 use Rattle.gc_station.proofs.Lists.{all_append}
@@ -383,7 +383,7 @@ ends_once_stale plan commands scope earlier behind telling runs tells turns stal
           let next = after_all-append plan commands (opening plan scope) earlier (telling ∷ []) in
           let split = runs_split plan commands (opening plan scope) earlier behind telling runs in
           absurd (listening_decides_none plan s telling _ why tells
-          (after_decided plan commands s telling why split.1 (done_sent plan commands scope earlier) (sym (ap (λ (x : Model). cause_in x.progress.phase) next) ∙ is)))
+          (after_decided plan commands s telling why split.1 (done_is_finished plan commands scope earlier) (sym (ap (λ (x : Model). cause_in x.progress.phase) next) ∙ is)))
 
 -- If the end of the run was asked for.
 

@@ -1,6 +1,6 @@
 -- Each record is of the task at its place, and its command is what that task asks at the moment at which its request was sent.
 -- A mark says which command an outstanding request is of, and when that was sent.
-use Rattle.std.proofs.Common.{◌≡◌, ℕ, Bool, true, false, List, [], ◌∷◌, ◌++◌, length, drop, map, Option, Some, None, if◌then◌else◌, refl, sym, ap, ◌∙◌, subst}
+use Rattle.std.proofs.Common.{◌≡◌, ℕ, Bool, true, false, List, [], ◌∷◌, ◌++◌, length, drop, map, Option, Some, None, refl, sym, ap, ◌∙◌, subst}
 use Rattle.std.specs.Prelude.{slice_get}
 use Rattle.std.specs.List.{AllByRecursion}
 use Rattle.std.proofs.lemmas.Bool.{both_ways}
@@ -10,11 +10,11 @@ use Rattle.gc_catalogue.specs.declared.asked.Asked.{Asked}
 use Rattle.gc_client.specs.OneForOne.{Wanted, of_pending, of_settled}
 use Rattle.gc_client.specs.Rule.{Settlement}
 use Rattle.gc_client.specs.declared.pending.Pending.{Pending}
-use Rattle.gc_texts.specs.Endings.{End, Missed, Skipped}
+use Rattle.gc_texts.specs.Endings.{End}
 use Rattle.gc_texts.specs.declared.tasks.Task.{Task}
-use Rattle.gc_texts.specs.declared.turn.Turn.{Turn}
 use Rattle.gc_texts.specs.declared.wish.Wish.{Wish}
-use Rattle.gc_station.specs.Marks.{record_of, records_of}
+use Rattle.gc_station.specs.Marks.{record_of, records_of, unsent_as}
+use Rattle.gc_station.specs.Model.{end_unsent}
 use Rattle.gc_station.specs.Parts.{MarksAsk, MarkAsks, went_out}
 use Rattle.gc_station.specs.Tasked.{IsOfItsTask}
 use Rattle.gc_station.specs.declared.mark.Mark.{Mark}
@@ -60,16 +60,16 @@ settled_tasked reads commands utc (None ∷ ms) (s ∷ ss) ys h = settled_tasked
 settled_tasked reads commands utc (Some mark ∷ ms) (s ∷ ss) ys h = (record_tasked reads commands utc mark s h.0, settled_tasked reads commands utc ms ss ys h.1)
 
 -- a command that is recorded as missed or skipped wasn't sent
-pub unsent_end : (missed : Bool) → went_out (if missed then Missed else Skipped) ≡ false
+pub unsent_end : (missed : Bool) → went_out (end_unsent missed) ≡ false
 unsent_end true = refl
 unsent_end false = refl
 
 -- the ending of a command that isn't sent, as missed or as skipped, is no ending of a command that was sent
-pub no_end_of_sent : (missed : Bool) (end : End) → went_out end ≡ true → (if missed then Missed else Skipped) ≡ end → ⊥
+pub no_end_of_sent : (missed : Bool) (end : End) → went_out end ≡ true → end_unsent missed ≡ end → ⊥
 no_end_of_sent missed end out e = both_ways (went_out end) (sym (ap went_out e) ∙ unsent_end missed) out
 
--- the record of the command of `task` as not sent is of this task, if `task` is the one at the place of the record, and `end`
--- isn't the ending of a command that was sent
-pub unsent_tasked : (commands : List Task) (utc cycle place : ℕ) (turn : Turn) (end : End) (task : Task) → slice_get commands place ≡ Some task → went_out end ≡ false
-    → IsOfItsTask commands (record { sent = None; utc = utc; cycle = cycle; place = place; turn = turn; command = task.command; end = end })
-unsent_tasked commands utc cycle place turn end task at out = record { task = task; listed = at; sent = sym out; command = refl }
+-- the record of the command of `task`, with this mark, as not sent is of this task, if `task` is the one at the place of the
+-- mark, and `end` isn't the ending of a command that was sent
+pub unsent_tasked : (commands : List Task) (utc : ℕ) (mark : Mark) (end : End) (task : Task) → slice_get commands mark.place ≡ Some task → went_out end ≡ false
+    → IsOfItsTask commands (unsent_as utc mark task.command end)
+unsent_tasked commands utc mark end task at out = record { task = task; listed = at; sent = sym out; command = refl }

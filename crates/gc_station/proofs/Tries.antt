@@ -31,7 +31,7 @@ use Rattle.gc_station.specs.Records.{Record, Grew}
 use Rattle.gc_station.specs.Runs.{state_after}
 use Rattle.gc_station.specs.Model.{Model, opening, action_at, waiting_of, with_progress, Performs, moved, losing, after, after_all, Runs}
 use Rattle.gc_station.specs.Tries.{IsTried, IsEnding, endings_in, openings_in, SettlesNone, NoneSettled, EndsSettled, AllTried}
-use Rattle.gc_station.proofs.Closings.{no_cause_shown, runs_split, needs_of, cause_in, Decided, after_decided, done_sent}
+use Rattle.gc_station.proofs.Closings.{no_cause_shown, runs_split, needs_of, cause_in, Decided, after_decided, done_is_finished}
 use Rattle.gc_station.proofs.Counts.{ended_progress}
 use Rattle.gc_station.proofs.Always.{always}
 use Rattle.gc_station.proofs.EachRun.{invariant_after, invariant_holds}
@@ -404,7 +404,7 @@ module _ (plan : Plan) (commands : List Task) (scope : Scope) where
 
     -- the last act decided the end
     decided : Decided plan s (after plan commands s last).progress.phase why last
-    decided = after_decided plan commands s last why split.1 (done_sent plan commands scope acts) (ap cause_in there)
+    decided = after_decided plan commands s last why split.1 (done_is_finished plan commands scope acts) (ap cause_in there)
 
     -- after the last act there is no connection
     down : is_up t.progress.phase ≡ false

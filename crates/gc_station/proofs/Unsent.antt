@@ -1,7 +1,7 @@
 -- Each record of a missed or a skipped command is of one that was missed or skipped for its cause, where cycles have due
 -- moments and the clock doesn't go back. An act is one call on the link, with its result. A piece is the bytes that one read
 -- gave.
-use Rattle.std.proofs.Common.{◌≡◌, inl, inr, ℕ, ◌<◌, Bool, true, false, List, [], ◌∷◌, ◌++◌, drop, Option, None, if◌then◌else◌, refl, sym, ap, ◌∙◌, subst, arith, append_assoc}
+use Rattle.std.proofs.Common.{◌≡◌, inl, inr, ℕ, ◌<◌, Bool, true, false, List, [], ◌∷◌, ◌++◌, drop, Option, None, refl, sym, ap, ◌∙◌, subst, arith, append_assoc}
 use Rattle.std.specs.List.{AllByRecursion}
 use Rattle.std.proofs.lemmas.Bool.{leb-true, cond-true, cond-false, both_ways}
 use Rattle.gc_catalogue.specs.declared.answer.Reading.{Reading}
@@ -20,7 +20,7 @@ use Rattle.gc_station.specs.Progressing.{turned, moment_noted, cycle_begun, unse
 use Rattle.gc_station.specs.Records.{Record}
 use Rattle.gc_station.specs.Runs.{state_after}
 use Rattle.gc_station.specs.Scopes.{Scope}
-use Rattle.gc_station.specs.Model.{Model, opening, action_at, is_heard, with_progress, with_moment, first_unsent_record, after_piece, moved, losing, Performs, Runs}
+use Rattle.gc_station.specs.Model.{Model, opening, action_at, is_heard, with_progress, with_moment, end_unsent, first_unsent_record, after_piece, moved, losing, Performs, Runs}
 use Rattle.gc_station.specs.NextCommand.{cycles_begun, place_next, mark_next}
 use Rattle.gc_station.specs.declared.mark.Mark.{Mark}
 use Rattle.gc_station.specs.declared.plan.Plan.{Plan}
@@ -117,7 +117,7 @@ module _ (plan : Plan) (commands : List Task) (scope : Scope) (some : 0 < plan.e
       (all_append (Justified acts) s.records _ h (settled_justified acts s.reads s.progress.moment.utc s.marks (restarts s.client).settlements)) h
 
   -- a command that isn't sent ends as missed only if its cycle is missed, and as skipped only if it isn't
-  unsent_ends_as : (missed : Bool) → ((if missed then Missed else Skipped) ≡ Missed → missed ≡ true) × ((if missed then Missed else Skipped) ≡ Skipped → missed ≡ false)
+  unsent_ends_as : (missed : Bool) → (end_unsent missed ≡ Missed → missed ≡ true) × (end_unsent missed ≡ Skipped → missed ≡ false)
   unsent_ends_as true = (λ e. refl, λ e. cc)
   unsent_ends_as false = (λ e. cc, λ e. refl)
 

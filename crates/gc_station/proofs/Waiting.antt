@@ -1,7 +1,8 @@
 -- The outstanding requests: each was put among the acts, in order; and since then no moment at or past its deadline was read,
 -- or one was and the request has timed out. What every run keeps of this, and of the truth of its records, is `Honest`. An act
 -- is one call on the link, with its result.
-use Rattle.std.proofs.Common.{◌≡◌, ◌⊎◌, inl, inr, ℕ, ◌+◌, ◌<◌, ◌≤◌, ◌||◌, Bool, true, false, List, [], ◌∷◌, ◌++◌, length, map, Option, Some, nat_le, refl, sym, ap, ◌∙◌, subst, arith, append_assoc, length-append}
+use Rattle.std.proofs.Common.{◌≡◌, ◌⊎◌, inl, inr, ℕ, ◌+◌, ◌<◌, ◌≤◌, ◌||◌, Bool, true, false, List, [], ◌∷◌, ◌++◌, length, map, Option, Some, None, IfSome, nat_le, refl, sym, ap, ◌∙◌, subst, arith, append_assoc, length-append}
+use Rattle.std.specs.Prelude.{IsSomeAnd}
 use Rattle.std.specs.List.{AllByRecursion}
 use Rattle.std.proofs.lemmas.Bool.Decides.{nat_tests}
 use Rattle.std.proofs.lemmas.List.{length-map}
@@ -16,46 +17,45 @@ use Rattle.gc_station.specs.declared.plan.Plan.{Plan}
 use Rattle.gc_station.specs.declared.progress.Action.{Action}
 use Rattle.gc_station.specs.declared.progress.Action.TheVariants as actions
 use Rattle.gc_links.specs.Acts.{Act, Gave}
-use Rattle.gc_station.specs.Answers.{ReadsBefore, deadline_after, IsRecordedBy, AnswerIsJustified}
-use Rattle.gc_station.specs.Ends.{ReadsAtOrPast, OneReadsPast, LateIsJustified, LostIsJustified, IsLast}
+use Rattle.gc_links.specs.declared.link.Moment.{Moment}
+use Rattle.gc_station.specs.Answers.{ReadsBefore, deadline_after, IsRecordedBy, IsRepliedIn, AnswerIsJustified}
+use Rattle.gc_station.specs.Ends.{OneReadsPast, LateIsJustified, LostIsJustified, IsLast}
 use Rattle.gc_station.specs.Quiet.{IsAsking}
 use Rattle.gc_station.specs.Records.{Record}
 use Rattle.gc_station.specs.Runs.{state_after}
-use Rattle.gc_station.specs.ActKinds.{Puts}
+use Rattle.gc_station.specs.ActKinds.{Puts, moment_in}
 use Rattle.gc_station.specs.Model.{Model, IsSending, action_at, cycle_to_send, place_to_send, next_request_text, Performs}
 use Rattle.gc_station.proofs.Lists.{all_append, all_on, AllRisingAt, rising_follow, rising_map}
 use Rattle.gc_station.specs.Scopes.{Scope}
 
--- of a request that has timed out (`true`), a moment at or past its deadline was read in these acts; of one that hasn't, none
--- was
-abbrev pub Stayed : Bool → ℕ → List Act → Type 0
-Stayed true deadline acts = OneReadsPast deadline acts
-Stayed false deadline acts = AllByRecursion (ReadsBefore deadline) acts
+-- whether a request has timed out is as these acts say: if it has (`true`), one of them reads a moment at or past its deadline;
+-- otherwise none does
+abbrev pub TimedOutAsRead : (timed_out : Bool) → (deadline : ℕ) → List Act → Type 0
+TimedOutAsRead true deadline acts = OneReadsPast deadline acts
+TimedOutAsRead false deadline acts = AllByRecursion (ReadsBefore deadline) acts
 
--- as `Stayed`, where besides the acts the moment `now` was read, which isn't among them yet
-abbrev pub StayedAt : ℕ → Bool → ℕ → List Act → Type 0
-StayedAt now true deadline acts = OneReadsPast deadline acts ⊎ (deadline ≤ now)
-StayedAt now false deadline acts = AllByRecursion (ReadsBefore deadline) acts × (now < deadline)
+-- as `TimedOutAsRead`, where besides the acts the moment `now` was read, which isn't among them yet
+abbrev pub TimedOutAsReadBy : (now : ℕ) → (timed_out : Bool) → (deadline : ℕ) → List Act → Type 0
+TimedOutAsReadBy now true deadline acts = OneReadsPast deadline acts ⊎ (deadline ≤ now)
+TimedOutAsReadBy now false deadline acts = AllByRecursion (ReadsBefore deadline) acts × (now < deadline)
 
 -- a moment at or past d that was read among acts was read among them and more
-pub past_more : (d : ℕ) (xs ys : List Act) → OneReadsPast d xs → OneReadsPast d (xs ++ ys)
+past_more : (d : ℕ) (xs ys : List Act) → OneReadsPast d xs → OneReadsPast d (xs ++ ys)
 past_more d xs ys t = record { earlier = t.earlier; telling = t.telling; later = t.later ++ ys; at = ap (λ zs. zs ++ ys) t.at ∙ append_assoc t.earlier (t.telling ∷ t.later) ys; past = t.past }
 
--- if the last act reads a moment at or past d, one of the acts does (`OneReadsPast`)
-pub past_here : (d : ℕ) (xs : List Act) (act : Act) → ReadsAtOrPast d act → OneReadsPast d (xs ++ act ∷ [])
-past_here d xs act on = record { earlier = xs; telling = act; later = []; at = refl; past = on }
+-- an act that reads no moment preserves `TimedOutAsRead`
+pub as_read_without_moment : (act : Act) → moment_in act ≡ None → (timed_out : Bool) (d : ℕ) (xs : List Act) → TimedOutAsRead timed_out d xs → TimedOutAsRead timed_out d (xs ++ act ∷ [])
+as_read_without_moment act none true d xs told = past_more d xs (act ∷ []) told
+as_read_without_moment act none false d xs all =
+    all_append (ReadsBefore d) xs (act ∷ []) all (subst (λ (o : Option Moment). IfSome o (λ told. told.elapsed < d)) (sym none) tt, tt)
 
--- an act that reads no moment preserves `Stayed`
-pub stays_still : (act : Act) → ((d : ℕ) → ReadsBefore d act) → (timed_out : Bool) (d : ℕ) (xs : List Act) → Stayed timed_out d xs → Stayed timed_out d (xs ++ act ∷ [])
-stays_still act on true d xs told = past_more d xs (act ∷ []) told
-stays_still act on false d xs all = all_append (ReadsBefore d) xs (act ∷ []) all (on d, tt)
-
--- where `Stayed` holds, `StayedAt` holds at the moment `now`, which times the request out if its deadline has come
-stays_at : (now : ℕ) (timed_out : Bool) (d : ℕ) (xs : List Act) → Stayed timed_out d xs → StayedAt now (timed_out || nat_le d now) d xs
-stays_at now true d xs told = inl told
-stays_at now false d xs all = by_test (nat_le d now) refl where
+-- where `TimedOutAsRead` holds, `TimedOutAsReadBy` holds at the moment `now`, which times the request out if its deadline has
+-- come
+as_read_at_moment : (now : ℕ) (timed_out : Bool) (d : ℕ) (xs : List Act) → TimedOutAsRead timed_out d xs → TimedOutAsReadBy now (timed_out || nat_le d now) d xs
+as_read_at_moment now true d xs told = inl told
+as_read_at_moment now false d xs all = by_test (nat_le d now) refl where
   -- the lemma above, by whether the deadline has come (`true`)
-  by_test : (t : Bool) → nat_le d now ≡ t → StayedAt now t d xs
+  by_test : (t : Bool) → nat_le d now ≡ t → TimedOutAsReadBy now t d xs
   by_test true e = let past : d ≤ now = grind (arith, nat_tests, e) in inr past
   by_test false e = let low : now < d = grind (arith, nat_tests, e) in (all, low)
 
@@ -63,12 +63,14 @@ stays_at now false d xs all = by_test (nat_le d now) refl where
 pub expired_window : (c : ById Asked) (now : ℕ) → IsWithinLimits c → IsWithinLimits (expires c now)
 expired_window c now w = record { digit = w.digit; few = let n : length (map (expired now) c.waiting) ≡ length c.waiting = length-map c.waiting (expired now) in omega (arith, n, w.few) }
 
--- once the act that reads the moment `now` is among the acts, `StayedAt` becomes `Stayed`
-stays_behind : (act : Act) (now : ℕ) → ((d : ℕ) → now < d → ReadsBefore d act) → ((d : ℕ) → d ≤ now → ReadsAtOrPast d act) → (timed_out : Bool) (d : ℕ) (xs : List Act)
-    → StayedAt now timed_out d xs → Stayed timed_out d (xs ++ act ∷ [])
-stays_behind act now on past true d xs (inl told) = past_more d xs (act ∷ []) told
-stays_behind act now on past true d xs (inr reached) = past_here d xs act (past d reached)
-stays_behind act now on past false d xs both = all_append (ReadsBefore d) xs (act ∷ []) both.0 (on d both.1, tt)
+-- once the act that reads the moment m is among the acts, `TimedOutAsReadBy` of that moment becomes `TimedOutAsRead`
+pub as_read_after_moment : (act : Act) (m : Moment) → moment_in act ≡ Some m → (timed_out : Bool) (d : ℕ) (xs : List Act)
+    → TimedOutAsReadBy m.elapsed timed_out d xs → TimedOutAsRead timed_out d (xs ++ act ∷ [])
+as_read_after_moment act m reads true d xs (inl told) = past_more d xs (act ∷ []) told
+as_read_after_moment act m reads true d xs (inr reached) =
+    record { earlier = xs; telling = act; later = []; at = refl; past = subst (λ (o : Option Moment). IsSomeAnd o (λ told. d ≤ told.elapsed)) (sym reads) reached }
+as_read_after_moment act m reads false d xs both =
+    all_append (ReadsBefore d) xs (act ∷ []) both.0 (subst (λ (o : Option Moment). IfSome o (λ told. told.elapsed < d)) (sym reads) both.1, tt)
 
 module _ (plan : Plan) (commands : List Task) (scope : Scope) where
   -- the model after these acts
@@ -99,16 +101,16 @@ module _ (plan : Plan) (commands : List Task) (scope : Scope) where
     pub deadline : (m : Mark) → mark ≡ Some m → p.deadline ≡ deadline_after plan commands scope before
     pub stays : Stays p.given_up p.deadline between
 
-  -- an outstanding request at the place `at` was put among these acts, with the id of that place, and `Stayed` holds of it since.
-  -- The client's next id is `next`, and `count` requests wait
+  -- an outstanding request at the place `at` was put among these acts, with the id of that place, and `TimedOutAsRead` holds of
+  -- it since. The client's next id is `next`, and `count` requests wait
   abbrev pub StillWaits : List Act → (next count : ℕ) → (number at : ℕ) → Pending Asked → Option Mark → Type 0
-  StillWaits acts next count number at p mark = WasAsked acts Stayed number at (id_at_place next count at) p mark
+  StillWaits acts next count number at p mark = WasAsked acts TimedOutAsRead number at (id_at_place next count at) p mark
 
   -- as `StillWaits`, at the moment `now`, which isn't among the acts yet; and a request with that id waited at the client as it was
   -- after the acts
   abbrev pub StillWaitsAt : List Act → (client : ById Asked) → (now : ℕ) → (next count : ℕ) → (number at : ℕ) → Pending Asked → Option Mark → Type 0
   StillWaitsAt acts client now next count number at p mark =
-      WasAsked acts (StayedAt now) number at (id_at_place next count at) p mark × Ids.Waits client (id_at_place next count at)
+      WasAsked acts (TimedOutAsReadBy now) number at (id_at_place next count at) p mark × Ids.Waits client (id_at_place next count at)
 
   -- a record is true: if it is of a reply in time, late or lost, it came about as the law on such records says
   pub record IsJustified (acts : List Act) (r : Record) : Type 0 where
@@ -186,6 +188,11 @@ module _ (plan : Plan) (commands : List Task) (scope : Scope) where
     written = a.written;
   }
 
+  -- a record whose reply came among the acts (`IsRepliedIn`) is one whose reply came among them and one more
+  abbrev replied_more : (acts : List Act) (act : Act) (r : Record) (line : List ℕ)
+      → IsRepliedIn plan commands scope acts r line → IsRepliedIn plan commands scope (acts ++ act ∷ []) r line
+  replied_more acts act r line a = record { piece = a.piece; moment = a.moment; its = recorded_more acts act r (Gave a.piece a.moment) a.its; came = a.came; id = a.id }
+
   -- a record that is true by the acts so far is true by one act more: one that is lost because the run stopped would be the last
   -- act's, after which no act is made
   true_more : (acts : List Act) (act : Act) (r : Record)
@@ -195,30 +202,12 @@ module _ (plan : Plan) (commands : List Task) (scope : Scope) where
     -- a record of a reply in time is true by one act more
     answered_more : AnswerIsJustified plan commands scope (acts ++ act ∷ []) r
     answered_more line e =
-        let a = is.answered line e in
-        record {
-          piece = a.piece;
-          moment = a.moment;
-          its = recorded_more acts act r (Gave a.piece a.moment) a.its;
-          waits = a.waits;
-          in_time = a.in_time;
-          came = a.came;
-          id = a.id;
-        }
+        let a = is.answered line e in record { reply = replied_more acts act r line a.reply; waits = a.waits; in_time = a.in_time }
 
     -- a late record is true by one act more
     late_more : LateIsJustified plan commands scope (acts ++ act ∷ []) r
     late_more e =
-        let a = is.late e in
-        record {
-          piece = a.piece;
-          moment = a.moment;
-          its = recorded_more acts act r (Gave a.piece a.moment) a.its;
-          too_late = a.too_late;
-          line = a.line;
-          came = a.came;
-          id = a.id;
-        }
+        let a = is.late e in record { line = a.line; reply = replied_more acts act r a.line a.reply; too_late = a.too_late }
 
     -- no act is made after one at which the run stopped
     not_last : (before : List Act) (request : Act) (between : List Act) (then : Act) (behind : List Act) → acts ≡ before ++ request ∷ (between ++ then ∷ behind)
@@ -253,20 +242,20 @@ module _ (plan : Plan) (commands : List Task) (scope : Scope) where
       (λ r is. true_more acts act r obeys is) all
 
   -- an act that changes nothing of the client, and reads no moment, preserves `Honest`
-  pub honest_untold : (acts : List Act) (act : Act) (c : ById Asked) (marks : List (Option Mark)) (rs : List Record) → ((d : ℕ) → ReadsBefore d act)
+  pub honest_without_moment : (acts : List Act) (act : Act) (c : ById Asked) (marks : List (Option Mark)) (rs : List Record) → moment_in act ≡ None
       → Honest acts (acts ++ act ∷ []) c marks rs → Honest (acts ++ act ∷ []) (acts ++ act ∷ []) c marks rs
-  honest_untold acts act c marks rs on h = record {
+  honest_without_moment acts act c marks rs none h = record {
     waiting = rising_follow (StillWaits acts c.next (length c.waiting)) (StillWaits (acts ++ act ∷ []) c.next (length c.waiting)) 0 0 c.waiting marks
-        (λ n j p mark w. asked_more acts act Stayed Stayed n j _ p mark (stays_still act on) w) h.waiting;
+        (λ n j p mark w. asked_more acts act TimedOutAsRead TimedOutAsRead n j _ p mark (as_read_without_moment act none) w) h.waiting;
     written = h.written;
   }
 
-  -- a request that was put among acts, with `Stayed` since, was put with `StayedAt` since once the moment `now` has timed it
-  -- out or not
-  pub at_moment : (acts : List Act) (now number at id : ℕ) (p : Pending Asked) (mark : Option Mark)
-      → WasAsked acts Stayed number at id p mark
-      → WasAsked acts (StayedAt now) number at id (expired now p) mark
-  at_moment acts now number at id p mark s = record {
+  -- a request that was put among acts, with `TimedOutAsRead` since, was put with `TimedOutAsReadBy` since once the moment `now`
+  -- has timed it out or not
+  asked_at_moment : (acts : List Act) (now number at id : ℕ) (p : Pending Asked) (mark : Option Mark)
+      → WasAsked acts TimedOutAsRead number at id p mark
+      → WasAsked acts (TimedOutAsReadBy now) number at id (expired now p) mark
+  asked_at_moment acts now number at id p mark s = record {
     before = s.before;
     request = s.request;
     between = s.between;
@@ -277,33 +266,32 @@ module _ (plan : Plan) (commands : List Task) (scope : Scope) where
     id = s.id;
     put = s.put;
     deadline = s.deadline;
-    stays = stays_at now p.given_up p.deadline s.between s.stays;
+    stays = as_read_at_moment now p.given_up p.deadline s.between s.stays;
   }
 
   -- once the moment `now` has timed out the requests whose deadline has come, the same requests wait, as `StillWaitsAt` says
-  pub expired_waits : (acts : List Act) (now : ℕ) (c : ById Asked) (marks : List (Option Mark))
+  pub still_wait_at_moment : (acts : List Act) (now : ℕ) (c : ById Asked) (marks : List (Option Mark))
       → AllRisingAt (StillWaits acts c.next (length c.waiting)) 0 0 c.waiting marks
       → AllRisingAt (StillWaitsAt acts c now c.next (length (map (expired now) c.waiting))) 0 0 (map (expired now) c.waiting) marks
-  expired_waits acts now c marks all =
+  still_wait_at_moment acts now c marks all =
       subst (λ (n : ℕ). AllRisingAt (StillWaitsAt acts c now c.next n) 0 0 (map (expired now) c.waiting) marks) (sym (length-map c.waiting (expired now)))
       (rising_map (StillWaits acts c.next (length c.waiting)) (StillWaitsAt acts c now c.next (length c.waiting)) (expired now) 0 0 c.waiting marks
-      (λ n j p mark low w. let below : j < length c.waiting = omega (arith, low) in (at_moment acts now n j _ p mark w, (j, below, refl))) all)
+      (λ n j p mark low w. let below : j < length c.waiting = omega (arith, low) in (asked_at_moment acts now n j _ p mark w, (j, below, refl))) all)
 
-  -- requests that wait as `StillWaitsAt` says, at the moment `now`, wait as `StillWaits` says once the act that reads that moment is among
-  -- the acts
-  pub behind_moment : (acts : List Act) (act : Act) (client : ById Asked) (now next count : ℕ) (ps : List (Pending Asked))
-      (marks : List (Option Mark))
-      → ((d : ℕ) → now < d → ReadsBefore d act) → ((d : ℕ) → d ≤ now → ReadsAtOrPast d act)
-      → AllRisingAt (StillWaitsAt acts client now next count) 0 0 ps marks → AllRisingAt (StillWaits (acts ++ act ∷ []) next count) 0 0 ps marks
-  behind_moment acts act client now next count ps marks on past all =
-      rising_follow (StillWaitsAt acts client now next count) (StillWaits (acts ++ act ∷ []) next count) 0 0 ps marks
-      (λ n j p mark w. asked_more acts act (StayedAt now) Stayed n j _ p mark (stays_behind act now on past) w.0) all
+  -- requests that wait as `StillWaitsAt` says, at the moment m, wait as `StillWaits` says once the act that reads that moment is
+  -- among the acts
+  pub still_wait_after_moment : (acts : List Act) (act : Act) (client : ById Asked) (m : Moment) (next count : ℕ) (ps : List (Pending Asked))
+      (marks : List (Option Mark)) → moment_in act ≡ Some m
+      → AllRisingAt (StillWaitsAt acts client m.elapsed next count) 0 0 ps marks → AllRisingAt (StillWaits (acts ++ act ∷ []) next count) 0 0 ps marks
+  still_wait_after_moment acts act client m next count ps marks reads all =
+      rising_follow (StillWaitsAt acts client m.elapsed next count) (StillWaits (acts ++ act ∷ []) next count) 0 0 ps marks
+      (λ n j p mark w. asked_more acts act (TimedOutAsReadBy m.elapsed) TimedOutAsRead n j _ p mark (as_read_after_moment act m reads) w.0) all
 
   -- an act that reads a moment, and so times requests out, preserves `Honest`
-  pub honest_told : (acts : List Act) (act : Act) (now : ℕ) (c : ById Asked) (marks : List (Option Mark))
-      (rs : List Record) → ((d : ℕ) → now < d → ReadsBefore d act) → ((d : ℕ) → d ≤ now → ReadsAtOrPast d act)
-      → Honest acts (acts ++ act ∷ []) c marks rs → Honest (acts ++ act ∷ []) (acts ++ act ∷ []) (expires c now) marks rs
-  honest_told acts act now c marks rs on past h = record {
-    waiting = behind_moment acts act c now _ _ (map (expired now) c.waiting) marks on past (expired_waits acts now c marks h.waiting);
+  pub honest_after_moment : (acts : List Act) (act : Act) (m : Moment) (c : ById Asked) (marks : List (Option Mark))
+      (rs : List Record) → moment_in act ≡ Some m
+      → Honest acts (acts ++ act ∷ []) c marks rs → Honest (acts ++ act ∷ []) (acts ++ act ∷ []) (expires c m.elapsed) marks rs
+  honest_after_moment acts act m c marks rs reads h = record {
+    waiting = still_wait_after_moment acts act c m _ _ (map (expired m.elapsed) c.waiting) marks reads (still_wait_at_moment acts m.elapsed c marks h.waiting);
     written = h.written;
   }

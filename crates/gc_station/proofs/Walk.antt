@@ -23,7 +23,7 @@ use Rattle.gc_station.specs.declared.progress.Waiting.{Waiting}
 use Rattle.gc_links.specs.Acts.{Act, Told, Untold, Put, Cut, Gave, Silent, Ended, Broke, Closed, Opened, Unopened}
 use Rattle.gc_station.specs.Deciding.{is_quiet}
 use Rattle.gc_station.specs.Marks.{commands_in}
-use Rattle.gc_station.specs.Progressing.{turned, moment_noted, cycle_begun, skipped, failing, opened, after_failure, cleared, request_noted, null_sent, renewed, sent, line_synchronizing, lines_synchronizing, pause_ended, drained, quieted, time_passed, early_noted, ended_for, closed, setup_sent}
+use Rattle.gc_station.specs.Progressing.{turned, moment_noted, cycle_begun, skipped, failing, opened, after_failure, cleared, request_noted, null_sent, resynchronized, sent, line_synchronizing, lines_synchronizing, pause_ended, drained, quieted, time_passed, early_noted, ended_for, closed, setup_sent}
 use Rattle.gc_station.specs.ActKinds.{Puts}
 use Rattle.gc_station.specs.Model.{Model, waiting_of, next_request_text, null_text, first_text, listed_after_skip, with_listed, after_pass, Performs, is_heard, with_progress, with_moment, with_rest, with_more_records, asks_for, asks_first, asks_next, unsent_record, line_came, lines_came, lines_completed, piece_came, after_piece, piece_noted, piece_at, after_read, after_put, after_close, moved, settles, losing, after, after_all, cycle_length, text_or_null, asks_setup, request_for, null_request, request_or_null}
 use Rattle.gc_station.specs.NextCommand.{place_next, commands_left, mark_next, commands_before, upcoming_after}
@@ -317,14 +317,16 @@ moved_changed plan commands (Stop why) s act = refl
 abbrev pub HoldsAfterPut : (Act → Model → Type 0) → ℕ → List ℕ → Model → Type 0
 HoldsAfterPut P requests bytes t = ((m : Moment) → P (Put bytes) t) × ((n : ℕ) → P (Cut bytes n) (with_progress (failing (cause.Write requests n)) t))
 
+-- what has to hold for P to hold after an act that reads the clock: P at each moment, where `t` gives the model but for the time
+-- outs, and P where the clock couldn't be read by a station with the model u
+abbrev pub HoldsAfterClock : (Act → Model → Type 0) → (t : Moment → Model) → (u : Model) → Type 0
+HoldsAfterClock P t u = ((m : Moment) → P (Told m) (with_moment m (t m))) × ((n : ℕ) → P Untold (with_progress (failing cause.Clock) u))
+
 -- what has to hold for P to hold after an act of this action: P in each case that there may be
 abbrev pub HoldsInEachCase : Plan → List Task → (Act → Model → Type 0) → Action → Model → Type 0
-HoldsInEachCase plan commands P ReadClock s =
-    ((m : Moment) → P (Told m) (with_moment m (with_progress (λ p. early_noted plan (commands_in s.marks) (moment_noted m p)) s))) × ((n : ℕ) → P Untold (with_progress (failing cause.Clock) s))
-HoldsInEachCase plan commands P Renew s = ((m : Moment) → P (Told m) (with_moment m
-    (with_progress (λ p. early_noted plan 0 (renewed plan m p)) s))) × ((n : ℕ) → P Untold (with_progress (failing cause.Clock) s))
-HoldsInEachCase plan commands P Begin s = ((m : Moment) → P (Told m) (with_moment m (with_progress (cycle_begun plan (cycle_length plan commands) m) s)))
-    × ((n : ℕ) → P Untold (with_progress (failing cause.Clock) s))
+HoldsInEachCase plan commands P ReadClock s = HoldsAfterClock P (λ m. with_progress (λ p. early_noted plan (commands_in s.marks) (moment_noted m p)) s) s
+HoldsInEachCase plan commands P Renew s = HoldsAfterClock P (λ m. with_progress (λ p. early_noted plan 0 (resynchronized plan m p)) s) s
+HoldsInEachCase plan commands P Begin s = HoldsAfterClock P (λ m. with_progress (cycle_begun plan (cycle_length plan commands) m) s) s
 HoldsInEachCase plan commands P Open s = ((m : Moment) → P Opened (with_progress opened s)) × ((n : ℕ) → P Unopened (with_progress (after_failure plan (commands_in s.marks) cause.Open) s))
 HoldsInEachCase plan commands P Clear s = HoldsAfterPut P (commands_before plan commands s.progress) (10 ∷ []) (with_progress cleared s)
 HoldsInEachCase plan commands P Ask s = HoldsAfterPut P (commands_before plan commands s.progress) (null_text s.progress.word) (with_progress (null_sent plan) s)
@@ -334,10 +336,9 @@ HoldsInEachCase plan commands P Prepare s =
 HoldsInEachCase plan commands P Send s =
     HoldsAfterPut P (commands_before plan commands s.progress) (first_text s.progress.moment.utc s.client (commands_left commands s.progress)) (model_sent plan commands s)
 HoldsInEachCase plan commands P Skip s =
-    ((m : Moment) → P (Told m) (with_moment m (with_progress (λ p. early_noted plan (commands_in s.marks)
-    (skipped (upcoming_after 1 commands s.progress) m p)) (with_listed (listed_after_skip plan commands s (Told m))
-    (with_more_records (unsent_record plan commands s.progress (Told m)) s)))))
-    × ((n : ℕ) → P Untold (with_progress (failing cause.Clock) (with_more_records [] s)))
+    HoldsAfterClock P (λ m. with_progress (λ p. early_noted plan (commands_in s.marks) (skipped (upcoming_after 1 commands s.progress) m p))
+    (with_listed (listed_after_skip plan commands s (Told m)) (with_more_records (unsent_record plan commands s.progress (Told m)) s)))
+    (with_more_records [] s)
 HoldsInEachCase plan commands P Pass s = ((m : Moment) → P (Told m) (after_pass plan commands s (Told m))) × ((n : ℕ) → P Untold (with_progress (failing cause.Clock) s))
 HoldsInEachCase plan commands P Flush s = HoldsAfterPut P (commands_before plan commands s.progress) (next_request_text s.client (Table NullProc)) (with_progress request_noted (asks_for (null_request plan) s))
 HoldsInEachCase plan commands P (Read until) s =

@@ -64,17 +64,21 @@ pub record Completes (rest piece line : List ℕ) : Type 0 where
   pub others : List (List ℕ)
   pub is : lines_completed rest piece ≡ front ++ line ∷ others
 
--- among `acts` a read that gave `piece` adds the record `r`, after the act that writes its request (`its`). Neither the acts
--- between them (`waits`) nor the read (`in_time`) read a moment at or past the request's deadline. The piece completes `line`,
--- which has the request's id
-pub record IsAnsweredIn (plan : Plan) (commands : List Task) (scope : Scope) (acts : List Act) (r : Record) (line : List ℕ) : Type 0 where
+-- among `acts` a read that gave `piece` adds the record `r`, after the act that writes its request (`its`). The piece completes
+-- `line`, which has the request's id
+pub record IsRepliedIn (plan : Plan) (commands : List Task) (scope : Scope) (acts : List Act) (r : Record) (line : List ℕ) : Type 0 where
   pub piece : List ℕ
   pub moment : Moment
   pub its : IsRecordedBy plan commands scope acts r (Gave piece moment)
-  pub waits : AllByRecursion (ReadsBefore (deadline_after plan commands scope its.before)) its.between
-  pub in_time : moment.elapsed < deadline_after plan commands scope its.before
   pub came : Completes (state_after plan commands scope (its.before ++ its.request ∷ its.between)).rest piece line
   pub id : heard line ≡ Some (state_after plan commands scope its.before).client.next
+
+-- among `acts` a read of `line`, the reply to its request, adds the record `r`. Neither the acts between the request and the read
+-- (`waits`) nor the read (`in_time`) read a moment at or past the request's deadline
+pub record IsAnsweredIn (plan : Plan) (commands : List Task) (scope : Scope) (acts : List Act) (r : Record) (line : List ℕ) : Type 0 where
+  pub reply : IsRepliedIn plan commands scope acts r line
+  pub waits : AllByRecursion (ReadsBefore (deadline_after plan commands scope reply.its.before)) reply.its.between
+  pub in_time : reply.moment.elapsed < deadline_after plan commands scope reply.its.before
 
 -- if a reply in time ended the command of the record `r` (answered, unreadable or elsewhere), the line of the reply (`line_of`)
 -- came as `IsAnsweredIn` says

@@ -14,7 +14,7 @@ use Rattle.gc_links.specs.declared.link.Moment.{Moment}
 use Rattle.gc_station.specs.declared.plan.Plan.{Plan}
 use Rattle.gc_station.specs.declared.progress.Action.TheVariants.{Renew, Stop}
 use Rattle.gc_links.specs.Acts.{Act, Told, Gave}
-use Rattle.gc_station.specs.Answers.{IsRecordedBy, Completes, deadline_after}
+use Rattle.gc_station.specs.Answers.{IsRecordedBy, IsRepliedIn, Completes, deadline_after}
 use Rattle.gc_station.specs.Quiet.{IsAsking}
 use Rattle.gc_station.specs.Records.{Record}
 use Rattle.gc_station.specs.Runs.{state_after}
@@ -34,17 +34,12 @@ pub record OneReadsPast (deadline : ℕ) (acts : List Act) : Type 0 where
   pub at : acts ≡ earlier ++ telling ∷ later
   pub past : ReadsAtOrPast deadline telling
 
--- among `acts` a read that gave `piece` adds the record `r`, after the act that writes its request (`its`). Between the two, or
--- by the read itself, a moment at or past the request's deadline is read; and the piece completes a line (`line`) with the
--- request's id
+-- among `acts` a read of `line`, the reply to its request, adds the record `r`. Between the request and the read, or by the read
+-- itself, a moment at or past the request's deadline is read
 pub record IsLateIn (plan : Plan) (commands : List Task) (scope : Scope) (acts : List Act) (r : Record) : Type 0 where
-  pub piece : List ℕ
-  pub moment : Moment
-  pub its : IsRecordedBy plan commands scope acts r (Gave piece moment)
-  pub too_late : OneReadsPast (deadline_after plan commands scope its.before) (its.between ++ Gave piece moment ∷ [])
   pub line : List ℕ
-  pub came : Completes (state_after plan commands scope (its.before ++ its.request ∷ its.between)).rest piece line
-  pub id : heard line ≡ Some (state_after plan commands scope its.before).client.next
+  pub reply : IsRepliedIn plan commands scope acts r line
+  pub too_late : OneReadsPast (deadline_after plan commands scope reply.its.before) (reply.its.between ++ Gave reply.piece reply.moment ∷ [])
 
 -- between `request`, which comes after the acts `before`, and `act` another request was sent (`other`); that other one is still
 -- outstanding, and `act` is a read that completes a line (`line`) with its id

@@ -7,12 +7,16 @@ use Rattle.gc_links.specs.Acts.{Act, Gave, Closed}
 use Rattle.gc_station.specs.Model.{Model, opening, is_heard, after}
 use Rattle.gc_station.specs.Scopes.{Scope}
 
--- the bytes on a connection after one more act, if there were `bytes` before it: a read adds its piece if what comes is heard
--- (`heard`), and a close leaves none
+-- what there is of a connection's bytes after one more act, if there were `bytes` before it: a read changes them by its piece, as
+-- `add` does, if what comes is heard (`heard`), and a close leaves none
+abbrev pub bytes_by : (add : (bytes piece : List ℕ) → List ℕ) → (heard : Bool) → Act → (bytes : List ℕ) → List ℕ
+bytes_by add heard (Gave piece m) bytes = if heard then add bytes piece else bytes
+bytes_by add heard Closed bytes = []
+bytes_by add heard act bytes = bytes
+
+-- the bytes on a connection after one more act, if there were `bytes` before it: all that are heard
 abbrev pub bytes_heard_with : (heard : Bool) → Act → (bytes : List ℕ) → List ℕ
-bytes_heard_with heard (Gave piece m) bytes = if heard then bytes ++ piece else bytes
-bytes_heard_with heard Closed bytes = []
-bytes_heard_with heard act bytes = bytes
+bytes_heard_with heard act bytes = bytes_by (λ bytes piece. bytes ++ piece) heard act bytes
 
 -- the bytes on a connection after these acts, if the station has the model `s` and there were `bytes` before them
 abbrev pub bytes_heard_from : Plan → List Task → Model → (bytes : List ℕ) → List Act → List ℕ

@@ -12,7 +12,7 @@ use Rattle.gc_links.specs.Coding.{acts_code}
 use Rattle.gc_station.specs.declared.plan.Plan.{Plan}
 use Rattle.gc_station.specs.Records.{Record, texts_of}
 use Rattle.gc_station.specs.Model.{opening, Runs}
-use Rattle.gc_station.specs.Runs.{state_after}
+use Rattle.gc_station.specs.Runs.{RunSeen, state_after}
 use Rattle.gc_station.specs.Scopes.{Scope, scoped, ForEachReadings, ForReadings}
 
 -- what contracts see of a link and a book just before an act of a run; each act is a turn of the run
@@ -56,16 +56,17 @@ module _ (plan : Plan) (commands : List Task) (scope : Scope) (text : Record →
     pub saw : seen' ≡ seen ++ turns
     pub kept : AreKept plan commands scope text told taken [] acts turns
 
--- a run with this many turns, of a link, a book and a list of turns as above
-module _ (plan : Plan) (commands : List Task) (turns : ℕ) (text : Record → List ℕ) (told told' : Option (List Act)) (taken : Option (List ℕ))
-    (seen seen' : List Snapshot) where
+-- a run with this many turns, of which `old` is seen before it and `new` after it, with a list of turns as above
+module _ (plan : Plan) (commands : List Task) (turns : ℕ) (old new : RunSeen) (seen seen' : List Snapshot) where
   -- `KeepsUp` of the run, for each function that gives each line's reading for a call
   abbrev pub KeepsUpForEachReadings : (others : List Act) → Type 0
-  KeepsUpForEachReadings others = ForEachReadings (λ reads. KeepsUp plan commands (scoped turns reads) text told told' taken seen seen' others)
+  KeepsUpForEachReadings others =
+      ForEachReadings (λ reads. KeepsUp plan commands (scoped turns reads) old.text old.acts new.acts old.taken seen seen' others)
 
   -- `KeepsUp` of the run, for each function that gives each line's reading for a call; and there is such a function
   abbrev pub KeepsUpForReadings : (others : List Act) → Type 0
-  KeepsUpForReadings others = ForReadings (λ reads. KeepsUp plan commands (scoped turns reads) text told told' taken seen seen' others)
+  KeepsUpForReadings others =
+      ForReadings (λ reads. KeepsUp plan commands (scoped turns reads) old.text old.acts new.acts old.taken seen seen' others)
 
 -- the acts of a link after a run with this result: a close if the book failed (`Err`); otherwise none
 abbrev pub close_if_failed : {X E : Type 0} → Result X E → List Act

@@ -36,7 +36,7 @@ pub use Rattle.gc_station.specs.Lines.{is_reply}
 use Rattle.gc_station.specs.Attempts.{listed_after, listed_by}
 use Rattle.gc_station.specs.Marks.{commands_in, records_of, unsent_as, last_well, fresh_after}
 use Rattle.gc_station.specs.NextCommand.{place_next, commands_left, cycles_begun, mark_next, mark_setup, commands_before, upcoming_after}
-use Rattle.gc_station.specs.Progressing.{at_start, turned, moment_noted, cycle_begun, skipped, attempts_left_out, unsent_at, failing, opened, after_failure, cleared, request_noted, null_sent, renewed, sent, behind_noted, line_noted, lines_synchronizing, bytes_noted, silent, early_noted, closed, loses_all, setup_sent}
+use Rattle.gc_station.specs.Progressing.{at_start, turned, moment_noted, cycle_begun, skipped, attempts_left_out, unsent_at, failing, opened, after_failure, cleared, request_noted, null_sent, resynchronized, sent, behind_noted, line_noted, lines_synchronizing, bytes_noted, silent, early_noted, closed, loses_all, setup_sent}
 use Rattle.gc_station.specs.Records.{Record}
 use Rattle.gc_station.specs.Requests.{RunRequest, requests, of_task, command_at}
 use Rattle.gc_station.specs.Scopes.{Scope}
@@ -223,15 +223,15 @@ asks_setup plan commands s = asks_for (request_of_setup plan commands s.progress
 abbrev pub with_client : ById Asked → Model → Model
 with_client client s = record s { client = client }
 
--- how the cycle's next command ends if it isn't sent: as missed if the cycle is missed at the progress `p`, otherwise as skipped
-abbrev pub end_unsent : Progress → End
-end_unsent p = if p.missed then Missed else Skipped
+-- how a command ends that isn't sent: as missed if its cycle is missed, otherwise as skipped
+abbrev pub end_unsent : (missed : Bool) → End
+end_unsent missed = if missed then Missed else Skipped
 
 -- the record of the first of these commands, which isn't sent (`end_unsent`). `m` is the moment read for that record, and the
 -- command has `mark`. No record if there is no command
 abbrev pub first_unsent_record : Progress → Moment → Mark → List Task → List Record
 first_unsent_record p m mark [] = []
-first_unsent_record p m mark (task ∷ others) = unsent_as (unsent_at m p) mark task.command (end_unsent p) ∷ []
+first_unsent_record p m mark (task ∷ others) = unsent_as (unsent_at m p) mark task.command (end_unsent p.missed) ∷ []
 
 -- the record of the cycle's next command, which isn't sent, if the act read the clock; no record if the clock couldn't be read
 abbrev pub unsent_record : Plan → List Task → Progress → Act → List Record
@@ -241,7 +241,7 @@ unsent_record plan commands p _ = []
 -- whether a command of the current attempt has ended as its rule names, once the cycle's next command was recorded without being
 -- sent; `listed` says whether one had before
 abbrev pub listed_unsent : Plan → List Task → Progress → (listed : Bool) → Bool
-listed_unsent plan commands p listed = listed_after listed (mark_next plan commands p).expected None (end_unsent p)
+listed_unsent plan commands p listed = listed_after listed (mark_next plan commands p).expected None (end_unsent p.missed)
 
 -- whether a command of the current attempt has ended as its rule names, after an act that records the cycle's next command
 -- without sending it: `listed_unsent`, or as before if the clock couldn't be read
@@ -389,7 +389,7 @@ after_close plan cause s = with_progress (closed plan (waiting_of s) cause) (wit
 -- requests are lost if that follows (`ended`)
 abbrev pub moved : Plan → List Task → Action → Model → Act → Model
 moved plan commands ReadClock s act = after_clock (λ m p. early_noted plan (commands_in s.marks) (moment_noted m p)) s act
-moved plan commands Renew s act = after_clock (λ m p. early_noted plan 0 (renewed plan m p)) s act
+moved plan commands Renew s act = after_clock (λ m p. early_noted plan 0 (resynchronized plan m p)) s act
 moved plan commands Begin s act = after_clock (cycle_begun plan (cycle_length plan commands)) s act
 moved plan commands Open s act = after_open plan s act
 moved plan commands Clear s act = after_put (commands_before plan commands s.progress) (with_progress cleared) s act

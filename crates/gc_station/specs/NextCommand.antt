@@ -90,7 +90,7 @@ is_chained_after count commands p = p.missed || first_is_chained (drop (place_ne
 abbrev pub others_after : (count : ℕ) → List Task → Progress → ℕ
 others_after count commands p = others_in (drop (place_next commands p + count) commands)
 
--- what is noted of the command `count` places after the cycle's next one, once that is the next one
+-- what is noted of the cycle's next command once the cycle has gone on by `count` commands
 abbrev pub upcoming_after : (count : ℕ) → List Task → Progress → Upcoming
 upcoming_after count commands p = record {
   is_chained = is_chained_after count commands p;

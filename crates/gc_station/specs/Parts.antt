@@ -50,8 +50,8 @@ abbrev pub only_steps : List (Step Asked) → Part
 only_steps steps = record { sync_steps = []; steps = steps; marks = [] }
 
 -- the part in which nothing happens
-abbrev pub nothing : Part
-nothing = only_steps []
+abbrev pub idle_part : Part
+idle_part = only_steps []
 
 -- this client after one step, by its rule with the window of seven
 abbrev pub client_stepped : ById Asked → Step Asked → ById Asked
@@ -63,8 +63,8 @@ client_after c [] = c
 client_after c (s ∷ ss) = client_after (client_stepped c s) ss
 
 -- one part from what happens in `p` and then in `q`
-abbrev pub joined : (p q : Part) → Part
-joined p q = record { sync_steps = p.sync_steps ++ q.sync_steps; steps = p.steps ++ q.steps; marks = p.marks ++ q.marks }
+abbrev pub parts_joined : (p q : Part) → Part
+parts_joined p q = record { sync_steps = p.sync_steps ++ q.sync_steps; steps = p.steps ++ q.steps; marks = p.marks ++ q.marks }
 
 -- the part that consists of the request `x`, sent at the moment `now`
 abbrev pub request_part : (now : ℕ) → Outgoing → Part
@@ -73,7 +73,7 @@ request_part now x = record { sync_steps = []; steps = Send x.command.target x.c
 -- the part that consists of the request for the first of these commands, sent at the moment `now` with `mark`; nothing if there
 -- is no command
 abbrev pub first_request_part : (now : ℕ) → Mark → List Task → Part
-first_request_part now mark [] = nothing
+first_request_part now mark [] = idle_part
 first_request_part now mark (task ∷ others) = request_part now (request_for mark task)
 
 -- the part of an action that writes bytes, all of them or some, if the station has the model `s`: one request for `Flush`,
@@ -84,7 +84,7 @@ put_part plan commands s action.Prepare =
     request_part s.progress.moment.elapsed (request_of_setup plan commands s.progress)
 put_part plan commands s action.Send =
     first_request_part s.progress.moment.elapsed (mark_next plan commands s.progress) (commands_left commands s.progress)
-put_part plan commands s _ = nothing
+put_part plan commands s _ = idle_part
 
 -- the client's steps for `piece`, if `rest` are the bytes before it since the last line feed: if the piece is heard (`ready`),
 -- the client hears the lines that it completes; otherwise there are none, as if these lines were lost on the way
@@ -100,7 +100,7 @@ client_part plan commands s action (Silent m) = only_steps (Expire m.elapsed ∷
 client_part plan commands s action (Gave piece m) = only_steps (Expire m.elapsed ∷ heard_steps (is_heard s.progress.phase) s.rest piece)
 client_part plan commands s action (Put bytes) = put_part plan commands s action
 client_part plan commands s action (Cut bytes count) = put_part plan commands s action
-client_part plan commands s action _ = nothing
+client_part plan commands s action _ = idle_part
 
 -- the part of an act that performs `action` while the station synchronizes; it has the model `s` before the act. The null
 -- procedure of the first id that isn't answered is sent, whole or in part, or the lines of a piece are heard
@@ -108,7 +108,7 @@ abbrev pub sync_part : Model → Action → Act → Part
 sync_part s action.Ask (Put bytes) = only_sync_steps (Asks ∷ [])
 sync_part s action.Ask (Cut bytes count) = only_sync_steps (Asks ∷ [])
 sync_part s (action.Read until) (Gave piece m) = only_sync_steps (if is_heard s.progress.phase then map Hears (lines_completed s.rest piece) else [])
-sync_part s action act = nothing
+sync_part s action act = idle_part
 
 -- the part of an act that performs `action`, if the station has the model `s` before it
 abbrev pub part_of_act : Plan → List Task → Model → Action → Act → Part
@@ -125,11 +125,11 @@ ends_part plan commands s act = has_begun s.progress && loses_all (after plan co
 abbrev pub in_front : Part → (ends : Bool) → List Part → List Part
 in_front p true parts = p ∷ parts
 in_front p false [] = p ∷ []
-in_front p false (q ∷ parts) = joined p q ∷ parts
+in_front p false (q ∷ parts) = parts_joined p q ∷ parts
 
 -- the parts of these acts, from the model `s` on
 abbrev pub parts_of : Plan → List Task → Model → List Act → List Part
-parts_of plan commands s [] = nothing ∷ []
+parts_of plan commands s [] = idle_part ∷ []
 parts_of plan commands s (act ∷ acts) =
     in_front (part_of_act plan commands s (action_at plan s) act) (ends_part plan commands s act) (parts_of plan commands (after plan commands s act) acts)
 

@@ -20,11 +20,15 @@ abbrev pub doubled : (n time : ℕ) → ℕ
 doubled zero time = time
 doubled (suc n) time = 2 * doubled n time
 
+-- `time`, cut to a minute, and then raised to the quiet time
+abbrev pub pause_within : (quiet time : ℕ) → ℕ
+pause_within quiet time = max (min time 60000) quiet
+
 -- the length of the pause after this number of failures in a row: 0 after none; the quiet time after the first; and after each
 -- further one twice the pause before, up to a minute and never below the quiet time
 abbrev pub pause_after : Plan → ℕ → ℕ
 pause_after plan zero = 0
-pause_after plan (suc n) = max (min (doubled n plan.quiet) 60000) plan.quiet
+pause_after plan (suc n) = pause_within plan.quiet (doubled n plan.quiet)
 
 -- an action that changes neither the tries nor the pause: it doesn't make a connection, read or close one
 abbrev pub LeavesTries : Action → Type 0

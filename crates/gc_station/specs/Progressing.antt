@@ -74,15 +74,19 @@ cycle_start plan m p =
     if nat_eq p.left plan.cycles || nat_eq plan.every 0 then m.elapsed
     else min (later p.began plan.every) m.elapsed
 
+-- how late a cycle begins that is begun at the moment `m`: how long before `m` it counts as begun (`cycle_start`)
+abbrev pub lateness : Plan → Moment → Progress → ℕ
+lateness plan m p = m.elapsed - cycle_start plan m p
+
 -- whether a cycle that would begin at the moment `m` is missed: the one after it is due by then, or would be, if it is the last
 -- one
 abbrev pub is_missed_at : Plan → Moment → Progress → Bool
-is_missed_at plan m p = nat_lt 0 plan.every && nat_le plan.every (m.elapsed - cycle_start plan m p)
+is_missed_at plan m p = nat_lt 0 plan.every && nat_le plan.every (lateness plan m p)
 
 -- when a cycle that begins at the moment `m` was due, by the clock of time stamps, in milliseconds since 1970-01-01: as much
 -- before `m` as by the clock for deadlines, at the earliest 0
 abbrev pub due_of : Plan → Moment → Progress → ℕ
-due_of plan m p = m.utc - (m.elapsed - cycle_start plan m p)
+due_of plan m p = m.utc - lateness plan m p
 
 -- the progress after a cycle of `count` commands began at the moment `m`. If the cycle is missed, none of them is sent
 abbrev pub cycle_begun : Plan → (count : ℕ) → Moment → Progress → Progress
@@ -205,8 +209,8 @@ null_sent plan p = let q = request_noted p in record q { again = later p.moment.
 -- the progress of a station that resynchronizes at this moment: no null procedure is answered, no chain goes on, and the setup
 -- is sent again. If nothing is sent before the next cycle is due, the time after which the line is dead begins with the first
 -- null procedure
-abbrev pub renewed : Plan → Moment → Progress → Progress
-renewed plan m p =
+abbrev pub resynchronized : Plan → Moment → Progress → Progress
+resynchronized plan m p =
     let q = moment_noted m p in
     setup_restarted plan (record q { word = the_word; again = 0; asked = p.asked && goes_on plan q; chain_unbroken = false; behind = 0 })
 

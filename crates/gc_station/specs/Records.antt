@@ -3,7 +3,7 @@
 use Rattle.std.specs.Prelude.{◌≡◌, ℕ, ◌<◌, List, ◌∷◌, ◌++◌, length, take, Option, Result, Ok, Err}
 use Rattle.std.specs.List.{flat_map}
 use Rattle.std.specs.Io.KnownBytes.{Appends}
-use Rattle.gc_lines.specs.Ports.{TakesFront}
+use Rattle.gc_lines.specs.Ports.{TakesPart}
 use Rattle.gc_texts.specs.declared.stamp.Stamp.{Stamp}
 use Rattle.gc_texts.specs.declared.turn.Turn.{Turn}
 use Rattle.gc_texts.specs.declared.wish.Wish.{Wish}
@@ -50,7 +50,7 @@ Grew {A = A} old new = (more : List A) × (new ≡ old ++ more)
 -- failed (`Err`) a first part that isn't all of it
 abbrev pub Writes : {X E : Type 0} → (old new : Option (List ℕ)) → (text : List ℕ) → Result X E → Type 0
 Writes old new text (Ok _) = Appends old new text
-Writes old new text (Err _) = (part : ℕ) × TakesFront old new part text
+Writes old new text (Err _) = TakesPart old new text
 
 -- the texts of `records`, one after the other, each as `text` writes it
 abbrev pub texts_of : (Record → List ℕ) → List Record → List ℕ

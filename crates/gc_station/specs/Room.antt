@@ -1,6 +1,7 @@
 -- How many requests may be in flight if one is sent: this project's own. An act is one call on the link, with its result.
 use Rattle.std.specs.Prelude.{◌≡◌, ◌⊎◌, ◌<◌, length}
 use Rattle.gc_client.specs.Rule.{deadlines}
+use Rattle.gc_client.specs.declared.window.TheConstants.{WINDOW}
 use Rattle.gc_station.specs.Quiet.{IsAsking}
 use Rattle.gc_station.specs.Runs.{state_after, OfAnyActs}
 use Rattle.gc_station.specs.Model.{action_at}
@@ -11,4 +12,4 @@ abbrev pub RequestsHaveRoom : Type 0
 RequestsHaveRoom = OfAnyActs (λ plan commands scope acts.
     let s = state_after plan commands scope acts in
     IsAsking (action_at plan s)
-    → ((length (deadlines s.client.waiting) ≡ 0) ⊎ (length (deadlines s.client.waiting) < plan.width)) × (length s.client.waiting < 7))
+    → ((length (deadlines s.client.waiting) ≡ 0) ⊎ (length (deadlines s.client.waiting) < plan.width)) × (length s.client.waiting < WINDOW))

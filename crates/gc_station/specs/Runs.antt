@@ -8,6 +8,7 @@ use Rattle.gc_texts.specs.declared.tasks.Task.{Task}
 use Rattle.gc_texts.specs.declared.fault.RunFault.{RunFault}
 use Rattle.gc_texts.specs.declared.fault.RunFault.TheVariants.{Output}
 use Rattle.gc_station.specs.Causes.{fault_of_cause}
+use Rattle.gc_station.specs.declared.book.Book.{Ghosts as Book}
 use Rattle.gc_station.specs.declared.plan.Plan.{Plan}
 use Rattle.gc_station.specs.declared.cause.Cause.{Cause}
 use Rattle.gc_station.specs.declared.progress.Action.{Action}
@@ -95,17 +96,31 @@ module _ (plan : Plan) (commands : List Task) (scope : Scope) (text : Record →
   Ran (Err Output) = BookFailed
   Ran (Err fault) = (cause : Cause) × (tally : Tally) × RanTo cause tally × (fault_of_cause cause ≡ Some fault)
 
--- a run with this many turns. From `told` to `told'` its link recorded the acts, and from `taken` to `taken'` its book took the
--- records by `text`
-module _ (plan : Plan) (commands : List Task) (turns : ℕ) (text : Record → List ℕ) (told told' : Option (List Act)) (taken taken' : Option (List ℕ)) where
+-- what contracts see of the link and the book of a run at a moment
+pub record RunSeen : Type 0 where
+  -- the acts that the link has recorded, if they are known
+  pub acts : Option (List Act)
+  -- the bytes of a record, as the book writes them
+  pub text : Record → List ℕ
+  -- the bytes that the book has taken, if they are known
+  pub taken : Option (List ℕ)
+
+-- what is seen of a link that has recorded these acts, and of this book, by the ghost members of its trait
+abbrev pub run_seen : {B : Type 0} → Option (List Act) → Book B → B → RunSeen
+run_seen acts of_book book = record { acts = acts; text = of_book.text book; taken = of_book.taken book }
+
+-- a run with this many turns, of which `old` is seen before it and `new` after it
+module _ (plan : Plan) (commands : List Task) (turns : ℕ) (old new : RunSeen) where
   -- the run with this result ended as `EndsAs` says, for each function that gives each line's reading for a call
-  abbrev pub EndsForReadings : {E : Type 0} → Result (Cause × Tally) E → Type 0
-  EndsForReadings result = ForEachReadings (λ reads. EndsAs plan commands (scoped turns reads) text told told' taken taken' result)
+  abbrev pub EndsForEachReadings : {E : Type 0} → Result (Cause × Tally) E → Type 0
+  EndsForEachReadings result =
+      ForEachReadings (λ reads. EndsAs plan commands (scoped turns reads) old.text old.acts new.acts old.taken new.taken result)
 
   -- the run with this result is as `Ran` says, for each function that gives each line's reading for a call; and there is such a
   -- function
   abbrev pub RanForReadings : Result Tally RunFault → Type 0
-  RanForReadings result = ForReadings (λ reads. Ran plan commands (scoped turns reads) text told told' taken taken' result)
+  RanForReadings result =
+      ForReadings (λ reads. Ran plan commands (scoped turns reads) old.text old.acts new.acts old.taken new.taken result)
 
 -- after a run with the fault `Output` its book has failed (`new`); after any other run the book has failed exactly if it had
 -- before (`old`)

@@ -164,15 +164,16 @@ CanPerform commands action station =
 
 -- after a call with this result: the model `s` describes the station, and the book, which had taken `start` before the run, has
 -- taken the records of `s` (`Ok`); or the book failed at one of the records of `s` that come after `before` (`Err`)
-abbrev pub ComesTo : {X E : Type 0} → (Record → List ℕ) → (before : List Record) → Station → (start taken : Option (List ℕ)) → Model → Result X E → Type 0
-ComesTo text before station start taken s (Ok _) = Refines station s × Took text start taken s
-ComesTo text before station start taken s (Err _) = TookPart text before start taken s
+abbrev pub RefinesOrTookPart : {X E : Type 0} → (Record → List ℕ) → (before : List Record) → Station → (start taken : Option (List ℕ)) → Model → Result X E → Type 0
+RefinesOrTookPart text before station start taken s (Ok _) = Refines station s × Took text start taken s
+RefinesOrTookPart text before station start taken s (Err _) = TookPart text before start taken s
 
 -- if the model `s` describes the station `old`, and a book that has taken `taken` has taken the records of `s`, then after a call
--- with this result, which left the station `new` and the book with `taken'`, they are as `ComesTo` says of the model `next s`
+-- with this result, which left the station `new` and the book with `taken'`, they are as `RefinesOrTookPart` says of the model
+-- `next s`
 abbrev pub KeepsToModel : {X E : Type 0} → (next : Model → Model) → (Record → List ℕ) → (taken taken' : Option (List ℕ)) → (old new : Station) → Result X E → Type 0
 KeepsToModel next text taken taken' old new result =
-    (s : Model) (start : Option (List ℕ)) → Refines old s → Took text start taken s → ComesTo text s.records new start taken' (next s) result
+    (s : Model) (start : Option (List ℕ)) → Refines old s → Took text start taken s → RefinesOrTookPart text s.records new start taken' (next s) result
 
 -- the model `s` after the line of this frame, if it is a line, was heard as `lines_taken` says
 abbrev pub frame_came : (begun : Bool) → Lent → Model → Model

@@ -1,16 +1,18 @@
--- No part of a promise: what is written and noted of the settlements of outstanding requests.
+-- No part of a promise: what is written and noted of the settlements of outstanding requests, and what of a book stays.
 use Rattle.std.specs.Prelude.{◌≡◌, ℕ, Bool, false, List, map, Option, Result, OnOk, if◌then◌else◌}
 use Rattle.gc_catalogue.specs.declared.answer.Reading.{Reading}
 use Rattle.gc_catalogue.specs.declared.asked.Asked.{Asked}
 use Rattle.gc_client.specs.Rule
 use Rattle.gc_client.specs.Settlements.{settlement_seen}
 use Rattle.gc_client.specs.declared.settlement.Settlement.{Settlement}
+use Rattle.gc_lines.specs.Ports.{FailsWith}
 use Rattle.gc_links.specs.declared.link.Moment.{Moment}
 use Rattle.gc_station.specs.Attempts.{listed_after, listed_by}
 use Rattle.gc_station.specs.Marks.{records_of, is_well, last_well, fresh_after}
 use Rattle.gc_station.specs.Records.{Record}
 use Rattle.gc_station.specs.Scopes.{ForEachReadings}
 use Rattle.gc_station.specs.Tallies.{counted_in, tallied}
+use Rattle.gc_station.specs.declared.book.Book.{Ghosts as Book}
 use Rattle.gc_station.specs.declared.mark.Mark.{Mark}
 use Rattle.gc_station.specs.declared.recorded.Recorded.{Recorded}
 use Rattle.gc_station.specs.declared.station.Station.{Station}
@@ -60,3 +62,9 @@ news_settled station reads = news_of station.progress.moment.utc station.marks.i
 -- if the call with this result succeeded, the station `new` keeps of the records what `old` did and what `old` has settled
 abbrev pub NotesSettled : {X E : Type 0} → (old new : Station) → Result X E → Type 0
 NotesSettled old new result = NotesNews old.recorded new.recorded old.progress.moment old.marks.items old.settled.items result
+
+-- after a call with this result a book writes records in the form that it had. It has failed if the call did (`Err`); otherwise
+-- it has failed exactly if it had before
+pub record KeepsBook {B X E : Type 0} (of_book : Book B) (old new : B) (result : Result X E) : Type 0 where
+  pub form : of_book.text new ≡ of_book.text old
+  pub fails : FailsWith result (of_book.failed old) (of_book.failed new)

@@ -1,13 +1,13 @@
 //! What each act does to how far a station is. Moments are by the clock for deadlines, and times in milliseconds, unless a comment
 //! says otherwise.
 
-ghost use Rattle.std.specs.Prelude.{◌≡◌, ◌-◌, ◌≤◌, ℕ, List, length};
+ghost use Rattle.std.specs.Prelude.{◌≡◌, ◌≤◌, ℕ, List, length};
 ghost use Rattle.gc_catalogue.specs.declared.asked.Asked.{Asked};
 ghost use Rattle.gc_client.specs.Hearing.{HearsInto};
 ghost use Rattle.gc_client.specs.Rule.{ById};
 ghost use Rattle.gc_client.specs.declared.settlement.Settlement.{Settlement};
 ghost use Rattle.gc_station.specs.Deciding.{later};
-ghost use Rattle.gc_station.specs.Progressing.{turned, moment_noted, cycle_start, is_missed_at, due_of, cycle_begun, advanced, unsent_at, failing, opened, is_finished, is_idle, is_spared, phase_again, pause_again, after_failure, cleared, request_noted, null_sent, renewed, line_synchronizing, sent, behind_noted, line_noted, early_after, bytes_noted, pause_ended, drained, quieted, time_passed, silent, early_noted, ended_for, closed, is_over, loses_all, next_attempt, setup_restarted, setup_sent, gives_back};
+ghost use Rattle.gc_station.specs.Progressing.{turned, moment_noted, cycle_start, lateness, is_missed_at, due_of, cycle_begun, advanced, unsent_at, failing, opened, is_finished, is_idle, is_spared, phase_again, pause_again, after_failure, cleared, request_noted, null_sent, resynchronized, line_synchronizing, sent, behind_noted, line_noted, early_after, bytes_noted, pause_ended, drained, quieted, time_passed, silent, early_noted, ended_for, closed, is_over, loses_all, next_attempt, setup_restarted, setup_sent, gives_back};
 ghost use Rattle.gc_station.specs.Lines.{is_reply};
 
 use crate::cause::Cause;
@@ -90,7 +90,7 @@ impl Progress {
 
     // How late a cycle begins that is begun at `moment`: how long before that it counts as begun (`cycle_start`).
     fn lateness(&self, plan: &Plan, moment: Moment) -> u64
-        ensures { result ≡ moment.elapsed - cycle_start plan.now moment self.now }
+        ensures { result ≡ lateness plan.now moment self.now }
     {
         moment
             .elapsed
@@ -296,7 +296,7 @@ impl Progress {
     // again. If nothing is sent before the next cycle is due, the time after which the line is dead begins with the first null
     // procedure.
     pub(crate) fn resynchronize(&mut self, plan: &Plan, moment: Moment)
-        ensures { self.new ≡ renewed plan.now moment self.old }
+        ensures { self.new ≡ resynchronized plan.now moment self.old }
     {
         self.note_moment(moment);
         self.word = Beginning::new();

@@ -1,9 +1,9 @@
 //! A whole run of a station: what is next is done, until nothing is.
 
 ghost use Rattle.std.specs.Prelude.{◌≡◌, true, OnOk};
-ghost use Rattle.gc_lines.specs.Ports.{FailsWith};
 ghost use Rattle.gc_station.specs.Keeping.{KeepsUpForEachReadings, KeepsUpForReadings, close_if_failed, close_at_output};
-ghost use Rattle.gc_station.specs.Runs.{EndsForReadings, RanForReadings, FailsAtOutput, LastUnlessFailed};
+ghost use Rattle.gc_station.specs.Runs.{EndsForEachReadings, RanForReadings, FailsAtOutput, LastUnlessFailed, run_seen};
+ghost use Rattle.gc_station.specs.Writing.{KeepsBook};
 
 use crate::book::Book;
 use crate::cause::Cause;
@@ -26,12 +26,13 @@ pub(crate) fn run<L: Link, B: Book>(
     max_turns: u64,
     kept: &mut Kept,
 ) -> Result<(Cause, Tally), PortFailed>
-    ensures ran { EndsForReadings plan.now commands.now max_turns (B.text book.old) (L.acts link.old) (L.acts link.new) (B.taken book.old) (B.taken book.new) result }
-    ensures keeps { KeepsUpForEachReadings plan.now commands.now max_turns (B.text book.old) (L.acts link.old) (L.acts link.new)
-        (B.taken book.old) kept.old.turns kept.new.turns (close_if_failed result) }
+    ensures ran { EndsForEachReadings plan.now commands.now max_turns
+        (run_seen (L.acts link.old) B.Book book.old) (run_seen (L.acts link.new) B.Book book.new) result }
+    ensures keeps { KeepsUpForEachReadings plan.now commands.now max_turns
+        (run_seen (L.acts link.old) B.Book book.old) (run_seen (L.acts link.new) B.Book book.new)
+        kept.old.turns kept.new.turns (close_if_failed result) }
     ensures is_durable { OnOk result (B.is_durable book.new ≡ true) }
-    ensures fails { FailsWith result (B.failed book.old) (B.failed book.new) }
-    ensures form { B.text book.new ≡ B.text book.old }
+    ensures kept { KeepsBook B.Book book.old book.new result }
 {
     let mut station = Station::new(plan, max_turns);
     // The last cycle whose overrun was reported to the book; 0 if none was.
@@ -118,12 +119,14 @@ pub fn run_station<L: Link, B: Book>(
 ) -> Result<Tally, RunFault>
     // What the link recorded, what the book took and how the run ended are as the model has them, for whatever function says
     // what each reply says of its call; and there is such a function.
-    ensures ran { RanForReadings plan.now commands.now max_turns (B.text book.old) (L.acts link.old) (L.acts link.new) (B.taken book.old) (B.taken book.new) result }
+    ensures ran { RanForReadings plan.now commands.now max_turns
+        (run_seen (L.acts link.old) B.Book book.old) (run_seen (L.acts link.new) B.Book book.new) result }
 
     // At each act what the acts before it settled is in the book, and lasts. If the book failed one act is made all the same:
     // the connection is closed.
-    ensures keeps { KeepsUpForReadings plan.now commands.now max_turns (B.text book.old) (L.acts link.old) (L.acts link.new)
-        (B.taken book.old) kept.old.turns kept.new.turns (close_at_output result) }
+    ensures keeps { KeepsUpForReadings plan.now commands.now max_turns
+        (run_seen (L.acts link.old) B.Book book.old) (run_seen (L.acts link.new) B.Book book.new)
+        kept.old.turns kept.new.turns (close_at_output result) }
 
     // Unless the book failed, all records last at the end.
     ensures is_durable { LastUnlessFailed (B.is_durable book.new) result }

@@ -1,7 +1,6 @@
 //! A station's steps: each makes the one call of the link that is next, and lets the client handle what came of it.
 
 ghost use Rattle.std.specs.Prelude.{◌≡◌, ℕ, List, length, drop, Option, OnOk, true};
-ghost use Rattle.gc_lines.specs.Ports.{FailsWith};
 ghost use Rattle.gc_catalogue.specs.declared.answer.Reading.{Reading};
 ghost use Rattle.gc_catalogue.specs.declared.asked.Asked.{Asked};
 ghost use Rattle.gc_catalogue.specs.Asked.{IsAskedReading};
@@ -13,7 +12,7 @@ ghost use Rattle.gc_station.specs.Records.{WritesNews};
 ghost use Rattle.gc_station.specs.Model.{Model, opening, action_at, ended};
 ghost use Rattle.gc_station.specs.NextCommand.{place_next, expected_first, mark_next, commands_before, first_is_chained, others_in, is_chained_after, others_after, upcoming_after, mark_setup};
 ghost use Rattle.gc_station.specs.Stations.{waiting_of_station, CanPerform, Refines, DoesAlone, Moves, Steps, as_seen, OnCall, KeepsToModel, DropsMarks, SuitsAction, ReadsMoment, station_expiring};
-ghost use Rattle.gc_station.specs.Writing.{news_settled, NotesSettled};
+ghost use Rattle.gc_station.specs.Writing.{KeepsBook, news_settled, NotesSettled};
 ghost use Rattle.gc_station.specs.declared.progress.Action.TheVariants.{ReadClock, Renew, Begin, Open, Close};
 ghost use Rattle.gc_texts.specs.declared.tasks.Task.{Task};
 
@@ -195,7 +194,7 @@ impl Station {
         others_at(commands, self.place(commands).saturating_add(count))
     }
 
-    // What is noted of the command `count` places after the next one, once that is the next one.
+    // What is noted of the next command once the cycle has gone on by `count` commands.
     fn upcoming_after(&self, count: usize, commands: &[Task]) -> Upcoming
         ensures { result ≡ upcoming_after count commands.now self.now.progress }
     {
@@ -294,8 +293,7 @@ impl Station {
         ensures wrote { WritesNews (B.text book.old) (B.taken book.old) (B.taken book.new) (news_settled self.old) result }
         ensures after { OnOk result (DropsMarks self.old self.new (length self.old.settled.items)) }
         ensures notes { NotesSettled self.old self.new result }
-        ensures fails { FailsWith result (B.failed book.old) (B.failed book.new) }
-        ensures form { B.text book.new ≡ B.text book.old }
+        ensures kept { KeepsBook B.Book book.old book.new result }
     {
         let now = self.progress.moment;
         write_settlements(
@@ -332,8 +330,7 @@ impl Station {
         ensures does { OnCall action (Moves plan.now commands.now action
             (as_seen (L.acts link.old) (B.text book.old) (B.taken book.old) self.old)
             (as_seen (L.acts link.new) (B.text book.old) (B.taken book.new) self.new) result) }
-        ensures fails { FailsWith result (B.failed book.old) (B.failed book.new) }
-        ensures form { B.text book.new ≡ B.text book.old }
+        ensures kept { KeepsBook B.Book book.old book.new result }
     {
         match action {
             Action::ReadClock => Ok(self.read_clock(link, plan)),
@@ -357,8 +354,7 @@ impl Station {
     // (`loses_all`); otherwise does nothing. `Err`: the book failed at a record.
     fn record_lost<B: Book>(&mut self, book: &mut B) -> Result<(), PortFailed>
         ensures ends { KeepsToModel ended (B.text book.old) (B.taken book.old) (B.taken book.new) self.old self.new result }
-        ensures fails { FailsWith result (B.failed book.old) (B.failed book.new) }
-        ensures form { B.text book.new ≡ B.text book.old }
+        ensures kept { KeepsBook B.Book book.old book.new result }
     {
         if !self.progress.loses_all() {
             return Ok(());
@@ -382,8 +378,7 @@ impl Station {
         ensures does { OnCall action (Steps plan.now commands.now action
             (as_seen (L.acts link.old) (B.text book.old) (B.taken book.old) self.old)
             (as_seen (L.acts link.new) (B.text book.old) (B.taken book.new) self.new) result) }
-        ensures fails { FailsWith result (B.failed book.old) (B.failed book.new) }
-        ensures form { B.text book.new ≡ B.text book.old }
+        ensures kept { KeepsBook B.Book book.old book.new result }
     {
         self.progress.take_turn();
         if let Err(failed) = self.perform(link, book, plan, commands, action) {

@@ -1,7 +1,6 @@
 //! Writing settlements into a book, and counting them.
 
 ghost use Rattle.std.specs.Prelude.{◌≡◌, ℕ, List, [], ◌∷◌, length, drop, map, OnOk};
-ghost use Rattle.gc_lines.specs.Ports.{FailsWith};
 ghost use Rattle.gc_catalogue.specs.declared.answer.Reading.{Reading};
 ghost use Rattle.gc_catalogue.specs.declared.asked.Asked.{Asked};
 ghost use Rattle.gc_catalogue.specs.Asked.{IsAskedReading};
@@ -15,7 +14,7 @@ ghost use Rattle.gc_texts.specs.Codes.{lists_code};
 ghost use Rattle.gc_texts.specs.Endings.{ending_seen};
 ghost use Rattle.gc_texts.specs.Nears.{is_elsewhere};
 ghost use Rattle.gc_station.specs.Records.{WritesNews};
-ghost use Rattle.gc_station.specs.Writing.{news_of, NotesNews};
+ghost use Rattle.gc_station.specs.Writing.{KeepsBook, news_of, NotesNews};
 
 use crate::book::Book;
 use crate::mark::Mark;
@@ -158,8 +157,7 @@ fn write_settlement<B: Book>(
     requires { IsReadBy IsAskedReading settlement.now.call settlement.now.outcome }
     ensures wrote { WritesNews (B.text book.old) (B.taken book.old) (B.taken book.new) (news_of now.utc (mark ∷ []) (settlement.now ∷ [])) result }
     ensures notes { NotesNews recorded.old recorded.new now (mark ∷ []) (settlement.now ∷ []) result }
-    ensures fails { FailsWith result (B.failed book.old) (B.failed book.new) }
-    ensures form { B.text book.new ≡ B.text book.old }
+    ensures kept { KeepsBook B.Book book.old book.new result }
 {
     let Some(mark) = mark else {
         return Ok(());
@@ -209,8 +207,7 @@ pub(crate) fn write_settlements<B: Book>(
     ensures wrote { WritesNews (B.text book.old) (B.taken book.old) (B.taken book.new) (news_of now.utc marks.old.items settlements.now) result }
     ensures notes { NotesNews recorded.old recorded.new now marks.old.items settlements.now result }
     ensures marks { OnOk result (marks.new.items ≡ drop (length settlements.now) marks.old.items) }
-    ensures fails { FailsWith result (B.failed book.old) (B.failed book.new) }
-    ensures form { B.text book.new ≡ B.text book.old }
+    ensures kept { KeepsBook B.Book book.old book.new result }
 {
     for settlement in settlements {
         let mark = take_mark(marks);

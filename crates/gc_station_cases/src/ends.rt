@@ -19,22 +19,22 @@ pub struct WordBook {
     // How many writes there were.
     writes: u64,
     // The write that fails, counted from 1; 0: none.
-    fails: u64,
+    failing_write: u64,
     // How many syncs still succeed.
-    keeps: u64,
+    good_syncs: u64,
     // Whether a record's word has the moment at which its request was sent.
     stamped: bool,
 }
 
 impl WordBook {
-    /// A book that fails at the write with the number that the setting has as `fails`, counted from 1 (0: at none), and at each
-    /// sync after the first `keeps`.
+    /// A book that fails at the write with the number that the setting has as `failing_write`, counted from 1 (0: at none), and
+    /// at each sync after the first `good_syncs`.
     pub fn new(setting: &Setting) -> WordBook {
         WordBook {
             text: ArrayVec::new(),
             writes: 0,
-            fails: setting.fails,
-            keeps: setting.keeps,
+            failing_write: setting.failing_write,
+            good_syncs: setting.good_syncs,
             stamped: setting.stamped,
         }
     }
@@ -99,7 +99,7 @@ impl Book for WordBook {
         ending: Ending<'_>,
     ) -> Result<(), PortFailed> {
         self.writes = self.writes.saturating_add(1);
-        if self.writes == self.fails {
+        if self.writes == self.failing_write {
             return Err(PortFailed);
         }
         self.note_digit(stamp.cycle);
@@ -121,10 +121,10 @@ impl Book for WordBook {
 
     // Uses up one of the syncs that succeed. `Err`: none is left.
     fn sync(&mut self) -> Result<(), PortFailed> {
-        if self.keeps == 0 {
+        if self.good_syncs == 0 {
             return Err(PortFailed);
         }
-        self.keeps -= 1;
+        self.good_syncs -= 1;
         Ok(())
     }
 

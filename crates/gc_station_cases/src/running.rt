@@ -6,7 +6,7 @@ use crate::script::{Script, Step};
 use crate::setting::Setting;
 use crate::telling::run_telling;
 use crate::words::push_words;
-use gc_cases::{Case, Told};
+use gc_cases::{Case, Told, text_of};
 use gc_links::{Link, Telling};
 use gc_station::Tally;
 use gc_texts::{RunFault, Task, read_tasks};
@@ -15,6 +15,8 @@ use std::alloc::Global;
 /// What a case gives for its runs.
 #[derive(Clone, Copy)]
 pub struct Run<'a> {
+    /// Where the runs take memory.
+    pub alloc: Global,
     /// The station's text.
     pub tasks: &'a [u8],
     /// The words of the steps.
@@ -32,6 +34,8 @@ pub struct Run<'a> {
 /// What one run of a station is played with.
 #[derive(Clone, Copy)]
 pub struct Scene<'a> {
+    /// Where the run takes memory.
+    pub alloc: Global,
     /// The tasks of the station's text.
     pub tasks: &'a [Task],
     /// What the reads of its link come to.
@@ -116,12 +120,12 @@ impl Outcome {
     }
 
     /// Reports what came otherwise than the case has it.
-    pub fn tell(&self, case: &Case<'_>, wrong: &mut Told) {
-        case.tell_told("put", &self.put, wrong);
-        case.tell_told("ends", &self.ends, wrong);
-        case.tell_told("end", &self.end, wrong);
-        case.tell_told("log", &self.log, wrong);
-        case.tell_told("counts", &self.counts, wrong);
+    pub fn compare(&self, case: &Case<'_>, wrong: &mut Told) {
+        case.compare_told("put", &self.put, wrong);
+        case.compare_told("ends", &self.ends, wrong);
+        case.compare_told("end", &self.end, wrong);
+        case.compare_told("log", &self.log, wrong);
+        case.compare_told("counts", &self.counts, wrong);
     }
 
     /// Reports what was put and written, and the fault, as a row has them.
@@ -135,10 +139,10 @@ impl Outcome {
 impl<'a> Run<'a> {
     /// Runs the station as the case sets it, with the setting words of `word` more, which may be empty. If a word isn't known,
     /// nothing is run, and the outcome says so.
-    pub fn play(&self, alloc: Global, word: &str, outcome: &mut Outcome) {
+    pub fn play(&self, word: &str, outcome: &mut Outcome) {
         let mut setting = self.setting;
         if setting.set_all(word) && self.is_known {
-            self.play_set(alloc, &setting, outcome);
+            self.play_set(&setting, outcome);
         } else {
             outcome.tell_unknown("with");
         }
@@ -146,41 +150,36 @@ impl<'a> Run<'a> {
 
     // Runs the station with this setting. If a word of the steps isn't known, or memory runs out for a step, nothing is run, and
     // the outcome says that a word isn't known.
-    fn play_set(&self, alloc: Global, setting: &Setting, outcome: &mut Outcome) {
-        let mut steps = Vec::new(alloc);
+    fn play_set(&self, setting: &Setting, outcome: &mut Outcome) {
+        let mut steps = Vec::new(self.alloc);
         if self.push_steps(&mut steps, setting) {
-            self.play_steps(alloc, steps.as_slice(), setting, outcome);
+            self.play_steps(steps.as_slice(), setting, outcome);
         } else {
             outcome.tell_unknown("steps");
         }
     }
 
-    // Adds the first `setting.first` of the steps, and those of `then` after them. Returns whether each word is known, and each
-    // step has room.
+    // Adds the first `setting.first_steps` of the steps, and those of `then` after them. Returns whether each word is known, and
+    // each step has room.
     fn push_steps(&self, steps: &mut Vec<Step<'a>>, setting: &Setting) -> bool {
         let are_known = push_words(steps, text_of(self.steps), setting.split);
-        steps.truncate(usize::try_from(setting.first).unwrap_or(usize::MAX));
+        steps.truncate(usize::try_from(setting.first_steps).unwrap_or(usize::MAX));
         push_words(steps, text_of(self.then), setting.split) && are_known
     }
 
     // Reads the station's text, and runs the station with its tasks over these steps. If the text can't be read, or memory runs
     // out for its tasks, nothing is run, and the outcome says that a word isn't known.
-    fn play_steps(
-        &self,
-        alloc: Global,
-        steps: &[Step<'_>],
-        setting: &Setting,
-        outcome: &mut Outcome,
-    ) {
-        match read_tasks(alloc, self.tasks, setting.plan.deadline, false) {
+    fn play_steps(&self, steps: &[Step<'_>], setting: &Setting, outcome: &mut Outcome) {
+        match read_tasks(self.alloc, self.tasks, setting.plan.deadline, false) {
             Ok(all) => {
                 let tasks = all.tasks.as_slice();
                 let scene = Scene {
+                    alloc: self.alloc,
                     tasks,
                     steps,
                     setting,
                 };
-                self.play_scene(alloc, scene, outcome);
+                self.play_scene(scene, outcome);
             }
             Err(_) => outcome.tell_unknown("tasks"),
         }
@@ -188,20 +187,15 @@ impl<'a> Run<'a> {
 
     // Runs the station over a link with a log if the case has one, else over one without. If there is no task, a link with a log
     // is only read, so that its log has what comes.
-    fn play_scene(&self, alloc: Global, scene: Scene<'_>, outcome: &mut Outcome) {
+    fn play_scene(&self, scene: Scene<'_>, outcome: &mut Outcome) {
         if !self.is_logged {
             return play_unlogged(scene, outcome);
         }
         if scene.tasks.is_empty() {
-            return read_logged(alloc, scene, outcome);
+            return read_logged(scene, outcome);
         }
-        play_logged(alloc, scene, outcome)
+        play_logged(scene, outcome)
     }
-}
-
-/// Bytes as text; `?` if they aren't UTF-8.
-pub fn text_of(bytes: &[u8]) -> &str {
-    str::from_utf8(bytes).unwrap_or("?")
 }
 
 // Runs the station over a link without a log, and takes what came of it into `outcome`; with its counts if the setting asks for
@@ -248,6 +242,6 @@ fn tell_end(fault: Option<RunFault>, gone: usize, end: &mut Told) {
 // lacking, too, so that it equals no row of a case.
 fn tell_part(mark: &str, part: &Told, row: &mut Told) {
     row.text(mark);
-    row.either(part.as_bytes().is_empty(), "none", "");
+    row.text_if(part.as_bytes().is_empty(), "none");
     row.append(part);
 }

@@ -51,8 +51,8 @@ pub struct Script<'a> {
     steps: &'a [Step<'a>],
     // The place of the next step.
     at: usize,
-    // What fails or is cut, and how the clock goes. Its `shut` goes down with each attempt to connect: it is how many of the next
-    // ones fail.
+    // What fails or is cut, and how the clock goes. Its `failing_opens` goes down with each attempt to connect: it is how many of
+    // the next ones fail.
     setting: Setting,
     // How many calls of `put` there were.
     puts: u64,
@@ -177,7 +177,7 @@ impl<'a> Script<'a> {
     fn count_call(&mut self) -> Result<(), PortFailed> {
         let call = self.calls;
         self.calls = self.calls.saturating_add(1);
-        if call == self.setting.failing {
+        if call == self.setting.failing_call {
             return Err(PortFailed);
         }
         Ok(())
@@ -185,8 +185,8 @@ impl<'a> Script<'a> {
 
     // Counts an attempt to connect. `Err`: it is one of those that fail.
     fn count_attempt(&mut self) -> Result<(), PortFailed> {
-        if self.setting.shut > 0 {
-            self.setting.shut -= 1;
+        if self.setting.failing_opens > 0 {
+            self.setting.failing_opens -= 1;
             return Err(PortFailed);
         }
         Ok(())
@@ -305,17 +305,17 @@ impl<'a> Link for Script<'a> {
         }
     }
 
-    // Stores the word of what is put. The put whose number is the setting's `cut`, or that is the failing call, is cut: its
-    // first `kept` bytes are sent, at most all but one, and `Err` has how many. Any other is sent whole, and a request counts as
-    // the last one that was sent.
+    // Stores the word of what is put. The put whose number is the setting's `cut_put`, or that is the failing call, is cut: its
+    // first `sent_of_cut` bytes are sent, at most all but one, and `Err` has how many. Any other is sent whole, and a request
+    // counts as the last one that was sent.
     fn put(&mut self, bytes: &[u8]) -> Result<(), usize> {
         self.puts = self.puts.saturating_add(1);
-        if self.count_call().is_err() || self.puts == self.setting.cut {
+        if self.count_call().is_err() || self.puts == self.setting.cut_put {
             self.nulls = 0;
             note(&mut self.text, b"cut:");
             self.note_put(bytes);
             self.nulls = 0;
-            let kept = usize::try_from(self.setting.kept).unwrap_or(usize::MAX);
+            let kept = usize::try_from(self.setting.sent_of_cut).unwrap_or(usize::MAX);
             let n = kept.min(bytes.len().saturating_sub(1));
             self.gone = n;
             return Err(n);
@@ -339,8 +339,8 @@ impl<'a> Link for Script<'a> {
         }
     }
 
-    // Makes a connection, and stores `open`. `Err`: this is the failing call, or an attempt that fails (`shut` of the setting), and
-    // `shut` is stored.
+    // Makes a connection, and stores `open`. `Err`: this is the failing call, or an attempt that fails (`failing_opens` of the
+    // setting), and `shut` is stored.
     fn open(&mut self) -> Result<(), PortFailed> {
         if self.count_call().is_err() || self.count_attempt().is_err() {
             self.note_now(b"shut");

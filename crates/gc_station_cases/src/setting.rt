@@ -11,21 +11,21 @@ pub struct Setting {
     /// How many turns the run may take.
     pub turns: u64,
     /// How many of the first attempts to connect fail.
-    pub shut: u64,
+    pub failing_opens: u64,
     /// The put that is cut, counted from 1; 0: none.
-    pub cut: u64,
+    pub cut_put: u64,
     /// How many bytes of a put that is cut are sent, at most all but its last.
-    pub kept: u64,
+    pub sent_of_cut: u64,
     /// The call of the link that fails, counted from 0; `close` isn't counted.
-    pub failing: u64,
+    pub failing_call: u64,
     /// The write of the book that fails, counted from 1; 0: none.
-    pub fails: u64,
+    pub failing_write: u64,
     /// How many syncs of the book succeed; the ones after these fail.
-    pub keeps: u64,
+    pub good_syncs: u64,
     /// How many writes the sink of the log takes.
-    pub writes: u64,
+    pub log_writes: u64,
     /// How many of the steps are made before those of `then`.
-    pub first: u64,
+    pub first_steps: u64,
     /// After how many bytes the line of a step `<<` is cut in two.
     pub split: u64,
     /// From when on the end of the run is asked for, in milliseconds since the start.
@@ -59,14 +59,14 @@ impl Setting {
                 watched: false,
             },
             turns: 300,
-            shut: 0,
-            cut: 0,
-            kept: 0,
-            failing: u64::MAX,
-            fails: 0,
-            keeps: u64::MAX,
-            writes: u64::MAX,
-            first: u64::MAX,
+            failing_opens: 0,
+            cut_put: 0,
+            sent_of_cut: 0,
+            failing_call: u64::MAX,
+            failing_write: 0,
+            good_syncs: u64::MAX,
+            log_writes: u64::MAX,
+            first_steps: u64::MAX,
             split: 0,
             until: u64::MAX,
             ahead: 0,
@@ -122,14 +122,14 @@ impl Setting {
     fn set_other(&mut self, key: &str, value: u64) -> bool {
         match key {
             "turns" => self.turns = value,
-            "shut" => self.shut = value,
-            "cut" => self.cut = value,
-            "kept" => self.kept = value,
-            "failing" => self.failing = value,
-            "fails" => self.fails = value,
-            "keeps" => self.keeps = value,
-            "writes" => self.writes = value,
-            "first" => self.first = value,
+            "shut" => self.failing_opens = value,
+            "cut" => self.cut_put = value,
+            "kept" => self.sent_of_cut = value,
+            "failing" => self.failing_call = value,
+            "fails" => self.failing_write = value,
+            "keeps" => self.good_syncs = value,
+            "writes" => self.log_writes = value,
+            "first" => self.first_steps = value,
             "split" => self.split = value,
             "until" => self.until = value,
             "ahead" => self.ahead = value,

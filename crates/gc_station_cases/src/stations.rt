@@ -20,10 +20,10 @@
 //!     row cut=3: PUT | ENDS | END the same once more with this word behind the others, in place of the three lines
 //!     each kept=11                once for each number below this one: all come to the same
 
-use crate::running::{Outcome, Run, text_of};
+use crate::running::{Outcome, Run};
 use crate::setting::Setting;
 use crate::words::number;
-use gc_cases::{Case, Player, Told, push_bytes_of};
+use gc_cases::{Case, Player, Told, push_bytes_of, text_of};
 use std::alloc::{AllocError, Global};
 use std::io;
 
@@ -35,8 +35,8 @@ pub struct Stations;
 
 impl Player for Stations {
     // Plays a case of runs of a station, and appends to `wrong` what came otherwise than the case has it.
-    fn play(&self, rt: &HostRuntime, case: &Case<'_>, wrong: &mut Told) -> io::Result<()> {
-        play_case(rt.alloc(), case, wrong);
+    fn play(&self, _rt: &HostRuntime, case: &Case<'_>, wrong: &mut Told) -> io::Result<()> {
+        play_case(case, wrong);
         Ok(())
     }
 }
@@ -69,10 +69,11 @@ impl Values {
 
     // The run of the case, set as the words after `with` say; whether these are all known is noted in it. Its link has a log if the case
     // has a line `log`.
-    fn run(&self, case: &Case<'_>) -> Run<'_> {
+    fn run(&self, alloc: Global, case: &Case<'_>) -> Run<'_> {
         let mut setting = Setting::new();
         let is_known = setting.set_all(case.value("with"));
         Run {
+            alloc,
             tasks: self.tasks.as_slice(),
             steps: self.steps.as_slice(),
             then: self.then.as_slice(),
@@ -93,14 +94,13 @@ fn push_lines(lines: &mut Vec<u8>, value: &str) -> Result<(), AllocError> {
 
 // Plays a case. If memory runs out for its texts, it is played with what there is of them, and `wrong` notes that it lacks a
 // part, so that this case and each later one of the file count as wrong.
-fn play_case(alloc: Global, case: &Case<'_>, wrong: &mut Told) {
-    let mut values = Values::new(alloc);
+fn play_case(case: &Case<'_>, wrong: &mut Told) {
+    let mut values = Values::new(wrong.alloc);
     if values.take(case).is_err() {
         wrong.lack();
     }
-    let run = values.run(case);
+    let run = values.run(wrong.alloc, case);
     let played = CaseRun {
-        alloc,
         case: *case,
         run: &run,
     };
@@ -110,7 +110,6 @@ fn play_case(alloc: Global, case: &Case<'_>, wrong: &mut Told) {
 // A case, and the run that it sets.
 #[derive(Clone, Copy)]
 struct CaseRun<'a> {
-    alloc: Global,
     case: Case<'a>,
     run: &'a Run<'a>,
 }
@@ -118,10 +117,10 @@ struct CaseRun<'a> {
 impl CaseRun<'_> {
     // Plays the rows of the case, or its run if it has no rows.
     fn play(&self, wrong: &mut Told) {
-        if self.case.value("row").is_empty() {
-            self.play_each(wrong);
-        } else {
+        if self.case.has("row") {
             self.play_rows(wrong);
+        } else {
+            self.play_each(wrong);
         }
     }
 
@@ -134,14 +133,14 @@ impl CaseRun<'_> {
                 None => break,
             }
         }
-        let nothing = Outcome::new(self.alloc);
-        nothing.tell(&self.case, wrong);
+        let nothing = Outcome::new(self.run.alloc);
+        nothing.compare(&self.case, wrong);
     }
 
     // Plays a row: the run with the row's word more, which is what stands before the first `: `. Reports the row as it came, if that
     // is something else than `row`.
     fn play_row(&self, row: &str, wrong: &mut Told) {
-        let mut came = Told::new(self.alloc);
+        let mut came = Told::new(wrong.alloc);
         let word = row.split_once(": ").map_or(row, |cut| cut.0);
         came.text(word);
         self.outcome_with(word).tell_row(&mut came);
@@ -152,8 +151,8 @@ impl CaseRun<'_> {
 
     // What the run comes to with the setting words of `word` more, which may be empty.
     fn outcome_with(&self, word: &str) -> Outcome {
-        let mut outcome = Outcome::new(self.alloc);
-        self.run.play(self.alloc, word, &mut outcome);
+        let mut outcome = Outcome::new(self.run.alloc);
+        self.run.play(word, &mut outcome);
         outcome
     }
 
@@ -161,7 +160,7 @@ impl CaseRun<'_> {
     // that is 0 or no number is reported as wrong. Without such a line the run is played once, as it is set.
     fn play_each(&self, wrong: &mut Told) {
         let Some((key, count)) = self.case.value("each").split_once('=') else {
-            self.outcome_with("").tell(&self.case, wrong);
+            self.outcome_with("").compare(&self.case, wrong);
             return;
         };
         match number(count) {
@@ -175,8 +174,8 @@ impl CaseRun<'_> {
     // the case has it: what came otherwise is reported.
     fn play_below(&self, key: &str, count: u64, wrong: &mut Told) {
         for n in 0..count {
-            let mut report = Told::new(self.alloc);
-            self.outcome_at(key, n).tell(&self.case, &mut report);
+            let mut report = Told::new(wrong.alloc);
+            self.outcome_at(key, n).compare(&self.case, &mut report);
             wrong.append(&report);
             if !report.is("") {
                 break;
@@ -187,7 +186,7 @@ impl CaseRun<'_> {
     // What the run comes to with one setting word more, which sets `key` to the number `n`; with a part of that word if memory runs
     // out for it.
     fn outcome_at(&self, key: &str, n: u64) -> Outcome {
-        let mut word = Told::new(self.alloc);
+        let mut word = Told::new(self.run.alloc);
         word.text(key);
         word.titled("=", &n);
         self.outcome_with(text_of(word.as_bytes()))

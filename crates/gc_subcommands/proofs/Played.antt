@@ -1,8 +1,6 @@
 -- Status 0 comes only of a schedule that was played.
 use Rattle.std.proofs.Common.{◌≡◌, ℕ, Bool, true, List, Option, Result, Ok, Err, inl, inr, refl, arith}
-use Rattle.std.specs.Io.KnownBytes.{Appends}
-use Rattle.gc_engines.specs.Drill.{DrillsAs, is_read_whole}
-use Rattle.gc_engines.specs.Schedule.{IsSchedule}
+use Rattle.gc_engines.specs.Drill.{DrillsAs, PlaysAll, is_read_whole}
 use Rattle.gc_lines.specs.Answering.{Ports}
 use Rattle.gc_subcommands.specs.Drills.{PlaysWhole, ReadsWholeSource, TellsWithin}
 use Rattle.gc_texts.specs.Faults.{run_fault_text, Tells}
@@ -13,7 +11,7 @@ use Rattle.gc_world.specs.declared.event.Event.{Event}
 schedule_at_0 : (text_of : List Event → Bool → List ℕ) (given : List ℕ) (totals : Bool) (old new : Option (List ℕ))
     (end : Result (Unit {0}) RunFault) (status : ℕ) (told told' : Option (List ℕ))
     → DrillsAs text_of given totals old new end → Tells run_fault_text end status told told' → status ≡ 0
-    → (events : List Event) × IsSchedule given events × Appends old new (text_of events totals)
+    → PlaysAll text_of given totals old new
 schedule_at_0 text_of given totals old new (Ok x) status told told' drills tells zero = drills.1
 schedule_at_0 text_of given totals old new (Err fault) status told told' drills tells zero = absurd (omega (arith, tells.0, zero))
 
@@ -23,15 +21,15 @@ whole_at_0 : (end : Result (Unit {0}) RunFault) (status : ℕ) (told told' : Opt
 whole_at_0 (Ok x) status told told' tells zero = refl
 whole_at_0 (Err fault) status told told' tells zero = absurd (omega (arith, tells.0, zero))
 
--- if the status is 0, the source gave a schedule, and the sink took the output of its events
-pub plays_at_0 : (text_of : List Event → Bool → List ℕ) (totals : Bool) (old new : Ports) (status : ℕ) (told told' : Option (List ℕ))
-    → TellsWithin text_of totals old new status told told' → status ≡ 0 → PlaysWhole text_of totals old new
-plays_at_0 text_of totals old new status told told' (inl refused) zero = absurd (omega (arith, refused.0.0, zero))
-plays_at_0 text_of totals old new status told told' (inr s) zero =
-    let w = s.ends.writes in (w.0, w.1, schedule_at_0 text_of w.0 totals old.taken new.taken s.end status told told' w.3 s.tells zero)
+-- a schedule was played, or the width was refused (`TellsWithin`), and the status is 0
+module _ (text_of : List Event → Bool → List ℕ) (totals : Bool) (old new : Ports) (status : ℕ) (told told' : Option (List ℕ)) (zero : status ≡ 0) where
+  -- the source gave a schedule, and the sink took the output of its events
+  pub plays_at_0 : TellsWithin text_of totals old new status told told' → PlaysWhole text_of totals old new
+  plays_at_0 (inl refused) = absurd (omega (arith, refused.0.0, zero))
+  plays_at_0 (inr s) =
+      let w = s.ends.writes in (w.0, w.1, schedule_at_0 text_of w.0 totals old.taken new.taken s.end status told told' w.3 s.tells zero)
 
--- if the status is 0, the source was read to its end (`ReadsWholeSource`)
-pub reads_at_0 : (text_of : List Event → Bool → List ℕ) (totals : Bool) (old new : Ports) (status : ℕ) (told told' : Option (List ℕ))
-    → TellsWithin text_of totals old new status told told' → status ≡ 0 → ReadsWholeSource old new
-reads_at_0 text_of totals old new status told told' (inl refused) zero = absurd (omega (arith, refused.0.0, zero))
-reads_at_0 text_of totals old new status told told' (inr s) zero = s.ends.whole (whole_at_0 s.end status told told' s.tells zero)
+  -- the source was read to its end (`ReadsWholeSource`)
+  pub reads_at_0 : TellsWithin text_of totals old new status told told' → ReadsWholeSource old new
+  reads_at_0 (inl refused) = absurd (omega (arith, refused.0.0, zero))
+  reads_at_0 (inr s) = s.ends.whole (whole_at_0 s.end status told told' s.tells zero)

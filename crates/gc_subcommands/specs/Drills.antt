@@ -2,14 +2,13 @@
 -- on the messages before, and `told'` what has been written now. `text_of` gives what is written of events that are played on an
 -- instrument, through a window of some width, with or without the line of totals.
 use Rattle.std.specs.Prelude.{ℕ, ◌⊎◌, Bool, List, Option}
-use Rattle.std.specs.Io.KnownBytes.{Consumes, Appends}
+use Rattle.std.specs.Io.KnownBytes.{Consumes}
 use Rattle.gc_messages.specs.Refusals.{Refuses, range_line}
 use Rattle.gc_subcommands.specs.Refusing.{TellsEnd}
 use Rattle.gc_subcommands.specs.Scenes.{AreUnused, HoldsOfInstrument, RefusesScene}
 use Rattle.gc_subcommands.specs.declared.drill.Drilling.{Drilling}
-use Rattle.gc_engines.specs.Drill.{IsDrill, drill_text_on}
+use Rattle.gc_engines.specs.Drill.{IsDrill, PlaysAll, drill_text_on}
 use Rattle.gc_engines.specs.SceneDrill.{scene_drill_text}
-use Rattle.gc_engines.specs.Schedule.{IsSchedule}
 use Rattle.gc_lines.specs.Answering.{Ports}
 use Rattle.gc_texts.specs.Faults.{run_fault_text}
 use Rattle.gc_texts.specs.WholeTexts.{IsReadToEnd, source_of}
@@ -36,8 +35,8 @@ TellsDrill drilling old new status told told' =
 
 -- a source gave a schedule, and the sink took the output of its events
 abbrev pub PlaysWhole : (text_of : List Event → (totals : Bool) → List ℕ) → (totals : Bool) → (old new : Ports) → Type 0
-PlaysWhole text_of totals old new = (given : List ℕ) × Consumes old.remaining new.remaining given
-    × ((events : List Event) × IsSchedule given events × Appends old.taken new.taken (text_of events totals))
+PlaysWhole text_of totals old new =
+    (given : List ℕ) × Consumes old.remaining new.remaining given × PlaysAll text_of given totals old.taken new.taken
 
 -- the sink took the output of the schedule's events on the instrument of the scene (`HoldsOfInstrument`)
 abbrev pub PlaysScene : Drilling → (old new : Ports) → Type 0

@@ -11,7 +11,7 @@ use Rattle.gc_lines.specs.Answering.{Ports, serve_fault_text}
 use Rattle.gc_lines.specs.declared.served.Served.{Served}
 use Rattle.gc_lines.specs.declared.served.ServeFault.{ServeFault}
 
--- the most reads of an input: as many as a `u32` counts
+-- the most reads of an input: as many as a `u32` counts. This project's own
 abbrev pub most_reads : ℕ
 most_reads = 4294967295
 

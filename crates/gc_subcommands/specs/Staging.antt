@@ -2,7 +2,7 @@
 use Rattle.std.specs.Prelude.{◌⊎◌, ℕ, List, Option}
 use Rattle.std.specs.Io.KnownBytes.{Consumes, IsAtEnd}
 use Rattle.gc_engines.specs.Scenes.{IsScene, SceneFault}
-use Rattle.gc_engines.specs.RuleScenes.{IsSceneOf, IsStillLine, SceneFaultOf}
+use Rattle.gc_engines.specs.RuleScenes.{IsRuleScene, IsStillLine, RuleSceneFault}
 use Rattle.gc_engines.specs.TimedScenes.{IsTimedScene, TimedFault}
 use Rattle.gc_texts.specs.Texts.{IsReadFault}
 use Rattle.gc_texts.specs.declared.fault.RunFault.{RunFault}
@@ -16,7 +16,7 @@ use Rattle.gc_subcommands.specs.declared.scene.Timed.TheVariants.{Still, Slow}
 -- the text is a scene, and this is the opening state of its instrument
 abbrev pub IsStaged : List ℕ → Staged → Type 0
 IsStaged text (Plain state) = IsScene text state
-IsStaged text (Ruled state) = IsSceneOf IsStillLine text state
+IsStaged text (Ruled state) = IsRuleScene IsStillLine text state
 
 -- the text is a scene, maybe one that needs a clock, as with delays, and this is the opening state of its instrument for `serve`,
 -- which has a clock
@@ -27,7 +27,7 @@ IsTimed text (Slow state) = IsTimedScene text state
 -- a text sets up no instrument, for this fault: it has the fault as a scene without rules, or as a scene with rules that needs no
 -- clock
 abbrev pub StagedFault : List ℕ → RunFault → Type 0
-StagedFault text fault = SceneFault text fault ⊎ SceneFaultOf IsStillLine text fault
+StagedFault text fault = SceneFault text fault ⊎ RuleSceneFault IsStillLine text fault
 
 -- a text sets up no instrument for `serve`, which has a clock, for this fault: it has the fault as a scene that needs no clock
 -- (`StagedFault`), or as a scene that may need one

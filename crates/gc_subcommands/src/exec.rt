@@ -2,7 +2,7 @@
 
 ghost use Rattle.std.specs.Prelude.{◌≡◌, ◌≤◌, None, IfOk, false};
 ghost use Rattle.std.specs.Process.{exit_status};
-ghost use Rattle.gc_subcommands.specs.Serves.{TellsServing, TellsExec, IsDoneAtEnd, FailsByPorts};
+ghost use Rattle.gc_subcommands.specs.Serves.{TellsExec, IsDoneAtEnd, FailsByPorts};
 ghost use Rattle.gc_lines.specs.Answering.{ports_of};
 
 use crate::answerer::Answerer;
@@ -64,34 +64,12 @@ pub fn exec_scene<R: Files, S: Source, K: Sink, E: Write>(
     ensures bound { IfOk result (λ status. exit_status status ≤ 1) }
 {
     match instrument_of::<Staged, R>(rt, alloc, scene) {
-        Ok(Staged::Plain(instrument)) => exec(instrument, source, sink, messages),
-        Ok(Staged::Ruled(instrument)) => exec(instrument, source, sink, messages),
+        Ok(Staged::Plain(mut instrument)) => {
+            report_served(instrument.answer_all(source, sink), messages)
+        }
+        Ok(Staged::Ruled(mut instrument)) => {
+            report_served(instrument.answer_all(source, sink), messages)
+        }
         Err(refusal) => refusal.tell(messages),
     }
-}
-
-// Answers the requests of the source with the instrument, and reports how that ended, with status 0 or 1. The clauses are those of
-// `exec_scene`, of this instrument.
-fn exec<I: Answerer, S: Source, K: Sink, E: Write>(
-    mut instrument: I,
-    source: &mut S,
-    sink: &mut K,
-    messages: &mut E,
-) -> io::Result<ExitCode>
-    ensures told { IfOk result (λ status. TellsServing I.serving instrument
-        (ports_of S.Source source.old K.Sink sink.old)
-        (ports_of S.Source source.new K.Sink sink.new)
-        (exit_status status) (E.contents messages.old) (E.contents messages.new)) }
-    ensures done { IfOk result (λ status. IsDoneAtEnd
-        (ports_of S.Source source.old K.Sink sink.old)
-        (ports_of S.Source source.new K.Sink sink.new)
-        (exit_status status)) }
-    ensures fault { S.failed source.old ≡ false → K.failed sink.old ≡ false
-        → IfOk result (λ status. FailsByPorts
-        (ports_of S.Source source.old K.Sink sink.old)
-        (ports_of S.Source source.new K.Sink sink.new)
-        (exit_status status)) }
-    ensures bound { IfOk result (λ status. exit_status status ≤ 1) }
-{
-    report_served(instrument.answer_all(source, sink), messages)
 }

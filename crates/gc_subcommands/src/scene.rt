@@ -3,7 +3,7 @@
 //! with a clock.
 
 ghost use Rattle.std.specs.Prelude.{◌≡◌, None, Ok, IfErr, IfOk};
-ghost use Rattle.gc_engines.specs.RuleScenes.{IsStillLine, SceneFaultOf};
+ghost use Rattle.gc_engines.specs.RuleScenes.{IsStillLine, RuleSceneFault};
 ghost use Rattle.gc_engines.specs.TimedScenes.{TimedFault};
 ghost use Rattle.gc_subcommands.specs.Staging.{GivesInstrument, GivesNoInstrument, IsStaged, IsTimed};
 
@@ -94,12 +94,10 @@ impl SetUp for Staged {
 // The instrument of the text of a scene with rules. The faults are those of `read_rule_scene`.
 fn ruled_of_text(alloc: Global, text: &[u8]) -> Result<Staged, RunFault>
     ensures found { IfOk result (λ staged. IsStaged text.now staged) }
-    ensures fault { IfErr result (λ e. SceneFaultOf IsStillLine text.now e) }
+    ensures fault { IfErr result (λ e. RuleSceneFault IsStillLine text.now e) }
 {
-    match read_rule_scene::<StillForm>(alloc, text) {
-        Ok(instrument) => Ok(Staged::Ruled(instrument)),
-        Err(fault) => Err(fault),
-    }
+    let instrument = read_rule_scene::<StillForm>(alloc, text)?;
+    Ok(Staged::Ruled(instrument))
 }
 
 impl SetUp for Timed {
@@ -137,10 +135,8 @@ fn slow_of_text(alloc: Global, text: &[u8]) -> Result<Timed, RunFault>
     ensures found { IfOk result (λ timed. IsTimed text.now timed) }
     ensures fault { IfErr result (λ e. TimedFault text.now e) }
 {
-    match read_timed_scene(alloc, text) {
-        Ok(slow) => Ok(Timed::Slow(slow)),
-        Err(fault) => Err(fault),
-    }
+    let slow = read_timed_scene(alloc, text)?;
+    Ok(Timed::Slow(slow))
 }
 
 /// The instrument of the scene in a file, or the simulator if no file is named. The file is read to its end, or until it is found

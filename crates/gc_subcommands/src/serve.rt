@@ -130,7 +130,7 @@ pub fn serve_with_places_filled<
     ensures { IfOk result (λ status. exit_status status ≤ 2) }
 {
     let Ok(places) = standard.fill(rt) else {
-        return standard.refuse(messages);
+        return standard.report_closed(messages);
     };
     let ended = serve_with_scene(rt, alloc, serving, messages);
     drop(places);

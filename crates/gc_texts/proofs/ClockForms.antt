@@ -22,8 +22,8 @@ use Rattle.gc_texts.proofs.Procedures.{one_number, procedure_parts}
 use Rattle.gc_texts.proofs.WishForms.{same_wish, no_wish}
 
 -- `now` is one parameter
-now_is : IsParam (codes "now")
-now_is =
+now_is_one_parameter : IsParam (codes "now")
+now_is_one_parameter =
     record {
       first = λ rest e. has_mark 32 [] rest (codes "now") (sym e) (lacks_by_test 32 (codes "now") refl);
       last = λ front e. has_mark 32 front [] (codes "now") (sym e) (lacks_by_test 32 (codes "now") refl);
@@ -38,7 +38,7 @@ six_values call e = grind arith
 -- no call of procedure 5007 has `now` for its parameters: the procedure has six
 pub no_now : (call : Call) → IsCall 5007 (codes "now") call → ⊥
 no_now call is =
-    let one : is.values.items ≡ codes "now" ∷ [] = one_list (codes "now") is.values.items (codes "now" ∷ []) is.values.split (joined_params (codes "now" ∷ []) (now_is, tt) (omega arith, tt)) in
+    let one : is.values.items ≡ codes "now" ∷ [] = one_list (codes "now") is.values.items (codes "now" ∷ []) is.values.split (joined_params (codes "now" ∷ []) (now_is_one_parameter, tt) (omega arith, tt)) in
     let many : length is.values.items ≡ length (call_fields call).values = same_count (call_fields call).values is.values.items is.values.read ∙ length-map (call_fields call).values kind_of in
     let six : length (call_fields call).values ≡ 6 = six_values call is.number in
     let single : length is.values.items ≡ 1 = ap length one in

@@ -4,15 +4,15 @@
 -- `count` how many they are; `rest` is what is left after the next word.
 use Rattle.std.proofs.Common.{◌≡◌, ◌<◌, ◌≤◌, ◌+◌, ◌-◌, inl, inr, ℕ, suc, replicate, slice_set, List, [], ◌∷◌, ◌++◌, length, get_or, Option, Some, None, arith, ap, subst, sym, ◌∙◌, append_assoc, append-nil, codes}
 use Rattle.std.proofs.Math.Seq.{set-append_seam}
-use Rattle.std.proofs.lemmas.List.{append_cancel_left, length_push}
+use Rattle.std.proofs.lemmas.List.{length_push}
 use Rattle.gc_texts.specs.Codes.{IsCodeList, IsCode, AreCodes, padded_codes}
 use Rattle.gc_texts.specs.Cuts.{Cuts, Lacks}
 use Rattle.gc_texts.specs.TaskLines.{SetsAccepted}
 use Rattle.gc_texts.specs.declared.codes.Codes.{Codes}
 use Rattle.gc_texts.specs.LineForms.{IsReadAs}
-use Rattle.gc_texts.proofs.Cutting.{read_alike, digits_lack_spaces}
+use Rattle.gc_texts.proofs.Cutting.{read_alike, same_rest, digits_lack_spaces}
 use Rattle.gc_texts.proofs.Procedures.{one_number}
-use Rattle.gc_texts.proofs.WordForms.{IsWordForm, one_word_list, AreLeft, ReadsWords, all_read_are, next_item_of, one_more_read}
+use Rattle.gc_texts.proofs.WordForms.{IsWordForm, one_word_list, AreLeft, ReadsWords, all_words_read, next_item_of, one_more_read}
 
 -- a word is one code at most
 one_listed : (word : List ℕ) (a b : ℕ) → IsCode word a → IsCode word b → a ≡ b
@@ -43,17 +43,17 @@ one_accepting line a b (inl x) (inl y) = x.1 ∙ sym y.1
 one_accepting line a b (inl x) (inr y) = absurd (not_both line y.rest x.0 y.line_is)
 one_accepting line a b (inr x) (inl y) = absurd (not_both line x.rest y.0 x.line_is)
 one_accepting line a b (inr x) (inr y) =
-    one_filled y.rest a b (subst (λ (r : List ℕ). IsCodeList r a) (append_cancel_left (codes "accept ") x.rest y.rest (sym x.line_is ∙ y.line_is)) x.listed) y.listed
+    one_filled y.rest a b (same_rest (codes "accept ") (λ r. IsCodeList r a) line y.rest y.line_is x) y.is
 
 -- where a line is `accept ` and `rest`, but not `accept` alone, and `r` is the codes that `rest` lists, or `None` where it lists
 -- none, `r` is the codes that the line sets, too, or `None` where it sets none
-pub accepts_so : (line rest : List ℕ) (r : Option Codes) → (line ≡ codes "accept" → ⊥) → line ≡ codes "accept " ++ rest
+pub codes_of_rest : (line rest : List ℕ) (r : Option Codes) → (line ≡ codes "accept" → ⊥) → line ≡ codes "accept " ++ rest
     → IsReadAs (IsCodeList rest) r → IsReadAs (SetsAccepted line) r
-accepts_so line rest r other e = read_alike (IsCodeList rest) (SetsAccepted line) r (λ found are. inr (record { rest = rest; line_is = e; listed = are })) rest_lists where
+codes_of_rest line rest r other e = read_alike (IsCodeList rest) (SetsAccepted line) r (λ found are. inr (record { rest = rest; line_is = e; is = are })) rest_lists where
   -- `rest` lists the codes that the line sets, because the line isn't `accept` alone
   rest_lists : (found : Codes) → SetsAccepted line found → IsCodeList rest found
   rest_lists found (inl alone) = absurd (other alone.0)
-  rest_lists found (inr is) = subst (λ (t : List ℕ). IsCodeList t found) (append_cancel_left (codes "accept ") is.rest rest (sym is.line_is ∙ e)) is.listed
+  rest_lists found (inr is) = same_rest (codes "accept ") (λ t. IsCodeList t found) line rest e is
 
 -- How far the reading has come.
 
@@ -106,7 +106,7 @@ module _
       )
 
 -- where nothing is left, the text is the list of the codes that were read
-pub codes_are : (text : List ℕ) (left : Option (List ℕ)) (codes : Codes) (count : ℕ)
+pub all_codes_read : (text : List ℕ) (left : Option (List ℕ)) (codes : Codes) (count : ℕ)
     → Fills text left codes count → left ≡ None → IsCodeList text codes
-codes_are text left codes count (read, r, is, n) e =
-    record { listed = read; are = subst (AreCodes text) (append-nil read) (all_read_are IsCode text left read r.words e); few = r.few; filled_are = is }
+all_codes_read text left codes count (read, r, is, n) e =
+    record { listed = read; are = subst (AreCodes text) (append-nil read) (all_words_read IsCode text left read r.words e); few = r.few; filled_are = is }

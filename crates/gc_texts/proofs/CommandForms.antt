@@ -7,7 +7,8 @@ use Rattle.gc_texts.specs.Commands.{IsCommand}
 use Rattle.gc_texts.specs.Cuts.{Cuts}
 use Rattle.gc_texts.specs.Laws.{OneCommandList}
 use Rattle.gc_texts.specs.LineForms.{is_kept, text_lines}
-use Rattle.gc_texts.specs.Procedures.{IsNumber, IsProcedureText}
+use Rattle.gc_texts.specs.Procedures.{IsTarget, IsProcedureText}
+use Rattle.gc_texts.specs.Troubles.{NoTarget}
 use Rattle.gc_texts.specs.declared.commands.Command.{Command}
 use Rattle.gc_texts.proofs.Cutting.{cut_found, one_front, digits_lack_spaces}
 use Rattle.gc_texts.proofs.OneReading.{one_procedure, one_list}
@@ -24,9 +25,8 @@ module _ (line : List ℕ) (command : Command) (is : IsCommand line command) whe
   unspaced_is_no_command target cut = let parts = the_cut target None cut in let bad : None ≡ Some is.procedure = parts.1 in cc
 
   -- a line with no target before its first space is no command's
-  pub targetless_is_no_command : (target : List ℕ) (rest : Option (List ℕ)) → Cuts 32 line target rest
-      → ((n : ℕ) → IsNumber target n 4294967295 → ⊥) → ⊥
-  targetless_is_no_command target rest cut none = none command.target (subst (λ (ds : List ℕ). IsNumber ds command.target 4294967295) (sym (the_cut target rest cut).0) is.target_is)
+  pub targetless_is_no_command : (target : List ℕ) (rest : Option (List ℕ)) → Cuts 32 line target rest → NoTarget target → ⊥
+  targetless_is_no_command target rest cut none = none command.target (subst (λ (ds : List ℕ). IsTarget ds command.target) (sym (the_cut target rest cut).0) is.target_is)
 
   -- a line with no call after its first space is no command's
   pub callless_is_no_command : (target procedure : List ℕ) → Cuts 32 line target (Some procedure)
@@ -44,7 +44,7 @@ one_command line c d r s =
     let parts = one_front 32 r.target_text s.target_text r.procedure s.procedure (sym r.line_is ∙ s.line_is)
     (digits_lack_spaces r.target_text r.target_is.names.digits) (digits_lack_spaces s.target_text s.target_is.names.digits) in
     same_command c d
-    (one_number s.target_text c.target d.target 4294967295 (subst (λ (x : List ℕ). IsNumber x c.target 4294967295) parts.0 r.target_is) s.target_is)
+    (one_number s.target_text c.target d.target 4294967295 (subst (λ (x : List ℕ). IsTarget x c.target) parts.0 r.target_is) s.target_is)
     (one_procedure s.procedure c.call d.call (subst (λ (x : List ℕ). IsProcedureText x c.call) parts.1 r.procedure_is) s.procedure_is)
 
 -- the law: a text gives one list of commands at most

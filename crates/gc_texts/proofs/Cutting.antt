@@ -3,17 +3,22 @@
 use Rattle.std.proofs.Common.{◌≡◌, ◌≢◌, ◌<◌, ◌+◌, ◌≤◌, ◌==◌, false, ℕ, zero, suc, List, [], ◌∷◌, ◌++◌, length, take, drop, get_or, Option, Some, None, arith, refl, ap, subst, sym, ◌∙◌}
 use Rattle.std.specs.List.{list_any}
 use Rattle.std.proofs.lemmas.Bool.{eqb-true, eqb-false, eq-eqb, or_parts}
-use Rattle.std.proofs.lemmas.List.{take_all, take-append-drop, drop_more}
+use Rattle.std.proofs.lemmas.List.{append_cancel_left, take_all, take-append-drop, drop_more}
 use Rattle.memchr.specs.Find.{IsFirstByte, is_byte}
 use Rattle.gc_values.specs.Digits.{AreDigits}
 use Rattle.gc_texts.specs.Cuts.{Lacks, Cuts}
 use Rattle.gc_texts.specs.LineForms.{IsReadAs}
+use Rattle.gc_texts.specs.TaskLines.{IsWordAnd}
 
 -- where `Says` and `Sets` hold of the same values, what is read by the one (`IsReadAs`) is read by the other
 pub read_alike : {Value : Type 0} (Says Sets : Value → Type 0) (r : Option Value) → ((v : Value) → Says v → Sets v) → ((v : Value) → Sets v → Says v)
     → IsReadAs Says r → IsReadAs Sets r
 read_alike Says Sets None to from none = λ v is. none v (from v is)
 read_alike Says Sets (Some v) to from is = to v is
+
+-- what follows the word of a line, `rest`, is a text of which `Is` is true where the line is that word and such a text
+pub same_rest : (word : List ℕ) (Is : List ℕ → Type 0) (line rest : List ℕ) → line ≡ word ++ rest → IsWordAnd word Is line → Is rest
+same_rest word Is line rest e w = subst Is (append_cancel_left word w.rest rest (sym w.line_is ∙ e)) w.is
 
 -- where a text has at least i bytes, and none of the first i is the mark, these lack it
 lacks_before : (mark : ℕ) (bs : List ℕ) (i : ℕ) → i ≤ length bs → ((j : ℕ) → j < i → get_or bs j 0 ≢ mark) → Lacks mark (take i bs)

@@ -19,7 +19,6 @@ mod WritingSettlements
 pub mod ZeroReplies
 mod ParameterTroubles
 pub mod Dates
-mod FaultLines
 pub mod Logs
 pub mod LogStamps
 mod Moments

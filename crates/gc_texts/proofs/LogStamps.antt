@@ -19,7 +19,7 @@ use Rattle.gc_texts.specs.declared.log_line.LogMark.{LogMark}
 use Rattle.gc_texts.specs.declared.log_line.LogMark.TheVariants.{Went, WentPart, Came, CamePart, Link}
 use Rattle.gc_texts.specs.declared.stamp.Date.{Date}
 use Rattle.gc_texts.proofs.Dates.{few_days}
-use Rattle.gc_texts.proofs.Logs.{high_digit_small, one_reading}
+use Rattle.gc_texts.proofs.Logs.{IsOfBytes, high_digit_small, one_reading}
 
 -- a byte of a moment: printable, and no space
 record IsVisible (b : ℕ) : Type 0 where
@@ -56,29 +56,29 @@ three_visible n h =
     (two_visible (n % 100) (omega arith))
 
 -- the month of a date is at most 12, its day at most 31, and its year at most `year`
-pub record IsWithin (d : Date) (year : ℕ) : Type 0 where
+pub record IsDateUpTo (d : Date) (year : ℕ) : Type 0 where
   pub month : d.month ≤ 12
   pub day : d.day ≤ 31
   pub years : d.year ≤ year
 
 -- where a date's year is at most `year`, the next day's is at most `year + 1`; month and day keep their bounds
-next_day_within : (d : Date) (year : ℕ) → IsWithin d year → IsWithin (next_day d) (suc year)
+next_day_within : (d : Date) (year : ℕ) → IsDateUpTo d year → IsDateUpTo (next_day d) (suc year)
 next_day_within d year h =
-    cond_both (nat_lt d.day (month_days d.year d.month)) _ _ (λ e. IsWithin e (suc year))
+    cond_both (nat_lt d.day (month_days d.year d.month)) _ _ (λ e. IsDateUpTo e (suc year))
     (λ less. record { month = h.month; day = omega (arith, ltb-true d.day (month_days d.year d.month) less, few_days d.year d.month); years = omega (arith, h.years) })
-    (λ _. cond_both (nat_lt d.month 12) _ _ (λ e. IsWithin e (suc year))
+    (λ _. cond_both (nat_lt d.month 12) _ _ (λ e. IsDateUpTo e (suc year))
     (λ less. record { month = omega (arith, ltb-true d.month 12 less); day = omega arith; years = omega (arith, h.years) })
     (λ _. record { month = omega arith; day = omega arith; years = omega (arith, h.years) }))
 
 -- where a date's year is at most `year`, that of the date n days later is at most `year + n`; month and day keep their bounds
-later_within : (n : ℕ) (d : Date) (year : ℕ) → IsWithin d year → IsWithin (days_after n d) (year + n)
+later_within : (n : ℕ) (d : Date) (year : ℕ) → IsDateUpTo d year → IsDateUpTo (days_after n d) (year + n)
 unfolding days_after
-later_within zero d year h = let e : year + 0 ≡ year = omega arith in subst (IsWithin d) (sym e) h
+later_within zero d year h = let e : year + 0 ≡ year = omega arith in subst (IsDateUpTo d) (sym e) h
 later_within (suc n) d year h = let e : year + suc n ≡ suc year + n = omega arith in
-    subst (IsWithin (days_after n (next_day d))) (sym e) (later_within n (next_day d) (suc year) (next_day_within d year h))
+    subst (IsDateUpTo (days_after n (next_day d))) (sym e) (later_within n (next_day d) (suc year) (next_day_within d year h))
 
 -- the date n days after 1 January 1970 has a year of at most 1970 + n, and a month and a day within bounds
-pub date_within : (n : ℕ) → IsWithin (date_of n) (1970 + n)
+pub date_within : (n : ℕ) → IsDateUpTo (date_of n) (1970 + n)
 date_within n = later_within n (record { year = 1970; month = 1; day = 1 }) 1970 (record { month = omega arith; day = omega arith; years = omega arith })
 
 -- the text of a date with a year of 64 bits, and a month and a day below 100, is printable, without a space
@@ -147,7 +147,7 @@ escape_prints b h =
     ((omega arith, omega arith), ((omega arith, omega arith), (hex_digit_prints (b / 16) (high_digit_small b h), (hex_digit_prints (b % 16) (omega arith), tt)))))
 
 -- the escaped form of bytes is printable
-pub escaped_prints : (bs : List ℕ) → AllByRecursion (λ b. b < 256) bs → IsPrintable (escaped bs)
+pub escaped_prints : (bs : List ℕ) → IsOfBytes bs → IsPrintable (escaped bs)
 escaped_prints [] h = All-from_recursion IsPrintableByte [] tt
 escaped_prints (b ∷ bs) h = All-append IsPrintableByte (escape b) (escaped bs) (escape_prints b h.0) (escaped_prints bs h.1)
 

@@ -8,14 +8,14 @@ use Rattle.std.proofs.lemmas.Bool.{cond_both, eqb-true, ltb-true, ltb-false}
 use Rattle.std.proofs.lemmas.List.Elements.{recursion_from_All}
 use Rattle.std.proofs.lemmas.Option.{same_Some}
 use Rattle.gc_texts.specs.Cuts.{Lacks, Cuts}
-use Rattle.gc_texts.specs.Logs.{mark_text, is_unescaped, hex_digit, escape, escaped, AreBytes, IsPrintable, IsLogLine}
+use Rattle.gc_texts.specs.Logs.{mark_text, is_unescaped, hex_digit, escape, escaped, AreBytes, BeginsWithNoByte, IsPrintable, IsLogLine}
 use Rattle.gc_texts.specs.declared.log_line.LogMark.{LogMark}
 use Rattle.gc_texts.specs.declared.log_line.LogMark.TheVariants.{Went, WentPart, Came, CamePart, Link}
 use Rattle.gc_texts.proofs.Cutting.{lacks_by_test, cut_found, one_front}
 
--- a number is below 256, as each byte is
-abbrev IsBelow256 : ℕ → Type 0
-IsBelow256 b = b < 256
+-- a text is of bytes: each of its numbers is below 256. `AreBytes` says the same by places, and this by recursion
+abbrev pub IsOfBytes : List ℕ → Type 0
+IsOfBytes text = AllByRecursion (λ b. b < 256) text
 
 -- a byte's text is it alone, where it is written as it is (`is_unescaped`), and else `\x` and its two digits
 data IsEscape (b : ℕ) (text : List ℕ) : Type 0 where
@@ -27,8 +27,8 @@ escapes : (b : ℕ) → IsEscape b (escape b)
 escapes b = cond_both (is_unescaped b) (b ∷ []) (92 ∷ 120 ∷ hex_digit (b / 16) ∷ hex_digit (b % 16) ∷ []) (IsEscape b) (λ is. as_it_is is refl) (λ is. as_digits is refl)
 
 -- two digits of base 16 that are written alike are the same
-one_value : (m n : ℕ) → hex_digit m ≡ hex_digit n → m < 16 → n < 16 → m ≡ n
-one_value m n same small few =
+one_hex_digit : (m n : ℕ) → hex_digit m ≡ hex_digit n → m < 16 → n < 16 → m ≡ n
+one_hex_digit m n same small few =
     cond_both (nat_lt m 10) (48 + m) (87 + m) (λ d. d ≡ hex_digit n → m ≡ n)
     (λ a. cond_both (nat_lt n 10) (48 + n) (87 + n) (λ d. 48 + m ≡ d → m ≡ n) (λ b e. omega (arith, e)) (λ b e. absurd (omega (arith, e, small, few, ltb-true m 10 a, ltb-false n 10 b))))
     (λ a. cond_both (nat_lt n 10) (48 + n) (87 + n) (λ d. 87 + m ≡ d → m ≡ n) (λ b e. absurd (omega (arith, e, small, few, ltb-false m 10 a, ltb-true n 10 b))) (λ b e. omega (arith, e)))
@@ -62,8 +62,8 @@ one_byte b c s t xs ys small few (as_digits is so) (as_digits was to) e =
     let same : 92 ∷ 120 ∷ hex_digit (b / 16) ∷ hex_digit (b % 16) ∷ xs ≡ 92 ∷ 120 ∷ hex_digit (c / 16) ∷ hex_digit (c % 16) ∷ ys = sym (ap (λ z. z ++ xs) so) ∙ e ∙ ap (λ z. z ++ ys) to in
     let highs : hex_digit (b / 16) ≡ hex_digit (c / 16) = cc in
     let lows : hex_digit (b % 16) ≡ hex_digit (c % 16) = cc in
-    let high = one_value (b / 16) (c / 16) highs (high_digit_small b small) (high_digit_small c few) in
-    let low = one_value (b % 16) (c % 16) lows (low_digit_small b) (low_digit_small c) in
+    let high = one_hex_digit (b / 16) (c / 16) highs (high_digit_small b small) (high_digit_small c few) in
+    let low = one_hex_digit (b % 16) (c % 16) lows (low_digit_small b) (low_digit_small c) in
     (omega (arith, high, low, div-add-mod b 16, div-add-mod c 16), cc)
 
 -- the escaped form of a byte, with whatever after it, isn't empty
@@ -75,12 +75,12 @@ escape_not_empty b s xs (as_digits is so) e = let bad : 92 ∷ 120 ∷ hex_digit
 record IsRestOf (bytes left all : List ℕ) : Type 0 where
   more : List ℕ
   joins : all ≡ bytes ++ more
-  are : AllByRecursion IsBelow256 more
+  are : IsOfBytes more
   so : left ≡ escaped more
 
 -- where the escaped form of `bytes`, and `left` after it, are the escaped form of `all`, `left` is the escaped form of what `all`
 -- has after `bytes` (`IsRestOf`)
-behind_bytes : (bytes left all : List ℕ) → AllByRecursion IsBelow256 bytes → AllByRecursion IsBelow256 all
+behind_bytes : (bytes left all : List ℕ) → IsOfBytes bytes → IsOfBytes all
     → escaped bytes ++ left ≡ escaped all → IsRestOf bytes left all
 behind_bytes [] left all h k e = record { more = all; joins = refl; are = k; so = e }
 behind_bytes (b ∷ bs) left [] h k e = absurd (escape_not_empty b (escape b) (escaped bs ++ left) (escapes b) (sym (append_assoc (escape b) (escaped bs) left) ∙ e))
@@ -104,18 +104,16 @@ pub full_is_514 : (n : ℕ) → true ≡ (n == 514) → 514 ≤ n
 full_is_514 n full = omega (arith, eqb-true n 514 (sym full))
 
 -- a text that isn't empty, and doesn't begin with an escaped byte, isn't the escaped form of any bytes
-no_more : (left more : List ℕ) → left ≢ [] → ((b : ℕ) (rest : List ℕ) → b < 256 → left ≡ escape b ++ rest → ⊥)
-    → AllByRecursion IsBelow256 more → left ≡ escaped more → ⊥
+no_more : (left more : List ℕ) → left ≢ [] → BeginsWithNoByte left → IsOfBytes more → left ≡ escaped more → ⊥
 no_more left [] some none h e = some e
 no_more left (b ∷ bs) some none h e = none b (escaped bs) h.0 e
 
 -- where what is left of a text isn't empty, and doesn't begin with an escaped byte, the text isn't the escaped form of any
 -- bytes
-pub reads_no_more : (text bytes left : List ℕ) (read : ReadsBytes text bytes left) (some : left ≢ [])
-    (none : (b : ℕ) (rest : List ℕ) → b < 256 → left ≡ escape b ++ rest → ⊥)
+pub reads_no_more : (text bytes left : List ℕ) (read : ReadsBytes text bytes left) (some : left ≢ []) (none : BeginsWithNoByte left)
     → (all : List ℕ) → AreBytes all → text ≡ escaped all → ⊥
 reads_no_more text bytes left h some none all are e =
-    let k = behind_bytes bytes left all (recursion_from_All IsBelow256 bytes h.are) (recursion_from_All IsBelow256 all are) (sym h.so ∙ e) in
+    let k = behind_bytes bytes left all (recursion_from_All (λ b. b < 256) bytes h.are) (recursion_from_All (λ b. b < 256) all are) (sym h.so ∙ e) in
     no_more left k.more some none k.are k.so
 
 -- where a text isn't empty, and is the escaped form of bytes, there is at least one byte
@@ -127,7 +125,7 @@ some_bytes_left left (b ∷ bs) some e = omega arith
 pub reads_too_many : (text bytes left : List ℕ) (read : ReadsBytes text bytes left) (some : left ≢ []) (full : 514 ≤ length bytes)
     → (all : List ℕ) → length all ≤ 514 → AreBytes all → text ≡ escaped all → ⊥
 reads_too_many text bytes left h some full all room are e =
-    let k = behind_bytes bytes left all (recursion_from_All IsBelow256 bytes h.are) (recursion_from_All IsBelow256 all are) (sym h.so ∙ e) in
+    let k = behind_bytes bytes left all (recursion_from_All (λ b. b < 256) bytes h.are) (recursion_from_All (λ b. b < 256) all are) (sym h.so ∙ e) in
     omega (arith, full, room, ap length k.joins, length-append bytes k.more, some_bytes_left left k.more some k.so)
 
 -- where `ys` are `xs` and then `more`, and the escaped form of `more` is empty, `xs` are `ys`
@@ -138,16 +136,16 @@ none_left xs ys (b ∷ bs) joins so = absurd (escape_not_empty b (escape b) (esc
 -- two lists of bytes with the same escaped form are the same
 pub escaped_injective : (xs ys : List ℕ) → AreBytes xs → AreBytes ys → escaped xs ≡ escaped ys → xs ≡ ys
 escaped_injective xs ys h j e =
-    let k = behind_bytes xs [] ys (recursion_from_All IsBelow256 xs h) (recursion_from_All IsBelow256 ys j) (append-nil (escaped xs) ∙ e) in
+    let k = behind_bytes xs [] ys (recursion_from_All (λ b. b < 256) xs h) (recursion_from_All (λ b. b < 256) ys j) (append-nil (escaped xs) ∙ e) in
     none_left xs ys k.more k.joins k.so
 
 -- a mark has no space
-mark_lacks : (mark : LogMark) → Lacks 32 (mark_text mark)
-mark_lacks Went = lacks_by_test 32 (codes ">") refl
-mark_lacks WentPart = lacks_by_test 32 (codes ">|") refl
-mark_lacks Came = lacks_by_test 32 (codes "<") refl
-mark_lacks CamePart = lacks_by_test 32 (codes "<|") refl
-mark_lacks Link = lacks_by_test 32 (codes "-") refl
+mark_lacks_space : (mark : LogMark) → Lacks 32 (mark_text mark)
+mark_lacks_space Went = lacks_by_test 32 (codes ">") refl
+mark_lacks_space WentPart = lacks_by_test 32 (codes ">|") refl
+mark_lacks_space Came = lacks_by_test 32 (codes "<") refl
+mark_lacks_space CamePart = lacks_by_test 32 (codes "<|") refl
+mark_lacks_space Link = lacks_by_test 32 (codes "-") refl
 
 -- the parts of a log line, cut at its spaces, and which lines are none
 module _
@@ -165,7 +163,7 @@ module _
   mark_cut : (behind word : List ℕ) (text : Option (List ℕ)) → rest ≡ Some behind → Cuts 32 behind word text
       → (word ≡ mark_text mark) × (text ≡ Some (escaped bytes))
   mark_cut behind word text so next =
-      cut_found 32 behind word text (mark_text mark) (escaped bytes) next (same_Some behind _ (sym so ∙ moment_cut.1)) (mark_lacks mark)
+      cut_found 32 behind word text (mark_text mark) (escaped bytes) next (same_Some behind _ (sym so ∙ moment_cut.1)) (mark_lacks_space mark)
 
   -- a line without a space is no log line
   pub no_moment : rest ≡ None → ⊥
@@ -187,19 +185,19 @@ module _
   other_bytes behind word text so next room none = none bytes room is.are_bytes (same_Some text (escaped bytes) (mark_cut behind word (Some text) so next).1)
 
 -- one of two marks by the text after a mark's first byte: `whole` where there is none, else `part`
-by_end : List ℕ → (whole part : LogMark) → LogMark
-by_end [] whole part = whole
-by_end (b ∷ bs) whole part = part
+mark_by_end : List ℕ → (whole part : LogMark) → LogMark
+mark_by_end [] whole part = whole
+mark_by_end (b ∷ bs) whole part = part
 
 -- the mark that a text spells, by its first byte (62 is `>`, 60 is `<`) and whether there is a second; `Link` for any other
 -- text
 mark_from : List ℕ → LogMark
 mark_from [] = Link
-mark_from (b ∷ bs) = cond (b == 62) (by_end bs Went WentPart) (cond (b == 60) (by_end bs Came CamePart) Link)
+mark_from (b ∷ bs) = cond (b == 62) (mark_by_end bs Went WentPart) (cond (b == 60) (mark_by_end bs Came CamePart) Link)
 
 -- the text of a mark is read as that mark
 mark_reads_back : (m : LogMark) → mark_from (mark_text m) ≡ m
-unfolding by_end mark_from
+unfolding mark_by_end mark_from
 mark_reads_back Went = refl
 mark_reads_back WentPart = refl
 mark_reads_back Came = refl
@@ -215,5 +213,5 @@ pub one_reading : (text : List ℕ) (m k : List ℕ) (a b : LogMark) (xs ys : Li
     → IsLogLine text m a xs → IsLogLine text k b ys → (m ≡ k) × (a ≡ b) × (xs ≡ ys)
 one_reading text m k a b xs ys one other =
     let first = one_front 32 m k (mark_text a ++ 32 ∷ escaped xs) (mark_text b ++ 32 ∷ escaped ys) (sym one.is ∙ other.is) one.one_word other.one_word in
-    let second = one_front 32 (mark_text a) (mark_text b) (escaped xs) (escaped ys) first.1 (mark_lacks a) (mark_lacks b) in
+    let second = one_front 32 (mark_text a) (mark_text b) (escaped xs) (escaped ys) first.1 (mark_lacks_space a) (mark_lacks_space b) in
     (first.0, one_mark a b second.0, escaped_injective xs ys one.are_bytes other.are_bytes second.1)

@@ -6,7 +6,7 @@ use Rattle.gc_catalogue.specs.declared.call.Call.{Call}
 use Rattle.gc_catalogue.specs.Calls.{IsCall}
 use Rattle.gc_catalogue.proofs.CallLaws.{one_call}
 use Rattle.gc_texts.specs.Cuts.{Cuts, Lacks}
-use Rattle.gc_texts.specs.Procedures.{IsNumber, IsProcedureText, params_text_of}
+use Rattle.gc_texts.specs.Procedures.{IsRpc, IsProcedureText, params_text_of}
 use Rattle.gc_texts.proofs.Cutting.{digits_lack_spaces}
 use Rattle.gc_texts.proofs.Procedures.{one_number, procedure_parts}
 
@@ -21,7 +21,7 @@ pub one_procedure : (text : List ℕ) (c d : Call) → IsProcedureText text c �
 one_procedure text c d p q =
     let cut : Cuts 32 text q.rpc_text q.params = params_cut text q.rpc_text q.params q.text_is (digits_lack_spaces q.rpc_text q.number.names.digits) in
     let parts = procedure_parts text q.rpc_text q.params c cut p in
-    let rpcs : q.rpc ≡ p.rpc = one_number p.rpc_text q.rpc p.rpc 65535 (subst (λ (t : List ℕ). IsNumber t q.rpc 65535) parts.0 q.number) p.number in
+    let rpcs : q.rpc ≡ p.rpc = one_number p.rpc_text q.rpc p.rpc 65535 (subst (λ (t : List ℕ). IsRpc t q.rpc) parts.0 q.number) p.number in
     let lists : unwrap_or q.params [] ≡ unwrap_or p.params [] = ap (λ o. unwrap_or o []) parts.1 in
     one_call p.rpc (unwrap_or p.params []) c d p.calls (subst (λ (n : ℕ). IsCall n (unwrap_or p.params []) d) rpcs (subst (λ (ps : List ℕ). IsCall q.rpc ps d) lists q.calls))
 

@@ -82,11 +82,11 @@ placed_next nears tasks now i d new is below e =
     ap (slice_set now i) e ∙ ap (λ ts. slice_set ts i (placed nears (get_or ts i d))) is ∙ placed_at nears tasks i d below ∙ ap (λ n. halfway nears n tasks) one
 
 -- where an answer is elsewhere, a place is known of its target, and the answer has a direction that isn't near that place
-pub elsewhere_is : (place : Option Near) (answer : Answer) → is_elsewhere place answer ≡ true
+pub elsewhere_has_place : (place : Option Near) (answer : Answer) → is_elsewhere place answer ≡ true
     → (near : Near) × (d : Direction) × (place ≡ Some near) × (direction_of answer ≡ Some d) × (IsNear d near.place near.tolerance → ⊥)
 unfolding is_elsewhere
-elsewhere_is None answer away = cc
-elsewhere_is (Some near) answer away = by_direction (direction_of answer) refl where
+elsewhere_has_place None answer away = cc
+elsewhere_has_place (Some near) answer away = by_direction (direction_of answer) refl where
   -- the lemma above, by the answer's direction: without one it isn't elsewhere, so there is one, and it isn't near
   by_direction : (o : Option Direction) → direction_of answer ≡ o
       → (n : Near) × (d : Direction) × (Some near ≡ Some n) × (direction_of answer ≡ Some d) × (IsNear d n.place n.tolerance → ⊥)

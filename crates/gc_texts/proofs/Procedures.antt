@@ -5,8 +5,9 @@ use Rattle.std.proofs.lemmas.List.{append-nil}
 use Rattle.gc_catalogue.specs.declared.call.Call.{Call}
 use Rattle.gc_catalogue.specs.Calls.{IsCall}
 use Rattle.gc_texts.specs.Cuts.{Cuts, Lacks}
-use Rattle.gc_texts.specs.Procedures.{IsNumber, IsProcedureText, HasBytes, params_text_of}
+use Rattle.gc_texts.specs.Procedures.{IsNumber, IsRpc, IsProcedureText, HasBytes, params_text_of}
 use Rattle.gc_texts.specs.LineForms.{IsReadAs}
+use Rattle.gc_texts.specs.Troubles.{NoRpc}
 use Rattle.gc_texts.proofs.Cutting.{read_alike, cut_found, cut_none, digits_lack_spaces}
 
 -- where a text is digits without a space, and then parameters after a space, or none, its cut at the first space gives the digits
@@ -24,12 +25,12 @@ pub procedure_parts : (text front : List ℕ) (rest : Option (List ℕ)) (call :
     → Cuts 32 text front rest → (p : IsProcedureText text call) → (front ≡ p.rpc_text) × (rest ≡ p.params)
 procedure_parts text front rest call cut p = cut_params text front p.rpc_text rest p.params cut (digits_lack_spaces p.rpc_text p.number.names.digits) p.text_is
 
--- a text that is cut at its first space, and whose front is no number up to 65535, is no procedure's
+-- a text that is cut at its first space, and whose front is no procedure's number, is no procedure's
 pub no_procedure : (text front : List ℕ) (rest : Option (List ℕ)) → Cuts 32 text front rest
-    → ((n : ℕ) → IsNumber front n 65535 → ⊥) → (call : Call) → IsProcedureText text call → ⊥
+    → NoRpc front → (call : Call) → IsProcedureText text call → ⊥
 no_procedure text front rest cut none call p =
     let parts = procedure_parts text front rest call cut p in
-    none p.rpc (subst (λ (t : List ℕ). IsNumber t p.rpc 65535) (sym parts.0) p.number)
+    none p.rpc (subst (λ (t : List ℕ). IsRpc t p.rpc) (sym parts.0) p.number)
 
 -- parameters that are given and empty don't have at least one byte
 no_bytes : (params : Option (List ℕ)) → params ≡ Some [] → HasBytes params → ⊥
@@ -41,13 +42,13 @@ no_bytes (Some (b ∷ bs)) e more = cc
 pub one_number : (digits : List ℕ) (m n max : ℕ) → IsNumber digits m max → IsNumber digits n max → m ≡ n
 one_number digits m n max h k = h.names.value ∙ sym k.names.value
 
--- a text's front, up to its first space, is the number `rpc`, up to 65535, and what follows the space, if there is one, is
+-- a text's front, up to its first space, is the procedure's number `rpc`, and what follows the space, if there is one, is
 -- `params`, at least one byte; without a space `params` is empty. Then the call of `rpc` and `params`, or `None` where they make
 -- none, is also what is read of the text as a procedure's (`IsReadAs`)
-pub procedure_is : (text front params : List ℕ) (rest : Option (List ℕ)) (rpc : ℕ) (r : Option Call)
-    (cut : Cuts 32 text front rest) (more : HasBytes rest) (same : params ≡ unwrap_or rest []) (number : IsNumber front rpc 65535)
+pub procedure_read : (text front params : List ℕ) (rest : Option (List ℕ)) (rpc : ℕ) (r : Option Call)
+    (cut : Cuts 32 text front rest) (more : HasBytes rest) (same : params ≡ unwrap_or rest []) (number : IsRpc front rpc)
     → IsReadAs (IsCall rpc params) r → IsReadAs (IsProcedureText text) r
-procedure_is text front params rest rpc r cut more same number = read_alike (IsCall rpc params) (IsProcedureText text) r of_call of_text where
+procedure_read text front params rest rpc r cut more same number = read_alike (IsCall rpc params) (IsProcedureText text) r of_call of_text where
   -- a text that is cut at its first space is its front and what follows that, with the space
   cut_text : (text front : List ℕ) (rest : Option (List ℕ)) → Cuts 32 text front rest → text ≡ front ++ params_text_of rest
   cut_text text front None cut = cut.0 ∙ sym (append-nil front)
@@ -69,7 +70,7 @@ procedure_is text front params rest rpc r cut more same number = read_alike (IsC
   of_text : (call : Call) → IsProcedureText text call → IsCall rpc params call
   of_text call p =
       let parts = procedure_parts text front rest call cut p in
-      let rpcs : p.rpc ≡ rpc = one_number front p.rpc rpc 65535 (subst (λ (t : List ℕ). IsNumber t p.rpc 65535) (sym parts.0) p.number) number in
+      let rpcs : p.rpc ≡ rpc = one_number front p.rpc rpc 65535 (subst (λ (t : List ℕ). IsRpc t p.rpc) (sym parts.0) p.number) number in
       let lists : unwrap_or p.params [] ≡ params = ap (λ o. unwrap_or o []) (sym parts.1) ∙ sym same in
       subst (λ (n : ℕ). IsCall n params call) rpcs (subst (λ (ps : List ℕ). IsCall p.rpc ps call) lists p.calls)
 
@@ -78,14 +79,14 @@ pub with_rest : (mark : ℕ) (text front : List ℕ) (o rest : Option (List ℕ)
     → Cuts mark text front o → o ≡ rest → Cuts mark text front rest
 with_rest mark text front o rest cut e = let P : Option (List ℕ) → Type 0 = λ r. Cuts mark text front r in subst P e cut
 
--- where a text's front, up to its first space, is the number `rpc`, up to 65535, and `params` follows the space, at least one
+-- where a text's front, up to its first space, is the procedure's number `rpc`, and `params` follows the space, at least one
 -- byte, the call of `rpc` and `params`, or `None` where they make none, is also what is read of the text as a procedure's
 -- (`IsReadAs`)
 pub with_parameters : (text front params : List ℕ) (o : Option (List ℕ)) (rpc : ℕ) (r : Option Call)
-    (cut : Cuts 32 text front o) (is : o ≡ Some params) (more : 0 < length params) (number : IsNumber front rpc 65535)
+    (cut : Cuts 32 text front o) (is : o ≡ Some params) (more : 0 < length params) (number : IsRpc front rpc)
     → IsReadAs (IsCall rpc params) r → IsReadAs (IsProcedureText text) r
 with_parameters text front params o rpc r cut e more number called =
-    procedure_is text front params (Some params) rpc r (with_rest 32 text front o (Some params) cut e) more refl number called
+    procedure_read text front params (Some params) rpc r (with_rest 32 text front o (Some params) cut e) more refl number called
 
 -- a text that has a first space and nothing after it is no procedure's
 pub without_parameters : (text front params : List ℕ) (o : Option (List ℕ)) → Cuts 32 text front o → o ≡ Some params → length params ≡ 0

@@ -10,7 +10,7 @@ use Rattle.gc_catalogue.specs.declared.raw.RawFault.{RawFault}
 use Rattle.gc_catalogue.specs.declared.raw.RawFault.TheVariants.{InTable, NotPlain, TooLong, OpenQuote, TooMany}
 use Rattle.gc_texts.specs.Laws.{NamesAreTheCatalogues}
 use Rattle.gc_texts.specs.ProcedureNames.{name_among}
-use Rattle.gc_texts.specs.Procedures.{IsNumber}
+use Rattle.gc_texts.specs.Procedures.{IsRpc}
 use Rattle.gc_texts.specs.Troubles.{raw_trouble, IsRawLine, IsRawWordsTrouble, IsAskingTrouble}
 use Rattle.gc_texts.specs.Words.{third_word, after_three_words}
 use Rattle.gc_texts.specs.declared.trouble.Trouble.{Trouble}
@@ -30,7 +30,7 @@ no_name (call ∷ calls) rpc none =
 module _ (line : List ℕ) (word : IsRawLine line) where
   -- where the third word is the number `rpc`, and `rpc` is refused with `fault` for a request with what follows that word
   -- (`IsRawRefusal`), what `raw_trouble` reports of the two is at fault in the line (`IsAskingTrouble`)
-  refused : (rpc : ℕ) (fault : RawFault) → IsNumber (third_word line) rpc 65535 → IsRawRefusal rpc (after_three_words line) fault
+  refused : (rpc : ℕ) (fault : RawFault) → IsRpc (third_word line) rpc → IsRawRefusal rpc (after_three_words line) fault
       → IsAskingTrouble line (raw_trouble rpc fault)
   refused rpc InTable number is = record { word = word; rpc = rpc; number = number; is = inl (InTable, is, refl) }
   refused rpc NotPlain number is = record { word = word; rpc = rpc; number = number; is = inl (NotPlain, is, refl) }

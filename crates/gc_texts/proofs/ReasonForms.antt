@@ -3,7 +3,6 @@
 -- at its end), `read` the words so far, and `rest` what is left after the next word.
 use Rattle.std.proofs.Common.{◌≡◌, ◌<◌, ◌≤◌, inl, inr, ℕ, Bool, true, false, ne_eqb, ◌==◌, List, [], ◌∷◌, ◌++◌, get_or, Option, Some, None, arith, refl, ap, subst, sym, ◌∙◌, append-nil, codes, if◌then◌else◌}
 use Rattle.std.proofs.lemmas.Bool.{ltb-true, ltb-false}
-use Rattle.std.proofs.lemmas.List.{append_cancel_left}
 use Rattle.gc_texts.specs.Again.{no_again}
 use Rattle.gc_texts.specs.Cuts.{Cuts, Lacks, behind}
 use Rattle.gc_texts.specs.Retries.{IsReason, AreReasons, NamesRule, IsRetryRule, allows_word, count_with, again_with, codes_with, named_with}
@@ -15,9 +14,9 @@ use Rattle.gc_texts.specs.declared.retry.Reason.TheVariants as reason
 use Rattle.gc_texts.specs.declared.retry.Retry.{Retry}
 use Rattle.gc_values.specs.Digits.{AreDigits}
 use Rattle.gc_texts.specs.LineForms.{IsReadAs}
-use Rattle.gc_texts.proofs.Cutting.{read_alike, lacks_by_test, digits_lack_spaces}
+use Rattle.gc_texts.proofs.Cutting.{read_alike, same_rest, lacks_by_test, digits_lack_spaces}
 use Rattle.gc_texts.proofs.Procedures.{one_number}
-use Rattle.gc_texts.proofs.WordForms.{IsWordForm, one_word_list, AreLeft, ReadsWords, all_read_are, next_item_of, one_more_read}
+use Rattle.gc_texts.proofs.WordForms.{IsWordForm, one_word_list, AreLeft, ReadsWords, all_words_read, next_item_of, one_more_read}
 
 -- the second byte of digits, or 0 where there is none, is at most 57, that of 9
 second_low : (word : List ℕ) → AreDigits word → get_or word 1 0 ≤ 57
@@ -45,13 +44,13 @@ low_kind b low =
     rw (other 110 (omega arith), other 108 (omega arith), other 97 (omega arith), other 111 (omega arith), other 107 (omega arith)) refl
 
 -- the second byte of a word, or 0 where it has none, shows its kind
-kind_is : (word : List ℕ) (r : Reason) → IsReason word r → kind_at (get_or word 1 0) ≡ kind r
-kind_is word (reason.Code code) is = low_kind (get_or word 1 0) (second_low word is.number.names.digits)
-kind_is word reason.Unreadable is = ap (λ bs. kind_at (get_or bs 1 0)) is
-kind_is word reason.Elsewhere is = ap (λ bs. kind_at (get_or bs 1 0)) is
-kind_is word reason.Late is = ap (λ bs. kind_at (get_or bs 1 0)) is
-kind_is word reason.Lost is = ap (λ bs. kind_at (get_or bs 1 0)) is
-kind_is word reason.Skipped is = ap (λ bs. kind_at (get_or bs 1 0)) is
+second_byte_shows_kind : (word : List ℕ) (r : Reason) → IsReason word r → kind_at (get_or word 1 0) ≡ kind r
+second_byte_shows_kind word (reason.Code code) is = low_kind (get_or word 1 0) (second_low word is.number.names.digits)
+second_byte_shows_kind word reason.Unreadable is = ap (λ bs. kind_at (get_or bs 1 0)) is
+second_byte_shows_kind word reason.Elsewhere is = ap (λ bs. kind_at (get_or bs 1 0)) is
+second_byte_shows_kind word reason.Late is = ap (λ bs. kind_at (get_or bs 1 0)) is
+second_byte_shows_kind word reason.Lost is = ap (λ bs. kind_at (get_or bs 1 0)) is
+second_byte_shows_kind word reason.Skipped is = ap (λ bs. kind_at (get_or bs 1 0)) is
 
 -- where a word is `a` and is `b`, and both are of one kind, they are the same
 same_reason : (word : List ℕ) (a b : Reason) → IsReason word a → IsReason word b → kind a ≡ kind b → a ≡ b
@@ -65,7 +64,7 @@ same_reason word a b x y h = absurd (omega (arith, h))
 
 -- a word is one code or outcome at most
 one_reason : (word : List ℕ) (a b : Reason) → IsReason word a → IsReason word b → a ≡ b
-one_reason word a b x y = same_reason word a b x y (sym (kind_is word a x) ∙ kind_is word b y)
+one_reason word a b x y = same_reason word a b x y (sym (second_byte_shows_kind word a x) ∙ second_byte_shows_kind word b y)
 
 -- a code or an outcome has no space
 reason_lacks_space : (word : List ℕ) (r : Reason) → IsReason word r → Lacks 32 word
@@ -100,21 +99,21 @@ not_zero a is = let none : a.times ≡ 0 = is.times_are.names.value in omega (ar
 pub one_retrying : (line : List ℕ) (a b : Retry) → SetsRetry line a → SetsRetry line b → a ≡ b
 one_retrying line a b (inl x) (inl y) = x.1 ∙ sym y.1
 one_retrying line a b (inl x) (inr y) =
-    absurd (not_zero b (subst (λ (r : List ℕ). IsRetryRule r b) (append_cancel_left (codes "retry ") y.rest (codes "0") (sym y.line_is ∙ x.0)) y.rule_is))
+    absurd (not_zero b (same_rest (codes "retry ") (λ r. IsRetryRule r b) line (codes "0") x.0 y))
 one_retrying line a b (inr x) (inl y) =
-    absurd (not_zero a (subst (λ (r : List ℕ). IsRetryRule r a) (append_cancel_left (codes "retry ") x.rest (codes "0") (sym x.line_is ∙ y.0)) x.rule_is))
+    absurd (not_zero a (same_rest (codes "retry ") (λ r. IsRetryRule r a) line (codes "0") y.0 x))
 one_retrying line a b (inr x) (inr y) =
-    one_rule y.rest a b (subst (λ (r : List ℕ). IsRetryRule r a) (append_cancel_left (codes "retry ") x.rest y.rest (sym x.line_is ∙ y.line_is)) x.rule_is) y.rule_is
+    one_rule y.rest a b (same_rest (codes "retry ") (λ r. IsRetryRule r a) line y.rest y.line_is x) y.is
 
 -- where a line is `retry ` and `rest`, but not `retry 0`, and `r` is the rule that `rest` is, or `None` where it is none, `r` is
 -- what the line sets, too, or `None` where it sets none
-pub retries_so : (line rest : List ℕ) (r : Option Retry) → (line ≡ codes "retry 0" → ⊥) → line ≡ codes "retry " ++ rest
+pub retry_of_rest : (line rest : List ℕ) (r : Option Retry) → (line ≡ codes "retry 0" → ⊥) → line ≡ codes "retry " ++ rest
     → IsReadAs (IsRetryRule rest) r → IsReadAs (SetsRetry line) r
-retries_so line rest r other e = read_alike (IsRetryRule rest) (SetsRetry line) r (λ found is. inr (record { rest = rest; line_is = e; rule_is = is })) rest_rules where
+retry_of_rest line rest r other e = read_alike (IsRetryRule rest) (SetsRetry line) r (λ found is. inr (record { rest = rest; line_is = e; is = is })) rest_rules where
   -- `rest` is the rule that the line sets, because the line isn't `retry 0`
   rest_rules : (found : Retry) → SetsRetry line found → IsRetryRule rest found
   rest_rules found (inl alone) = absurd (other alone.0)
-  rest_rules found (inr is) = subst (λ (t : List ℕ). IsRetryRule t found) (append_cancel_left (codes "retry ") is.rest rest (sym is.line_is ∙ e)) is.rule_is
+  rest_rules found (inr is) = same_rest (codes "retry ") (λ t. IsRetryRule t found) line rest e is
 
 -- How far the reading has come.
 
@@ -219,12 +218,12 @@ module _
       }
 
 -- where nothing is left, the text names the rule that the words that were read make
-pub reasons_are : (text : List ℕ) (left : Option (List ℕ)) (again : Again) (count : ℕ)
+pub all_reasons_read : (text : List ℕ) (left : Option (List ℕ)) (again : Again) (count : ℕ)
     → NamesSoFar text left again count → left ≡ None → NamesRule text again
-reasons_are text left again count f e =
+all_reasons_read text left again count f e =
     record {
       reasons = f.read;
-      are = subst (AreReasons text) (append-nil f.read) (all_read_are IsReason text left f.read f.reads e);
+      are = subst (AreReasons text) (append-nil f.read) (all_words_read IsReason text left f.read f.reads e);
       few = omega (arith, f.few, f.count_is);
       again_is = f.again_is;
     }

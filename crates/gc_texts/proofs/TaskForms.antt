@@ -7,7 +7,8 @@ use Rattle.gc_values.specs.Digits.{AreDigits}
 use Rattle.gc_values.proofs.DecimalLaws.{spells_unique}
 use Rattle.gc_texts.specs.Cuts.{Cuts}
 use Rattle.gc_texts.specs.Names.{is_name}
-use Rattle.gc_texts.specs.Procedures.{IsNumber}
+use Rattle.gc_texts.specs.Procedures.{IsNumber, IsTarget}
+use Rattle.gc_texts.specs.Troubles.{NoTarget}
 use Rattle.gc_texts.specs.Nears.{AreNearWords, IsNearText}
 use Rattle.gc_texts.specs.TaskLines.{IsDeadline, IsNameLine, IsNearLine, SetsAccepted, AsksForWish, IsTaskLine}
 use Rattle.gc_texts.specs.Wishes.{AsksFor}
@@ -19,7 +20,7 @@ use Rattle.gc_texts.specs.declared.near.Near.{Near}
 use Rattle.gc_texts.specs.declared.task_line.TaskLine.{TaskLine}
 use Rattle.gc_texts.specs.declared.task_line.TaskLine.TheVariants as says
 use Rattle.gc_texts.specs.LineForms.{IsReadAs}
-use Rattle.gc_texts.proofs.Cutting.{read_alike, cut_found, one_front, digits_lack_spaces}
+use Rattle.gc_texts.proofs.Cutting.{read_alike, same_rest, cut_found, one_front, digits_lack_spaces}
 use Rattle.gc_texts.proofs.ClockForms.{one_clock, wish_is_no_clock}
 use Rattle.gc_texts.proofs.CodeForms.{one_accepting}
 use Rattle.gc_texts.proofs.ReasonForms.{one_retrying}
@@ -46,9 +47,8 @@ module _ (line rest : List ℕ) (name : Name) (e : line ≡ codes "name " ++ res
   unspaced_is_no_name target cut = let parts = the_cut target None cut in let bad : None ≡ Some name.text.items = parts.1 in cc
 
   -- a line gives no name where what follows `name `, up to the first space, is no target's number
-  pub targetless_is_no_name : (target : List ℕ) (text : Option (List ℕ)) → Cuts 32 rest target text
-      → ((n : ℕ) → IsNumber target n 4294967295 → ⊥) → ⊥
-  targetless_is_no_name target text cut none = none name.target (subst (λ (ds : List ℕ). IsNumber ds name.target 4294967295) (sym (the_cut target text cut).0) is.target_is)
+  pub targetless_is_no_name : (target : List ℕ) (text : Option (List ℕ)) → Cuts 32 rest target text → NoTarget target → ⊥
+  targetless_is_no_name target text cut none = none name.target (subst (λ (ds : List ℕ). IsTarget ds name.target) (sym (the_cut target text cut).0) is.target_is)
 
   -- a line in which what follows the target isn't the text of a name gives no name
   pub nameless_is_no_name : (target text : List ℕ) → Cuts 32 rest target (Some text) → is_name text ≡ false → ⊥
@@ -114,20 +114,20 @@ asks_kind line target (Table call) is = ap kind_in is.line_is ∙ digits_kind is
 asks_kind line target (Raw raw) is = digit_kind (get_or line 0 0) (first_digit line is.target_is.names.digits is.target_is.names.some)
 
 -- the first byte of a line shows the kind of what the line says
-kind_is : (line : List ℕ) (said : TaskLine) → IsTaskLine line said → kind_in line ≡ kind said
-kind_is line (says.Command wish false) is = asks_kind line wish.target wish.call is
-kind_is line (says.Command wish true) is = digit_kind (get_or line 0 0) (first_digit line is.target_is.names.digits is.target_is.names.some)
-kind_is line (says.Deadline deadline) is = ap kind_in is.line_is
-kind_is line says.Chained is = ap kind_in is
-kind_is line says.Unchained is = ap kind_in is
-kind_is line (says.Naming name) is = ap kind_in is.line_is
-kind_is line (says.Locating near) is = ap kind_in is.line_is
-kind_is line (says.Accepting accepted) (inl alone) = ap kind_in alone.0
-kind_is line (says.Accepting accepted) (inr is) = ap kind_in is.line_is
-kind_is line (says.Retrying retry) (inl alone) = ap kind_in alone.0
-kind_is line (says.Retrying retry) (inr is) = ap kind_in is.line_is
-kind_is line says.AtStart is = ap kind_in is
-kind_is line says.EachCycle is = ap kind_in is
+first_byte_shows_kind : (line : List ℕ) (said : TaskLine) → IsTaskLine line said → kind_in line ≡ kind said
+first_byte_shows_kind line (says.Command wish false) is = asks_kind line wish.target wish.call is
+first_byte_shows_kind line (says.Command wish true) is = digit_kind (get_or line 0 0) (first_digit line is.target_is.names.digits is.target_is.names.some)
+first_byte_shows_kind line (says.Deadline deadline) is = ap kind_in is.line_is
+first_byte_shows_kind line says.Chained is = ap kind_in is
+first_byte_shows_kind line says.Unchained is = ap kind_in is
+first_byte_shows_kind line (says.Naming name) is = ap kind_in is.line_is
+first_byte_shows_kind line (says.Locating near) is = ap kind_in is.line_is
+first_byte_shows_kind line (says.Accepting accepted) (inl alone) = ap kind_in alone.0
+first_byte_shows_kind line (says.Accepting accepted) (inr is) = ap kind_in is.line_is
+first_byte_shows_kind line (says.Retrying retry) (inl alone) = ap kind_in alone.0
+first_byte_shows_kind line (says.Retrying retry) (inr is) = ap kind_in is.line_is
+first_byte_shows_kind line says.AtStart is = ap kind_in is
+first_byte_shows_kind line says.EachCycle is = ap kind_in is
 
 -- a line gives one deadline at most
 one_deadline : (line : List ℕ) (m n : ℕ) → IsDeadline line m → IsDeadline line n → m ≡ n
@@ -144,7 +144,7 @@ one_naming line m n x y =
     let parts = one_front 32 x.target_text y.target_text m.text.items n.text.items
     (append_cancel_left (codes "name ") (x.target_text ++ 32 ∷ m.text.items) (y.target_text ++ 32 ∷ n.text.items) (sym x.line_is ∙ y.line_is))
     (digits_lack_spaces x.target_text x.target_is.names.digits) (digits_lack_spaces y.target_text y.target_is.names.digits) in
-    same_name m n (one_number y.target_text m.target n.target 4294967295 (subst (λ (t : List ℕ). IsNumber t m.target 4294967295) parts.0 x.target_is) y.target_is) parts.1
+    same_name m n (one_number y.target_text m.target n.target 4294967295 (subst (λ (t : List ℕ). IsTarget t m.target) parts.0 x.target_is) y.target_is) parts.1
 
 -- two places with equal targets, directions and tolerances are equal
 same_near : (m n : Near) → m.target ≡ n.target → m.place.hz ≡ n.place.hz → m.place.v ≡ n.place.v → m.tolerance ≡ n.tolerance → m ≡ n
@@ -165,15 +165,15 @@ one_near target hz v tolerance m n x y =
 one_locating : (line : List ℕ) (m n : Near) → IsNearLine line m → IsNearLine line n → m ≡ n
 one_locating line m n x y =
     one_near (first_word y.rest) (second_word y.rest) (third_word y.rest) (after_three_words y.rest) m n
-    (subst (λ (r : List ℕ). IsNearText r m) (append_cancel_left (codes "near ") x.rest y.rest (sym x.line_is ∙ y.line_is)) x.near_is) y.near_is
+    (same_rest (codes "near ") (λ r. IsNearText r m) line y.rest y.line_is x) y.is
 
 -- where a line is `near ` and `rest`, and `r` is the place that `rest` says, or `None` where it says none, `r` is the place that
 -- the line says, too, or `None` where it says none
-pub locates_so : (line rest : List ℕ) (r : Option Near) → line ≡ codes "near " ++ rest
+pub place_of_rest : (line rest : List ℕ) (r : Option Near) → line ≡ codes "near " ++ rest
     → IsReadAs (IsNearText rest) r → IsReadAs (IsNearLine line) r
-locates_so line rest r e =
-    read_alike (IsNearText rest) (IsNearLine line) r (λ near is. record { rest = rest; line_is = e; near_is = is })
-    (λ near is. subst (λ (t : List ℕ). IsNearText t near) (append_cancel_left (codes "near ") is.rest rest (sym is.line_is ∙ e)) is.near_is)
+place_of_rest line rest r e =
+    read_alike (IsNearText rest) (IsNearLine line) r (λ near is. record { rest = rest; line_is = e; is = is })
+    (λ near is. same_rest (codes "near ") (λ t. IsNearText t near) line rest e is)
 
 -- no line both gives a target a name (`name `) and says where a target is (`near `)
 name_is_no_near : (line : List ℕ) (name : Name) (near : Near) → IsNameLine line name → IsNearLine line near → ⊥
@@ -214,4 +214,4 @@ same_said line a b x y h = absurd (omega (arith, h))
 
 -- a line says one thing at most
 pub one_said : (line : List ℕ) (a b : TaskLine) → IsTaskLine line a → IsTaskLine line b → a ≡ b
-one_said line a b x y = same_said line a b x y (sym (kind_is line a x) ∙ kind_is line b y)
+one_said line a b x y = same_said line a b x y (sym (first_byte_shows_kind line a x) ∙ first_byte_shows_kind line b y)

@@ -17,7 +17,7 @@ use Rattle.gc_texts.specs.declared.mode.Mode.{Mode}
 use Rattle.gc_texts.specs.declared.task_line.TaskLine.TheVariants as says
 use Rattle.gc_texts.specs.declared.tasks.Given.{Given}
 use Rattle.gc_texts.proofs.TaskForms.{one_said}
-use Rattle.gc_texts.proofs.TextLines.{Reads, reads_few, ComesTo, is_here, line_skips, line_reads}
+use Rattle.gc_texts.proofs.TextLines.{HasRead, Reads, lines_left, reads_few, is_here, line_skips, line_reads}
 
 -- the mode after these lines, where `mode` holds before the first
 abbrev pub mode_after_lines : Mode → List TaskLine → Mode
@@ -155,10 +155,10 @@ module _
   pub cycle_few : length given.cycle.items ≤ 65537
   cycle_few = let few = said_few in let all = planned_few (first_mode deadline chained) r.said in let is = ap length r.gave.cycle_are in omega (arith, few, all, is)
 
--- what becomes of a line to which the reading has come
+-- what becomes of the next line of a text that is being read
 module _
     (text : List ℕ) (first : Mode) (left : Option (List ℕ)) (number : ℕ) (given : Given) (mode : Mode) (r : ReadsTasks text first left number given mode)
-    (line : List ℕ) (rest : Option (List ℕ)) (at : ComesTo IsTaskLine text line rest number r.said) where
+    (line : List ℕ) (rest : Option (List ℕ)) (at : HasRead IsTaskLine text (line ∷ lines_left rest) number r.said) where
   -- a line may follow the lines that were read exactly where it may follow the names and places so far
   said_so : (said : TaskLine) → may_follow (names_of r.said) (nears_of r.said) said ≡ may_follow given.names.items given.nears.items said
   said_so said = ap (λ ns. may_follow ns (nears_of r.said) said) (sym r.gave.names_are) ∙ ap (λ ps. may_follow given.names.items ps said) (sym r.gave.nears_are)

@@ -67,13 +67,16 @@ AreLinesOf-append form [] ys (e ∷ es) fs h k = absurd h
 AreLinesOf-append form (x ∷ xs) ys [] fs h k = absurd h
 AreLinesOf-append form (x ∷ xs) ys (e ∷ es) fs h k = (h.0, AreLinesOf-append form xs ys es fs h.1 k)
 
--- how far the reading of a text has come: `number` of its lines were read, and gave these items, and the others are those of what
--- is unread (`left`)
-pub record Reads {Item : Type 0} (form : ItemForm Item) (text : List ℕ) (left : Option (List ℕ)) (number : ℕ) (items : List Item) : Type 0 where
+-- how far the reading of a text has come: `number` of its lines were read, and gave these items, and the others are `later`
+pub record HasRead {Item : Type 0} (form : ItemForm Item) (text : List ℕ) (later : List (List ℕ)) (number : ℕ) (items : List Item) : Type 0 where
   pub read : List (List ℕ)
-  pub lines_are : text_lines text ≡ read ++ lines_left left
+  pub lines_are : text_lines text ≡ read ++ later
   pub count : number ≡ length read
   pub items_are : AreLinesOf form (filter is_kept read) items
+
+-- how far the reading of a text has come, of which `left` is unread: `number` lines were read, and gave these items
+abbrev pub Reads : {Item : Type 0} → ItemForm Item → (text : List ℕ) → (left : Option (List ℕ)) → (number : ℕ) → List Item → Type 0
+Reads form text left number items = HasRead form text (lines_left left) number items
 
 -- of a text of at most 65,536 bytes at most 65,537 lines are read, so that a u32 counts them
 pub reads_few : {Item : Type 0} (form : ItemForm Item) (text : List ℕ) (left : Option (List ℕ)) (number : ℕ) (items : List Item)
@@ -96,29 +99,17 @@ kept_line : {Item : Type 0} (form : ItemForm Item) (line : List ℕ) (item : Ite
     → is_skipped line ≡ false → form line item → LineItems form line (item ∷ [])
 kept_line form line item kept is = subst (λ ls. AreLinesOf form ls (item ∷ [])) (sym (ap (λ t. cond (not t) (line ∷ []) []) kept)) (is, tt)
 
--- the reading of a text has come to this line: `number` lines were read before it, and gave these items, and `rest` is unread after
--- the line
-pub record ComesTo {Item : Type 0} (form : ItemForm Item) (text line : List ℕ) (rest : Option (List ℕ)) (number : ℕ) (items : List Item) : Type 0 where
-  pub read : List (List ℕ)
-  pub lines_are : text_lines text ≡ read ++ line ∷ lines_left rest
-  pub count : number ≡ length read
-  pub items_are : AreLinesOf form (filter is_kept read) items
-
--- where a line is cut off what is unread, the reading has come to that line
+-- where a line is cut off what is unread, the lines that aren't read yet are that line, and then those of the rest
 pub comes_to : {Item : Type 0} (form : ItemForm Item) (text : List ℕ) (left : Option (List ℕ)) (now line : List ℕ) (rest : Option (List ℕ))
     (number : ℕ) (items : List Item) → Reads form text left number items → left ≡ Some now → CutsLine now line rest
-    → ComesTo form text line rest number items
-comes_to form text left now line rest number items r some cut = record {
-  read = r.read;
-  lines_are = r.lines_are ∙ ap (λ o. r.read ++ lines_left o) some ∙ ap (λ ls. r.read ++ ls) (lines-cut now line rest cut);
-  count = r.count;
-  items_are = r.items_are;
-}
+    → HasRead form text (line ∷ lines_left rest) number items
+comes_to form text left now line rest number items r some cut =
+    subst (λ ls. HasRead form text ls number items) (ap lines_left some ∙ lines-cut now line rest cut) r
 
--- what becomes of a line to which the reading has come
+-- what becomes of the next line of a text that is being read
 module _
     {Item : Type 0} (form : ItemForm Item) (text line : List ℕ) (rest : Option (List ℕ)) (number : ℕ) (items : List Item)
-    (at : ComesTo form text line rest number items) where
+    (at : HasRead form text (line ∷ lines_left rest) number items) where
   -- where it gives the items `more`, it is read with them
   reads_on : (more : List Item) → LineItems form line more → Reads form text rest (number + 1) (items ++ more)
   reads_on more of_line = record {

@@ -60,9 +60,9 @@ words_joined form now word (Some behind) item [] cut is left = absurd left
 words_joined form now word (Some behind) item (next ∷ others) cut is left = (word, behind, cut.0, is, left)
 
 -- where nothing is left, the words that were read are those of the text
-pub all_read_are : {Item : Type 0} (form : ItemForm Item) (text : List ℕ) (left : Option (List ℕ)) (read : List Item)
+pub all_words_read : {Item : Type 0} (form : ItemForm Item) (text : List ℕ) (left : Option (List ℕ)) (read : List Item)
     → ReadsWords form text left read → left ≡ None → AreWords form text (read ++ [])
-all_read_are form text left read r none = r.found [] (subst (λ (o : Option (List ℕ)). AreLeft form o []) (sym none) refl)
+all_words_read form text left read r none = r.found [] (subst (λ (o : Option (List ℕ)). AreLeft form o []) (sym none) refl)
 
 -- the text `now` is left, and `word` is its next word
 module _

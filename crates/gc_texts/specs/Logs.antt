@@ -42,6 +42,10 @@ AreBytes bytes = All (λ b. b < 256) bytes
 abbrev pub escaped : List ℕ → List ℕ
 escaped bytes = flat_map escape bytes
 
+-- a text begins with no byte in the form that a log gives it
+abbrev pub BeginsWithNoByte : List ℕ → Type 0
+BeginsWithNoByte text = (b : ℕ) (more : List ℕ) → b < 256 → text ≡ escape b ++ more → ⊥
+
 -- a log line without its line feed: the moment, the mark, and the bytes
 abbrev pub log_text : (moment : List ℕ) → LogMark → (bytes : List ℕ) → List ℕ
 log_text moment mark bytes = moment ++ 32 ∷ (mark_text mark ++ 32 ∷ escaped bytes)

@@ -1,5 +1,5 @@
 -- The lines of settlements, and what a sink took of them: this project's own.
-use Rattle.std.specs.Prelude.{◌≡◌, ℕ, ◌+◌, ◌<◌, Bool, true, List, [], ◌∷◌, ◌++◌, length, take, Option, Result, Ok, Err, codes}
+use Rattle.std.specs.Prelude.{◌≡◌, ℕ, ◌+◌, ◌<◌, List, [], ◌∷◌, ◌++◌, length, take, Option, Result, Ok, Err, codes}
 use Rattle.std.specs.Fmt.{decimal}
 use Rattle.std.specs.Io.KnownBytes.{Appends}
 use Rattle.gc_catalogue.specs.declared.call.Call.{Call}
@@ -37,11 +37,9 @@ pub record WrotePartOfSettlements (place : ℕ) (settled : List (Settlement Call
   pub not_all : part < length (settlement_line (place + length earlier) next)
   pub took : Appends old new (lines_from place earlier ++ take part (settlement_line (place + length earlier) next))
 
--- the result of writing the lines of these settlements, numbered from `place` on, to a sink: `Ok` if the sink took all of them
--- and no write failed, and `Output` if it took a part of them and failed. `old` and `new` are what it has taken before and
--- after, and `old_failed` and `new_failed` whether it has failed before and after
-abbrev pub WroteSettlements : (place : ℕ) → List (Settlement Call) → (old new : Option (List ℕ)) → (old_failed new_failed : Bool)
-    → Result (Unit {0}) RunFault → Type 0
-WroteSettlements place settled old new old_failed new_failed (Ok _) = Appends old new (lines_from place settled) × (new_failed ≡ old_failed)
-WroteSettlements place settled old new old_failed new_failed (Err Output) = WrotePartOfSettlements place settled old new × (new_failed ≡ true)
-WroteSettlements place settled old new old_failed new_failed (Err _) = ⊥
+-- the result of writing the lines of these settlements, numbered from `place` on, to a sink: `Ok` if the sink took all of them,
+-- and `Output` if it took a part of them. `old` and `new` are what it has taken before and after
+abbrev pub WroteSettlements : (place : ℕ) → List (Settlement Call) → (old new : Option (List ℕ)) → Result (Unit {0}) RunFault → Type 0
+WroteSettlements place settled old new (Ok _) = Appends old new (lines_from place settled)
+WroteSettlements place settled old new (Err Output) = WrotePartOfSettlements place settled old new
+WroteSettlements place settled old new (Err _) = ⊥

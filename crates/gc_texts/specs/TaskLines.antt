@@ -19,6 +19,12 @@ use Rattle.gc_texts.specs.declared.near.Near.{Near}
 use Rattle.gc_texts.specs.declared.task_line.TaskLine.{TaskLine}
 use Rattle.gc_texts.specs.declared.task_line.TaskLine.TheVariants as says
 
+-- a line is this word, which ends with a space, and then a text of which `Is` is true
+pub record IsWordAnd (word : List ℕ) (Is : List ℕ → Type 0) (line : List ℕ) : Type 0 where
+  pub rest : List ℕ
+  pub line_is : line ≡ word ++ rest
+  pub is : Is rest
+
 -- `deadline MS`, from 1 to 86400000 milliseconds
 pub record IsDeadline (line : List ℕ) (deadline : ℕ) : Type 0 where
   pub digits : List ℕ
@@ -34,30 +40,17 @@ pub record IsNameLine (line : List ℕ) (name : Name) : Type 0 where
   pub text_is : is_name name.text.items ≡ true
 
 -- `near T HZ V TOLERANCE`: where a target is
-pub record IsNearLine (line : List ℕ) (near : Near) : Type 0 where
-  pub rest : List ℕ
-  pub line_is : line ≡ codes "near " ++ rest
-  pub near_is : IsNearText rest near
+abbrev pub IsNearLine : List ℕ → Near → Type 0
+IsNearLine line near = IsWordAnd (codes "near ") (λ rest. IsNearText rest near) line
 
--- `accept C C ..`: at least one return code and at most 16
-pub record IsAcceptLine (line : List ℕ) (accepted : Codes) : Type 0 where
-  pub rest : List ℕ
-  pub line_is : line ≡ codes "accept " ++ rest
-  pub listed : IsCodeList rest accepted
-
--- `accept C C ..`, or `accept` alone: which return codes are accepted beside 0, or that none is
+-- `accept C C ..`, with at least one return code and at most 16, or `accept` alone: which return codes are accepted beside 0, or
+-- that none is
 abbrev pub SetsAccepted : List ℕ → Codes → Type 0
-SetsAccepted line accepted = ((line ≡ codes "accept") × (accepted ≡ no_codes)) ⊎ IsAcceptLine line accepted
+SetsAccepted line accepted = ((line ≡ codes "accept") × (accepted ≡ no_codes)) ⊎ IsWordAnd (codes "accept ") (λ rest. IsCodeList rest accepted) line
 
--- `retry N WORD WORD ..`: how often the chains after it are repeated, and after what
-pub record IsRetryLine (line : List ℕ) (retry : Retry) : Type 0 where
-  pub rest : List ℕ
-  pub line_is : line ≡ codes "retry " ++ rest
-  pub rule_is : IsRetryRule rest retry
-
--- `retry N WORD WORD ..`, or `retry 0`, which says that the chains after it aren't repeated
+-- `retry N WORD WORD ..`: how often the chains after it are repeated, and after what; or `retry 0`, which says that they aren't
 abbrev pub SetsRetry : List ℕ → Retry → Type 0
-SetsRetry line retry = ((line ≡ codes "retry 0") × (retry ≡ no_retry)) ⊎ IsRetryLine line retry
+SetsRetry line retry = ((line ≡ codes "retry 0") × (retry ≡ no_retry)) ⊎ IsWordAnd (codes "retry ") (λ rest. IsRetryRule rest retry) line
 
 -- `T 5007 now`: a command that sets the clock of target T to the moment at which it is sent. In place of that moment the call of
 -- the wish has the first moment of 1970

@@ -57,6 +57,10 @@ IsRawTrouble rpc params t =
 abbrev pub NoNumber : List ℕ → ℕ → Type 0
 NoNumber text max = (n : ℕ) → IsNumber text n max → ⊥
 
+-- the text is the number of some target
+abbrev pub HasTarget : List ℕ → Type 0
+HasTarget text = (target : ℕ) × IsTarget text target
+
 -- the text is no number of a target
 abbrev pub NoTarget : List ℕ → Type 0
 NoTarget text = (n : ℕ) → IsTarget text n → ⊥
@@ -101,8 +105,8 @@ pub record BeginsAsCommand (line : List ℕ) : Type 0 where
 -- a line whose first word is `deadline`, `name`, `near`, `accept`, `retry`, `at` or `each` is at fault in its target, or in what it sets
 abbrev pub IsSettingTrouble : List ℕ → Trouble → Type 0
 IsSettingTrouble line trouble.Deadline = first_word line ≡ codes "deadline"
-IsSettingTrouble line trouble.Name = (first_word line ≡ codes "name") × ((n : ℕ) × IsTarget (second_word line) n)
-IsSettingTrouble line trouble.Near = (first_word line ≡ codes "near") × ((n : ℕ) × IsTarget (second_word line) n)
+IsSettingTrouble line trouble.Name = (first_word line ≡ codes "name") × HasTarget (second_word line)
+IsSettingTrouble line trouble.Near = (first_word line ≡ codes "near") × HasTarget (second_word line)
 IsSettingTrouble line trouble.Accept = first_word line ≡ codes "accept"
 IsSettingTrouble line trouble.Retry = first_word line ≡ codes "retry"
 IsSettingTrouble line trouble.AtStart = first_word line ≡ codes "at"

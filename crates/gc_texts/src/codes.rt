@@ -57,9 +57,7 @@ impl Codes {
 pub(crate) fn read_code(word: &[u8]) -> Option<u16>
     ensures { IsReadAs (IsCode word.now) result }
 {
-    let Some(code) = u16_of(word) else {
-        return None
-    };
+    let code = u16_of(word)?;
     if code == 0 {
         return None;
     }
@@ -75,9 +73,7 @@ pub(crate) fn read_code_list(text: &[u8]) -> Option<Codes>
     let mut left = Some(text);
     while let Some(text) = left {
         let (word, rest) = cut_at(b' ', text);
-        let Some(code) = read_code(word) else {
-            return None
-        };
+        let code = read_code(word)?;
         if count == CODES_MAX {
             return None;
         }

@@ -54,16 +54,10 @@ pub(crate) fn read_command(line: &[u8]) -> Option<Command>
     ensures { IsReadAs (IsCommand line.now) result }
 {
     let (target, procedure) = cut_at(b' ', line);
-    let Some(procedure) = procedure else {
-        return None
-    };
-    let Some(target) = target_of(target) else {
-        return None
-    };
-    match read_procedure(procedure) {
-        Some(call) => Some(Command { target, call }),
-        None => None,
-    }
+    let procedure = procedure?;
+    let target = target_of(target)?;
+    let call = read_procedure(procedure)?;
+    Some(Command { target, call })
 }
 
 /// Reads a command text, and returns its commands, in order; empty lines and those that begin with `#` are skipped.

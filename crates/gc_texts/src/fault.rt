@@ -5,86 +5,64 @@ ghost use Rattle.std.specs.Io.KnownBytes.{Appends};
 ghost use Rattle.gc_texts.specs.Faults.{run_fault_number, run_fault_text, fault_line};
 
 use gc_lines::{READ_FAILED, READS_SPENT, WRITE_FAILED};
+use std::error::Error;
+use std::fmt;
 use std::io::{self, Write};
-use thiserror::Error;
 
-/// Why an engine of the program stopped. The text is what the program prints after its name.
-#[derive(Clone, Copy, Debug, PartialEq, Eq, Error)]
+/// Why an engine of the program stopped. `Display` prints what the program prints after its name.
+#[derive(Clone, Copy, Debug, PartialEq, Eq)]
 pub enum RunFault {
     /// A scene has more than 32 targets, 32 faults, 16 replies or 32 delays.
-    #[error("fault {}", self.number())]
     SceneFull,
     /// A read of the input, of the link or of a file that the program was told to read failed, or such a file couldn't be opened.
-    #[error("fault {}", self.number())]
     Read,
     /// A write to the link, or of replies to the output, failed after the first `bytes` bytes of a line. `replies` is the number
     /// of whole lines before that line. In a station's run it is the number of commands that stand before the cycle's next one in
     /// the station's list, those of the setup included; 0 before the first cycle.
-    #[error("fault {} reply {replies} byte {bytes}", self.number())]
     Write { replies: u64, bytes: usize },
     /// As many reads were made as are allowed, or, by a station, as many acts.
-    #[error("fault {}", self.number())]
     TooManyReads,
     /// The other end of the link closed it.
-    #[error("fault {}", self.number())]
     LinkClosed,
     /// No more replies came, although the link was open.
-    #[error("fault {}", self.number())]
     Mute,
     /// The clock can't be read, or is before 1970.
-    #[error("fault {}", self.number())]
     Clock,
     /// No good answer came for as long as `--stale` allows.
-    #[error("fault {}", self.number())]
     Stale,
     /// Setup commands weren't answered well, and no try is left.
-    #[error("fault {}", self.number())]
     SetUp,
     /// A station's text has no command of a cycle.
-    #[error("fault {}", self.number())]
     NoCommand,
     /// This line of the text, counted from 1, is the first faulty one.
-    #[error("fault {} line {line}", self.number())]
     Schedule { line: u32 },
     /// Memory was refused.
-    #[error("fault {}", self.number())]
     Memory,
     /// The text has more than 65,536 bytes.
-    #[error("fault {}", self.number())]
     InputTooLong,
     /// A bind, connect or accept failed, a connection would have been one to itself, a name wasn't found, or a device isn't there
     /// or can't be used for a reason that is neither `NoTerminal` nor `Held` nor `Forbidden`.
-    #[error("fault {}", self.number())]
     Socket,
     /// The output failed, or the file of records can't be used for a reason that is neither `RecordsUnopened` nor `RecordsHeld`
     /// nor `RecordsForeign`.
-    #[error("fault {}", self.number())]
     Output,
     /// Standard input, output or error is closed, or `/dev/null` couldn't be opened in its place.
-    #[error("fault {}", self.number())]
     StreamClosed,
     /// The log can't be opened for reading and appending, can't be looked at or read, is no regular file or no log, or is held by
     /// another program or by the records of this one; or an incomplete last line couldn't be cut off.
-    #[error("fault {}", self.number())]
     Log,
     /// The path of the device leads to something that is no terminal, or doesn't answer as one.
-    #[error("fault {}", self.number())]
     NoTerminal,
     /// Another program, or another opening of this one, holds the device.
-    #[error("fault {}", self.number())]
     Held,
     /// This program may not read and write the device.
-    #[error("fault {}", self.number())]
     Forbidden,
     /// The file of records can't be opened for reading and appending, or is no regular file.
-    #[error("fault {}", self.number())]
     RecordsUnopened,
     /// Another program, or another opening of this one, holds the file of records or its copy, or may just have put another file
     /// in its place.
-    #[error("fault {}", self.number())]
     RecordsHeld,
     /// The file of records neither begins as this run's records do, nor is a first part of that beginning, as an empty file is.
-    #[error("fault {}", self.number())]
     RecordsForeign,
 }
 
@@ -121,22 +99,29 @@ impl RunFault {
     }
 
     /// Writes the line of the fault: the program's name, and the text that `Display` prints.
-    // The texts are written out here again: no clause can speak of what `Display` prints, because its derive states no output.
     pub fn tell<E: Write>(self, messages: &mut E) -> io::Result<()>
         ensures { OnOk result (Appends (E.contents messages.old) (E.contents messages.new) (fault_line (run_fault_text self))) }
     {
+        writeln!(messages, "geocom: {self}")
+    }
+}
+
+impl fmt::Display for RunFault {
+    ghost use Rattle.std.specs.Prelude.{Some};
+
+    ghost output = { λ fault. Some (run_fault_text fault) };
+
+    fn fmt<W: fmt::Write>(&self, f: &mut fmt::Formatter<W>) -> fmt::Result {
         match self {
-            RunFault::Write { replies, bytes } => writeln!(
-                messages,
-                "geocom: fault {} reply {replies} byte {bytes}",
+            RunFault::Write { replies, bytes } => write!(
+                f,
+                "fault {} reply {replies} byte {bytes}",
                 self.number()
             ),
-            RunFault::Schedule { line } => writeln!(
-                messages,
-                "geocom: fault {} line {line}",
-                self.number()
-            ),
-            _ => writeln!(messages, "geocom: fault {}", self.number()),
+            RunFault::Schedule { line } => write!(f, "fault {} line {line}", self.number()),
+            _ => write!(f, "fault {}", self.number()),
         }
     }
 }
+
+impl Error for RunFault {}

@@ -1,11 +1,18 @@
 //! What is proved of the definitions themselves. The functions have no effect: their contracts are the laws.
 
+ghost use Rattle.std.specs.Prelude.{◌≡◌};
 ghost use Rattle.gc_texts.specs.FaultNumbers.{FaultsHaveTheirNumbers};
 ghost use Rattle.gc_texts.specs.Chained.{TasksFollowTheirLines, PlacesHoldForAll};
 ghost use Rattle.gc_texts.specs.Repeats.{ChainsGoOutAgain, RetriesHold};
 ghost use Rattle.gc_texts.specs.Moments.{StampsAreMoments};
 ghost use Rattle.gc_texts.specs.Nears.{DirectionsAreAskedFor};
 ghost use Rattle.gc_texts.specs.Laws.{OneCommandList, OneTaskList, CommandsAreTasks, CommandsArePlain, ChainsKeepTargets, NamesAreTheCatalogues, LogLinesReadBack, LogLinesArePrintable};
+ghost use Rattle.gc_texts.specs.declared.text.TheConstants.{TEXT_LIMIT};
+
+/// A text that is read whole has at most 65,536 bytes. Contracts cite this limit by its name.
+pub fn limits()
+    ensures { TEXT_LIMIT ≡ 65536 }
+{}
 
 /// A command text gives one list of commands at most.
 pub fn commands_have_one_reading()

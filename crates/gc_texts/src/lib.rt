@@ -46,7 +46,7 @@ pub use quality::Quality;
 pub use settled::{append_settlements, write_settlements};
 pub use stamp::{STAMP_ROOM, Stamp, stamp_text};
 pub use tasks::{Task, Tasks, read_tasks};
-pub use text::{TEXT_LIMIT, limits_texts, read_text};
+pub use text::{TEXT_LIMIT, read_text};
 pub use trouble::{Trouble, trouble_of};
 pub use turn::Turn;
 pub use wish::Wish;

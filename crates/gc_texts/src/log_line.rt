@@ -1,9 +1,8 @@
 //! Lines of a log: what was on a link, each with its moment, in printable characters alone.
 
-ghost use Rattle.std.specs.Prelude.{◌≡◌, ◌+◌, ◌*◌, ◌<◌, ◌≤◌, ◌++◌, length, take, OnOk, IfErr};
+ghost use Rattle.std.specs.Prelude.{◌≡◌, ◌+◌, ◌*◌, ◌<◌, ◌≤◌, ◌++◌, length, take};
 ghost use Rattle.arrayvec.specs.ArrayVec.{array_vec_len};
-ghost use Rattle.std.specs.Io.KnownBytes.{Appends};
-ghost use Rattle.gc_lines.specs.Ports.{FailsWith, TakesFront};
+ghost use Rattle.gc_lines.specs.Ports.{FailsWith, TakesText};
 ghost use Rattle.gc_texts.specs.Logs.{mark_text, is_unescaped, hex_digit, escape, escaped, log_line};
 
 use crate::stamp::{STAMP_ROOM, stamp_text};
@@ -64,8 +63,7 @@ pub fn write_log_line<K: Sink>(
     bytes: &LogBytes,
 ) -> Result<(), usize>
     ensures failed { FailsWith result (K.failed sink.old) (K.failed sink.new) }
-    ensures ok { OnOk result (Appends (K.taken sink.old) (K.taken sink.new) (log_line utc mark bytes.now.items)) }
-    ensures err { IfErr result (λ n. TakesFront (K.taken sink.old) (K.taken sink.new) n (log_line utc mark bytes.now.items)) }
+    ensures took { TakesText (K.taken sink.old) (K.taken sink.new) result (log_line utc mark bytes.now.items) }
 {
     write_whole(sink, &log_line(utc, mark, bytes))
 }

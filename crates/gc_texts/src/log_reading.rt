@@ -3,7 +3,7 @@
 
 ghost use Rattle.std.specs.Prelude.{◌≡◌, ◌+◌, ◌<◌, ◌≤◌, ◌∷◌, ◌++◌, ℕ, ◌↔◌, List, length, MatchOption, IsTrue};
 ghost use Rattle.gc_texts.specs.LineForms.{IsReadAs};
-ghost use Rattle.gc_texts.specs.Logs.{AreBytes, mark_text, hex_digit, escape, escaped, IsPrintable, IsLogLine};
+ghost use Rattle.gc_texts.specs.Logs.{AreBytes, BeginsWithNoByte, mark_text, hex_digit, escape, escaped, IsPrintable, IsLogLine};
 ghost use Rattle.gc_texts.specs.declared.log_line.LogMark.{LogMark};
 
 use crate::cuts::cut_at;
@@ -28,22 +28,14 @@ pub fn read_log_line(line: &[u8]) -> Option<LogLine<'_>>
         (λ read. IsLogLine line.now read.moment.now read.mark read.bytes.items) }
 {
     let (moment, behind) = cut_at(b' ', line);
-    let Some(behind) = behind else {
-        return None;
-    };
+    let behind = behind?;
     if !is_printable(moment) {
         return None;
     }
     let (word, text) = cut_at(b' ', behind);
-    let Some(text) = text else {
-        return None;
-    };
-    let Some(mark) = read_mark(word) else {
-        return None;
-    };
-    let Some(bytes) = read_escaped(text) else {
-        return None;
-    };
+    let text = text?;
+    let mark = read_mark(word)?;
+    let bytes = read_escaped(text)?;
     Some(LogLine {
         moment,
         mark,
@@ -81,9 +73,7 @@ fn read_escaped(text: &[u8]) -> Option<LogBytes>
     let mut bytes = LogBytes::new();
     let mut left = text;
     while !left.is_empty() {
-        let Some((b, more)) = read_escape(left) else {
-            return None;
-        };
+        let (b, more) = read_escape(left)?;
         if bytes.is_full() {
             return None;
         }
@@ -96,9 +86,7 @@ fn read_escaped(text: &[u8]) -> Option<LogBytes>
 // Reads the byte that a text begins with, as it is or as `\x` and two digits, and returns it with what follows it. `None`:
 // the text begins with no byte in the form that a log gives it.
 fn read_escape(text: &[u8]) -> Option<(u8, &[u8])>
-    ensures { MatchOption result
-        ((b : ℕ) (more : List ℕ) → b < 256 → text.now ≡ escape b ++ more → ⊥)
-        (λ r. text.now ≡ escape r.0 ++ r.1.now) }
+    ensures { MatchOption result (BeginsWithNoByte text.now) (λ r. text.now ≡ escape r.0 ++ r.1.now) }
 {
     let [b, more @ ..] = text else {
         return None;
@@ -106,28 +94,20 @@ fn read_escape(text: &[u8]) -> Option<(u8, &[u8])>
     if is_unescaped(*b) {
         return Some((*b, more));
     }
-    let Some(digits) = text.strip_prefix(b"\\x") else {
-        return None;
-    };
+    let digits = text.strip_prefix(b"\\x")?;
     read_digits(digits)
 }
 
 // Reads the two digits after `\x`, and returns their byte with what follows them. `None`: the text doesn't begin with two digits of base
 // 16, in lower case, or their byte is one that a log writes as it is: printable ASCII other than the backslash.
 fn read_digits(text: &[u8]) -> Option<(u8, &[u8])>
-    ensures { MatchOption result
-        ((b : ℕ) (more : List ℕ) → b < 256 → 92 ∷ 120 ∷ text.now ≡ escape b ++ more → ⊥)
-        (λ r. 92 ∷ 120 ∷ text.now ≡ escape r.0 ++ r.1.now) }
+    ensures { MatchOption result (BeginsWithNoByte (92 ∷ 120 ∷ text.now)) (λ r. 92 ∷ 120 ∷ text.now ≡ escape r.0 ++ r.1.now) }
 {
     let [high, low, more @ ..] = text else {
         return None;
     };
-    let Some(high) = read_digit(*high) else {
-        return None;
-    };
-    let Some(low) = read_digit(*low) else {
-        return None;
-    };
+    let high = read_digit(*high)?;
+    let low = read_digit(*low)?;
     let b = high * 16 + low;
     if is_unescaped(b) {
         return None;

@@ -19,6 +19,19 @@ pub struct Name {
     pub text: ArrayVec<u8, NAME_ROOM>,
 }
 
+impl Name {
+    /// The name of this target, with a copy of these bytes as its text.
+    pub(crate) fn new(target: u32, bytes: &[u8]) -> Name
+        requires { length bytes.now ≤ 64 }
+        ensures target { result.target ≡ target }
+        ensures text { result.text.items ≡ bytes.now }
+    {
+        let mut text = ArrayVec::new();
+        append(&mut text, bytes);
+        Name { target, text }
+    }
+}
+
 // Whether a text has a byte that no name may have: one that isn't printable ASCII, or a comma or double quote, which rows use.
 fn has_foreign_byte(text: &[u8]) -> bool
     ensures { result ≡ list_any is_foreign text.now }
@@ -42,17 +55,6 @@ pub(crate) fn is_name(text: &[u8]) -> bool
     ensures { result ≡ is_name text.now }
 {
     !text.is_empty() && text.len() <= NAME_ROOM && !is_formula(text) && !has_foreign_byte(text)
-}
-
-/// The `Name` of a target, with a copy of these bytes as its text.
-pub(crate) fn named_target(target: u32, bytes: &[u8]) -> Name
-    requires { length bytes.now ≤ 64 }
-    ensures target { result.target ≡ target }
-    ensures text { result.text.items ≡ bytes.now }
-{
-    let mut text = ArrayVec::new();
-    append(&mut text, bytes);
-    Name { target, text }
 }
 
 /// Whether one of `names` is of this target.

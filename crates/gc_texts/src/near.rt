@@ -54,16 +54,10 @@ pub fn read_double(text: &[u8]) -> Option<Decimal>
 fn read_near_words(target: &[u8], hz: &[u8], v: &[u8], tolerance: &[u8]) -> Option<Near>
     ensures { IsReadAs (AreNearWords target.now hz.now v.now tolerance.now) result }
 {
-    let Some(target) = target_of(target) else {
-        return None
-    };
-    let Some(hz) = read_double(hz) else {
-        return None
-    };
-    let Some(v) = read_double(v) else { return None };
-    let Some(tolerance) = read_double(tolerance) else {
-        return None
-    };
+    let target = target_of(target)?;
+    let hz = read_double(hz)?;
+    let v = read_double(v)?;
+    let tolerance = read_double(tolerance)?;
     let place = Direction { hz, v };
     if !place.is_place() {
         return None;

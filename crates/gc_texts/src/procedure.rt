@@ -15,20 +15,15 @@ use gc_values::read_whole;
 pub fn number_of(digits: &[u8], max: u64) -> Option<u64>
     ensures { IsReadAs (λ n. IsNumber digits.now n max) result }
 {
-    match read_whole(digits, max) {
-        Ok(n) => Some(n),
-        Err(_) => None,
-    }
+    read_whole(digits, max).ok()
 }
 
 /// As [`number_of`], of a number of 32 bits.
 pub fn u32_of(digits: &[u8], max: u32) -> Option<u32>
     ensures { IsReadAs (λ n. IsNumber digits.now n max) result }
 {
-    match number_of(digits, u64::from(max)) {
-        Some(n) => Some(n as u32),
-        None => None,
-    }
+    let number = number_of(digits, u64::from(max))?;
+    Some(number as u32)
 }
 
 /// As [`number_of`], of any number of 16 bits: that of a procedure, in the table or not, or a return code. `None`: the text is no
@@ -36,10 +31,8 @@ pub fn u32_of(digits: &[u8], max: u32) -> Option<u32>
 pub fn u16_of(digits: &[u8]) -> Option<u16>
     ensures { IsReadAs (λ n. IsNumber digits.now n 65535) result }
 {
-    match number_of(digits, u64::from(u16::MAX)) {
-        Some(n) => Some(n as u16),
-        None => None,
-    }
+    let number = number_of(digits, u64::from(u16::MAX))?;
+    Some(number as u16)
 }
 
 /// The target whose number a text of digits writes. `None`: the text is no number, or the number is above 4294967295.

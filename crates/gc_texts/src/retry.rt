@@ -133,9 +133,7 @@ fn read_again(text: &[u8]) -> Option<Again>
     let mut left = Some(text);
     while let Some(text) = left {
         let (word, rest) = cut_at(b' ', text);
-        let Some(reason) = reason_of(word) else {
-            return None
-        };
+        let reason = reason_of(word)?;
         if !allows_word(count, reason) {
             return None;
         }
@@ -151,15 +149,11 @@ fn read_again(text: &[u8]) -> Option<Again>
 pub(crate) fn read_retry_rule(text: &[u8]) -> Option<Retry>
     ensures { IsReadAs (IsRetryRule text.now) result }
 {
-    let Some(times) = number_of(before(b' ', text), TIMES_MAX) else {
-        return None
-    };
+    let times = number_of(before(b' ', text), TIMES_MAX)?;
     if times == 0 {
         return None;
     }
-    let Some(again) = read_again(behind(b' ', text)) else {
-        return None
-    };
+    let again = read_again(behind(b' ', text))?;
     Some(Retry {
         times: times as u8,
         again,

@@ -2,6 +2,7 @@
 
 ghost use Rattle.std.specs.Prelude.{◌≡◌, ℕ, ◌+◌, ◌^◌, ◌≤◌, ◌++◌, length, map, OnOk};
 ghost use Rattle.gc_client.specs.Settlements.{settlement_seen};
+ghost use Rattle.gc_lines.specs.Ports.{FailsWith};
 ghost use Rattle.gc_texts.specs.Settlements.{settlement_line, settlement_lines, WroteSettlements};
 
 use crate::fault::RunFault;
@@ -49,7 +50,8 @@ pub fn write_settlements<K: Sink>(
     settlements: &[Settlement<Call>],
 ) -> Result<(), RunFault>
     requires { place + length settlements.now ≤ 2 ^ 64 }
-    ensures { WroteSettlements place (map settlement_seen settlements.now) (K.taken sink.old) (K.taken sink.new) (K.failed sink.old) (K.failed sink.new) result }
+    ensures failed { FailsWith result (K.failed sink.old) (K.failed sink.new) }
+    ensures wrote { WroteSettlements place (map settlement_seen settlements.now) (K.taken sink.old) (K.taken sink.new) result }
 {
     let mut line = ArrayVec::new();
     for (i, settlement) in settlements.iter().enumerate() {

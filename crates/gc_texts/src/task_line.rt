@@ -5,7 +5,7 @@ ghost use Rattle.gc_texts.specs.TaskLines.{IsDeadline, IsNameLine, IsNearLine, S
 
 use crate::codes::{Codes, read_code_list};
 use crate::cuts::{after_word, before, behind, cut_at, is_word};
-use crate::name::{Name, is_name, named_target};
+use crate::name::{Name, is_name};
 use crate::near::{Near, read_near};
 use crate::procedure::{number_of, target_of};
 use crate::retry::{Retry, read_retry_rule};
@@ -45,12 +45,8 @@ pub(crate) enum TaskLine {
 fn read_deadline(line: &[u8]) -> Option<u64>
     ensures { IsReadAs (IsDeadline line.now) result }
 {
-    let Some(digits) = after_word(b"deadline ", line) else {
-        return None
-    };
-    let Some(deadline) = number_of(digits, DEADLINE_MAX) else {
-        return None
-    };
+    let digits = after_word(b"deadline ", line)?;
+    let deadline = number_of(digits, DEADLINE_MAX)?;
     if deadline == 0 {
         return None;
     }
@@ -62,28 +58,22 @@ fn read_deadline(line: &[u8]) -> Option<u64>
 fn read_naming(line: &[u8]) -> Option<Name>
     ensures { IsReadAs (IsNameLine line.now) result }
 {
-    let Some(rest) = after_word(b"name ", line) else {
-        return None
-    };
+    let rest = after_word(b"name ", line)?;
     let (target, text) = cut_at(b' ', rest);
-    let Some(text) = text else { return None };
-    let Some(target) = target_of(target) else {
-        return None
-    };
+    let text = text?;
+    let target = target_of(target)?;
     if !is_name(text) {
         return None;
     }
-    Some(named_target(target, text))
+    Some(Name::new(target, text))
 }
 
 // Reads `near T HZ V TOLERANCE`: where a target is. `None`: the line has no such form, or a number lies outside its range.
 fn read_locating(line: &[u8]) -> Option<Near>
     ensures { IsReadAs (IsNearLine line.now) result }
 {
-    match after_word(b"near ", line) {
-        Some(rest) => read_near(rest),
-        None => None,
-    }
+    let rest = after_word(b"near ", line)?;
+    read_near(rest)
 }
 
 // Reads `accept C C ..`: the return codes that are accepted beside 0; no code where the line is `accept` alone. `None`: the
@@ -94,10 +84,8 @@ fn read_accepting(line: &[u8]) -> Option<Codes>
     if is_word(b"accept", line) {
         return Some(Codes::none());
     }
-    match after_word(b"accept ", line) {
-        Some(rest) => read_code_list(rest),
-        None => None,
-    }
+    let rest = after_word(b"accept ", line)?;
+    read_code_list(rest)
 }
 
 // Reads `retry N WORD WORD ..`, which says how often chains are repeated, and after what (`read_retry_rule`); or `retry 0`, which says
@@ -108,10 +96,8 @@ fn read_retrying(line: &[u8]) -> Option<Retry>
     if is_word(b"retry 0", line) {
         return Some(Retry::none());
     }
-    match after_word(b"retry ", line) {
-        Some(rest) => read_retry_rule(rest),
-        None => None,
-    }
+    let rest = after_word(b"retry ", line)?;
+    read_retry_rule(rest)
 }
 
 // Reads `T 5007 now`: a command that sets the clock of target T to the moment at which it is sent. In place of that moment the
@@ -122,13 +108,11 @@ fn read_clock_setting(line: &[u8]) -> Option<Wish>
     if !is_word(b"5007 now", behind(b' ', line)) {
         return None;
     }
-    match target_of(before(b' ', line)) {
-        Some(target) => Some(Wish {
-            target,
-            call: Asked::Table(Call::SetDate(FIRST_MOMENT)),
-        }),
-        None => None,
-    }
+    let target = target_of(before(b' ', line))?;
+    Some(Wish {
+        target,
+        call: Asked::Table(Call::SetDate(FIRST_MOMENT)),
+    })
 }
 
 // Reads one line of a station's text. `None`: the line has none of the forms.

@@ -13,12 +13,6 @@ use std::alloc::Global;
 /// The greatest length of a text that is read whole, in bytes.
 pub const TEXT_LIMIT: usize = 65536;
 
-/// A text has at most 65,536 bytes. The function has no effect: its contract states the value of `TEXT_LIMIT`, which other
-/// contracts cite by its name.
-pub fn limits_texts()
-    ensures { TEXT_LIMIT ≡ 65536 }
-{}
-
 /// Reads a source until its input ends, and returns the bytes. At most 65,537 bytes are read.
 ///
 /// Fails with `Read` if the source failed, with `InputTooLong` if it gave more than 65,536 bytes, and with `Memory` if memory was

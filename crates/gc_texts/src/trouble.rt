@@ -1,9 +1,8 @@
 //! Troubles: which field of a faulty line of a station's text is at fault, and what is printed of it.
 
-ghost use Rattle.std.specs.Prelude.{◌≡◌, ◌++◌, ℕ, OnOk, IsTrue, IsFalse, MatchOption, codes};
+ghost use Rattle.std.specs.Prelude.{◌≡◌, ◌++◌, OnOk, IsTrue, IsFalse, MatchOption, codes};
 ghost use Rattle.std.specs.Io.KnownBytes.{Appends};
-ghost use Rattle.gc_texts.specs.Troubles.{parameters_trouble, raw_trouble, IsCallTrouble, IsRawTrouble, IsRawWordsTrouble, NoTarget, BeginsAsCommand, IsSettingTrouble, IsAskingTrouble, IsTrouble, in_table_text, trouble_text, trouble_line};
-ghost use Rattle.gc_texts.specs.Procedures.{IsTarget};
+ghost use Rattle.gc_texts.specs.Troubles.{parameters_trouble, raw_trouble, IsCallTrouble, IsRawTrouble, IsRawWordsTrouble, HasTarget, NoTarget, BeginsAsCommand, IsSettingTrouble, IsAskingTrouble, IsTrouble, in_table_text, trouble_text, trouble_line};
 ghost use Rattle.gc_texts.specs.Words.{second_word, third_word};
 ghost use Rattle.gc_texts.specs.ProcedureNames.{name_in_table};
 
@@ -210,7 +209,7 @@ fn begins_as_5007_now(line: &[u8]) -> bool
 
 // Whether the second word of a line is a target's number.
 fn has_target(line: &[u8]) -> bool
-    ensures target { IsTrue result → (n : ℕ) × IsTarget (second_word line.now) n }
+    ensures target { IsTrue result → HasTarget (second_word line.now) }
     ensures none { IsFalse result → NoTarget (second_word line.now) }
 {
     target_of(before(b' ', behind(b' ', line))).is_some()

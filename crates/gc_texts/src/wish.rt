@@ -64,8 +64,6 @@ pub(crate) fn read_wish(line: &[u8]) -> Option<Wish>
             call: Asked::Raw(raw),
         });
     }
-    match read_command(line) {
-        Some(command) => Some(Wish::of(&command)),
-        None => None,
-    }
+    let command = read_command(line)?;
+    Some(Wish::of(&command))
 }

@@ -29,8 +29,8 @@ pub spelled_not_nothing : (text : List ℕ) (d : Decimal) → SpellsDecimal text
 spelled_not_nothing text d x nothing = nothing x.0 x.1
 
 -- a text isn't both a number out of range and no number
-pub beyond_has_form : (text : List ℕ) → SpellsBeyond text → SpellsNothing text → ⊥
-beyond_has_form text beyond nothing = nothing beyond.2.0 beyond.2.1
+pub beyond_not_nothing : (text : List ℕ) → SpellsBeyond text → SpellsNothing text → ⊥
+beyond_not_nothing text beyond nothing = nothing beyond.2.0 beyond.2.1
 
 -- decimals with equal written texts are equal
 pub written_unique : (d e : Decimal) → decimal_text d ≡ decimal_text e → d ≡ e
@@ -52,8 +52,8 @@ decimal_eq_itself : (a : Decimal) → decimal_eq a a ≡ true
 decimal_eq_itself a = ap (λ t. t && (a.scale == a.scale)) ((signed_Decides a.digits a.digits).1 refl) ∙ (unsigned_Decides a.scale a.scale).1 refl
 
 -- `==` holds exactly of equal decimals
-pub decimal_eq_is : (a b : Decimal) → IsTrue (decimal_eq a b) ↔ (a ≡ b)
-decimal_eq_is a b = (
+pub decimal_eq_exactly : (a b : Decimal) → IsTrue (decimal_eq a b) ↔ (a ≡ b)
+decimal_eq_exactly a b = (
   λ h. same_decimal a b ((signed_Decides a.digits b.digits).0 (first_so (int_eq a.digits b.digits) (a.scale == b.scale) h))
       ((unsigned_Decides a.scale b.scale).0 (second_so (int_eq a.digits b.digits) (a.scale == b.scale) h)),
   λ e. ap (decimal_eq a) (sym e) ∙ decimal_eq_itself a,

@@ -137,7 +137,7 @@ front_found text tail value places rest d h stands made =
     record {
       item = w ++ 46 ∷ f;
       cut = front_cut text w f tail rest whole_text a.digits b.digits stands;
-      spelled = front_spells w f value d.digits d.scale a.digits b.digits (omega (arith, long_w)) (omega (arith, long_w))
+      is = front_spells w f value d.digits d.scale a.digits b.digits (omega (arith, long_w)) (omega (arith, long_w))
           (omega (arith, long_w, long_f)) number_is (subst (λ k. MadeOf false value k d.digits d.scale) (sym long_f) made);
     }
 
@@ -169,5 +169,5 @@ number_found text tail count n rest c some tail_is stands =
         param = bare_param ds (bare_digits ds c.digits);
         some = omega (arith, size);
       };
-      names = record { sign = Absent; digits = ds; n = n; text_is = refl; number_is = record { digits = c.digits; some = omega (arith, size); value = omega (arith, c.value_is) }; value = refl };
+      is = record { sign = Absent; digits = ds; n = n; text_is = refl; number_is = record { digits = c.digits; some = omega (arith, size); value = omega (arith, c.value_is) }; value = refl };
     }

@@ -7,7 +7,6 @@ pub mod EachDecimal
 pub mod EachItem
 pub mod EachWhole
 pub mod Every
-pub mod Examples
 pub mod FrontDecimals
 pub mod HexPair
 pub mod ItemBytes

@@ -7,7 +7,7 @@ use Rattle.gc_values.specs.Decimals.{units}
 use Rattle.gc_values.specs.Directions.{turn, v_in_face_one, hz_in_face_one, is_close, is_close_turned, is_close_on_circle, is_near, NearIsWithinTheTolerance}
 use Rattle.gc_values.specs.declared.decimal.Decimal.{Decimal}
 use Rattle.gc_values.specs.declared.direction.Direction.{Direction}
-use Rattle.gc_values.proofs.WithinLemmas.{int_le_is}
+use Rattle.gc_values.proofs.WithinLemmas.{int_le_exactly}
 
 -- a number as 128 bits hold it
 abbrev pub as_i128 : ℤ → ℤ
@@ -44,10 +44,10 @@ close_turned most turns x y fits few small low =
     ∙ ap (λ z. is_close most (x +ℤ turns *ℤ turn) z) (as_i128_same y (omega (arith, low)))
 
 -- where v and hz are the tests of the two angles, both together are `is_near`
-pub near_is : (d place : Direction) (tolerance : Decimal) (v hz : Bool) → v ≡ is_close (units tolerance) (v_in_face_one d) (units place.v)
+pub near_by_angles : (d place : Direction) (tolerance : Decimal) (v hz : Bool) → v ≡ is_close (units tolerance) (v_in_face_one d) (units place.v)
     → hz ≡ is_close_on_circle (units tolerance) (hz_in_face_one d) (units place.hz) → (v && hz) ≡ is_near d place tolerance
 unfolding is_near
-near_is d place tolerance v hz e f = ap (λ b. b && hz) e ∙ ap (λ b. is_close (units tolerance) (v_in_face_one d) (units place.v) && b) f
+near_by_angles d place tolerance v hz e f = ap (λ b. b && hz) e ∙ ap (λ b. is_close (units tolerance) (v_in_face_one d) (units place.v) && b) f
 
 -- x, after some number of turns, at most two either way, is close to y
 abbrev IsCloseAfterTurns : (most x y : ℤ) → Type 0
@@ -128,12 +128,12 @@ near_is_within d place tolerance = (
       record {
         turns = some.0;
         few = some.1;
-        v_near = (int_le_is (pos (unsigned_abs (v_in_face_one d -ℤ units place.v))) (units tolerance)).0 parts.0;
-        hz_near = (int_le_is (pos (unsigned_abs (hz_in_face_one d +ℤ some.0 *ℤ turn -ℤ units place.hz))) (units tolerance)).0 some.2;
+        v_near = (int_le_exactly (pos (unsigned_abs (v_in_face_one d -ℤ units place.v))) (units tolerance)).0 parts.0;
+        hz_near = (int_le_exactly (pos (unsigned_abs (hz_in_face_one d +ℤ some.0 *ℤ turn -ℤ units place.hz))) (units tolerance)).0 some.2;
       }),
   (λ is.
-      let v : is_close (units tolerance) (v_in_face_one d) (units place.v) ≡ true = (int_le_is (pos (unsigned_abs (v_in_face_one d -ℤ units place.v))) (units tolerance)).1 is.v_near in
-      let hz = (int_le_is (pos (unsigned_abs (hz_in_face_one d +ℤ is.turns *ℤ turn -ℤ units place.hz))) (units tolerance)).1 is.hz_near in
+      let v : is_close (units tolerance) (v_in_face_one d) (units place.v) ≡ true = (int_le_exactly (pos (unsigned_abs (v_in_face_one d -ℤ units place.v))) (units tolerance)).1 is.v_near in
+      let hz = (int_le_exactly (pos (unsigned_abs (hz_in_face_one d +ℤ is.turns *ℤ turn -ℤ units place.hz))) (units tolerance)).1 is.hz_near in
       ap (λ b. b && is_close_on_circle (units tolerance) (hz_in_face_one d) (units place.hz)) v
       ∙ on_circle (units tolerance) (hz_in_face_one d) (units place.hz) is.turns is.few hz),
 )

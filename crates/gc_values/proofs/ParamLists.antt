@@ -7,19 +7,14 @@ use Rattle.std.proofs.lemmas.Bool.{cases_eq}
 use Rattle.std.specs.List.{AllByRecursion}
 use Rattle.gc_values.specs.Params.{quotes, AreSpaces, HasCommasInQuotes, IsParam, IsPadded, ArePieces, joined, AreJoined, IsParams}
 use Rattle.gc_values.specs.Pieces.{CutsPiece, IsTrimmed, without_front_spaces, without_end_spaces}
-use Rattle.gc_values.proofs.Quotes.{quotes-append, quotes_same, quotes-spaces, HasCommasInQuotes-nil, HasCommasInQuotes-push, not_inside, one_cut}
+use Rattle.gc_values.proofs.Quotes.{IsPiece, quotes-append, quotes_same, quotes-spaces, HasCommasInQuotes-nil, HasCommasInQuotes-push, not_inside, one_cut}
 use Rattle.gc_values.proofs.Trimming.{padded_keeps, quotes-padded, trimmed_is_param, param_is_trimmed, one_trimmed, trimmed_exists, front_not_spaces}
 
--- a piece between commas: its quotes are in pairs, and each comma is inside a pair
-pub record IsPiece (piece : List ℕ) : Type 0 where
-  pub keeps : HasCommasInQuotes piece
-  pub even : quotes piece % 2 ≡ 0
-
--- a parameter with spaces round it is a piece, as `IsPiece` has it
+-- a parameter with spaces round it is a piece
 padded_piece : (piece item : List ℕ) → IsPadded piece item → IsParam item → IsPiece piece
 padded_piece piece item p h = record { keeps = padded_keeps piece item p h; even = let same = quotes-padded piece item p in let even = h.pairs in omega (arith, same, even) }
 
--- parameters with spaces round them are pieces, as `IsPiece` has it
+-- parameters with spaces round them are pieces
 pub pieces_of : (ps is : List (List ℕ)) → ArePieces ps is → AllByRecursion IsPiece ps
 pieces_of [] [] h = tt
 pieces_of [] (i ∷ is) h = absurd h
@@ -75,7 +70,7 @@ same_pieces p q [] [] hp hq e = ap (λ xs. xs ∷ []) (sym (append-nil p) ∙ e 
 same_pieces p q [] (r ∷ rs) hp hq e = absurd (not_inside p q (joined (r ∷ rs)) hp.0.keeps hq.0.even (sym (append-nil p) ∙ e))
 same_pieces p q (r ∷ rs) [] hp hq e = absurd (not_inside q p (joined (r ∷ rs)) hq.0.keeps hp.0.even (sym (append-nil q) ∙ sym e))
 same_pieces p q (r ∷ rs) (s ∷ ss) hp hq e =
-    let cut = one_cut p q (joined (r ∷ rs)) (joined (s ∷ ss)) hp.0.keeps hp.0.even hq.0.keeps hq.0.even e in
+    let cut = one_cut p q (joined (r ∷ rs)) (joined (s ∷ ss)) hp.0 hq.0 e in
     let first = cut.0 in
     let rest = same_pieces r s rs ss hp.1 hq.1 cut.1 in
     cc
@@ -117,8 +112,8 @@ pub record HasPieces (text : List ℕ) : Type 0 where
   pub are : ArePieces (first ∷ others) (item ∷ items)
 
 -- `HasPieces` is true of a piece alone
-one_piece : (piece : List ℕ) → HasCommasInQuotes piece → quotes piece % 2 ≡ 0 → HasPieces piece
-one_piece piece keeps even =
+one_piece : (piece : List ℕ) → IsPiece piece → HasPieces piece
+one_piece piece is =
     let t = trimmed_exists piece in
     record {
       first = piece;
@@ -126,12 +121,12 @@ one_piece piece keeps even =
       item = without_end_spaces (without_front_spaces piece);
       items = [];
       text_is = sym (append-nil piece);
-      are = (t.padded, trimmed_is_param piece _ t keeps even, tt);
+      are = (t.padded, trimmed_is_param piece _ t is, tt);
     }
 
 -- `HasPieces` is true of a piece, a comma and a text of which it is true
-more_pieces : (piece rest : List ℕ) → HasCommasInQuotes piece → quotes piece % 2 ≡ 0 → HasPieces rest → HasPieces (piece ++ 44 ∷ rest)
-more_pieces piece rest keeps even r =
+more_pieces : (piece rest : List ℕ) → IsPiece piece → HasPieces rest → HasPieces (piece ++ 44 ∷ rest)
+more_pieces piece rest is r =
     let t = trimmed_exists piece in
     record {
       first = piece;
@@ -140,7 +135,7 @@ more_pieces piece rest keeps even r =
       items = r.item ∷ r.items;
       text_is =
           ap (λ xs. piece ++ 44 ∷ xs) r.text_is;
-      are = (t.padded, trimmed_is_param piece _ t keeps even, r.are);
+      are = (t.padded, trimmed_is_param piece _ t is, r.are);
     }
 
 -- where a text's quotes are in pairs, and those before one of its commas are, those after that comma are, too
@@ -157,7 +152,7 @@ not_even_is_odd n h = omega (arith, h)
 
 -- a text with its quotes in pairs has pieces; `front` is the part of its first piece that was read so far
 has_pieces_from : (front bytes : List ℕ) → HasCommasInQuotes front → quotes (front ++ bytes) % 2 ≡ 0 → HasPieces (front ++ bytes)
-has_pieces_from front [] keeps even = subst HasPieces (sym (append-nil front)) (one_piece front keeps (ap (λ xs. quotes xs % 2) (sym (append-nil front)) ∙ even))
+has_pieces_from front [] keeps even = subst HasPieces (sym (append-nil front)) (one_piece front (record { keeps = keeps; even = ap (λ xs. quotes xs % 2) (sym (append-nil front)) ∙ even }))
 has_pieces_from front (b ∷ bs) keeps even =
     let step : (b ≡ 44 → quotes front % 2 ≡ 1) → HasPieces (front ++ b ∷ bs) = λ comma.
     subst HasPieces (append_assoc front (b ∷ []) bs)
@@ -168,7 +163,8 @@ has_pieces_from front (b ∷ bs) keeps even =
         | inr inside ↦ step (λ _. not_even_is_odd (quotes front) inside)
         | inl outside ↦
             let after : quotes (front ++ 44 ∷ bs) % 2 ≡ 0 = ap (λ x. quotes (front ++ x ∷ bs) % 2) (sym comma) ∙ even in
-            subst (λ x. HasPieces (front ++ x ∷ bs)) (sym comma) (more_pieces front bs keeps outside (has_pieces_from [] bs HasCommasInQuotes-nil (even_behind front bs outside after)))
+            subst (λ x. HasPieces (front ++ x ∷ bs)) (sym comma)
+            (more_pieces front bs (record { keeps = keeps; even = outside }) (has_pieces_from [] bs HasCommasInQuotes-nil (even_behind front bs outside after)))
       ]
     ]
 
@@ -190,7 +186,7 @@ pub split_more : (text rest piece next item : List ℕ) (items : List (List ℕ)
 split_more text rest piece next item items s cut t = record {
   pieces = s.pieces ++ piece ∷ [];
   text_is = s.text_is ∙ ap (each_with_comma s.pieces) cut.0 ∙ sym (each_with_comma-push s.pieces piece next);
-  are = ArePieces-append s.pieces items (piece ∷ []) (item ∷ []) s.are (t.padded, trimmed_is_param piece item t cut.1 cut.2, tt);
+  are = ArePieces-append s.pieces items (piece ∷ []) (item ∷ []) s.are (t.padded, trimmed_is_param piece item t (record { keeps = cut.1; even = cut.2 }), tt);
   even = even_behind piece next cut.2 (ap (λ xs. quotes xs % 2) (sym cut.0) ∙ s.even);
 }
 
@@ -209,7 +205,7 @@ split_last text rest piece item items s cut t some =
     params_from text (items ++ item ∷ []) (omega (arith, length-append items (item ∷ []))) (record {
       pieces = s.pieces ++ piece ∷ [];
       bytes_are = s.text_is ∙ ap (each_with_comma s.pieces) (cut.0 ∙ sym (append-nil piece)) ∙ sym (joined-append s.pieces piece []);
-      pieces_are = ArePieces-append s.pieces items (piece ∷ []) (item ∷ []) s.are (t.padded, trimmed_is_param piece item t cut.1 even, tt);
+      pieces_are = ArePieces-append s.pieces items (piece ∷ []) (item ∷ []) s.are (t.padded, trimmed_is_param piece item t (record { keeps = cut.1; even = even }), tt);
       some = some;
     })
 
@@ -235,13 +231,13 @@ plain_pieces [] h = tt
 plain_pieces (t ∷ ts) h = (record { before = 0; behind = 0; piece_is = sym (append-nil t) }, h.0, plain_pieces ts h.1)
 
 -- a text that begins with a parameter of at least one byte isn't spaces alone
-some_first : (t rest : List ℕ) → IsParam t → 0 < length t → AreSpaces (t ++ rest) → ⊥
-some_first [] rest h some s = omega arith
-some_first (b ∷ bs) rest h some s =
+param_first_not_spaces : (t rest : List ℕ) → IsParam t → 0 < length t → AreSpaces (t ++ rest) → ⊥
+param_first_not_spaces [] rest h some s = omega arith
+param_first_not_spaces (b ∷ bs) rest h some s =
     front_not_spaces (b ∷ (bs ++ rest)) (b ∷ (bs ++ rest))
     (record { count = 0; text_is = refl; first = λ others e. h.first bs (let head : b ≡ 32 = cc in ap (λ x. x ∷ bs) head) }) (omega arith) s
 
 -- texts that are parameters, each of at least one byte, joined by commas, are a list of just these parameters
 pub joined_params : (ts : List (List ℕ)) → AllByRecursion IsParam ts → AllByRecursion (λ t. 0 < length t) ts → IsParams (joined ts) ts
 joined_params [] h some = (0, refl)
-joined_params (t ∷ ts) h some = record { pieces = t ∷ ts; bytes_are = refl; pieces_are = plain_pieces (t ∷ ts) h; some = some_first t _ h.0 some.0 }
+joined_params (t ∷ ts) h some = record { pieces = t ∷ ts; bytes_are = refl; pieces_are = plain_pieces (t ∷ ts) h; some = param_first_not_spaces t _ h.0 some.0 }

@@ -86,12 +86,15 @@ cuts_compare (x ∷ xs) (y ∷ ys) us vs e =
 pub not_inside : (xs ys vs : List ℕ) → HasCommasInQuotes xs → quotes ys % 2 ≡ 0 → xs ≡ ys ++ 44 ∷ vs → ⊥
 not_inside xs ys vs keeps even e = let odd = keeps ys vs e in omega (arith, odd, even)
 
--- two cuts of one text at a comma are the same, where before each of the two commas quotes are in pairs and commas are within
--- quotes
-pub one_cut : (xs ys us vs : List ℕ) → (commas_xs : HasCommasInQuotes xs) → (even_xs : quotes xs % 2 ≡ 0)
-    → (commas_ys : HasCommasInQuotes ys) → (even_ys : quotes ys % 2 ≡ 0) → (same : xs ++ 44 ∷ us ≡ ys ++ 44 ∷ vs) → (xs ≡ ys) × (us ≡ vs)
-one_cut xs ys us vs kx ex ky ey e = elim (cuts_compare xs ys us vs e) [
+-- a piece between commas: its quotes are in pairs, and each comma is inside a pair
+pub record IsPiece (piece : List ℕ) : Type 0 where
+  pub keeps : HasCommasInQuotes piece
+  pub even : quotes piece % 2 ≡ 0
+
+-- a text is cut at a comma in at most one way into a piece and what follows the comma
+pub one_cut : (xs ys us vs : List ℕ) → IsPiece xs → IsPiece ys → xs ++ 44 ∷ us ≡ ys ++ 44 ∷ vs → (xs ≡ ys) × (us ≡ vs)
+one_cut xs ys us vs x y e = elim (cuts_compare xs ys us vs e) [
   | inl h ↦ h
-  | inr (inl h) ↦ absurd (not_inside xs ys h.0 kx ey h.1)
-  | inr (inr h) ↦ absurd (not_inside ys xs h.0 ky ex h.1)
+  | inr (inl h) ↦ absurd (not_inside xs ys h.0 x.keeps y.even h.1)
+  | inr (inr h) ↦ absurd (not_inside ys xs h.0 y.keeps x.even h.1)
 ]

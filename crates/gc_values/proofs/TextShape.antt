@@ -143,22 +143,22 @@ text_is_param (value.Bool b) h = bare_param _ (bare_boolean b)
 text_is_param (value.Text bytes) h = quoted_param bytes h.plain
 
 -- a text with a whole number in it isn't empty
-whole_some : (before behind : List ℕ) (n : ℕ) → 0 < length (before ++ (whole_text n ++ behind))
-whole_some before behind n = omega (arith, length-append before (whole_text n ++ behind), length-append (whole_text n) behind, (writes_whole n).some)
+whole_not_empty : (before behind : List ℕ) (n : ℕ) → 0 < length (before ++ (whole_text n ++ behind))
+whole_not_empty before behind n = omega (arith, length-append before (whole_text n ++ behind), length-append (whole_text n) behind, (writes_whole n).some)
 
 -- the text of a whole number with a sign isn't empty
-signed_some : (z : ℤ) → 0 < length (signed_text z)
-signed_some z = omega (arith, length-append (minus_text z) (whole_text (unsigned_abs z)), (writes_whole (unsigned_abs z)).some)
+signed_not_empty : (z : ℤ) → 0 < length (signed_text z)
+signed_not_empty z = omega (arith, length-append (minus_text z) (whole_text (unsigned_abs z)), (writes_whole (unsigned_abs z)).some)
 
 -- the text of a value isn't empty
-pub text_is_some : (v : Value) → 0 < length (text v)
-text_is_some (value.Double d) = whole_some (minus_text d.digits) _ (unsigned_abs d.digits / 10 ^ d.scale)
-text_is_some (value.Long z) = signed_some z
-text_is_some (value.Short z) = signed_some z
-text_is_some (value.Byte n) = omega arith
-text_is_some (value.Bool false) = omega arith
-text_is_some (value.Bool true) = omega arith
-text_is_some (value.Text bytes) = omega arith
+pub text_not_empty : (v : Value) → 0 < length (text v)
+text_not_empty (value.Double d) = whole_not_empty (minus_text d.digits) _ (unsigned_abs d.digits / 10 ^ d.scale)
+text_not_empty (value.Long z) = signed_not_empty z
+text_not_empty (value.Short z) = signed_not_empty z
+text_not_empty (value.Byte n) = omega arith
+text_not_empty (value.Bool false) = omega arith
+text_not_empty (value.Bool true) = omega arith
+text_not_empty (value.Text bytes) = omega arith
 
 -- what is true of each bare byte, of each byte that is allowed in a string, and of a double quote is true of each byte of the text
 -- of a value in its kind's range
@@ -209,10 +209,10 @@ texts_are_params [] h = tt
 texts_are_params (v ∷ vs) h = (text_is_param v h.0, texts_are_params vs h.1)
 
 -- the texts of values aren't empty
-texts_are_some : (vs : List Value) → AllByRecursion (λ t. 0 < length t) (map text vs)
-texts_are_some [] = tt
-texts_are_some (v ∷ vs) = (text_is_some v, texts_are_some vs)
+texts_not_empty : (vs : List Value) → AllByRecursion (λ t. 0 < length t) (map text vs)
+texts_not_empty [] = tt
+texts_not_empty (v ∷ vs) = (text_not_empty v, texts_not_empty vs)
 
 -- the texts of values in their kinds' ranges, joined by commas, split back into these texts
 pub joined_splits : (vs : List Value) → AreValues vs → IsParams (joined (map text vs)) (map text vs)
-joined_splits vs h = joined_params (map text vs) (texts_are_params vs h) (texts_are_some vs)
+joined_splits vs h = joined_params (map text vs) (texts_are_params vs h) (texts_not_empty vs)

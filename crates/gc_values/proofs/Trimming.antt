@@ -1,10 +1,10 @@
 -- A piece of a parameter list without the spaces at its ends, which is its item.
-use Rattle.std.proofs.Common.{◌≡◌, ℕ, zero, suc, ◌+◌, ◌-◌, ◌<◌, ◌≤◌, ◌%◌, ◌⊎◌, length, get_or, take, drop, cond, List, [], ◌∷◌, ◌++◌, replicate, refl, sym, ap, ◌∙◌, subst, inl, inr, arith, append_assoc}
+use Rattle.std.proofs.Common.{◌≡◌, ℕ, zero, suc, ◌+◌, ◌-◌, ◌<◌, ◌≤◌, ◌⊎◌, length, get_or, take, drop, cond, List, [], ◌∷◌, ◌++◌, replicate, refl, sym, ap, ◌∙◌, subst, inl, inr, arith, append_assoc}
 use Rattle.std.proofs.lemmas.List.{append-nil, same_from_push, take-append-drop, take_all, take_more, drop_more}
 use Rattle.std.proofs.lemmas.Bool.{cases_eq, eq-eqb, ne_eqb}
 use Rattle.gc_values.specs.Params.{quotes, HasCommasInQuotes, StartsNoSpace, EndsNoSpace, IsPadded, IsParam, AreSpaces}
 use Rattle.gc_values.specs.Pieces.{without_front_spaces, put_before, without_end_spaces, TrimsFront, TrimsBack, IsTrimmed}
-use Rattle.gc_values.proofs.Quotes.{empty_has_none, quotes-append, quotes_same, quotes-spaces, HasCommasInQuotes-push}
+use Rattle.gc_values.proofs.Quotes.{IsPiece, empty_has_none, quotes-append, quotes_same, quotes-spaces, HasCommasInQuotes-push}
 
 -- spaces before a text leave its commas within quotes
 front_spaces : (n : ℕ) (xs : List ℕ) → HasCommasInQuotes xs → HasCommasInQuotes (replicate n 32 ++ xs)
@@ -44,11 +44,12 @@ padded_keeps piece item p h = subst HasCommasInQuotes (sym p.piece_is) (front_sp
 regroup_at_comma : (a b c d : List ℕ) → a ++ ((b ++ 44 ∷ c) ++ d) ≡ (a ++ b) ++ 44 ∷ (c ++ d)
 regroup_at_comma a b c d = simp append_assoc
 
--- a piece with its quotes in pairs and its commas within quotes, without the spaces at its ends, is a parameter
-pub trimmed_is_param : (piece item : List ℕ) → IsTrimmed piece item → HasCommasInQuotes piece → quotes piece % 2 ≡ 0 → IsParam item
-trimmed_is_param piece item t keeps even =
+-- a piece, without the spaces at its ends, is a parameter
+pub trimmed_is_param : (piece item : List ℕ) → IsTrimmed piece item → IsPiece piece → IsParam item
+trimmed_is_param piece item t is =
     let p = t.padded in
     let same = quotes-padded piece item p in
+    let even = is.even in
     record {
       first = t.first;
       last = t.last;
@@ -56,7 +57,7 @@ trimmed_is_param piece item t keeps even =
       commas = λ front rest e.
           let whole : piece ≡ (replicate p.before 32 ++ front) ++ 44 ∷ (rest ++ replicate p.behind 32) =
           p.piece_is ∙ ap (λ xs. replicate p.before 32 ++ (xs ++ replicate p.behind 32)) e ∙ regroup_at_comma (replicate p.before 32) front rest (replicate p.behind 32) in
-          let odd = keeps _ _ whole in
+          let odd = is.keeps _ _ whole in
           omega (arith, odd, quotes-append (replicate p.before 32) front, quotes-spaces p.before);
     }
 
@@ -103,15 +104,15 @@ trims_once n xs f l = elim (empty_or_first xs n f) [
 ]
 
 -- a piece without the spaces at its ends is what `without_front_spaces` and then `without_end_spaces` leave of it
-pub trimmed_is : (piece item : List ℕ) → IsTrimmed piece item → item ≡ without_end_spaces (without_front_spaces piece)
-trimmed_is piece item t =
+pub trimmed_from_both_ends : (piece item : List ℕ) → IsTrimmed piece item → item ≡ without_end_spaces (without_front_spaces piece)
+trimmed_from_both_ends piece item t =
     let p = t.padded in
     sym (ap (λ xs. without_end_spaces (without_front_spaces xs)) p.piece_is ∙ ap without_end_spaces (front_spaces_left_out p.before (item ++ replicate p.behind 32))
     ∙ trims_once p.behind item t.first t.last)
 
 -- a piece has at most one trimmed item
 pub one_trimmed : (piece x y : List ℕ) → IsTrimmed piece x → IsTrimmed piece y → x ≡ y
-one_trimmed piece x y s t = trimmed_is piece x s ∙ sym (trimmed_is piece y t)
+one_trimmed piece x y s t = trimmed_from_both_ends piece x s ∙ sym (trimmed_from_both_ends piece y t)
 
 -- a parameter with spaces round it is trimmed to the parameter
 pub param_is_trimmed : (piece item : List ℕ) → IsPadded piece item → IsParam item → IsTrimmed piece item

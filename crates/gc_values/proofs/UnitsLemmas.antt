@@ -29,8 +29,8 @@ abbrev pub size_of : Numeral → ℕ
 size_of n = length n.whole.now + length n.fraction.now
 
 -- the digits of a numeral, in a row, are as many as `size_of` says
-size_is : (n : Numeral) → length (all_digits n) ≡ size_of n
-size_is n = length-append n.whole.now n.fraction.now
+size_counts_digits : (n : Numeral) → length (all_digits n) ≡ size_of n
+size_counts_digits n = length-append n.whole.now n.fraction.now
 
 -- a numeral with k digits up to the last of 24 places
 module _ (n : Numeral) (k : ℕ) (places : k + n.down ≡ length n.whole.now + n.up + 24) where
@@ -39,7 +39,7 @@ module _ (n : Numeral) (k : ℕ) (places : k + n.down ≡ length n.whole.now + n
   rounds_kept m e =
       let ds = all_digits n in
       let below : ℕ = length n.fraction.now + n.down in
-      let size = size_is n in
+      let size = size_counts_digits n in
       let exponents : k + below ≡ n.up + 24 + length ds = omega (arith, size, places) in
       let powers : 10 ^ k * 10 ^ below ≡ 10 ^ n.up * 10 ^ 24 * 10 ^ length ds =
       sym (pow-add 10 k below) ∙ ap (λ e. 10 ^ e) exponents ∙ pow-add 10 (n.up + 24) (length ds) ∙ ap (λ x. x * 10 ^ length ds) (pow-add 10 n.up 24) in
@@ -52,7 +52,7 @@ module _ (n : Numeral) (k : ℕ) (places : k + n.down ≡ length n.whole.now + n
   all_kept : (zeros : ℕ) → size_of n + zeros ≡ k → kept_and_rounded (all_digits n) k ≡ kept (all_digits n) (size_of n) * 10 ^ zeros
   all_kept zeros behind =
       let ds = all_digits n in
-      let size = size_is n in
+      let size = size_counts_digits n in
       let own : k - length ds ≡ zeros = omega (arith, size, behind) in
       kept_behind ds k (omega (arith, size, behind)) ∙ ap (λ i. kept ds i * 10 ^ (k - length ds)) size ∙ ap (λ z. kept ds (size_of n) * 10 ^ z) own
 
@@ -106,7 +106,7 @@ capped_none n cap places = record { m = 0; rounds = rounds; capped = omega arith
       omega (arith, mul-lt-mul_of_pos_left {m = number ds} {n = 10 ^ length ds} {k = 10 ^ (n.up + 24)} (number-lt ds (all_are_digits n)) (ten_pow_pos (n.up + 24))) in
       let whole : 10 ^ (length ds + (n.up + 24)) ≡ 10 ^ length ds * 10 ^ (n.up + 24) = pow-add 10 (length ds) (n.up + 24) in
       let ten : 10 ^ (length ds + (n.up + 24) + 1) ≡ 10 ^ (length ds + (n.up + 24)) * 10 = pow-add 10 (length ds + (n.up + 24)) 1 in
-      let under : 10 ^ (length ds + (n.up + 24) + 1) ≤ 10 ^ below = ten_pow_le _ _ (omega (arith, size_is n, places)) in
+      let under : 10 ^ (length ds + (n.up + 24) + 1) ≤ 10 ^ below = ten_pow_le _ _ (omega (arith, size_counts_digits n, places)) in
       let shape : number ds * 10 ^ (n.up + 24) ≡ number ds * 10 ^ n.up * 10 ^ 24 = omega (arith, ap (λ x. number ds * x) (pow-add 10 n.up 24)) in
       rounds_to_zero (number ds * 10 ^ n.up * 10 ^ 24) (10 ^ below) (ten_pow_pos below) (omega arith)
 
@@ -117,7 +117,7 @@ pub capped_short : (n : Numeral) (cap units : ℕ) → size_of n ≤ 18 → n.up
 capped_short n cap units few no_up no_down room e =
     let ds = all_digits n in
     let f : ℕ = length n.fraction.now in
-    let size = size_is n in
+    let size = size_counts_digits n in
     let same : number ds * 10 ^ (24 - f) * 10 ^ f ≡ number ds * 10 ^ 0 * 10 ^ 24 = omega (arith, ap (λ p. number ds * p) (ten_pow_cut f 24 (omega (arith, few)))) in
     let exact : RoundsHalfUp (number ds * 10 ^ 0 * 10 ^ 24) (10 ^ f) (number ds * 10 ^ (24 - f)) =
     subst (λ a. RoundsHalfUp a (10 ^ f) (number ds * 10 ^ (24 - f))) same (rounds_whole (number ds * 10 ^ (24 - f)) (10 ^ f) (ten_pow_pos f)) in

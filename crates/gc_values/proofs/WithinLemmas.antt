@@ -89,20 +89,20 @@ within_units a b area =
     (ten_pow_pos 24) (ten_pow_pos (24 - area.scale)) (mul-pos both (ten_pow_pos area.scale)) both
 
 -- the test of an order of whole numbers holds exactly where they are in order
-pub int_le_is : (x y : ℤ) → IsTrue (int_le x y) ↔ (x ≤ℤ y)
-int_le_is x y = (λ h. omega (arith, ints, h), λ h. true_from_ne_false (int_le x y) (λ e. omega (arith, ints, h, e)))
+pub int_le_exactly : (x y : ℤ) → IsTrue (int_le x y) ↔ (x ≤ℤ y)
+int_le_exactly x y = (λ h. omega (arith, ints, h), λ h. true_from_ne_false (int_le x y) (λ e. omega (arith, ints, h, e)))
 
 -- `is_within` holds exactly where the values are at most the area apart
-pub is_within_is : (a b area : Decimal) → IsTrue (is_within a b area) ↔ IsWithin (fraction a) (fraction b) (fraction area)
+pub is_within_exactly : (a b area : Decimal) → IsTrue (is_within a b area) ↔ IsWithin (fraction a) (fraction b) (fraction area)
 unfolding is_within
-is_within_is a b area = int_le_is (pos (distance a.digits a.scale b.digits b.scale * 10 ^ area.scale)) (area.digits *ℤ pos (10 ^ a.scale * 10 ^ b.scale))
+is_within_exactly a b area = int_le_exactly (pos (distance a.digits a.scale b.digits b.scale * 10 ^ area.scale)) (area.digits *ℤ pos (10 ^ a.scale * 10 ^ b.scale))
 
 -- the comparison that the code makes holds exactly where the values are at most the area apart
 pub comparison_is_within : (a b area : Decimal) (x y : ℤ) → x ≡ pos (unsigned_abs (units a -ℤ units b)) → y ≡ units area
     → IsTrue (int_le x y) ↔ IsWithin (fraction a) (fraction b) (fraction area)
 comparison_is_within a b area x y e f =
     let w = within_units a b area in
-    let t = int_le_is x y in (
+    let t = int_le_exactly x y in (
       λ h. w.0 (subst (λ z. z ≤ℤ units area) e (subst (λ z. x ≤ℤ z) f (t.0 h))),
       λ h. t.1 (subst (λ z. x ≤ℤ z) (sym f) (subst (λ z. z ≤ℤ units area) (sym e) (w.1 h))),
     )
@@ -111,7 +111,7 @@ comparison_is_within a b area x y e f =
 pub compared_exact : (a b area : Decimal) (x y : ℤ) → x ≡ pos (unsigned_abs (units a -ℤ units b)) → y ≡ units area → int_le x y ≡ is_within a b area
 compared_exact a b area x y e f =
     let c = comparison_is_within a b area x y e f in
-    let t = is_within_is a b area in
+    let t = is_within_exactly a b area in
     both_ways (int_le x y) (is_within a b area) (λ h. t.1 (c.0 h)) (λ h. c.1 (t.0 h))
 
 -- two numbers of at most 10^37, either way from 0, are at most 2 * 10^37 apart

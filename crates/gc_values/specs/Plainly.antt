@@ -29,17 +29,19 @@ pub record CountsDigits (front : ℕ) (text : List ℕ) (most value count : ℕ)
   pub digits : AreDigits (take count text)
   pub value_is : value ≡ front * 10 ^ count + number (take count text)
 
--- the text begins with an item that spells the decimal d, and the rest is what follows the item's comma, if there is one
-pub record CutsDecimal (text : List ℕ) (d : Decimal) (rest : Option (List ℕ)) : Type 0 where
+-- the text begins with an item of which `Is` is true, and the rest is what follows the item's comma, if there is one
+pub record CutsItem (Is : List ℕ → Type 0) (text : List ℕ) (rest : Option (List ℕ)) : Type 0 where
   pub item : List ℕ
   pub cut : CutsPlain text item rest
-  pub spelled : SpellsDecimal item d
+  pub is : Is item
+
+-- the text begins with an item that spells the decimal d, and the rest is what follows the item's comma, if there is one
+abbrev pub CutsDecimal : (text : List ℕ) (d : Decimal) (rest : Option (List ℕ)) → Type 0
+CutsDecimal text d rest = CutsItem (λ item. SpellsDecimal item d) text rest
 
 -- the text begins with an item that writes the whole number n, and the rest is what follows the item's comma, if there is one
-pub record CutsNumber (text : List ℕ) (n : ℕ) (rest : Option (List ℕ)) : Type 0 where
-  pub item : List ℕ
-  pub cut : CutsPlain text item rest
-  pub names : NamesWhole item (pos n)
+abbrev pub CutsNumber : (text : List ℕ) (n : ℕ) (rest : Option (List ℕ)) → Type 0
+CutsNumber text n rest = CutsItem (λ item. NamesWhole item (pos n)) text rest
 
 -- the text is one or more parameters of at least one byte each, joined by commas without spaces, and they are read as the values
 pub record ArePlain (text : List ℕ) (vs : List Value) : Type 0 where

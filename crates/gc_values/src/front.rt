@@ -28,15 +28,15 @@ fn front_digits(front: u64, text: &[u8], most: usize) -> (u64, usize)
     (value, text.len())
 }
 
-/// What follows an item, where `text` is all of the list after that item: `Some(None)` at the end of the list, and
-/// `Some(Some(rest))` where a comma and then `rest` follow. `None`: neither the end nor a comma follows the item.
+/// What was read of an item, and what follows the item's comma, if there is one; `text` is all of the list after the item.
+/// `None`: neither the end of the list nor a comma follows the item.
 #[inline]
-fn behind_item(text: &[u8]) -> Option<Option<&[u8]>>
-    ensures { IfSome result (λ rest. IsItemAndRest text.now [] (option_copied rest)) }
+fn with_rest<T: Copy>(item: T, text: &[u8]) -> Option<(T, Option<&[u8]>)>
+    ensures { IfSome result (λ r. (r.0 ≡ item) × IsItemAndRest text.now [] (option_copied r.1)) }
 {
     match text {
-        [] => Some(None),
-        [b',', rest @ ..] => Some(Some(rest)),
+        [] => Some((item, None)),
+        [b',', rest @ ..] => Some((item, Some(rest))),
         _ => None,
     }
 }
@@ -52,9 +52,8 @@ pub fn front_decimal(text: &[u8]) -> Option<(Decimal, Option<&[u8]>)>
     }
     let behind = &text[at + 1..];
     let (value, places) = front_digits(whole, behind, DIGITS_IN_64_BITS - at);
-    let rest = behind_item(&behind[places..])?;
     let decimal = Decimal::from_parts(false, u128::from(value), places as u8);
-    Some((decimal, rest))
+    with_rest(decimal, &behind[places..])
 }
 
 /// The whole number at the front, and what follows its comma, if there is one. `None`: the text doesn't begin with 1 to 18 digits,
@@ -67,6 +66,5 @@ pub fn front_number(text: &[u8]) -> Option<(u64, Option<&[u8]>)>
     if count == 0 {
         return None;
     }
-    let rest = behind_item(&text[count..])?;
-    Some((number, rest))
+    with_rest(number, &text[count..])
 }

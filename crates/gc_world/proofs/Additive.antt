@@ -11,7 +11,7 @@ use Rattle.gc_world.specs.declared.direction.Direction.{Direction}
 use Rattle.gc_world.specs.Directions.{deliver, bytes, texts, lines, gone, with_front_gone, after_cut}
 use Rattle.gc_world.specs.Streams.{Streams, Cut, one_line_more, cut, flows}
 use Rattle.gc_world.specs.World.{Ends, Rule, World, idle, happens, run}
-use Rattle.gc_world.proofs.Directions.{gone_reached, reaches_again, passing, bytes_pass, one_less, idle_leaves}
+use Rattle.gc_world.proofs.Directions.{gone_reached, reaches_again, passing, bytes_pass, one_less, idle_leaves_texts}
 use Rattle.gc_world.proofs.Flow.{run_append}
 use Rattle.gc_world.proofs.Handed.{cut_long}
 
@@ -107,7 +107,7 @@ module _ {Client State : Type 0} (ends : Ends State) (rule : Rule Client) (d : D
   some_before : (v : Streams Client State) (n : ℕ) (q : List (List ℕ)) → lines d v.world.wire ≡ q
       → 0 < length (lines d (passing ends rule d v q n).world.wire) → 0 < length q
   some_before v n [] e some =
-      let same : lines d (idle v.world.wire) ≡ [] = ap (map with_end) (idle_leaves d v.world.wire) ∙ e in
+      let same : lines d (idle v.world.wire) ≡ [] = ap (map with_end) (idle_leaves_texts d v.world.wire) ∙ e in
       absurd (omega (arith, some, ap length same))
   some_before v n (line ∷ q) e some = omega arith
 

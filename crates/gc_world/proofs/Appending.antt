@@ -17,13 +17,13 @@ set_last xs items n blank new entry are at is =
     ap (λ l. slice_set l n new) are ∙ ap (λ k. slice_set (xs ++ blank ∷ []) k new) at ∙ set-append_seam xs blank [] new ∙ ap (λ e. xs ++ e ∷ []) is
 
 -- lines with the same bytes are equal
-line_of : (xs ys : List ℕ) → xs ≡ ys → ◌≡◌ {A = ArrayVec ℕ} (record { items = xs }) (record { items = ys })
-line_of xs ys e = ap {A = List ℕ} {B = ArrayVec ℕ} (λ l. record { items = l }) e
+equal_lines : (xs ys : List ℕ) → xs ≡ ys → ◌≡◌ {A = ArrayVec ℕ} (record { items = xs }) (record { items = ys })
+equal_lines xs ys e = ap {A = List ℕ} {B = ArrayVec ℕ} (λ l. record { items = l }) e
 
 -- a line of no bytes, to which another line's bytes were appended, is that line
 pub line_put : (blank to line : ArrayVec ℕ) (bytes : List ℕ) → blank.items ≡ [] → to.items ≡ blank.items ++ bytes → bytes ≡ line.items → to ≡ line
-line_put blank to line bytes empty put are = line_of to.items line.items (put ∙ ap (λ l. l ++ bytes) empty ∙ are)
+line_put blank to line bytes empty put are = equal_lines to.items line.items (put ∙ ap (λ l. l ++ bytes) empty ∙ are)
 
 -- a line of no bytes is the empty line
 pub empty_line : (line : ArrayVec ℕ) → line.items ≡ [] → line ≡ record { items = [] }
-empty_line line e = line_of line.items [] e
+empty_line line e = equal_lines line.items [] e

@@ -1,5 +1,6 @@
 -- An answer that is booked is a line that was made for the very request that it settles. Replies and answers are *backed* where
--- each is among the replies made, with the number of its request.
+-- each is among the replies made, with the number of its request. Settlements from number n on are those of the requests n, n + 1
+-- and so on.
 use Rattle.std.proofs.Common.{◌≡◌, ℕ, zero, suc, ◌+◌, ◌-◌, ◌≤◌, inl, inr, Bool, true, false, List, [], ◌∷◌, ◌++◌, length, map, drop, Some, refl, sym, ap, subst, arith, ltb, ◌⊎◌}
 use Rattle.std.specs.List.{AllByRecursion}
 use Rattle.std.specs.Prelude.{slice_get}
@@ -46,13 +47,13 @@ IsMade made n (Answered line) = Has (record { number = n; line = line }) made
 IsMade made n Late = Unit {0}
 IsMade made n Lost = Unit {0}
 
--- each answer of these settlements, of which the first is number n, was made for its request
+-- each answer of these settlements, from number n on, was made for its request
 abbrev pub AllMade : {Q : Type 0} → List (Numbered (List ℕ)) → ℕ → List (Settlement Q) → Type 0
 AllMade made n [] = Unit {0}
 AllMade made n (s ∷ ss) = IsMade made n s.outcome × AllMade made (n + 1) ss
 
--- where each answer of settlements, of which the first is number n, was made for its request, the one at place m among them was
--- made for request n + m
+-- where each answer of settlements from number n on was made for its request, the one at place m among them was made for request
+-- n + m
 pub made_at : {Q : Type 0} (made : List (Numbered (List ℕ))) (n : ℕ) (settled : List (Settlement Q)) (m : ℕ) (s : Settlement Q)
     → AllMade made n settled → slice_get settled m ≡ Some s
     → IsMade made (n + m) s.outcome
@@ -83,8 +84,8 @@ all_made_more : {Q : Type 0} (made more : List (Numbered (List ℕ))) (n : ℕ) 
 all_made_more made more n [] h = tt
 all_made_more made more n (s ∷ ss) h = (made_more made more n s.outcome h.0, all_made_more made more (n + 1) ss h.1)
 
--- where the answers of the settlements ss, of which the first is number n, and those of ts, of which the first is number m, the
--- one after the last of ss, were made for their requests, those of ss followed by ts were
+-- where the answers of the settlements ss from number n on, and those of ts from number m on, the number after the last of ss,
+-- were made for their requests, those of ss followed by ts were
 all_made_append : {Q : Type 0} (made : List (Numbered (List ℕ))) (n m : ℕ) (ss ts : List (Settlement Q)) → n + length ss ≡ m → AllMade made n ss
     → AllMade made m ts → AllMade made n (ss ++ ts)
 all_made_append made n m [] ts e h g = let e' : m ≡ n = omega arith in subst (λ k. AllMade made k ts) e' g
@@ -102,8 +103,8 @@ line_is_made : {Q : Type 0} (made : List (Numbered (List ℕ))) (n : ℕ) (line 
 line_is_made made n line p true e h = subst (λ b. IsMade made n (settled_by_line (record p { given_up = b }) line).outcome) (sym e) tt
 line_is_made made n line p false e h = subst (λ b. IsMade made n (settled_by_line (record p { given_up = b }) line).outcome) (sym e) h
 
--- where a reply with this line was made for request m, and n + k is m, each answer among the settlements `settle k line ps`, of
--- which the first is number n, was made for its request
+-- where a reply with this line was made for request m, and n + k is m, each answer of the settlements `settle k line ps` from
+-- number n on was made for its request
 all_made_settle : {Q : Type 0} (made : List (Numbered (List ℕ))) (n m k : ℕ) (line : List ℕ) (ps : List (Pending Q)) → n + k ≡ m
     → Has (record { number = m; line = line }) made
     → AllMade made n (settle k line ps)

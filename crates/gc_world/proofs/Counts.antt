@@ -54,9 +54,9 @@ one_answered executed k more true = omega (arith, length_push executed k)
 one_answered executed k more false = omega arith
 
 -- what is within n is within n also with other settlements and other replies in flight
-else_within : {State : Type 0} (n : ℕ) (w : Wire State) (settled : List (Settlement Call)) (down : List (Numbered (List ℕ))) → IsWithin n w
+others_within : {State : Type 0} (n : ℕ) (w : Wire State) (settled : List (Settlement Call)) (down : List (Numbered (List ℕ))) → IsWithin n w
     → IsWithin n (record w { settled = settled; down = down })
-else_within n w settled down h = record { sent = h.sent; executed = h.executed; made = h.made; starts = h.starts; refused = h.refused; idle = h.idle }
+others_within n w settled down h = record { sent = h.sent; executed = h.executed; made = h.made; starts = h.starts; refused = h.refused; idle = h.idle }
 
 module _ {Client State : Type 0} (ends : Ends State) (rule : Rule Client) (n : ℕ) where
   -- what is within n is within n + 1, also with counts of refused sends and of idle events that are greater by at most one
@@ -140,12 +140,12 @@ module _ {Client State : Type 0} (ends : Ends State) (rule : Rule Client) (n : �
   -- one
   changes_down : (w : Wire State) (down : List (Numbered (List ℕ))) (b : Bool) → IsWithin n w → IsWithin (n + 1) (with_down w down b)
   changes_down w down false h = idles w h
-  changes_down w down true h = one_more_within (record w { down = down }) (else_within n w w.settled down h)
+  changes_down w down true h = one_more_within (record w { down = down }) (others_within n w w.settled down h)
 
   -- a delivery to the client raises the bound by at most one
   hears : (w : World Client State) (q : List (Numbered (List ℕ))) → IsWithin n w.wire → IsWithin (n + 1) (down_delivered rule w q).wire
   hears w [] h = idles w.wire h
-  hears w (x ∷ rest) h = one_more_within (down_delivered rule w (x ∷ rest)).wire (else_within n w.wire (w.wire.settled ++ (rule.reply w.client x).settlements) rest h)
+  hears w (x ∷ rest) h = one_more_within (down_delivered rule w (x ∷ rest)).wire (others_within n w.wire (w.wire.settled ++ (rule.reply w.client x).settlements) rest h)
 
   -- with a start of the instrument (b true) or without one, the bound rises by at most one
   starts : (w : Wire State) (b : Bool) → IsWithin n w → IsWithin (n + 1) (started ends w b)
@@ -172,7 +172,7 @@ module _ {Client State : Type 0} (ends : Ends State) (rule : Rule Client) (n : �
       → IsWithin (n + 1) (client_restarted ends rule w up down).wire
   restarts_client w [] [] h =
       let v = started ends w.wire ends.joint in
-      else_within (n + 1) v (v.settled ++ (rule.restart w.client).settlements) v.down (starts w.wire ends.joint h)
+      others_within (n + 1) v (v.settled ++ (rule.restart w.client).settlements) v.down (starts w.wire ends.joint h)
   restarts_client w [] (y ∷ down) h = idles w.wire h
   restarts_client w (x ∷ up) down h = idles w.wire h
 
@@ -200,7 +200,7 @@ module _ {Client State : Type 0} (ends : Ends State) (rule : Rule Client) (n : �
   down_once : (w : World Client State) (q : List (Numbered (List ℕ))) → 0 < length (map (λ x. x.line) q) → IsWithin n w.wire
       → IsWithin n (down_delivered rule w q).wire
   down_once w [] some h = absurd (omega (arith, some))
-  down_once w (x ∷ rest) some h = else_within n w.wire (w.wire.settled ++ (rule.reply w.client x).settlements) rest h
+  down_once w (x ∷ rest) some h = others_within n w.wire (w.wire.settled ++ (rule.reply w.client x).settlements) rest h
 
   -- a delivery of a line that is in flight doesn't raise the bound
   one_delivery : (d : Direction) (w : World Client State) → 0 < length (texts d w.wire) → IsWithin n w.wire → IsWithin n (happens ends rule w (deliver d)).wire

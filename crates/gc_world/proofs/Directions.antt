@@ -92,6 +92,6 @@ module _ {Client State : Type 0} where
     not_idle Down w some = down_counts w w.wire.down some
 
 -- counting an event that is not possible leaves the texts in flight in either direction as they were
-pub idle_leaves : {State : Type 0} (d : Direction) (w : Wire State) → texts d (idle w) ≡ texts d w
-idle_leaves Up w = refl
-idle_leaves Down w = refl
+pub idle_leaves_texts : {State : Type 0} (d : Direction) (w : Wire State) → texts d (idle w) ≡ texts d w
+idle_leaves_texts Up w = refl
+idle_leaves_texts Down w = refl

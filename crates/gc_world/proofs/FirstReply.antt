@@ -30,7 +30,7 @@ use Rattle.gc_world.proofs.Handing.{KeptFits, kept_exchange}
 use Rattle.gc_world.proofs.Marks.{entry_all}
 use Rattle.gc_world.proofs.Moments.{marked_all, in_time, too_late}
 use Rattle.gc_world.proofs.Places.{get_map, get_push, get_seen, slice_drop}
-use Rattle.gc_world.proofs.Settled.{whole_at}
+use Rattle.gc_world.proofs.Settled.{AccountForSent, whole_at}
 use Rattle.gc_world.specs.Worlds.{of_sent}
 use Rattle.gc_world.proofs.Sound.{Sound, sound_step}
 
@@ -56,10 +56,9 @@ lost_alike (p ∷ ps) (r ∷ rs) e =
     let tail : map of_pending ps ≡ map of_sent rs = cc in
     ap₂ (λ (a : Wanted Call) (l : List (Settlement Call)). settled_wanted Lost a ∷ l) front (lost_alike ps rs tail)
 
--- where the settled requests, followed by those that wait, are the requests that were sent, those that wait are the ones sent
+-- where the settled requests, and those that wait, are those that were sent (`AccountForSent`), those that wait are the ones sent
 -- after the settled ones
-waiting_alike : (settled : List (Settlement Call)) (waiting : List (Pending Call)) (sent : List Sent)
-    → map of_settled settled ++ map of_pending waiting ≡ map of_sent sent
+waiting_alike : (settled : List (Settlement Call)) (waiting : List (Pending Call)) (sent : List Sent) → AccountForSent settled waiting sent
     → map of_pending waiting ≡ map of_sent (drop (length settled) sent)
 waiting_alike settled waiting sent e =
     sym (drop-append_seam (map of_settled settled) (map of_pending waiting)) ∙ ap (drop (length (map of_settled settled))) e ∙ ap (λ k. drop k (map of_sent sent)) (length-map settled of_settled)
@@ -76,10 +75,10 @@ pub record SettlesThrough (settled : List (Settlement Call)) (waiting : List (Pe
   pub found : slice_get sent n ≡ Some request
   pub settlements : settle (n - length settled) line waiting ≡ map (settled_as Lost) (between (length settled) n sent) ++ settled_as (outcome_of p line) request ∷ []
 
--- `SettlesThrough` holds where the settlements, and after them those that wait, are the requests that were sent, n isn't below
--- the count of settlements, and p waits as request n
+-- `SettlesThrough` holds where the settled requests, and those that wait, are those that were sent (`AccountForSent`), n isn't
+-- below the count of settlements, and p waits as request n
 settles_through : (settled : List (Settlement Call)) (waiting : List (Pending Call)) (sent : List Sent) (n : ℕ) (line : List ℕ) (p : Pending Call)
-    → map of_settled settled ++ map of_pending waiting ≡ map of_sent sent → length settled ≤ n → slice_get waiting (n - length settled) ≡ Some p
+    → AccountForSent settled waiting sent → length settled ≤ n → slice_get waiting (n - length settled) ≡ Some p
     → SettlesThrough settled waiting sent n line p
 settles_through settled waiting sent n line p whole le h =
     let m = length settled in

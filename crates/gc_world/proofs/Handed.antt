@@ -12,7 +12,7 @@ use Rattle.gc_instrument.specs.State.{State}
 use Rattle.gc_world.specs.declared.direction.Direction.{Direction}
 use Rattle.gc_world.specs.declared.direction.Direction.TheVariants.{Up, Down}
 use Rattle.gc_world.specs.Clients.{by_ids, ends}
-use Rattle.gc_world.specs.Directions.{deliver, delivery, bytes, texts, lines, gone, with_front_gone, after_cut, handed_over}
+use Rattle.gc_world.specs.Directions.{deliver, delivery, bytes, texts, lines, gone, to_go, with_front_gone, after_cut, handed_over}
 use Rattle.gc_world.specs.Memory.{FrontIsStray, AreStrays, TakesNoMemory}
 use Rattle.gc_world.specs.Sides.{IsPart}
 use Rattle.gc_world.specs.Stages.{StageParts, after_step, AreStreamsOf}
@@ -55,7 +55,7 @@ module _ {Client State : Type 0} (ends : Ends State) (rule : Rule Client) (d : D
     pub tail : behind ≡ texts d (happens ends rule v.world (deliver d)).wire
 
   -- `IsNext` holds where the front line takes what remains of it, which is some bytes and no more than n
-  pub next : (n used : ℕ) → used ≡ remaining (gone d v) (lines d v.world.wire) → 0 < used → used ≤ n → IsNext n used
+  pub next : (n used : ℕ) → used ≡ to_go d v → 0 < used → used ≤ n → IsNext n used
   next n used e some le =
       let f = in_front (gone d v) (texts d v.world.wire) (subst (λ k. 0 < k) e some) in
       let size : used ≡ length (with_end f.0) - gone d v = e ∙ ap (λ q. remaining (gone d v) (map with_end q)) f.2 in
@@ -91,13 +91,13 @@ module _ {Client State : Type 0} (ends : Ends State) (rule : Rule Client) (d : D
       ap (λ (x : Streams Client State). x.world.wire.idle) (delivered ends rule d v) ∙ not_idle ends rule d v.world (omega (arith, some))
 
   -- where no byte of the front line remains, handing over n bytes changes nothing: by `IsPart` no line is in flight then
-  pub ended : (n : ℕ) → IsPart (gone d v) (lines d v.world.wire) → remaining (gone d v) (lines d v.world.wire) ≡ 0 → handed_over ends rule d v n ≡ v
+  pub ended : (n : ℕ) → IsPart (gone d v) (lines d v.world.wire) → to_go d v ≡ 0 → handed_over ends rule d v n ≡ v
   ended n part e =
       let none = none_in_flight (gone d v) (lines d v.world.wire) part e in
       ap (λ q. after_cut ends rule d v (cut q (gone d v + n))) none.0 ∙ ap (with_front_gone d v v.world) (sym none.1) ∙ unmoved d v v.world
 
   -- an event of n bytes leads to the streams that `handed_over` gives, where n isn't 0 and bytes are in flight
-  pub bytes_handed : (n r : ℕ) → r ≡ remaining (gone d v) (lines d v.world.wire) → (n ≡ 0 → ⊥) → (r ≡ 0 → ⊥)
+  pub bytes_handed : (n r : ℕ) → r ≡ to_go d v → (n ≡ 0 → ⊥) → (r ≡ 0 → ⊥)
       → flows ends rule v (bytes d n) ≡ handed_over ends rule d v n
   bytes_handed n r e not none = bytes_pass ends rule d v n ∙ by_cases n (lines d v.world.wire) not (λ z. none (e ∙ z))
     where
@@ -157,7 +157,7 @@ reached width d s v n h = record { now = v; shows = h; same = refl; spare = λ t
 module _ (width : ℕ) (d : Direction) (s : StageParts) (v : Streams (ById Call) State) (n left : ℕ) (h : IsReached width d s v n left) where
   -- `IsReached` holds also once one more line was delivered, which took `used` of the bytes that were left: `left - used` are
   -- left then
-  pub reaches_next : (t : StageParts) (used : ℕ) → used ≡ remaining (gone d h.now) (lines d h.now.world.wire) → 0 < used → used ≤ left
+  pub reaches_next : (t : StageParts) (used : ℕ) → used ≡ to_go d h.now → 0 < used → used ≤ left
       → AreStreamsOf width t (after_event ends width h.now (delivery d)) → IsReached width d t v n (left - used)
   reaches_next t used e some le shows =
       let one = next ends (by_ids width ends) d h.now left used e some le in
@@ -171,7 +171,7 @@ module _ (width : ℕ) (d : Direction) (s : StageParts) (v : Streams (ById Call)
 
   -- where the bytes that are left complete the front line, of which `used` remain, and the n bytes of the event take no memory,
   -- the delivery of this line takes none
-  pub next_spares : (used : ℕ) → used ≡ remaining (gone d h.now) (lines d h.now.world.wire) → 0 < used → used ≤ left
+  pub next_spares : (used : ℕ) → used ≡ to_go d h.now → 0 < used → used ≤ left
       → TakesNoMemory width v (bytes d n) → TakesNoMemory width h.now (delivery d)
   next_spares used e some le t = (spared width d h.now left used (next ends (by_ids width ends) d h.now left used e some le) (h.spare t)).0
 
@@ -180,7 +180,7 @@ module _ (width : ℕ) (d : Direction) (s : StageParts) (v : Streams (ById Call)
   reaches_end t shows = subst (λ x. AreStreamsOf width t x) h.same shows
 
   -- where no byte is in flight any more, the stage shows the streams that all n bytes lead to
-  pub runs_dry : remaining (gone d h.now) (lines d h.now.world.wire) ≡ 0 → AreStreamsOf width s (after_bytes ends width d v n)
+  pub runs_dry : to_go d h.now ≡ 0 → AreStreamsOf width s (after_bytes ends width d v n)
   runs_dry e = subst (λ x. AreStreamsOf width s x) (sym (ended ends (by_ids width ends) d h.now left (part width s h.now h.shows d) e) ∙ h.same) h.shows
 
 -- where the test `completes`, of a line with r bytes left and of l bytes, fails (b is false) though l is at least r, no byte of

@@ -143,7 +143,7 @@ reply_heard rc_com id rc params sent digit code =
     ap id_in (reply_back (record { rc_com = rc_com; id = Some id; rc = rc; params = params }) (record { rc_com = sent; id = digit; rc = code }))
 
 -- where `line` reads as a reply with this id, so does what is kept once a request with the id was answered with `line`: that
--- line, where the instrument sends kept lines again (b true), and else nothing, of which nothing is asked
+-- line, where the instrument sends kept lines again (b true), and else nothing, which needn't read as anything
 pub kept_reads : (b : Bool) (id : ℕ) (line : List ℕ) (k : Option KeptReply) → heard line ≡ Some id → ReadsWithItsId (cond b (kept_after k (Some id) line) None)
 kept_reads true id line k h = h
 kept_reads false id line k h = tt

@@ -183,10 +183,10 @@ abbrev pub OneReaches : ℕ → List Event → Type 0
 OneReaches deadline es = (now : ℕ) × Contains es (Expire now) × (deadline ≤ now)
 
 -- where the event e and all the events es are early, a moment that is e or among es lies before the deadline
-earlier_or : (deadline now : ℕ) (e : Event) (es : List Event) → IsEarly deadline e → AllEarly deadline es
+early_moment : (deadline now : ℕ) (e : Event) (es : List Event) → IsEarly deadline e → AllEarly deadline es
     → (e ≡ Expire now) ⊎ Contains es (Expire now) → now < deadline
-earlier_or deadline now e es h hs (inl is) = h now is
-earlier_or deadline now e es h hs (inr has) = hs now has
+early_moment deadline now e es h hs (inl is) = h now is
+early_moment deadline now e es h hs (inr has) = hs now has
 
 -- where e is early or reaches the deadline, and all events es are early or one of them reaches it, the same holds of e and es
 -- together
@@ -194,7 +194,7 @@ early_or_reached_with : (deadline : ℕ) (e : Event) (es : List Event) → IsEar
     → AllEarly deadline (e ∷ es) ⊎ OneReaches deadline (e ∷ es)
 early_or_reached_with deadline e es (inr (now, is, le)) rest = inr (now, at_head e (Expire now) es is, le)
 early_or_reached_with deadline e es (inl h) (inr (now, has, le)) = inr (now, at_tail e (Expire now) es has, le)
-early_or_reached_with deadline e es (inl h) (inl hs) = inl (λ now has. earlier_or deadline now e es h hs (head_or_tail e (Expire now) es has))
+early_or_reached_with deadline e es (inl h) (inl hs) = inl (λ now has. early_moment deadline now e es h hs (head_or_tail e (Expire now) es has))
 
 -- the moments among some events either all lie before a deadline, or one is at or past it
 pub early_or_reached : (deadline : ℕ) (es : List Event) → AllEarly deadline es ⊎ OneReaches deadline es

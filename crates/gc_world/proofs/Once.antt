@@ -92,14 +92,14 @@ abbrev IsKeptAmong : Option KeptReply → (top : ℕ) → List (Numbered (List �
 IsKeptAmong kept top replies = IfSome kept (λ k. Has (record { number = top - 1; line = k.line }) replies)
 
 -- `IsKeptAmong` holds where nothing is kept
-held_none : (top : ℕ) (replies : List (Numbered (List ℕ))) (kept : Option KeptReply) → kept ≡ None → IsKeptAmong kept top replies
-held_none top replies kept none = subst (λ k. IsKeptAmong k top replies) (sym none) tt
+kept_among_none : (top : ℕ) (replies : List (Numbered (List ℕ))) (kept : Option KeptReply) → kept ≡ None → IsKeptAmong kept top replies
+kept_among_none top replies kept none = subst (λ k. IsKeptAmong k top replies) (sym none) tt
 
 -- where `IsKeptAmong` holds, and n is top - 1, the line that is kept for this id is among the replies as the one to request n
-held_line : (kept : Option KeptReply) (id n top : ℕ) (line : List ℕ) (replies : List (Numbered (List ℕ))) → kept_line kept (Some id) ≡ Some line → n + 1 ≡ top
+kept_among_line : (kept : Option KeptReply) (id n top : ℕ) (line : List ℕ) (replies : List (Numbered (List ℕ))) → kept_line kept (Some id) ≡ Some line → n + 1 ≡ top
     → IsKeptAmong kept top replies → Has (record { number = n; line = line }) replies
-held_line None id n top line replies e t h = cc
-held_line (Some k) id n top line replies e t h =
+kept_among_line None id n top line replies e t h = cc
+kept_among_line (Some k) id n top line replies e t h =
     let c = cond_some (eqb k.id id) k.line line e in
     let m : top - 1 ≡ n = omega arith in
     subst (λ i. Has (record { number = i; line = line }) replies) m (subst (λ (q : List ℕ). Has (record { number = top - 1; line = q }) replies) c.1 h)
@@ -241,7 +241,7 @@ module _ {State : Type 0} (width : ℕ) (narrow : width ≤ 7) (ends : Ends Stat
         replayed = record {
           replies = r.replies;
           replays = r.replays;
-          among = all_append _ w.wire.made _ r.among (held_line (kept w.wire.state) x.line.id x.number h.top line r.replies is last r.held, tt);
+          among = all_append _ w.wire.made _ r.among (kept_among_line (kept w.wire.state) x.line.id x.number h.top line r.replies is last r.held, tt);
           each = all_on (λ m. Has m w.wire.made) (λ m. Has m (w.wire.made ++ y ∷ [])) r.replies (λ m p. has_more m w.wire.made _ p) r.each;
           begins = r.begins;
           held = r.held;
@@ -379,7 +379,7 @@ module _ {State : Type 0} (width : ℕ) (narrow : width ≤ 7) (ends : Ends Stat
           among = t.among;
           each = t.each;
           begins = all_append _ w.starts _ t.begins (omega arith, tt);
-          held = held_none h.top t.replies (kept (ends.restarted w.state)) (keeper.forgets w.state);
+          held = kept_among_none h.top t.replies (kept (ends.restarted w.state)) (keeper.forgets w.state);
           lines = t.lines;
         };
       }
@@ -465,7 +465,7 @@ module _ {State : Type 0} (width : ℕ) (narrow : width ≤ 7) (ends : Ends Stat
           made = tt;
           above = above_none 0 0 0 [] (kept (ends.restarted opening)) refl (keeper.forgets opening);
           last = last_none 0 [] (kept (ends.restarted opening)) (keeper.forgets opening);
-          replayed = record { replies = []; replays = refl; among = tt; each = tt; begins = tt; held = held_none 0 [] (kept (ends.restarted opening)) (keeper.forgets opening); lines = tt };
+          replayed = record { replies = []; replays = refl; among = tt; each = tt; begins = tt; held = kept_among_none 0 [] (kept (ends.restarted opening)) (keeper.forgets opening); lines = tt };
         };
       })
 

@@ -13,10 +13,14 @@ use Rattle.gc_world.specs.Record.{IsOneForOne}
 use Rattle.gc_world.proofs.Stable.{IsStable, stable_all}
 use Rattle.std.proofs.lemmas.Option.{same_Some, none-some}
 
+-- the settled requests, and after them those that wait, are those that were sent, in order
+abbrev pub AccountForSent : {Q : Type 0} → (settled : List (Settlement Q)) → (waiting : List (Pending Q)) → (sent : List (Sent Q)) → Type 0
+AccountForSent settled waiting sent = map of_settled settled ++ map of_pending waiting ≡ map of_sent sent
+
 module _ {Q State : Type 0} (width : ℕ) (ends : Ends Q State) where
-  -- a world is whole: the settled requests, and after them those that wait, are those that were sent, in order
+  -- a world is whole: its settled requests, and those that wait, are those that were sent (`AccountForSent`)
   abbrev pub Whole : World Q (ById Q) State → Type 0
-  Whole w = map of_settled w.wire.settled ++ map of_pending w.client.waiting ≡ map of_sent w.wire.sent
+  Whole w = AccountForSent w.wire.settled w.client.waiting w.wire.sent
 
   -- a send that isn't refused keeps a world whole
   whole_sent : (written : ℕ → Q → List ℕ) (w : World Q (ById Q) State) (target : ℕ) (call : Q) (deadline : ℕ) (full : Bool) (x : Sending (ById Q))
@@ -79,10 +83,9 @@ same_at (x ∷ xs) rest (y ∷ ys) (suc m) s r e g h =
     let tail : map of_settled xs ++ rest ≡ map of_sent ys = cc in
     same_at xs rest ys m s r tail g h
 
--- where what is settled, and after it what waits, are the requests that were sent, in order, settlement m has the target and the
+-- where the settled requests, and those that wait, are those that were sent (`AccountForSent`), settlement m has the target and the
 -- call of request m, and there are no more settlements than requests (`IsOneForOne`)
-pub one_for_one : {Q : Type 0} (settled : List (Settlement Q)) (waiting : List (Pending Q)) (sent : List (Sent Q))
-    → map of_settled settled ++ map of_pending waiting ≡ map of_sent sent
+pub one_for_one : {Q : Type 0} (settled : List (Settlement Q)) (waiting : List (Pending Q)) (sent : List (Sent Q)) → AccountForSent settled waiting sent
     → IsOneForOne sent settled
 one_for_one {Q} settled waiting sent e =
     record {

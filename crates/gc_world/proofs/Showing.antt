@@ -102,13 +102,13 @@ sends_next width c target call deadline x e = by_room (eqb (length c.waiting) wi
     by_room false e = subst (λ (y : Sending (ById Call)). y.client.next < IDS) (same_Some _ x e) (omega arith)
 
 -- one more reply leaves the others at their places
-made_more : (made : List Made) (entry : Made) (p : ℕ) (x : Numbered (List ℕ)) → slice_get (map made_seen made) p ≡ Some x
+reply_stays : (made : List Made) (entry : Made) (p : ℕ) (x : Numbered (List ℕ)) → slice_get (map made_seen made) p ≡ Some x
     → slice_get (map made_seen (made ++ entry ∷ [])) p ≡ Some x
-made_more made entry p x e = ap (λ l. slice_get l p) (map-append made_seen made (entry ∷ [])) ∙ get_more (map made_seen made) (made_seen entry ∷ []) p x e
+reply_stays made entry p x e = ap (λ l. slice_get l p) (map-append made_seen made (entry ∷ [])) ∙ get_more (map made_seen made) (made_seen entry ∷ []) p x e
 
 -- one more reply made is at the place that is the count of those made before it
-made_last : (made : List Made) (entry : Made) → slice_get (map made_seen (made ++ entry ∷ [])) (length made) ≡ Some (made_seen entry)
-made_last made entry =
+reply_added : (made : List Made) (entry : Made) → slice_get (map made_seen (made ++ entry ∷ [])) (length made) ≡ Some (made_seen entry)
+reply_added made entry =
     ap (λ l. slice_get l (length made)) (map-append made_seen made (entry ∷ []))
     ∙ subst (λ n. slice_get (map made_seen made ++ made_seen entry ∷ []) n ≡ Some (made_seen entry)) (length-map made made_seen) (get_push (map made_seen made) (made_seen entry))
 
@@ -121,7 +121,7 @@ replies_more made entry (p ∷ ps) [] h = cc
 replies_more made entry (p ∷ ps) (x ∷ xs) h =
     let one : slice_get (map made_seen made) p ≡ Some x = cc in
     let others : replies_at made ps ≡ map Some xs = cc in
-    ap₂ (λ (a : Option (Numbered (List ℕ))) b. a ∷ b) (made_more made entry p x one) (replies_more made entry ps xs others)
+    ap₂ (λ (a : Option (Numbered (List ℕ))) b. a ∷ b) (reply_stays made entry p x one) (replies_more made entry ps xs others)
 
 -- where places name the replies xs among those made (`replies_at`), these places, and after them that of one more reply
 -- made, name xs and then that reply
@@ -129,7 +129,7 @@ replies_push : (made : List Made) (entry : Made) (places : List ℕ) (xs : List 
     → replies_at (made ++ entry ∷ []) (places ++ length made ∷ []) ≡ map Some (xs ++ made_seen entry ∷ [])
 replies_push made entry places xs h =
     map-append (slice_get (map made_seen (made ++ entry ∷ []))) places (length made ∷ [])
-    ∙ ap₂ (λ (a : List (Option (Numbered (List ℕ)))) b. a ++ b ∷ []) (replies_more made entry places xs h) (made_last made entry)
+    ∙ ap₂ (λ (a : List (Option (Numbered (List ℕ)))) b. a ++ b ∷ []) (replies_more made entry places xs h) (reply_added made entry)
     ∙ sym (map-append Some xs (made_seen entry ∷ []))
 
 -- where a line settles nothing (o isn't `Settled`), appending its settlements `more` leaves the settlements as they are

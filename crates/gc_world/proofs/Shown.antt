@@ -20,7 +20,7 @@ use Rattle.gc_world.specs.declared.report.Report.{Report}
 use Rattle.gc_world.specs.declared.report.Sent.{Sent}
 use Rattle.gc_world.specs.declared.side.Side.{Side}
 use Rattle.gc_world.specs.Clients.{by_ids, ends}
-use Rattle.gc_world.specs.Directions.{pick, bytes, texts, lines, gone, with_front_gone, after_cut}
+use Rattle.gc_world.specs.Directions.{pick, bytes, texts, lines, gone, to_go, with_front_gone, after_cut}
 use Rattle.gc_world.specs.Memory.{IsBusy}
 use Rattle.gc_world.specs.Order.{numbers}
 use Rattle.gc_world.specs.Reports.{made_seen}
@@ -52,28 +52,28 @@ module _ (P : List (Numbered (List ℕ)) → Type 0) where
   either_down w ds false d h = h
 
 -- putting another upward queue in place, or not, leaves the downward queue as it was
-down_of_up : (w : Wire State) (us : List (Numbered Request)) (b : Bool) → (with_up w us b).down ≡ w.down
-down_of_up w us true = refl
-down_of_up w us false = refl
+with_up_keeps_down : (w : Wire State) (us : List (Numbered Request)) (b : Bool) → (with_up w us b).down ≡ w.down
+with_up_keeps_down w us true = refl
+with_up_keeps_down w us false = refl
 
 -- putting another downward queue in place, or not, leaves the upward queue as it was
-up_of_down : (w : Wire State) (ds : List (Numbered (List ℕ))) (b : Bool) → (with_down w ds b).up ≡ w.up
-up_of_down w ds true = refl
-up_of_down w ds false = refl
+with_down_keeps_up : (w : Wire State) (ds : List (Numbered (List ℕ))) (b : Bool) → (with_down w ds b).up ≡ w.up
+with_down_keeps_up w ds true = refl
+with_down_keeps_up w ds false = refl
 
 -- a restart of the client, possible or not, leaves both queues as they were
-of_restart : (width : ℕ) (w : World (ById Call) State) (us : List (Numbered Request)) (ds : List (Numbered (List ℕ)))
+client_restart_keeps_queues : (width : ℕ) (w : World (ById Call) State) (us : List (Numbered Request)) (ds : List (Numbered (List ℕ)))
     → ((client_restarted ends (by_ids width ends) w us ds).wire.up ≡ w.wire.up) × ((client_restarted ends (by_ids width ends) w us ds).wire.down ≡ w.wire.down)
-of_restart width w [] [] = (refl, refl)
-of_restart width w [] (d ∷ ds) = (refl, refl)
-of_restart width w (u ∷ us) ds = (refl, refl)
+client_restart_keeps_queues width w [] [] = (refl, refl)
+client_restart_keeps_queues width w [] (d ∷ ds) = (refl, refl)
+client_restart_keeps_queues width w (u ∷ us) ds = (refl, refl)
 
 -- a restart of the instrument, possible or not, leaves both queues as they were
-of_start : (w : Wire State) (us : List (Numbered Request)) (ds : List (Numbered (List ℕ)))
+instrument_restart_keeps_queues : (w : Wire State) (us : List (Numbered Request)) (ds : List (Numbered (List ℕ)))
     → ((instrument_restarted ends w us ds).up ≡ w.up) × ((instrument_restarted ends w us ds).down ≡ w.down)
-of_start w [] [] = (refl, refl)
-of_start w [] (d ∷ ds) = (refl, refl)
-of_start w (u ∷ us) ds = (refl, refl)
+instrument_restart_keeps_queues w [] [] = (refl, refl)
+instrument_restart_keeps_queues w [] (d ∷ ds) = (refl, refl)
+instrument_restart_keeps_queues w (u ∷ us) ds = (refl, refl)
 
 -- The texts of what is in flight, as the report has them.
 
@@ -138,11 +138,11 @@ module _ (width : ℕ) (s : StageParts) (v : Streams (ById Call) State) (h : Are
 
   -- where n bytes of a side's front line are still to go, n bytes of its direction's front line are
   pub left_is : (d : Direction) (n : ℕ) → n ≡ remaining (pick d s.up s.down).gone (map with_end (texts d v.world.wire))
-      → n ≡ remaining (gone d v) (lines d v.world.wire)
+      → n ≡ to_go d v
   left_is d n e = e ∙ ap (λ g. remaining g (lines d v.world.wire)) (gone_is d)
 
   -- bytes that don't complete the front line of a direction don't complete that of its side
-  pub more_left : (d : Direction) (n : ℕ) → n < remaining (gone d v) (lines d v.world.wire)
+  pub more_left : (d : Direction) (n : ℕ) → n < to_go d v
       → n < remaining (pick d s.up s.down).gone (map with_end (texts d v.world.wire))
   more_left d n lt = subst (λ g. n < remaining g (lines d v.world.wire)) (sym (gone_is d)) lt
 
@@ -200,7 +200,7 @@ module _ (width : ℕ) (s : StageParts) (v : Streams (ById Call) State) (h : Are
         up_is = h.up_is;
         down_is = h.down_is;
         up_flow = either_up (λ q. IsFlow s.up.assembler s.up.gone (map (λ x. bytes_of x.line) q)) v.world.wire us t flow h.up_flow;
-        down_flow = subst (λ q. IsFlow s.down.assembler s.down.gone (map (λ x. x.line) q)) (sym (down_of_up v.world.wire us t)) h.down_flow;
+        down_flow = subst (λ q. IsFlow s.down.assembler s.down.gone (map (λ x. x.line) q)) (sym (with_up_keeps_down v.world.wire us t)) h.down_flow;
       }
 
   -- where report and queues show the world `down_replaced ds k`, and the downward assembler carries the texts of `ds` (`IsFlow`),
@@ -214,7 +214,7 @@ module _ (width : ℕ) (s : StageParts) (v : Streams (ById Call) State) (h : Are
         lines = subst (λ r. AreOfWorld width r s.up.queue queue s.client (on_wire v.world (with_down v.world.wire ds t))) (counted_is b s.report) lines;
         up_is = h.up_is;
         down_is = h.down_is;
-        up_flow = subst (λ q. IsFlow s.up.assembler s.up.gone (map (λ x. bytes_of x.line) q)) (sym (up_of_down v.world.wire ds t)) h.up_flow;
+        up_flow = subst (λ q. IsFlow s.up.assembler s.up.gone (map (λ x. bytes_of x.line) q)) (sym (with_down_keeps_up v.world.wire ds t)) h.up_flow;
         down_flow = either_down (λ q. IsFlow s.down.assembler s.down.gone (map (λ x. x.line) q)) v.world.wire ds t flow h.down_flow;
       }
 
@@ -305,21 +305,21 @@ module _ (width : ℕ) (s : StageParts) (v : Streams (ById Call) State) (h : Are
   streams_restart_client left =
       kept (record s.report { settled = left.settled; starts = left.starts; instrument = left.state }) left.client (after_step width v.world Restart_client)
       (shows_restart_client width s.report s.up.queue s.down.queue s.client v.world h.lines left)
-      (of_restart width v.world v.world.wire.up v.world.wire.down)
+      (client_restart_keeps_queues width v.world v.world.wire.up v.world.wire.down)
 
   -- while a line is in flight, a restart of the client is only counted
   pub streams_busy_client : IsBusy s.up.queue s.down.queue
       → AreStreamsOf width (record s { report = counted false s.report }) (after_event ends width v event.RestartClient)
   streams_busy_client b =
       kept (counted false s.report) s.client (after_step width v.world Restart_client) (busy_client width s.report s.up.queue s.down.queue s.client v.world h.lines b)
-      (of_restart width v.world v.world.wire.up v.world.wire.down)
+      (client_restart_keeps_queues width v.world v.world.wire.up v.world.wire.down)
 
   -- while a line is in flight, a restart of the instrument is only counted
   pub streams_busy_instrument : IsBusy s.up.queue s.down.queue
       → AreStreamsOf width (record s { report = counted false s.report }) (after_event ends width v event.RestartInstrument)
   streams_busy_instrument b =
       kept (counted false s.report) s.client (after_step width v.world Restart_instrument) (busy_instrument width s.report s.up.queue s.down.queue s.client v.world h.lines b)
-      (of_start v.world.wire v.world.wire.up v.world.wire.down)
+      (instrument_restart_keeps_queues v.world.wire v.world.wire.up v.world.wire.down)
 
   -- Deliveries.
 
@@ -369,7 +369,7 @@ module _ (width : ℕ) (s : StageParts) (v : Streams (ById Call) State) (h : Are
   -- Bytes.
 
   -- once n bytes were handed over that don't complete the front line, the streams with n more gone are shown
-  pub streams_begin : (d : Direction) (n : ℕ) (side : Side) → n < remaining (gone d v) (lines d v.world.wire)
+  pub streams_begin : (d : Direction) (n : ℕ) (side : Side) → n < to_go d v
       → IsFlow side.assembler side.gone (texts d v.world.wire) → side.gone ≡ (pick d s.up s.down).gone + n → side.queue ≡ (pick d s.up s.down).queue
       → AreStreamsOf width (record s { up = pick d side s.up; down = pick d s.down side }) (after_bytes ends width d v n)
   streams_begin d n side lt flow gone_of queue_is =
@@ -386,7 +386,7 @@ module _ (width : ℕ) (s : StageParts) (v : Streams (ById Call) State) (h : Are
           record { lines = subst (λ q. AreOfWorld width s.report s.up.queue q s.client v.world) (sym queue) h.lines; up_is = h.up_is; down_is = gone; up_flow = h.up_flow; down_flow = flow }
 
   -- an event of 0 bytes, or of bytes while none are in flight, is only counted
-  pub streams_idle_bytes : (d : Direction) (n r : ℕ) → r ≡ remaining (gone d v) (lines d v.world.wire) → (n ≡ 0) ⊎ (r ≡ 0)
+  pub streams_idle_bytes : (d : Direction) (n r : ℕ) → r ≡ to_go d v → (n ≡ 0) ⊎ (r ≡ 0)
       → AreStreamsOf width (record s { report = counted false s.report }) (after_event ends width v (bytes d n))
   streams_idle_bytes d n r e none = subst (λ x. AreStreamsOf width (record s { report = counted false s.report }) x)
       (sym (bytes_pass ends (by_ids width ends) d v n ∙ idle_bytes ends (by_ids width ends) d v (lines d v.world.wire) n e none (part d))) nothing

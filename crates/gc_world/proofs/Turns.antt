@@ -24,7 +24,7 @@ run_within sides width state events =
     (within_all sides (by_ids width sides) events (untouched (ids_open state)) 0 (record
     { sent = omega arith; executed = omega arith; made = omega arith; starts = omega arith; refused = omega arith; idle = omega arith }))
 
--- the same of the run on the simulated instrument
+-- none of the lists and counts of a run on the simulated instrument that `IsWithin` speaks of is above the count of its events
 pub played_within : (width : ℕ) (opening : State) (events : List Event) → IsWithin (length events) (played width opening events).wire
 played_within width opening events = run_within ends width (restarted opening) events
 
@@ -43,24 +43,27 @@ with_assemblers width r up down c w a b h =
       calls = h.calls;
     }
 
--- at the end of the loop, where i is at least the count of the events: if s shows the streams after the first i of them, and r is
--- the report of s with the assemblers of its two sides, then r with the queues and the client of s is that of the whole run
--- (`AreOfWorld`)
-pub at_end : (width : ℕ) (opening : State) (events : List Event) (s : StageParts) (i : ℕ) (r : Report) → length events ≤ i
-    → AreStreamsOf width s (streamed width opening (take i events)) → r ≡ record s.report { up = s.up.assembler; down = s.down.assembler }
-    → AreOfWorld width r s.up.queue s.down.queue s.client (played width opening events)
-at_end width opening events s i r all h is =
-    let shows = subst (λ es. AreStreamsOf width s (streamed width opening es)) (take_all i events all) h in
+-- at the end of the loop, where i is at least the count of the events, a stage that shows the streams after the first i of them
+-- shows those after all
+pub all_shown : (width : ℕ) (opening : State) (events : List Event) (s : StageParts) (i : ℕ) → length events ≤ i
+    → AreStreamsOf width s (streamed width opening (take i events)) → AreStreamsOf width s (streamed width opening events)
+all_shown width opening events s i all shows = subst (λ es. AreStreamsOf width s (streamed width opening es)) (take_all i events all) shows
+
+-- where s shows the streams after all events, and r is the report of s with the assemblers of its two sides, r with the queues and
+-- the client of s is that of the whole run (`AreOfWorld`)
+pub at_end : (width : ℕ) (opening : State) (events : List Event) (s : StageParts) (r : Report) → AreStreamsOf width s (streamed width opening events)
+    → r ≡ record s.report { up = s.up.assembler; down = s.down.assembler } → AreOfWorld width r s.up.queue s.down.queue s.client (played width opening events)
+at_end width opening events s r shows is =
     subst (λ (x : Report). AreOfWorld width x s.up.queue s.down.queue s.client (played width opening events)) (sym is)
     (with_assemblers width s.report s.up.queue s.down.queue s.client (played width opening events) s.up.assembler s.down.assembler shows.lines)
 
--- the same of the two assemblers in r: they stand for the bytes of the front lines that have gone over
-pub stand_at_end : (width : ℕ) (opening : State) (events : List Event) (s : StageParts) (i : ℕ) (r : Report) → length events ≤ i
-    → AreStreamsOf width s (streamed width opening (take i events)) → r ≡ record s.report { up = s.up.assembler; down = s.down.assembler }
+-- where s shows the streams after all events, and r is the report of s with the assemblers of its two sides, the assemblers in r
+-- stand for the bytes of the front lines that have gone over
+pub stand_at_end : (width : ℕ) (opening : State) (events : List Event) (s : StageParts) (r : Report) → AreStreamsOf width s (streamed width opening events)
+    → r ≡ record s.report { up = s.up.assembler; down = s.down.assembler }
     → StandsForGone Up width opening events r.up × StandsForGone Down width opening events r.down
-stand_at_end width opening events s i r all h is =
+stand_at_end width opening events s r shows is =
     let v = streamed width opening events in
-    let shows = subst (λ es. AreStreamsOf width s (streamed width opening es)) (take_all i events all) h in
     let up = subst (λ n. StandsFor s.up.assembler (gone_of n (up_lines v.world.wire))) shows.up_is shows.up_flow.stands in
     let down = subst (λ n. StandsFor s.down.assembler (gone_of n (down_lines v.world.wire))) shows.down_is shows.down_flow.stands in
     (subst (λ (x : Report). StandsForGone Up width opening events x.up) (sym is) up, subst (λ (x : Report). StandsForGone Down width opening events x.down) (sym is) down)

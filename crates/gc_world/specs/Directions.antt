@@ -5,7 +5,7 @@ use Rattle.gc_world.specs.declared.direction.Direction.{Direction}
 use Rattle.gc_world.specs.declared.direction.Direction.TheVariants.{Up, Down}
 use Rattle.gc_world.specs.declared.event.Event.{Event}
 use Rattle.gc_world.specs.declared.event.Event.TheVariants as event
-use Rattle.gc_world.specs.Streams.{Streams, Cut, cut, up_texts, down_texts}
+use Rattle.gc_world.specs.Streams.{Streams, Cut, cut, remaining, up_texts, down_texts}
 use Rattle.gc_world.specs.World.{Ends, Rule, Wire, World, Step, Up_deliver, Down_deliver, run}
 
 -- the first of two for `Up`, the second for `Down`
@@ -38,6 +38,10 @@ module _ {Client State : Type 0} where
   -- how many bytes of the front line of a direction have gone over
   abbrev pub gone : Direction → Streams Client State → ℕ
   gone d v = pick d v.up_gone v.down_gone
+
+  -- how many bytes of the front line of a direction are still to go: 0 where no line is in flight
+  abbrev pub to_go : Direction → Streams Client State → ℕ
+  to_go d v = remaining (gone d v) (lines d v.world.wire)
 
   -- the streams v, but with the world w, and with n bytes of the front line gone in this direction
   abbrev pub with_front_gone : Direction → Streams Client State → World Client State → ℕ → Streams Client State

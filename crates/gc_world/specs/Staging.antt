@@ -6,8 +6,8 @@ use Rattle.gc_client.specs.Rule.{ById}
 use Rattle.gc_world.specs.declared.direction.Direction.{Direction}
 use Rattle.gc_world.specs.declared.event.Event.{Event}
 use Rattle.gc_world.specs.Clients.{by_ids, ids_open}
-use Rattle.gc_world.specs.Directions.{lines, gone, handed_over}
-use Rattle.gc_world.specs.Streams.{Streams, untouched, flows, remaining}
+use Rattle.gc_world.specs.Directions.{to_go, handed_over}
+use Rattle.gc_world.specs.Streams.{Streams, untouched, flows}
 use Rattle.gc_world.specs.World.{Ends}
 
 -- The run, by ids and with a client's window of this width.
@@ -50,8 +50,8 @@ module _ {Stage State : Type 0} (staging : Staging Stage State) where
 
   -- on whatever streams the stage shows, n bytes of the front line of the direction are still to go: 0 where no line is in flight
   abbrev pub HasLeft : Stage → Direction → ℕ → Type 0
-  HasLeft s d n = (width : ℕ) (v : Streams (ById Call) State) → staging.shows width s v → n ≡ remaining (gone d v) (lines d v.world.wire)
+  HasLeft s d n = (width : ℕ) (v : Streams (ById Call) State) → staging.shows width s v → n ≡ to_go d v
 
   -- on whatever streams the stage shows, more than n bytes of the front line of the direction are still to go
   abbrev pub HasMoreThan : Stage → Direction → ℕ → Type 0
-  HasMoreThan s d n = (width : ℕ) (v : Streams (ById Call) State) → staging.shows width s v → n < remaining (gone d v) (lines d v.world.wire)
+  HasMoreThan s d n = (width : ℕ) (v : Streams (ById Call) State) → staging.shows width s v → n < to_go d v

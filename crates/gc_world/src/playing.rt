@@ -1,6 +1,7 @@
 //! Playing a list of events on a real client and a real instrument.
 
-ghost use Rattle.std.specs.Prelude.{◌≤◌, IfOk, IsOk};
+ghost use Rattle.std.specs.Prelude.{IfOk, IsOk};
+ghost use Rattle.gc_client.specs.Rule.{IsWidth};
 ghost use Rattle.gc_world.specs.Memory.{NoneTakesMemory};
 ghost use Rattle.gc_world.specs.Reports.{IsPlayOf};
 
@@ -44,8 +45,7 @@ pub fn play_width<W: Window<Asked = Call>>(
     width: u8,
     events: &[Event],
 ) -> Result<(Report, Client<W>), AllocError>
-    requires least { 1 ≤ width }
-    requires most { width ≤ WINDOW }
+    requires { IsWidth width }
     ensures played { IfOk result (λ done. IsPlayOf width instrument events.now done.0 done.1) }
     ensures spare { NoneTakesMemory width instrument events.now → IsOk result }
 {

@@ -93,11 +93,7 @@ impl Side {
         requires { idle.old + 1 < 2 ^ 64 }
         ensures { Changes k (without k self.old.queue) self.old self.new idle.old idle.new }
     {
-        if is_begun(k, self.gone) {
-            *idle += 1;
-            return;
-        }
-        if !self.queue.lose(k) {
+        if is_begun(k, self.gone) || !self.queue.lose(k) {
             *idle += 1;
         }
     }
@@ -109,11 +105,7 @@ impl Side {
         ensures changes { OnOk result (Changes k (doubled k self.old.queue) self.old self.new idle.old idle.new) }
         ensures spare { IsNoRepeat k self.old.gone self.old.queue → IsOk result }
     {
-        if is_begun(k, self.gone) {
-            *idle += 1;
-            return Ok(());
-        }
-        if !self.queue.repeat(k)? {
+        if is_begun(k, self.gone) || !self.queue.repeat(k)? {
             *idle += 1;
         }
         Ok(())

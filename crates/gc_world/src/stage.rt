@@ -1,6 +1,10 @@
 //! The stage: what the events so far leave, and what the next one does.
+//!
+//! `gc_scene_world` has a stage of its own, in which `happen`, `deliver_bytes`, `deliver` and `go_on` stand again; its head says why.
+//! Who changes one of them changes the other.
 
 ghost use Rattle.std.specs.Prelude.{◌≡◌, ◌↔◌, ◌+◌, ◌<◌, ◌≤◌, ◌^◌, ◌∷◌, ◌++◌, [], OnOk, IsOk, IsTrue, length};
+ghost use Rattle.gc_client.specs.Rule.{IsWidth};
 ghost use Rattle.gc_instrument.specs.State.{IsFittingState, restarted};
 ghost use Rattle.gc_world.specs.declared.event.Event.{Event};
 ghost use Rattle.gc_world.specs.Clients.{ends};
@@ -51,8 +55,7 @@ impl<W: Window<Asked = Call>> Stage<W> {
         width: u8,
         requests: usize,
     ) -> Stage<W>
-        requires least { 1 ≤ width }
-        requires most { width ≤ WINDOW }
+        requires { IsWidth width }
         ensures shows { Shows width result (streams_at_start ends instrument) }
         ensures fits { IsFittingState (restarted instrument) }
     {

@@ -24,9 +24,9 @@ never_refused procedure params raw e is fault =
     (subst (λ (n : ℕ). IsRawCall n params) is.0 (subst (λ (p : List ℕ). IsRawCall raw.rpc p) is.1 raw.is)) fault
 
 -- the line of a raw request, with its CR LF, has the number and the parameters that were given
-pub as_given : (raw : RawCall) (procedure : ℕ) (params : List ℕ) (id : ℕ) (text : List ℕ) → IsAsked procedure params (Raw raw)
+pub raw_line_has_params : (raw : RawCall) (procedure : ℕ) (params : List ℕ) (id : ℕ) (text : List ℕ) → IsAsked procedure params (Raw raw)
     → text ≡ with_end (asked_line (Some id) (Raw raw)) → text ≡ with_end (request_text (record { rpc = procedure; id = Some id; params = params }))
-as_given raw procedure params id text is e =
+raw_line_has_params raw procedure params id text is e =
     e
     ∙ ap (λ n. with_end (request_text (record { rpc = n; id = Some id; params = raw_params raw }))) is.0
     ∙ ap (λ (p : List ℕ). with_end (request_text (record { rpc = procedure; id = Some id; params = p }))) is.1
@@ -37,8 +37,8 @@ never_ok e x f = cc
 
 -- where n bytes of a room are the text with its CR LF, `count` bytes are the line with its CR LF, if the line is the text, and
 -- `count` is n
-pub given_as : (text line : List ℕ) (n count : ℕ) (room : List ℕ) → text ≡ line → count ≡ n → IsGiven (Some text) n room → IsGiven (Some line) count room
-given_as text line n count room e f is = subst (λ (k : ℕ). IsGiven (Some line) k room) (sym f) (subst (λ (l : List ℕ). IsGiven (Some l) n room) e is)
+pub given_if_equal : (text line : List ℕ) (n count : ℕ) (room : List ℕ) → text ≡ line → count ≡ n → IsGiven (Some text) n room → IsGiven (Some line) count room
+given_if_equal text line n count room e f is = subst (λ (k : ℕ). IsGiven (Some line) k room) (sym f) (subst (λ (l : List ℕ). IsGiven (Some l) n room) e is)
 
 -- where t is a line, and u is t with `more` after it, u begins with that line
 pub begins_with_line : (line t u more : List ℕ) → t ≡ line → u ≡ t ++ more → take (length line) u ≡ line

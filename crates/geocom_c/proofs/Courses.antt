@@ -18,10 +18,10 @@ use Rattle.gc_client.proofs.OneForOne.{accounts_for_sends}
 use Rattle.gc_station.proofs.Words.{left_none}
 use Rattle.gc_field.proofs.BeginWords.{cons_not_nil}
 use Rattle.geocom_c.specs.Beginning.{left_by_restart, given, left_by_bytes, unanswered_after}
-use Rattle.geocom_c.specs.Following.{CallsReach, CallStage, hearing, first_stage}
+use Rattle.geocom_c.specs.Following.{CallsReach, CallStage, first_stage, left_by_call, stage_after}
 use Rattle.geocom_c.specs.Laws.{CallsAreEvents}
 use Rattle.geocom_c.specs.Rest.{lines_completed}
-use Rattle.geocom_c.specs.Steps.{ClientEvent, Came, Stepped, AreEvents, AreInTurn, ask_events, begin_events, step_events, left_among, steps_among}
+use Rattle.geocom_c.specs.Steps.{ClientEvent, Came, Stepped, AreEvents, AreInTurn, ask_events, begin_events, call_events, step_events, left_among, steps_among}
 use Rattle.geocom_c.specs.declared.following.StateCall.{StateCall}
 use Rattle.geocom_c.specs.declared.following.StateCall.TheVariants.{Send, SendRaw, Begin, Feed, Expire, Restart}
 
@@ -136,6 +136,19 @@ leads_restart : (width : ℕ) (x : Course Asked) (left : List ℕ) → IsNewUnle
 leads_restart width x [] idle = record { turns = λ es h. (refl, h); reached = λ es. refl; behind = λ es. refl }
 leads_restart width x (asked ∷ later) idle = leads_unchanged width x _ (asked ∷ later) (idle_restart width x (idle (cons_not_nil asked later)))
 
+-- a send that makes no step, whichever ids aren't answered, leads from a course to the same one
+leads_no_step : (width : ℕ) (x : Course Asked) (left : List ℕ) → Leads width x x left left (step_events left [])
+leads_no_step width x [] = leads_none width x []
+leads_no_step width x (asked ∷ later) = leads_none width x (asked ∷ later)
+
+-- the event of a send that makes a step leads to the course after the step; no id is left then
+leads_send : (width : ℕ) (x : Course Asked) (left : List ℕ) (target : ℕ) (asked : Asked) (deadline : ℕ) → left ≡ []
+    → Leads width x (course_after width x (one.Send target asked deadline)) left left (step_events left (one.Send target asked deadline ∷ []))
+leads_send width x left target asked deadline none =
+    let begun : Leads width x (course_after width x (one.Send target asked deadline)) [] [] (Stepped (one.Send target asked deadline) ∷ []) =
+    record { turns = λ es h. (refl, h); reached = λ es. refl; behind = λ es. refl } in
+    subst (λ l. Leads width x (course_after width x (one.Send target asked deadline)) l l (step_events l (one.Send target asked deadline ∷ []))) (sym none) begun
+
 -- The events that calls are.
 
 -- these calls lead from stage s to stage t by some events, each in its turn
@@ -146,99 +159,76 @@ record Over (width : ℕ) (s : CallStage) (calls : List StateCall) (t : CallStag
   reached : t.reached ≡ course width s.reached (steps_among events)
   left : t.left ≡ left_among s.left events
 
+-- where the events of a call that makes these steps lead to the stage after it, and later calls lead from there to stage t (`Over`),
+-- the call and the later ones lead to t, if they are the events of the call and then those of the later calls
+over_call : (width : ℕ) (s : CallStage) (call : StateCall) (calls : List StateCall) (t : CallStage) (steps : List (one.Step Asked))
+    → Leads width s.reached (course width s.reached steps) s.left (left_by_call s.left s.rest call) (call_events s.left s.rest call steps)
+    → (more : Over width (stage_after width s call steps) calls t) → AreEvents s.left s.rest (call ∷ calls) (call_events s.left s.rest call steps ++ more.events)
+    → Over width s (call ∷ calls) t
+over_call width s call calls t steps l more are = record {
+  events = call_events s.left s.rest call steps ++ more.events;
+  are = are;
+  turns = l.turns more.events more.turns;
+  reached = more.reached ∙ sym (l.reached more.events);
+  left = more.left ∙ sym (l.behind more.events);
+}
+
 -- calls that lead from stage s to stage t are events that lead from s to t (`Over`), if the client at s is a new one unless it
 -- has synchronized
 as_events : (width : ℕ) (s : CallStage) (calls : List StateCall) (t : CallStage) → IsNewUnlessBegun s.reached s.left → CallsReach width s calls t → Over width s calls t
 as_events width s [] t idle f = record { events = []; are = refl; turns = tt; reached = ap (λ (x : CallStage). x.reached) f; left = ap (λ (x : CallStage). x.left) f }
 as_events width s (Send target deadline procedure params ∷ calls) t idle (inl f) =
-    let more = as_events width (record s { reached = course_after width s.reached (one.Send target (Table f.0) deadline) }) calls t (λ no. absurd (no f.1)) f.3 in
-    record {
-      events = Stepped (one.Send target (Table f.0) deadline) ∷ more.events;
-      are = inl (f.0, more.events, f.1, f.2, refl, more.are);
-      turns = (f.1, subst (λ l. AreInTurn l more.events) f.1 more.turns);
-      reached = more.reached;
-      left = more.left ∙ ap (λ l. left_among l more.events) f.1;
-    }
+    let more = as_events width (stage_after width s (Send target deadline procedure params) (one.Send target (Table f.0) deadline ∷ [])) calls t (λ no. absurd (no f.1)) f.3 in
+    over_call width s (Send target deadline procedure params) calls t (one.Send target (Table f.0) deadline ∷ [])
+    (leads_send width s.reached s.left target (Table f.0) deadline f.1) more (inl (f.0, f.1, f.2, (more.events, refl, more.are)))
 as_events width s (Send target deadline procedure params ∷ calls) t idle (inr f) =
-    let more = as_events width s calls t idle f.1 in
-    record { events = more.events; are = inr (f.0, more.are); turns = more.turns; reached = more.reached; left = more.left }
+    let more = as_events width (stage_after width s (Send target deadline procedure params) []) calls t idle f.1 in
+    over_call width s (Send target deadline procedure params) calls t [] (leads_no_step width s.reached s.left) more (inr (f.0, (more.events, refl, more.are)))
 as_events width s (SendRaw target deadline procedure params ∷ calls) t idle (inl f) =
-    let more = as_events width (record s { reached = course_after width s.reached (one.Send target (Raw f.0) deadline) }) calls t (λ no. absurd (no f.1)) f.3 in
-    record {
-      events = Stepped (one.Send target (Raw f.0) deadline) ∷ more.events;
-      are = inl (f.0, more.events, f.1, f.2, refl, more.are);
-      turns = (f.1, subst (λ l. AreInTurn l more.events) f.1 more.turns);
-      reached = more.reached;
-      left = more.left ∙ ap (λ l. left_among l more.events) f.1;
-    }
+    let more = as_events width (stage_after width s (SendRaw target deadline procedure params) (one.Send target (Raw f.0) deadline ∷ [])) calls t (λ no. absurd (no f.1)) f.3 in
+    over_call width s (SendRaw target deadline procedure params) calls t (one.Send target (Raw f.0) deadline ∷ [])
+    (leads_send width s.reached s.left target (Raw f.0) deadline f.1) more (inl (f.0, f.1, f.2, (more.events, refl, more.are)))
 as_events width s (SendRaw target deadline procedure params ∷ calls) t idle (inr f) =
-    let more = as_events width s calls t idle f.1 in
-    record { events = more.events; are = inr (f.0, more.are); turns = more.turns; reached = more.reached; left = more.left }
+    let more = as_events width (stage_after width s (SendRaw target deadline procedure params) []) calls t idle f.1 in
+    over_call width s (SendRaw target deadline procedure params) calls t [] (leads_no_step width s.reached s.left) more (inr (f.0, (more.events, refl, more.are)))
 as_events width s (Begin bytes ∷ calls) t idle f =
     let lines = lines_completed s.rest bytes.now in
-    let l = leads_begin width s.reached s.left s.rest bytes.now in
-    let more = as_events width (record s { rest = rest_behind s.rest bytes.now; left = left_by_bytes s.left s.rest bytes.now }) calls t
-    (λ no. idle (λ e. no (ap (λ a. unanswered_after a lines) e ∙ left_none lines))) f in
-    record {
-      events = begin_events s.left s.rest bytes.now ++ more.events;
-      are = (more.events, refl, more.are);
-      turns = l.turns more.events more.turns;
-      reached = more.reached ∙ sym (l.reached more.events);
-      left = more.left ∙ sym (l.behind more.events);
-    }
+    let more = as_events width (stage_after width s (Begin bytes) []) calls t (λ no. idle (λ e. no (ap (λ a. unanswered_after a lines) e ∙ left_none lines))) f in
+    over_call width s (Begin bytes) calls t [] (leads_begin width s.reached s.left s.rest bytes.now) more (more.events, refl, more.are)
 as_events width s (Feed bytes ∷ calls) t idle f =
     let lines = lines_completed s.rest bytes.now in
-    let l = leads_feed width s.reached s.left lines idle in
-    let more = as_events width (record s { reached = hearing width s.reached s.rest bytes.now; rest = rest_behind s.rest bytes.now }) calls t
+    let more = as_events width (stage_after width s (Feed bytes) (map one.Hear lines)) calls t
     (λ no. ap (λ (x : Course Asked). x.client) (idle_lines width s.reached lines (idle no)) ∙ idle no) f in
-    record {
-      events = step_events s.left (map one.Hear lines) ++ more.events;
-      are = (more.events, refl, more.are);
-      turns = l.turns more.events more.turns;
-      reached = more.reached ∙ sym (l.reached more.events);
-      left = more.left ∙ sym (l.behind more.events);
-    }
+    over_call width s (Feed bytes) calls t (map one.Hear lines) (leads_feed width s.reached s.left lines idle) more (more.events, refl, more.are)
 as_events width s (Expire now ∷ calls) t idle f =
-    let l = leads_expire width s.reached s.left now idle in
-    let more = as_events width (record s { reached = course_after width s.reached (one.Expire now) }) calls t
+    let more = as_events width (stage_after width s (Expire now) (one.Expire now ∷ [])) calls t
     (λ no. ap (λ (x : Course Asked). x.client) (idle_moment width s.reached now (idle no)) ∙ idle no) f in
-    record {
-      events = step_events s.left (one.Expire now ∷ []) ++ more.events;
-      are = (more.events, refl, more.are);
-      turns = l.turns more.events more.turns;
-      reached = more.reached ∙ sym (l.reached more.events);
-      left = more.left ∙ sym (l.behind more.events);
-    }
+    over_call width s (Expire now) calls t (one.Expire now ∷ []) (leads_expire width s.reached s.left now idle) more (more.events, refl, more.are)
 as_events width s (Restart ∷ calls) t idle f =
-    let l = leads_restart width s.reached s.left idle in
-    let more = as_events width (record { reached = course_after width s.reached one.Restart; rest = []; left = left_by_restart s.left }) calls t (λ no. refl) f in
-    record {
-      events = step_events s.left (one.Restart ∷ []) ++ more.events;
-      are = (more.events, refl, more.are);
-      turns = l.turns more.events more.turns;
-      reached = more.reached ∙ sym (l.reached more.events);
-      left = more.left ∙ sym (l.behind more.events);
-    }
+    let more = as_events width (stage_after width s Restart (one.Restart ∷ [])) calls t (λ no. refl) f in
+    over_call width s Restart calls t (one.Restart ∷ []) (leads_restart width s.reached s.left idle) more (more.events, refl, more.are)
 
 -- if the same calls are two lists of events, these lists are equal
 only_events : (left rest : List ℕ) (calls : List StateCall) (es fs : List ClientEvent) → AreEvents left rest calls es → AreEvents left rest calls fs → es ≡ fs
 only_events left rest [] es fs f g = f ∙ sym g
 only_events left rest (Send target deadline procedure params ∷ calls) es fs (inl f) (inl g) =
-    f.4
-    ∙ ap (λ call. Stepped (one.Send target (Table call) deadline) ∷ f.1) (one_call procedure params.now f.0 g.0 f.3 g.3)
-    ∙ ap (λ later. Stepped (one.Send target (Table g.0) deadline) ∷ later) (only_events left rest calls f.1 g.1 f.5 g.5)
-    ∙ sym g.4
-only_events left rest (Send target deadline procedure params ∷ calls) es fs (inl f) (inr g) = absurd (g.0 f.2 f.0 f.3)
-only_events left rest (Send target deadline procedure params ∷ calls) es fs (inr f) (inl g) = absurd (f.0 g.2 g.0 g.3)
-only_events left rest (Send target deadline procedure params ∷ calls) es fs (inr f) (inr g) = only_events left rest calls es fs f.1 g.1
+    f.3.1
+    ∙ ap (λ call. step_events left (one.Send target (Table call) deadline ∷ []) ++ f.3.0) (one_call procedure params.now f.0 g.0 f.2 g.2)
+    ∙ ap (λ later. step_events left (one.Send target (Table g.0) deadline ∷ []) ++ later) (only_events left rest calls f.3.0 g.3.0 f.3.2 g.3.2)
+    ∙ sym g.3.1
+only_events left rest (Send target deadline procedure params ∷ calls) es fs (inl f) (inr g) = absurd (g.0 f.1 f.0 f.2)
+only_events left rest (Send target deadline procedure params ∷ calls) es fs (inr f) (inl g) = absurd (f.0 g.1 g.0 g.2)
+only_events left rest (Send target deadline procedure params ∷ calls) es fs (inr f) (inr g) =
+    f.1.1 ∙ ap (λ later. step_events left [] ++ later) (only_events left rest calls f.1.0 g.1.0 f.1.2 g.1.2) ∙ sym g.1.1
 only_events left rest (SendRaw target deadline procedure params ∷ calls) es fs (inl f) (inl g) =
-    f.4
-    ∙ ap (λ asked. Stepped (one.Send target asked deadline) ∷ f.1) (one_asked procedure params.now (Raw f.0) (Raw g.0) f.3 g.3)
-    ∙ ap (λ later. Stepped (one.Send target (Raw g.0) deadline) ∷ later) (only_events left rest calls f.1 g.1 f.5 g.5)
-    ∙ sym g.4
-only_events left rest (SendRaw target deadline procedure params ∷ calls) es fs (inl f) (inr g) = absurd (g.0 f.2 f.0 f.3)
-only_events left rest (SendRaw target deadline procedure params ∷ calls) es fs (inr f) (inl g) = absurd (f.0 g.2 g.0 g.3)
-only_events left rest (SendRaw target deadline procedure params ∷ calls) es fs (inr f) (inr g) = only_events left rest calls es fs f.1 g.1
+    f.3.1
+    ∙ ap (λ asked. step_events left (one.Send target asked deadline ∷ []) ++ f.3.0) (one_asked procedure params.now (Raw f.0) (Raw g.0) f.2 g.2)
+    ∙ ap (λ later. step_events left (one.Send target (Raw g.0) deadline ∷ []) ++ later) (only_events left rest calls f.3.0 g.3.0 f.3.2 g.3.2)
+    ∙ sym g.3.1
+only_events left rest (SendRaw target deadline procedure params ∷ calls) es fs (inl f) (inr g) = absurd (g.0 f.1 f.0 f.2)
+only_events left rest (SendRaw target deadline procedure params ∷ calls) es fs (inr f) (inl g) = absurd (f.0 g.1 g.0 g.2)
+only_events left rest (SendRaw target deadline procedure params ∷ calls) es fs (inr f) (inr g) =
+    f.1.1 ∙ ap (λ later. step_events left [] ++ later) (only_events left rest calls f.1.0 g.1.0 f.1.2 g.1.2) ∙ sym g.1.1
 only_events left rest (Begin bytes ∷ calls) es fs f g =
     f.1 ∙ ap (λ later. begin_events left rest bytes.now ++ later) (only_events (left_by_bytes left rest bytes.now) (rest_behind rest bytes.now) calls f.0 g.0 f.2 g.2) ∙ sym g.1
 only_events left rest (Feed bytes ∷ calls) es fs f g =

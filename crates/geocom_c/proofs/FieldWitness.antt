@@ -72,15 +72,7 @@ over_counting raw =
                         (
                           _,
                           refl,
-                          inl (
-                            InstrumentNo,
-                            _,
-                            refl,
-                            procedure_is_call,
-                            refl,
-                            inl
-                                (raw, _, refl, (refl, refl), refl, (_, refl, (_, refl, (_, refl, (_, refl, refl))))),
-                          ),
+                          inl (InstrumentNo, refl, procedure_is_call, (_, refl, inl (raw, refl, (refl, refl), (_, refl, (_, refl, (_, refl, (_, refl, (_, refl, refl)))))))),
                         ),
                       ),
                     ),
@@ -152,15 +144,7 @@ over_simulator =
                         (
                           _,
                           refl,
-                          inl (
-                            InstrumentNo,
-                            _,
-                            refl,
-                            procedure_is_call,
-                            refl,
-                            inl
-                                (InstrumentNo, _, refl, procedure_is_call, refl, (_, refl, (_, refl, (_, refl, (_, refl, refl))))),
-                          ),
+                          inl (InstrumentNo, refl, procedure_is_call, (_, refl, inl (InstrumentNo, refl, procedure_is_call, (_, refl, (_, refl, (_, refl, (_, refl, (_, refl, refl)))))))),
                         ),
                       ),
                     ),

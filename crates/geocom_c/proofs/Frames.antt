@@ -6,14 +6,10 @@ use Rattle.gc_lines.specs.declared.frame.Frame.TheVariants.{Line, Cleared, Overl
 use Rattle.gc_lines.specs.Frames.{frame_of, ends_in_return}
 use Rattle.gc_catalogue.specs.declared.asked.Asked.{Asked}
 use Rattle.gc_client.specs.Rule.{Windowed}
-use Rattle.geocom_c.specs.Rest.{IsRest}
-use Rattle.geocom_c.specs.State.{StandsForClient}
-use Rattle.geocom_c.specs.Feeding.{IsFed, IsInFront, unended}
+use Rattle.geocom_c.specs.Feeding.{IsFed, IsInFront, feed_effect, unended}
 use Rattle.geocom_c.specs.declared.answers.GeocomHeard.{GeocomHeard}
 use Rattle.geocom_c.specs.declared.header.TheConstants.{MORE}
-use Rattle.geocom_c.specs.declared.rest.GeocomRest.{GeocomRest}
 use Rattle.geocom_c.specs.declared.settled.GeocomSettlement.{GeocomSettlement}
-use Rattle.geocom_c.specs.declared.state.GeocomClient.{GeocomClient}
 
 -- a frame that is chosen among `Overlong`, `Cleared` and l isn't `More`, if l isn't
 chosen_not_more : (a b : Bool) (l : Frame) → (l ≡ More → ⊥) → (if a then (if b then Overlong else l) else Cleared) ≡ More → ⊥
@@ -25,25 +21,13 @@ chosen_not_more true false l other e = other e
 pub never_more : (bs : List ℕ) → frame_of bs ≡ More → ⊥
 never_more bs e = chosen_not_more (ends_in_return bs) (nat_lt 512 (length bs - 1)) (Line (record { items = take (length bs - 1) bs })) (λ same. cc) e
 
--- if a state stands for a client, then with another rest (`IsRest`) it stands for the same client with the bytes of that rest
-pub stands_with_rest : (s : GeocomClient) (r : GeocomRest) (c : Windowed Asked) (old new : List ℕ) → StandsForClient s c old → IsRest r new → StandsForClient (record s { rest = r }) c new
-stands_with_rest s r c old new is rest =
-    record {
-      width = is.width;
-      next = is.next;
-      waiting = is.waiting;
-      head = record { width = is.head.width; next = is.head.next; few = is.head.few; answered = is.head.answered };
-      places = is.places;
-      incomplete = rest;
-    }
-
 -- Here the frame f was fed, and q says the same of it as r (`IsFed`), but that `used` bytes were used.
 module _ (c : Windowed Asked) (f : Frame) (r q : GeocomHeard) (records : List GeocomSettlement) (text : List ℕ) (used : ℕ) (same : q ≡ record r { used = used })
-    (is : IsFed c f r records text) where
+    (is : IsFed c f (feed_effect r records text)) where
   -- `IsFed` holds of q, too, also with an equal frame g in place of f
-  pub fed_used : (g : Frame) → f ≡ g → IsFed c g q records text
+  pub fed_used : (g : Frame) → f ≡ g → IsFed c g (feed_effect q records text)
   fed_used g e =
-      subst (λ (h : Frame). IsFed c h q records text) e (record {
+      subst (λ (h : Frame). IsFed c h (feed_effect q records text)) e (record {
         fault = ap (λ (x : GeocomHeard). x.fault) same ∙ is.fault;
         kind = ap (λ (x : GeocomHeard). x.kind) same ∙ is.kind;
         line_fault = ap (λ (x : GeocomHeard). x.line_fault) same ∙ is.line_fault;
@@ -55,7 +39,7 @@ module _ (c : Windowed Asked) (f : Frame) (r q : GeocomHeard) (records : List Ge
   -- where f is `More`, q is what is told of bytes without a line feed
   pub fed_unended : (n : ℕ) → f ≡ More → used ≡ n → q ≡ unended n
   fed_unended n more e =
-      let fed : IsFed c More r records text = subst (λ (g : Frame). IsFed c g r records text) more is in
+      let fed : IsFed c More (feed_effect r records text) = subst (λ (g : Frame). IsFed c g (feed_effect r records text)) more is in
       same
       ∙ ap (λ k. let x : GeocomHeard = record r { used = k } in x) e
       ∙ ap (λ k. let x : GeocomHeard = record { used = n; fault = k; count = r.count; kind = r.kind; line_fault = r.line_fault } in x) fed.fault

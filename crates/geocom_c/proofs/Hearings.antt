@@ -82,9 +82,7 @@ nothing_left bytes used e = drop_all used bytes (omega (arith, e))
 -- the course after a frame
 abbrev pub course_past : ℕ → Course Asked → Frame → Course Asked
 course_past width x (Line line) = course_after width x (one.Hear line.items)
-course_past width x Cleared = x
-course_past width x Overlong = x
-course_past width x More = x
+course_past width x other = x
 
 -- the client after a frame is that of the course after it
 pub client_of_course : (width : ℕ) (x : Course Asked) (f : Frame)

@@ -47,8 +47,8 @@ module _ {State : Type 0} (width : ℕ) (ends : Ends State) (Good : State → Ty
         asks = asks_the_same request.0 x same.0 same.1;
         made = (f.booked m x (command, s) e line is).0;
         reply = (f.booked m x (command, s) e line is).1;
-        executed = f.executed m x line (command, s) e is;
-        made_on = f.made_on m x line (command, s) e is;
+        executed = f.executed m x (command, s) e line is;
+        made_on = f.made_on m x (command, s) e line is;
       }
 
   -- each answer that a faithful run settled, after the eight null procedures, is its own request's, in the list that begins with

@@ -5,6 +5,7 @@ use Rattle.std.proofs.Common.{◌≡◌, ℕ, true, List, [], ◌∷◌, ◌++�
 use Rattle.std.specs.List.{AllByRecursion}
 use Rattle.gc_catalogue.specs.Asked.{is_of_table}
 use Rattle.gc_catalogue.specs.declared.asked.Asked.{Asked}
+use Rattle.gc_catalogue.specs.declared.asked.Asked.TheVariants.{Table}
 use Rattle.gc_client.specs.Beginning.{the_word}
 use Rattle.gc_client.specs.OneForOne as one
 use Rattle.gc_instrument.specs.State.{KeptReply}
@@ -74,8 +75,12 @@ step_in_table (asked ∷ later) step is = tt
 calls_in_table : (left rest : List ℕ) (calls : List StateCall) (events : List ClientEvent) → AreOfTheTable calls → AreEvents left rest calls events → AreInTable events
 calls_in_table left rest [] events t e = subst (λ (es : List ClientEvent). AreInTable es) (sym e) tt
 calls_in_table left rest (Send target deadline procedure params ∷ calls) events t (inl f) =
-    subst (λ (es : List ClientEvent). AreInTable es) (sym f.4) (refl, calls_in_table left rest calls f.1 t.1 f.5)
-calls_in_table left rest (Send target deadline procedure params ∷ calls) events t (inr f) = calls_in_table left rest calls events t.1 f.1
+    subst (λ (es : List ClientEvent). AreInTable es) (sym f.3.1)
+    (all_append IsInTable (step_events left (one.Send target (Table f.0) deadline ∷ [])) f.3.0 (step_in_table left (one.Send target (Table f.0) deadline) refl)
+    (calls_in_table left rest calls f.3.0 t.1 f.3.2))
+calls_in_table left rest (Send target deadline procedure params ∷ calls) events t (inr f) =
+    subst (λ (es : List ClientEvent). AreInTable es) (sym f.1.1)
+    (all_append IsInTable (step_events left []) f.1.0 (fed_in_table left []) (calls_in_table left rest calls f.1.0 t.1 f.1.2))
 calls_in_table left rest (SendRaw target deadline procedure params ∷ calls) events t f = absurd t.0
 calls_in_table left rest (Begin bytes ∷ calls) events t f =
     subst (λ (es : List ClientEvent). AreInTable es) (sym f.1)

@@ -8,7 +8,7 @@ use Rattle.gc_catalogue.specs.declared.fault.CallFault.TheVariants.{Unknown, Par
 use Rattle.gc_catalogue.specs.declared.asked.Asked.{Asked}
 use Rattle.gc_catalogue.specs.declared.raw.RawFault.{RawFault}
 use Rattle.gc_catalogue.specs.declared.raw.RawFault.TheVariants as raw
-use Rattle.geocom_c.specs.Sending.{IsOfRequest, AsksOrRefuses, IsSend, SendEffect, SendsRead, WasAsked, raw_number}
+use Rattle.geocom_c.specs.Sending.{IsOfRequest, AsksOrRefuses, IsSend, RequestRule, SendEffect, SendsRead, WasAsked, raw_number}
 use Rattle.geocom_c.specs.declared.header.TheConstants.{WINDOW_FULL}
 use Rattle.geocom_c.specs.declared.state.GeocomClient.{GeocomClient}
 use Rattle.geocom_c.proofs.Clients.{never_ok}
@@ -68,42 +68,42 @@ never_above_full n k either above e = let full : n ≡ WINDOW_FULL = either (λ 
 
 -- What was read.
 
-module _ {X E : Type 0} (to : X → Asked) (Is : X → Type 0) (IsNot : E → Type 0) (number : E → ℕ) where
-  -- Here `found` has the x of which `Is` holds, or the e of which `IsNot` does, if there is one.
-  module _ (found : Result X E) (only : (x : X) → Is x → found ≡ Ok x) (exactly : (e : E) → IsNot e → found ≡ Err e) where
+module _ {X E : Type 0} (rule : RequestRule X E) where
+  -- Here `found` has what `rule` asks for, or the reason that it has to refuse, if there is one of the two.
+  module _ (found : Result X E) (only : (x : X) → rule.is x → found ≡ Ok x) (exactly : (e : E) → rule.is_not e → found ≡ Err e) where
     -- what was found (x) is what is asked for
-    pub reads_found : (x : X) → found ≡ Ok x → Is x → AsksOrRefuses to Is IsNot number (Ok (to x))
+    pub reads_found : (x : X) → found ≡ Ok x → rule.is x → AsksOrRefuses rule (Ok (rule.to x))
     reads_found x is holds = record {
-      asks = λ asked same. (x, holds, one_value_of _ asked (to x) same refl);
-      only = λ y it. ap (λ (z : X). let r : Result Asked ℕ = Ok (to z) in r) (one_value_of found x y is (only y it));
-      refuses = λ fault same. absurd (never_both _ (to x) fault refl same);
+      asks = λ asked same. (x, holds, one_value_of _ asked (rule.to x) same refl);
+      only = λ y it. ap (λ (z : X). let r : Result Asked ℕ = Ok (rule.to z) in r) (one_value_of found x y is (only y it));
+      refuses = λ fault same. absurd (never_both _ (rule.to x) fault refl same);
       refused = λ e not. absurd (never_both found x e is (exactly e not));
-      number_of_request = λ fault same. absurd (never_both _ (to x) fault refl same);
+      number_of_request = λ fault same. absurd (never_both _ (rule.to x) fault refl same);
     }
 
     -- the fault that was found (e) is why it is refused, with its number n
-    pub reads_fault : (e : E) (n : ℕ) → found ≡ Err e → IsNot e → n ≡ number e → IsOfRequest (number e) → AsksOrRefuses to Is IsNot number (Err n)
+    pub reads_fault : (e : E) (n : ℕ) → found ≡ Err e → rule.is_not e → n ≡ rule.number e → IsOfRequest (rule.number e) → AsksOrRefuses rule (Err n)
     reads_fault e n is holds named of_request = record {
       asks = λ asked same. absurd (never_both _ asked n same refl);
       only = λ y it. absurd (never_both found y e (only y it) is);
       refuses = λ fault same. (e, holds, one_error_of _ fault n same refl ∙ named);
-      refused = λ f not. ap (λ (k : ℕ). let r : Result Asked ℕ = Err k in r) (named ∙ ap number (one_error_of found e f is (exactly f not)));
+      refused = λ f not. ap (λ (k : ℕ). let r : Result Asked ℕ = Err k in r) (named ∙ ap rule.number (one_error_of found e f is (exactly f not)));
       number_of_request = λ fault same. subst (λ (k : ℕ). IsOfRequest k) (sym (one_error_of _ fault n same refl ∙ named)) of_request;
     }
 
   -- Here `read` is what was read.
-  module _ (read : Result Asked ℕ) (r : AsksOrRefuses to Is IsNot number read) where
-    -- a client that was asked for what was read was asked for an x of which `Is` holds
-    asked_as : (Fills : (count width : ℕ) → Type 0) (state : GeocomClient) → WasAsked (λ (asked : Asked). read ≡ Ok asked) Fills state → WasAsked Is Fills state
+  module _ (read : Result Asked ℕ) (r : AsksOrRefuses rule read) where
+    -- a client that was asked for what was read was asked for something that `rule` asks for
+    asked_as : (Fills : (count width : ℕ) → Type 0) (state : GeocomClient) → WasAsked (λ (asked : Asked). read ≡ Ok asked) Fills state → WasAsked rule.is Fills state
     asked_as Fills state was =
         let found = r.asks was.asked was.is in
         record { client = was.client; rest = was.rest; asked = found.0; stands = was.stands; begun = was.begun; is = found.1; fills = was.fills }
 
     -- a send of what was read is a send of what is asked for
-    pub sends_as : (target deadline : ℕ) (s : SendEffect) → SendsRead read target deadline s → IsSend to Is IsNot number target deadline s
+    pub sends_as : (target deadline : ℕ) (s : SendEffect) → SendsRead read target deadline s → IsSend rule target deadline s
     sends_as target deadline s did = record {
-      sent = λ room c rest x stands begun is. did.sent room c rest (to x) stands begun (r.only x is);
-      refuses = λ room c rest e stands begun is. did.refuses room c rest (number e) stands begun (r.refused e is);
+      sent = λ room c rest x stands begun is. did.sent room c rest (rule.to x) stands begun (r.only x is);
+      refuses = λ room c rest e stands begun is. did.refuses room c rest (rule.number e) stands begun (r.refused e is);
       begins = did.begins;
       begun = did.begun;
       room = did.room;
@@ -113,6 +113,5 @@ module _ {X E : Type 0} (to : X → Asked) (Is : X → Type 0) (IsNot : E → Ty
       refusal = λ of_request. let (fault, is, same) = did.refusal of_request in let found = r.refuses fault is in (found.0, found.1, same ∙ found.2);
       refused = did.refused;
       answered = did.answered;
-      untouched = did.untouched;
-      same_length = did.same_length;
+      written = did.written;
     }

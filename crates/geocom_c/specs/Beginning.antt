@@ -4,7 +4,7 @@ use Rattle.std.specs.Prelude.{◌≡◌, ◌≢◌, ◌↔◌, ℕ, Bool, true, 
 use Rattle.gc_lines.specs.Lines.{with_end}
 use Rattle.gc_lines.specs.Frames.{rest_behind}
 use Rattle.gc_lines.specs.declared.frame.Frame.{Frame}
-use Rattle.gc_lines.specs.declared.frame.Frame.TheVariants.{Line, Cleared, Overlong, More}
+use Rattle.gc_lines.specs.declared.frame.Frame.TheVariants.{Line}
 use Rattle.gc_client.specs.Beginning.{the_word, asks, left_by}
 pub use Rattle.gc_client.specs.Beginning.{unanswered_after}
 use Rattle.gc_catalogue.specs.declared.asked.Asked.{Asked}
@@ -22,9 +22,7 @@ left_by_bytes left rest bytes = unanswered_after left (lines_completed rest byte
 -- the ids that aren't answered after a frame, where `left` weren't before: a line is heard
 abbrev pub left_past : (left : List ℕ) → Frame → List ℕ
 left_past left (Line line) = left_by left (heard line.items)
-left_past left Cleared = left
-left_past left Overlong = left
-left_past left More = left
+left_past left other = left
 
 -- the line that is sent, where `after` are the ids that aren't answered: none while a reply is still waited for
 -- (`is_waiting`), or once all ids are answered

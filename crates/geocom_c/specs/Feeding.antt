@@ -9,7 +9,7 @@ use Rattle.gc_lines.specs.declared.frame.Frame.TheVariants.{Line, Cleared, Overl
 use Rattle.gc_lines.specs.Readers.{reply_at}
 use Rattle.gc_lines.specs.Replies.{ReplyFields}
 use Rattle.gc_catalogue.specs.declared.asked.Asked.{Asked}
-use Rattle.gc_client.specs.Rule.{Settlement, Windowed, heard, hears, fits, restarts}
+use Rattle.gc_client.specs.Rule.{Settlement, Windowed, heard, hears_line, fits, restarts}
 use Rattle.gc_client.specs.declared.window.TheConstants.{WINDOW}
 use Rattle.geocom_c.specs.FirstAre.{FirstAre}
 use Rattle.geocom_c.specs.Rooms.{KeepsLength, WritesFirst}
@@ -47,51 +47,52 @@ fault_number_in (Err fault) = line_fault_number fault
 -- the number of a frame's line fault; 0 for a frame without one
 abbrev pub frame_fault : Frame → ℕ
 frame_fault (Line line) = fault_number_in (reply_at line.items)
-frame_fault Cleared = 0
-frame_fault Overlong = 0
-frame_fault More = 0
+frame_fault other = 0
 
 -- what a frame settles
 abbrev pub settled_by : Windowed Asked → Frame → List (Settlement Asked)
-settled_by c (Line line) = (hears c.ids line.items (heard line.items)).settlements
-settled_by c Cleared = []
-settled_by c Overlong = []
-settled_by c More = []
+settled_by c (Line line) = (hears_line c.ids line.items).settlements
+settled_by c other = []
 
 -- the client after a frame
 abbrev pub client_past : Windowed Asked → Frame → Windowed Asked
-client_past c (Line line) = record c { ids = (hears c.ids line.items (heard line.items)).client }
-client_past c Cleared = c
-client_past c Overlong = c
-client_past c More = c
+client_past c (Line line) = record c { ids = (hears_line c.ids line.items).client }
+client_past c other = c
 
 -- if a line settled at least one request, by this count, it is at the front of the text
 abbrev pub IsInFront : Frame → (count : ℕ) → (text : List ℕ) → Type 0
 IsInFront (Line line) count text = 0 < count → take (length line.items) text ≡ line.items
-IsInFront Cleared count text = Unit {0}
-IsInFront Overlong count text = Unit {0}
-IsInFront More count text = Unit {0}
+IsInFront other count text = Unit {0}
 
--- a frame was fed: the call has no fault; the result has the frame's kind, its line fault and the number of its settlements; a
--- record says of each settlement how the request ended; and a line that settled is at the front of the text
-pub record IsFed (c : Windowed Asked) (frame : Frame) (r : GeocomHeard) (records : List GeocomSettlement) (text : List ℕ) : Type 0 where
-  pub fault : r.fault ≡ 0
-  pub kind : r.kind ≡ frame_kind c frame
-  pub line_fault : r.line_fault ≡ frame_fault frame
-  pub count : r.count ≡ length (settled_by c frame)
-  pub recorded : FirstAre (IsRecord text) records (settled_by c frame)
-  pub front : IsInFront frame r.count text
+-- what a feed returned, and the records and the text after it
+pub record FeedEffect : Type 0 where
+  pub told : GeocomHeard
+  pub records : List GeocomSettlement
+  pub text : List ℕ
+
+-- the feed that returned `told`, and left these records and this text
+abbrev pub feed_effect : (told : GeocomHeard) → (records : List GeocomSettlement) → (text : List ℕ) → FeedEffect
+feed_effect told records text = record { told = told; records = records; text = text }
+
+-- a frame was fed to the client `c`: the call has no fault; what it returned has the frame's kind, its line fault and the number of
+-- its settlements; a record says of each settlement how the request ended; and a line that settled is at the front of the text
+pub record IsFed (c : Windowed Asked) (frame : Frame) (x : FeedEffect) : Type 0 where
+  pub fault : x.told.fault ≡ 0
+  pub kind : x.told.kind ≡ frame_kind c frame
+  pub line_fault : x.told.line_fault ≡ frame_fault frame
+  pub count : x.told.count ≡ length (settled_by c frame)
+  pub recorded : FirstAre (IsRecord x.text) x.records (settled_by c frame)
+  pub front : IsInFront frame x.told.count x.text
 
 -- what a feed returns for bytes without a line feed, all of which it used
 abbrev pub unended : (used : ℕ) → GeocomHeard
 unended used = record { used = used; fault = 0; count = 0; kind = MORE; line_fault = 0 }
 
--- a frame was fed to the client `c`, by `used` bytes: what was returned, the records and the text are as `IsFed` has it, and the
--- state is that of the client after the frame, with no byte of a line
-pub record FeedsFrame (c : Windowed Asked) (frame : Frame) (used : ℕ) (state : GeocomClient) (r : GeocomHeard) (records : List GeocomSettlement)
-    (text : List ℕ) : Type 0 where
-  pub used_is : r.used ≡ used
-  pub fed : IsFed c frame r records text
+-- a frame was fed to the client `c` (`IsFed`), by `used` bytes, and the state is that of the client after the frame, with no byte of
+-- a line
+pub record FeedsFrame (c : Windowed Asked) (frame : Frame) (used : ℕ) (state : GeocomClient) (x : FeedEffect) : Type 0 where
+  pub used_is : x.told.used ≡ used
+  pub fed : IsFed c frame x
   pub stands : StandsForClient state (client_past c frame) []
 
 -- the client `c` was restarted: the fault is 0, the state is the rule's, with no byte of a line, each request that was
@@ -110,12 +111,11 @@ FeedsUnended c bytes old new told =
     (rest : List ℕ) → StandsForClient old c rest → position is_line_feed bytes ≡ None → (told ≡ unended (length bytes)) × StandsForClient new c (rest ++ bytes)
 
 -- if these bytes have a line feed, feeding them to the client `c` in the state `old` feeds the frame that the first one ends, as
--- `FeedsFrame` says of the state `new`, of what was returned and of the records and the text
-abbrev pub FeedsFirst : Windowed Asked → (bytes : List ℕ) → (old new : GeocomClient) → (told : GeocomHeard)
-    → (records : List GeocomSettlement) → (text : List ℕ) → Type 0
-FeedsFirst c bytes old new told records text =
+-- `FeedsFrame` says of the state `new` and of the feed
+abbrev pub FeedsFirst : Windowed Asked → (bytes : List ℕ) → (old new : GeocomClient) → FeedEffect → Type 0
+FeedsFirst c bytes old new x =
     (rest : List ℕ) (at : ℕ) → StandsForClient old c rest → position is_line_feed bytes ≡ Some at
-    → FeedsFrame c (frame_of (rest ++ take at bytes)) (at + 1) new told records text
+    → FeedsFrame c (frame_of (rest ++ take at bytes)) (at + 1) new x
 
 -- what is returned with this fault if a feed used nothing
 abbrev pub unheard_with : (fault : ℕ) → GeocomHeard

@@ -2,16 +2,12 @@
 use Rattle.std.specs.Prelude.{◌≡◌, ◌⊎◌, ℕ, List, [], ◌∷◌, map}
 use Rattle.gc_lines.specs.Frames.{rest_behind}
 use Rattle.gc_catalogue.specs.declared.asked.Asked.{Asked}
-use Rattle.gc_catalogue.specs.declared.asked.Asked.TheVariants.{Table, Raw}
-use Rattle.gc_catalogue.specs.declared.call.Call.{Call}
-use Rattle.gc_catalogue.specs.declared.raw.RawCall.{RawCall}
-use Rattle.gc_catalogue.specs.Asked.{IsAsked}
-use Rattle.gc_catalogue.specs.Calls.{IsCall}
 use Rattle.gc_client.specs.Beginning.{the_word}
-use Rattle.gc_client.specs.OneForOne.{Course, begun, course_after, course}
+use Rattle.gc_client.specs.OneForOne.{Course, begun, course}
 use Rattle.gc_client.specs.OneForOne as one
 use Rattle.geocom_c.specs.Beginning.{left_by_restart, left_by_bytes}
 use Rattle.geocom_c.specs.Rest.{lines_completed, HeardBut}
+use Rattle.geocom_c.specs.Sending.{RequestRule, raw_rule, table_rule}
 use Rattle.geocom_c.specs.State.{StandsForClient, left_of}
 use Rattle.geocom_c.specs.declared.state.GeocomClient.{GeocomClient}
 use Rattle.geocom_c.specs.declared.following.StateCall.{StateCall}
@@ -46,28 +42,50 @@ pub record IsAt (width : ℕ) (s : CallStage) (state : GeocomClient) : Type 0 wh
   pub stands : StandsForCourse width state s.reached s.rest
   pub left : left_of state ≡ s.left
 
--- over these calls, in order, the client comes from the stage s to the stage t. A send is a step of the client if it has
--- synchronized, and the number and the parameters are a call's, or for a raw send a raw call's; any other send changes nothing.
--- Each line that a feed ends, and a moment, is a step of the client, also before it has synchronized. The lines of a begin are
--- heard by the synchronization, and not by the client. A restart discards the bytes since the last line feed, and a client that
--- has synchronized then resynchronizes
+-- `Then` holds of the steps of the client that a send makes, where `left` are the ids that aren't answered: of one step if the client
+-- has synchronized and `rule` asks for something, and else of none
+abbrev pub SendMakes : {X E : Type 0} → (left : List ℕ) → RequestRule X E → (target deadline : ℕ) → (Then : List (one.Step Asked) → Type 0) → Type 0
+SendMakes {X = X} left rule target deadline Then =
+    ((x : X) × (left ≡ []) × rule.is x × Then (one.Send target (rule.to x) deadline ∷ []))
+    ⊎ ((left ≡ [] → (x : X) → rule.is x → ⊥) × Then [])
+
+-- `Then` holds of the steps of the client that a call makes, where `left` are the ids that aren't answered, and `rest` the bytes
+-- since the last line feed. A send makes one for a call of the table with its number and parameters, whether the window has room or
+-- not, and a raw send for a raw call with these (`SendMakes`). Each line that a feed ends is a step, and so are a moment and a
+-- restart, also before the client has synchronized. A begin makes none: its lines are heard by the synchronization alone
+abbrev pub CallMakes : (left rest : List ℕ) → StateCall → (Then : List (one.Step Asked) → Type 0) → Type 0
+CallMakes left rest (Send target deadline procedure params) Then = SendMakes left (table_rule procedure params.now) target deadline Then
+CallMakes left rest (SendRaw target deadline procedure params) Then = SendMakes left (raw_rule procedure params.now) target deadline Then
+CallMakes left rest (Begin bytes) Then = Then []
+CallMakes left rest (Feed bytes) Then = Then (map one.Hear (lines_completed rest bytes.now))
+CallMakes left rest (Expire now) Then = Then (one.Expire now ∷ [])
+CallMakes left rest Restart Then = Then (one.Restart ∷ [])
+
+-- the ids that aren't answered after a call, where `left` weren't before it
+abbrev pub left_by_call : (left rest : List ℕ) → StateCall → List ℕ
+left_by_call left rest (Begin bytes) = left_by_bytes left rest bytes.now
+left_by_call left rest Restart = left_by_restart left
+left_by_call left rest other = left
+
+-- the bytes since the last line feed after a call, where they were `rest` before it: a restart discards them
+abbrev pub rest_by_call : (rest : List ℕ) → StateCall → List ℕ
+rest_by_call rest (Begin bytes) = rest_behind rest bytes.now
+rest_by_call rest (Feed bytes) = rest_behind rest bytes.now
+rest_by_call rest Restart = []
+rest_by_call rest other = rest
+
+-- the stage after a call that makes these steps
+abbrev pub stage_after : (width : ℕ) → CallStage → StateCall → List (one.Step Asked) → CallStage
+stage_after width s call steps = record {
+  reached = course width s.reached steps;
+  rest = rest_by_call s.rest call;
+  left = left_by_call s.left s.rest call;
+}
+
+-- over these calls, in order, the client comes from the stage s to the stage t, by the steps that each call makes (`CallMakes`)
 abbrev pub CallsReach : (width : ℕ) → (s : CallStage) → List StateCall → (t : CallStage) → Type 0
 CallsReach width s [] t = t ≡ s
-CallsReach width s (Send target deadline procedure params ∷ calls) t =
-    ((call : Call) × (s.left ≡ []) × IsCall procedure params.now call
-    × CallsReach width (record s { reached = course_after width s.reached (one.Send target (Table call) deadline) }) calls t)
-    ⊎ ((s.left ≡ [] → (call : Call) → IsCall procedure params.now call → ⊥) × CallsReach width s calls t)
-CallsReach width s (SendRaw target deadline procedure params ∷ calls) t =
-    ((raw : RawCall) × (s.left ≡ []) × IsAsked procedure params.now (Raw raw)
-    × CallsReach width (record s { reached = course_after width s.reached (one.Send target (Raw raw) deadline) }) calls t)
-    ⊎ ((s.left ≡ [] → (raw : RawCall) → IsAsked procedure params.now (Raw raw) → ⊥) × CallsReach width s calls t)
-CallsReach width s (Begin bytes ∷ calls) t =
-    CallsReach width (record s { rest = rest_behind s.rest bytes.now; left = left_by_bytes s.left s.rest bytes.now }) calls t
-CallsReach width s (Feed bytes ∷ calls) t =
-    CallsReach width (record s { reached = hearing width s.reached s.rest bytes.now; rest = rest_behind s.rest bytes.now }) calls t
-CallsReach width s (Expire now ∷ calls) t = CallsReach width (record s { reached = course_after width s.reached (one.Expire now) }) calls t
-CallsReach width s (Restart ∷ calls) t =
-    CallsReach width (record { reached = course_after width s.reached one.Restart; rest = []; left = left_by_restart s.left }) calls t
+CallsReach width s (call ∷ calls) t = CallMakes s.left s.rest call (λ steps. CallsReach width (stage_after width s call steps) calls t)
 
 -- no part of a promise: the state is at some stage. Whatever the calls `later`, which are left, come to from that stage, `calls`
 -- come to from the stage s

@@ -14,7 +14,7 @@ use Rattle.gc_field.specs.Simulator.{simulator_ends}
 use Rattle.gc_world.specs.Record.{IsReplyTo}
 use Rattle.gc_field.specs.World.{Ends, Sent}
 use Rattle.gc_field.specs.Begin.{IsWellFormed, LacksTheWord, UnderWay, leaves}
-use Rattle.gc_field.specs.Beginnings.{AreFewKilled, AreRuns, IsOwnIf, HasRisingIds, Run, left_by_runs}
+use Rattle.gc_field.specs.Beginnings.{IsOwnIf, OfRunsInARow, Run, left_by_runs}
 use Rattle.gc_field.specs.Begun.{IsSafe, WasMadeOn}
 use Rattle.gc_field.specs.Instrument.{AnyState, OfAnyInstrument, TreatsRawsAlike}
 use Rattle.gc_field.specs.Laws.{WasExecuted, asked, kept_of}
@@ -98,14 +98,9 @@ AnswersAreTheirOwn State = OfAnyInstrument {State = State} (λ ends Good kept. E
 abbrev pub SimulatorsAnswersAreTheirOwn : Type 0
 SimulatorsAnswersAreTheirOwn = EachAnswerIsOwn simulator_ends IsFittingState kept_of
 
--- for every width (`IsWidth`): after any possible runs (`AreRuns`) of which fewer than six in a row ended while they synchronized,
--- the next one may begin. What is in flight before the first is as a run that had synchronized leaves it, or nothing
--- (`HasRisingIds`, `IsWellFormed`)
+-- after runs in a row (`OfRunsInARow`) the next one may begin: the word isn't in flight
 abbrev pub NextMayBegin : {State : Type 0} → (ends : Ends State) → (Good : State → Type 0) → (kept : State → Option KeptReply) → Type 0
-NextMayBegin {State = State} ends Good kept =
-    (width : ℕ) → IsWidth width → (u : UnderWay State) → IsWellFormed Good u → HasRisingIds u →
-    (rs : List (Run State)) → AreRuns width ends Good kept u rs → AreFewKilled width ends 0 u rs →
-    LacksTheWord (left_by_runs width ends u rs)
+NextMayBegin ends Good kept = OfRunsInARow ends Good kept (λ width u rs. LacksTheWord (left_by_runs width ends u rs))
 
 -- `NextMayBegin`, for any instrument, in any state
 abbrev pub FewKilledMayBegin : Type 0 → Type 0

@@ -15,16 +15,16 @@ KeepsLength before after = length after ≡ length before
 abbrev pub IsWritten : {A : Type 0} → (at : ℕ) → (text before after : List A) → Type 0
 IsWritten at text before after = take (at + length text) after ≡ take at before ++ text
 
--- what is after the first `count` items of a list is the same `after` as `before`
-abbrev pub KeepsAfter : {A : Type 0} → (count : ℕ) → (before after : List A) → Type 0
-KeepsAfter count before after = drop count after ≡ drop count before
+-- a call wrote over no more than the first `count` items of a list: what follows them is the same `after` as `before`, and so is the
+-- list's length
+pub record WritesWithin {A : Type 0} (count : ℕ) (before after : List A) : Type 0 where
+  pub untouched : drop count after ≡ drop count before
+  pub length : KeepsLength before after
 
--- a call wrote over the first `count` items of a list, at most as many as requests can be outstanding: what follows them is the
--- same `after` as `before`, and so is the list's length
+-- a call wrote over the first `count` items of a list (`WritesWithin`), at most as many as requests can be outstanding
 pub record WritesFirst {A : Type 0} (count : ℕ) (before after : List A) : Type 0 where
   pub few : count ≤ WINDOW
-  pub untouched : KeepsAfter count before after
-  pub length : KeepsLength before after
+  pub within : WritesWithin count before after
 
 -- the fault is that of too little room if and only if the list `room` has fewer than `least` items
 abbrev pub ReportsNoRoom : {A : Type 0} → (room : List A) → (least fault : ℕ) → Type 0

@@ -9,7 +9,7 @@ use Rattle.gc_client.specs.Rule.{ById, Settlement, fresh, lost}
 use Rattle.gc_instrument.specs.State.{KeptReply}
 use Rattle.gc_world.specs.Clients.{by_ids}
 use Rattle.gc_field.specs.World.{Ends, World}
-use Rattle.gc_field.specs.Begin.{InFlight, AreTurns, Asks, Comes, Foreign, Reaches, Up_lose, Up_repeat, Down_lose, Down_repeat, Anew, Changes, SyncModel, SyncTurn, UnderWay, begins, leaves, turns}
+use Rattle.gc_field.specs.Begin.{InFlight, AreTurns, Asks, Comes, Foreign, SyncModel, SyncTurn, UnderWay, begins, leaves, turns}
 use Rattle.gc_field.specs.Beginnings.{Run, left_by_run, after_turns}
 use Rattle.gc_field.specs.Begun.{behind, ids_begun}
 use Rattle.gc_field.specs.Field.{ArePossible, seen}
@@ -27,13 +27,7 @@ abbrev pub event_of : {State : Type 0} → SyncModel State → SyncTurn State �
 event_of s Asks = ask_events (asks s.left)
 event_of s Comes = came_of s.down
 event_of s (Foreign line) = Came line ∷ []
-event_of s Reaches = []
-event_of s (Up_lose k) = []
-event_of s (Up_repeat k) = []
-event_of s (Down_lose k) = []
-event_of s (Down_repeat k) = []
-event_of s Anew = []
-event_of s (Changes state) = []
+event_of s other = []
 
 -- a run in its place: the run, and what was in flight when it began
 pub record PlacedRun (State : Type 0) : Type 0 where

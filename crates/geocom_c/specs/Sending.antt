@@ -5,19 +5,53 @@ use Rattle.gc_values.specs.declared.fault.ValueFault.TheVariants as value
 use Rattle.gc_lines.specs.Faults.{line_fault_number}
 use Rattle.gc_lines.specs.declared.fault.LineFault.TheVariants as line
 use Rattle.gc_catalogue.specs.declared.asked.Asked.{Asked}
-use Rattle.gc_catalogue.specs.declared.asked.Asked.TheVariants.{Raw}
+use Rattle.gc_catalogue.specs.declared.asked.Asked.TheVariants.{Table, Raw}
+use Rattle.gc_catalogue.specs.declared.call.Call.{Call}
+use Rattle.gc_catalogue.specs.declared.fault.CallFault.{CallFault}
 use Rattle.gc_catalogue.specs.declared.raw.RawCall.{RawCall}
 use Rattle.gc_catalogue.specs.Asked.{IsAsked, asked_line}
+use Rattle.gc_catalogue.specs.CallFault.{refusal_number}
+use Rattle.gc_catalogue.specs.Calls.{IsCall, IsRefusal}
+use Rattle.gc_catalogue.specs.Raws.{IsRawRefusal}
 use Rattle.gc_catalogue.specs.declared.raw.RawFault.{RawFault}
 use Rattle.gc_catalogue.specs.declared.raw.RawFault.TheVariants.{InTable, NotPlain, TooLong, OpenQuote, TooMany}
 use Rattle.gc_client.specs.Rule.{ById, Windowed, Sending, sends}
 use Rattle.geocom_c.specs.Beginning.{IsGiven}
 use Rattle.geocom_c.specs.Rest.{IsRest}
-use Rattle.geocom_c.specs.Rooms.{FaultLeavesAll, KeepsAfter, KeepsLength, ReportsNoClient, ReportsNoRoom}
+use Rattle.geocom_c.specs.Rooms.{FaultLeavesAll, ReportsNoClient, ReportsNoRoom, WritesWithin}
 use Rattle.geocom_c.specs.State.{KeepsAnswered, StandsForClient, left_of}
 use Rattle.geocom_c.specs.declared.answers.GeocomCount.{GeocomCount}
 use Rattle.geocom_c.specs.declared.header.TheConstants.{LINE_ROOM, WINDOW_FULL, NO_ROOM, NO_CLIENT, NOT_BEGUN, IN_TABLE}
 use Rattle.geocom_c.specs.declared.state.GeocomClient.{GeocomClient}
+
+-- what a number and parameters ask for, and why they are refused: `to x` is asked for, for each x of which `is` holds; and each e of
+-- which `is_not` holds is a reason to refuse, with this number
+pub record RequestRule (X E : Type 0) : Type 1 where
+  pub to : X → Asked
+  pub is : X → Type 0
+  pub is_not : E → Type 0
+  pub number : E → ℕ
+
+-- the fault number of a raw request that is refused. For a CR or LF among its parameters it is the number of a parameter that
+-- doesn't read (`Spelling`); for a request whose line would be too long, it is the number of a line that is too long (`TooLong`)
+abbrev pub raw_number : RawFault → ℕ
+raw_number InTable = IN_TABLE
+raw_number NotPlain = value_fault_number value.Spelling
+raw_number TooLong = line_fault_number line.TooLong
+raw_number OpenQuote = value_fault_number value.OpenQuote
+raw_number TooMany = value_fault_number value.TooMany
+
+-- by this rule a number and parameters ask for a call of the table
+abbrev pub table_rule : (procedure : ℕ) → (params : List ℕ) → RequestRule Call CallFault
+table_rule procedure params = record { to = Table; is = IsCall procedure params; is_not = IsRefusal procedure params; number = refusal_number }
+
+-- by this rule a number and parameters ask for a raw call
+abbrev pub raw_rule : (procedure : ℕ) → (params : List ℕ) → RequestRule RawCall RawFault
+raw_rule procedure params = record { to = Raw; is = λ raw. IsAsked procedure params (Raw raw); is_not = IsRawRefusal procedure params; number = raw_number }
+
+-- no part of a promise: by this rule what was read is asked for; if a number was read, it is the reason to refuse
+abbrev pub read_rule : (read : Result Asked ℕ) → RequestRule Asked ℕ
+read_rule read = record { to = λ asked. asked; is = λ asked. read ≡ Ok asked; is_not = λ fault. read ≡ Err fault; number = λ fault. fault }
 
 -- the state and the room for the line before and after a send, and what the send returned
 pub record SendEffect : Type 0 where
@@ -36,25 +70,26 @@ SendMeets c rest asked (Some s) sent =
     (sent.told.fault ≡ 0) × StandsForClient sent.new (record c { ids = s.client }) rest
     × IsGiven (Some (asked_line (Some s.id) asked)) sent.told.count sent.after
 
--- a client that has synchronized sends `to x`, for each x of which `Is` holds, to this target and with this deadline, or refuses
--- it where the window is full (`SendMeets`)
-abbrev pub SendsEach : {X : Type 0} → (to : X → Asked) → (Is : X → Type 0) → (target deadline : ℕ) → SendEffect → Type 0
-SendsEach {X = X} to Is target deadline sent =
-    (c : Windowed Asked) (rest : List ℕ) (x : X) → StandsForClient sent.old c rest → left_of sent.old ≡ [] → Is x
-    → SendMeets c rest (to x) (sends c.width c.ids target (to x) deadline) sent
+-- a client that has synchronized sends what `rule` asks for, to this target and with this deadline, or refuses it where the window is
+-- full (`SendMeets`)
+abbrev pub SendsEach : {X E : Type 0} → RequestRule X E → (target deadline : ℕ) → SendEffect → Type 0
+SendsEach {X = X} rule target deadline sent =
+    (c : Windowed Asked) (rest : List ℕ) (x : X) → StandsForClient sent.old c rest → left_of sent.old ≡ [] → rule.is x
+    → SendMeets c rest (rule.to x) (sends c.width c.ids target (rule.to x) deadline) sent
 
--- a client that has synchronized refuses with the number of e, for each e of which `Is` holds
-abbrev pub RefusesEach : {E : Type 0} → (Is : E → Type 0) → (number : E → ℕ) → GeocomClient → (fault : ℕ) → Type 0
-RefusesEach {E = E} Is number state fault = (c : Windowed Asked) (rest : List ℕ) (e : E) → StandsForClient state c rest → left_of state ≡ [] → Is e → fault ≡ number e
+-- a client that has synchronized refuses with the number that `rule` gives, for each reason that it has to refuse
+abbrev pub RefusesEach : {X E : Type 0} → RequestRule X E → GeocomClient → (fault : ℕ) → Type 0
+RefusesEach {E = E} rule state fault =
+    (c : Windowed Asked) (rest : List ℕ) (e : E) → StandsForClient state c rest → left_of state ≡ [] → rule.is_not e → fault ≡ rule.number e
 
 -- the fault is none of a send's own: not 0, nor that of a full window, of too little room, of a state that is no client's or of a
 -- client that hasn't synchronized
 abbrev pub IsOfRequest : (fault : ℕ) → Type 0
 IsOfRequest fault = (fault ≢ 0) × (fault ≢ WINDOW_FULL) × (fault ≢ NO_ROOM) × (fault ≢ NO_CLIENT) × (fault ≢ NOT_BEGUN)
 
--- a fault that is none of a send's own (`IsOfRequest`) is the number of a refusal e of which `Is` holds
-abbrev pub IsRefusalNumber : {E : Type 0} → (Is : E → Type 0) → (number : E → ℕ) → (fault : ℕ) → Type 0
-IsRefusalNumber {E = E} Is number fault = IsOfRequest fault → (e : E) × Is e × (fault ≡ number e)
+-- a fault that is none of a send's own (`IsOfRequest`) is the number of a reason that `rule` has to refuse
+abbrev pub IsRefusalNumber : {X E : Type 0} → RequestRule X E → (fault : ℕ) → Type 0
+IsRefusalNumber {E = E} rule fault = IsOfRequest fault → (e : E) × rule.is_not e × (fault ≡ rule.number e)
 
 -- a client that hasn't synchronized refuses to send
 abbrev pub RefusesUnbegun : GeocomClient → (fault : ℕ) → Type 0
@@ -70,15 +105,6 @@ pub record WasAsked {X : Type 0} (Is : X → Type 0) (Fills : (count width : ℕ
   pub begun : left_of state ≡ []
   pub is : Is asked
   pub fills : Fills (length client.ids.waiting) client.width
-
--- the fault number of a raw request that is refused. For a CR or LF among its parameters it is the number of a parameter that
--- doesn't read (`Spelling`); for a request whose line would be too long, it is the number of a line that is too long (`TooLong`)
-abbrev pub raw_number : RawFault → ℕ
-raw_number InTable = IN_TABLE
-raw_number NotPlain = value_fault_number value.Spelling
-raw_number TooLong = line_fault_number line.TooLong
-raw_number OpenQuote = value_fault_number value.OpenQuote
-raw_number TooMany = value_fault_number value.TooMany
 
 -- the send that found the state `old` and the room `before`, left `new` and `after`, and returned `told`
 abbrev pub send_effect : (old new : GeocomClient) → (before after : List ℕ) → (told : GeocomCount) → SendEffect
@@ -104,40 +130,34 @@ ReportsFull Is state fault = fault ≡ WINDOW_FULL → WasAsked Is (λ count wid
 abbrev pub ReportsDone : {X : Type 0} → (Is : X → Type 0) → GeocomClient → (fault : ℕ) → Type 0
 ReportsDone Is state fault = fault ≡ 0 → WasAsked Is (λ count width. count < width) state
 
--- the raw call is of this number and these parameters
-abbrev pub IsRawOf : (procedure : ℕ) → (params : List ℕ) → RawCall → Type 0
-IsRawOf procedure params raw = IsAsked procedure params (Raw raw)
-
--- what a send did and returned: a client that has synchronized sends `to x` where `Is x`, and refuses with the number of e where
--- `IsNot e`; each fault comes only for its reason, and after one nothing has changed
-pub record IsSend {X E : Type 0} (to : X → Asked) (Is : X → Type 0) (IsNot : E → Type 0) (number : E → ℕ) (target deadline : ℕ) (s : SendEffect) : Type 0 where
+-- what a send did and returned: a client that has synchronized sends what `rule` asks for, and refuses for the reasons that `rule`
+-- has; each fault comes only for its reason, and after one nothing has changed
+pub record IsSend {X E : Type 0} (rule : RequestRule X E) (target deadline : ℕ) (s : SendEffect) : Type 0 where
   -- if there is room for a line
-  pub sent : LINE_ROOM ≤ length s.before → SendsEach to Is target deadline s
-  pub refuses : LINE_ROOM ≤ length s.before → RefusesEach IsNot number s.old s.told.fault
+  pub sent : LINE_ROOM ≤ length s.before → SendsEach rule target deadline s
+  pub refuses : LINE_ROOM ≤ length s.before → RefusesEach rule s.old s.told.fault
   pub begins : LINE_ROOM ≤ length s.before → RefusesUnbegun s.old s.told.fault
   -- what each fault says
   pub begun : ReportsUnbegun s.old s.told.fault
   pub room : ReportsNoRoom s.before LINE_ROOM s.told.fault
   pub astray : ReportsNoClient s.before LINE_ROOM s.old s.told.fault
-  pub full : ReportsFull Is s.old s.told.fault
-  pub done : ReportsDone Is s.old s.told.fault
-  pub refusal : IsRefusalNumber IsNot number s.told.fault
+  pub full : ReportsFull rule.is s.old s.told.fault
+  pub done : ReportsDone rule.is s.old s.told.fault
+  pub refusal : IsRefusalNumber rule s.told.fault
   -- what stays
   pub refused : FaultLeavesAll s.told s.old s.new s.before s.after
   pub answered : KeepsAnswered s.old s.new
-  pub untouched : KeepsAfter s.told.count s.before s.after
-  pub same_length : KeepsLength s.before s.after
+  pub written : WritesWithin s.told.count s.before s.after
 
--- no part of a promise: a number and parameters were read. They ask for `to x` exactly if `Is x`, and are refused with the number
--- of e exactly if `IsNot e`, which is none of a send's own faults
-pub record AsksOrRefuses {X E : Type 0} (to : X → Asked) (Is : X → Type 0) (IsNot : E → Type 0) (number : E → ℕ) (read : Result Asked ℕ) : Type 0 where
-  pub asks : (asked : Asked) → read ≡ Ok asked → (x : X) × Is x × (asked ≡ to x)
-  pub only : (x : X) → Is x → read ≡ Ok (to x)
-  pub refuses : (fault : ℕ) → read ≡ Err fault → (e : E) × IsNot e × (fault ≡ number e)
-  pub refused : (e : E) → IsNot e → read ≡ Err (number e)
+-- no part of a promise: a number and parameters were read as `rule` says: they ask for exactly what it asks for, and are refused for
+-- exactly the reasons that it has, with numbers that are none of a send's own faults
+pub record AsksOrRefuses {X E : Type 0} (rule : RequestRule X E) (read : Result Asked ℕ) : Type 0 where
+  pub asks : (asked : Asked) → read ≡ Ok asked → (x : X) × rule.is x × (asked ≡ rule.to x)
+  pub only : (x : X) → rule.is x → read ≡ Ok (rule.to x)
+  pub refuses : (fault : ℕ) → read ≡ Err fault → (e : E) × rule.is_not e × (fault ≡ rule.number e)
+  pub refused : (e : E) → rule.is_not e → read ≡ Err (rule.number e)
   pub number_of_request : (fault : ℕ) → read ≡ Err fault → IsOfRequest fault
 
 -- no part of a promise: what a send of what was read did and returned
 abbrev pub SendsRead : (read : Result Asked ℕ) → (target deadline : ℕ) → SendEffect → Type 0
-SendsRead read target deadline s =
-    IsSend (λ (asked : Asked). asked) (λ (asked : Asked). read ≡ Ok asked) (λ (fault : ℕ). read ≡ Err fault) (λ (fault : ℕ). fault) target deadline s
+SendsRead read target deadline s = IsSend (read_rule read) target deadline s

@@ -61,9 +61,7 @@ IsKind (Unreadable fault) kind code = (kind ≡ UNREADABLE) × (code ≡ value_f
 -- none
 abbrev pub HasItems : Asked → GeocomSettlement → (text params : List ℕ) → Reading → Type 0
 HasItems asked r text params (Value answer) = AreListed asked answer r.items r.places text params
-HasItems asked r text params (Refused rc) = r.items ≡ 0
-HasItems asked r text params (ComFault rc_com) = r.items ≡ 0
-HasItems asked r text params (Unreadable fault) = r.items ≡ 0
+HasItems asked r text params other = r.items ≡ 0
 
 -- the record has the kind and the code of this reading of what was asked (`IsKind`), and its items (`HasItems`)
 abbrev pub HasReading : Asked → GeocomSettlement → (text params : List ℕ) → Reading → Type 0
@@ -116,8 +114,7 @@ pub record IsListingOf (told : ListedLine) (line : List ℕ) : Type 0 where
 -- no part of a promise: an outcome that is an answer has this line
 abbrev pub AnswerHasLine : List ℕ → Rule.Outcome → Type 0
 AnswerHasLine line (Rule.Answered answer) = answer ≡ line
-AnswerHasLine line Rule.Late = Unit {0}
-AnswerHasLine line Rule.Lost = Unit {0}
+AnswerHasLine line other = Unit {0}
 
 -- no part of a promise: each of these settlements that is an answer has this line
 abbrev pub AnswersHaveLine : List ℕ → List (Rule.Settlement Asked) → Type 0

@@ -1,22 +1,16 @@
 -- Calls as events, this project's own: what the calls that a caller makes on a state are to a synchronization, and to a client
 -- that has synchronized.
-use Rattle.std.specs.Prelude.{◌≡◌, ◌⊎◌, ℕ, List, [], ◌∷◌, ◌++◌, map, Option, Some, None}
-use Rattle.gc_lines.specs.Frames.{rest_behind}
+use Rattle.std.specs.Prelude.{◌≡◌, ℕ, List, [], ◌∷◌, ◌++◌, map, Option, Some, None}
 use Rattle.gc_catalogue.specs.declared.asked.Asked.{Asked}
-use Rattle.gc_catalogue.specs.declared.asked.Asked.TheVariants.{Table, Raw}
-use Rattle.gc_catalogue.specs.declared.call.Call.{Call}
-use Rattle.gc_catalogue.specs.declared.raw.RawCall.{RawCall}
-use Rattle.gc_catalogue.specs.Asked.{IsAsked}
-use Rattle.gc_catalogue.specs.Calls.{IsCall}
 use Rattle.gc_client.specs.Beginning.{the_word, left_by}
 use Rattle.gc_client.specs.OneForOne.{begun, course}
 use Rattle.gc_client.specs.OneForOne as one
 use Rattle.gc_client.specs.Rule.{heard}
-use Rattle.geocom_c.specs.Beginning.{left_by_restart, given, left_by_bytes}
-use Rattle.geocom_c.specs.Following.{CallStage}
+use Rattle.geocom_c.specs.Beginning.{given, left_by_bytes}
+use Rattle.geocom_c.specs.Following.{CallMakes, CallStage, left_by_call, rest_by_call}
 use Rattle.geocom_c.specs.Rest.{lines_completed}
 use Rattle.geocom_c.specs.declared.following.StateCall.{StateCall}
-use Rattle.geocom_c.specs.declared.following.StateCall.TheVariants.{Send, SendRaw, Begin, Feed, Expire, Restart}
+use Rattle.geocom_c.specs.declared.following.StateCall.TheVariants.{Begin}
 
 -- what happens to a client: while it synchronizes, a null procedure is sent, or a line comes; once it has synchronized, it
 -- makes a step
@@ -43,27 +37,19 @@ abbrev pub step_events : (left : List ℕ) → List (one.Step Asked) → List Cl
 step_events [] steps = map Stepped steps
 step_events (asked ∷ later) steps = []
 
--- these calls are these events, by the ids that aren't answered (`left`) and the bytes since the last line feed (`rest`). A send
--- is a step if the client has synchronized, and its number and parameters are a call's, whether the window has room or not; a raw
--- send is one if they are a raw call's; otherwise the send is no event. A begin is its `begin_events`. Once the client has
--- synchronized, each line that a feed ends is a step, and so are a moment and a restart; while it synchronizes, none of these is
--- an event. A restart discards `rest` in both cases
+-- the events of a call that makes these steps of the client: those of a begin (`begin_events`), and of any other call its steps,
+-- once the client has synchronized (`step_events`)
+abbrev pub call_events : (left rest : List ℕ) → StateCall → (steps : List (one.Step Asked)) → List ClientEvent
+call_events left rest (Begin bytes) steps = begin_events left rest bytes.now
+call_events left rest other steps = step_events left steps
+
+-- these calls are these events, where `left` are the ids that aren't answered, and `rest` the bytes since the last line feed: the
+-- events of each call, by the steps that it makes (`CallMakes`), and then those of the later calls
 abbrev pub AreEvents : (left rest : List ℕ) → List StateCall → List ClientEvent → Type 0
 AreEvents left rest [] events = events ≡ []
-AreEvents left rest (Send target deadline procedure params ∷ calls) events =
-    ((call : Call) × (later : List ClientEvent) × (left ≡ []) × IsCall procedure params.now call × (events ≡ Stepped (one.Send target (Table call) deadline) ∷ later)
-    × AreEvents left rest calls later)
-    ⊎ ((left ≡ [] → (call : Call) → IsCall procedure params.now call → ⊥) × AreEvents left rest calls events)
-AreEvents left rest (SendRaw target deadline procedure params ∷ calls) events =
-    ((raw : RawCall) × (later : List ClientEvent) × (left ≡ []) × IsAsked procedure params.now (Raw raw) × (events ≡ Stepped (one.Send target (Raw raw) deadline) ∷ later)
-    × AreEvents left rest calls later)
-    ⊎ ((left ≡ [] → (raw : RawCall) → IsAsked procedure params.now (Raw raw) → ⊥) × AreEvents left rest calls events)
-AreEvents left rest (Begin bytes ∷ calls) events =
-    (later : List ClientEvent) × (events ≡ begin_events left rest bytes.now ++ later) × AreEvents (left_by_bytes left rest bytes.now) (rest_behind rest bytes.now) calls later
-AreEvents left rest (Feed bytes ∷ calls) events =
-    (later : List ClientEvent) × (events ≡ step_events left (map one.Hear (lines_completed rest bytes.now)) ++ later) × AreEvents left (rest_behind rest bytes.now) calls later
-AreEvents left rest (Expire now ∷ calls) events = (later : List ClientEvent) × (events ≡ step_events left (one.Expire now ∷ []) ++ later) × AreEvents left rest calls later
-AreEvents left rest (Restart ∷ calls) events = (later : List ClientEvent) × (events ≡ step_events left (one.Restart ∷ []) ++ later) × AreEvents (left_by_restart left) [] calls later
+AreEvents left rest (call ∷ calls) events = CallMakes left rest call (λ steps.
+    (later : List ClientEvent) × (events ≡ call_events left rest call steps ++ later)
+    × AreEvents (left_by_call left rest call) (rest_by_call rest call) calls later)
 
 -- the steps of the client among events
 abbrev pub steps_among : List ClientEvent → List (one.Step Asked)
@@ -74,10 +60,8 @@ steps_among (Stepped step ∷ events) = step ∷ steps_among events
 
 -- the ids that aren't answered after a step: all of them if it is a restart, and else none
 abbrev pub left_by_step : one.Step Asked → List ℕ
-left_by_step (one.Send target call deadline) = []
-left_by_step (one.Hear line) = []
-left_by_step (one.Expire now) = []
 left_by_step one.Restart = the_word
+left_by_step other = []
 
 -- the ids that aren't answered after these events, where `left` weren't before
 abbrev pub left_among : (left : List ℕ) → List ClientEvent → List ℕ

@@ -4,11 +4,10 @@
 ghost use Rattle.std.specs.Prelude.{◌≡◌, ◌≤◌, ℕ, List, [], length, drop};
 ghost use Rattle.gc_lines.specs.Frames.{frame_of, rest_behind};
 ghost use Rattle.gc_lines.specs.Taking.{IsUsedOf};
-ghost use Rattle.gc_client.specs.Beginning.{asks};
+ghost use Rattle.gc_client.specs.Beginning.{asks, the_word};
 ghost use Rattle.geocom_c.specs.Beginning.{came_in_vain, given_unless, left_by_bytes, left_past, BeginFaultLeavesAll, GivesLine, HearsBytes, IsGiven, ReportsBegun};
-ghost use Rattle.gc_client.specs.Beginning.{the_word};
 ghost use Rattle.geocom_c.specs.Rest.{IsValid, IsRest, UsesFirstLine, UsesUnended};
-ghost use Rattle.geocom_c.specs.Rooms.{KeepsLength, KeepsAfter, ReportsNoClient, ReportsNoRoom};
+ghost use Rattle.geocom_c.specs.Rooms.{ReportsNoClient, ReportsNoRoom, WritesWithin};
 ghost use Rattle.geocom_c.specs.State.{IsOfClient};
 ghost use Rattle.geocom_c.specs.declared.header.TheConstants.{LINE_ROOM};
 
@@ -64,8 +63,7 @@ fn hear_all(rest: &mut GeocomRest, beginning: &mut Beginning, bytes: &[u8])
 fn ask(beginning: &Beginning, line: &mut [u8]) -> u32
     requires { LINE_ROOM ≤ length line.old }
     ensures asked { IsGiven (asks beginning.now) result line.new }
-    ensures untouched { KeepsAfter result line.old line.new }
-    ensures length { KeepsLength line.old line.new }
+    ensures written { WritesWithin result line.old line.new }
 {
     match beginning.ask() {
         Some(text) => put_line(line, &text),
@@ -78,8 +76,7 @@ fn ask(beginning: &Beginning, line: &mut [u8]) -> u32
 fn ask_unless(is_waiting: bool, beginning: &Beginning, line: &mut [u8]) -> u32
     requires { LINE_ROOM ≤ length line.old }
     ensures asked { IsGiven (given_unless is_waiting beginning.now) result line.new }
-    ensures untouched { KeepsAfter result line.old line.new }
-    ensures length { KeepsLength line.old line.new }
+    ensures written { WritesWithin result line.old line.new }
 {
     if is_waiting {
         return 0;
@@ -123,8 +120,7 @@ pub extern "C" fn geocom_client_begin(
     ensures astray { ReportsNoClient line.old LINE_ROOM state.old result.fault }
     ensures done { result.fault ≡ 0 → IsOfClient state.old }
     ensures refused { BeginFaultLeavesAll result state.old state.new line.old line.new }
-    ensures untouched { KeepsAfter result.count line.old line.new }
-    ensures length { KeepsLength line.old line.new }
+    ensures written { WritesWithin result.count line.old line.new }
 {
     if line.len() < LINE_ROOM {
         return unbegun(NO_ROOM);

@@ -5,7 +5,7 @@ ghost use Rattle.gc_client.specs.Rule.{IsWidth};
 ghost use Rattle.gc_client.specs.Rule;
 ghost use Rattle.gc_client.specs.Beginning.{the_word};
 ghost use Rattle.geocom_c.specs.State.{StandsForClient, IsAstray, IsOfClient, KeepsAnswered, left_of};
-ghost use Rattle.geocom_c.specs.Rooms.{FaultLeavesAll, KeepsLength, KeepsAfter, ReportsNoClient, ReportsNoRoom, WritesFirst};
+ghost use Rattle.geocom_c.specs.Rooms.{FaultLeavesAll, ReportsNoClient, ReportsNoRoom, WritesFirst, WritesWithin};
 ghost use Rattle.geocom_c.specs.Deadlines.{Expires, IsBlankIfUnset, ReportsEarliest, ReportsWaiting};
 ghost use Rattle.geocom_c.specs.declared.header.TheConstants.{VERSION, NO_WIDTH, NO_CLIENT};
 ghost use Rattle.gc_client.specs.declared.window.TheConstants.{WINDOW};
@@ -50,8 +50,7 @@ pub extern "C" fn geocom_client_init(state: &mut GeocomClient, width: u8) -> u32
 fn put_targets(targets: &mut [u32], due: &[u32])
     requires { length due.now ≤ length targets.old }
     ensures targets { take (length due.now) targets.new ≡ due.now }
-    ensures untouched { KeepsAfter (length due.now) targets.old targets.new }
-    ensures length { KeepsLength targets.old targets.new }
+    ensures written { WritesWithin (length due.now) targets.old targets.new }
 {
     targets[..due.len()].copy_from_slice(due);
 }
@@ -87,10 +86,10 @@ pub extern "C" fn geocom_client_expire(
     counted(due.len() as u32)
 }
 
-/// The earliest deadline of the outstanding requests that haven't timed out, if there is one; otherwise `is_set` and `deadline`
-/// are 0. It is a moment by the caller's clock.
+/// The earliest deadline of the outstanding requests that haven't timed out, a moment by the caller's clock. If there is none, and
+/// after a fault, `is_set` and `deadline` are 0.
 ///
-/// Fault 63: the state is no client's. `is_set` and `deadline` are 0 then.
+/// Fault 63: the state is no client's.
 #[unsafe(no_mangle)]
 pub extern "C" fn geocom_client_next_deadline(state: &GeocomClient) -> GeocomDeadline
     ensures earliest { ReportsEarliest state.now result }

@@ -8,9 +8,9 @@ ghost use Rattle.gc_client.specs.Beginning.{the_word};
 ghost use Rattle.gc_client.specs.declared.window.TheConstants.{WINDOW};
 ghost use Rattle.geocom_c.specs.Beginning.{left_by_restart};
 ghost use Rattle.geocom_c.specs.Rest.{IsValid};
-ghost use Rattle.geocom_c.specs.State.{StoresClient, IsAstray, IsOfClient, KeepsAnswered, StandsForClient, left_of};
+ghost use Rattle.geocom_c.specs.State.{IsAstray, IsOfClient, KeepsAnswered, left_of};
 ghost use Rattle.geocom_c.specs.Rooms.{FaultLeavesAll, ReportsNoClient, ReportsNoRoom, WritesFirst};
-ghost use Rattle.geocom_c.specs.Feeding.{FeedFaultLeavesState, FeedsFirst, FeedsUnended, HasRoomToSettle, IsFed, RestartsClient, WritesSettled, client_past};
+ghost use Rattle.geocom_c.specs.Feeding.{FeedFaultLeavesState, FeedsFirst, FeedsUnended, HasRoomToSettle, IsFed, RestartsClient, WritesSettled, client_past, feed_effect};
 ghost use Rattle.geocom_c.specs.declared.header.TheConstants.{NO_ROOM, NO_CLIENT};
 
 use crate::answers::{GeocomCount, GeocomHeard, counted, heard, refused, unheard, using};
@@ -18,7 +18,7 @@ use crate::header::{
     CLEARED, MORE, NO_CLIENT, NO_ROOM, OVERLONG, SETTLED, STRAY, TEXT_ROOM, UNREAD,
 };
 use crate::listed::list_line;
-use crate::rest::{GeocomRest, put};
+use crate::rest::{GeocomRest, put_text};
 use crate::settled::{GeocomSettlement, put_lost, put_records};
 use crate::state::{GeocomClient, NULLS, load, store};
 use gc_catalogue::Asked;
@@ -32,28 +32,23 @@ fn has_room_to_settle(settlements: &[GeocomSettlement], text: &[u8]) -> bool
     settlements.len() >= WINDOW && text.len() >= TEXT_ROOM
 }
 
-// Hands a line to `client`, which is the client of `state`, stores the client in `state`, and returns what came of the line, with
-// 0 as `used`. If the line settled requests, the text of the line is written, and a record for each of them; otherwise nothing
-// is.
+// Hands a line to the client, and returns what came of it, with 0 as `used`. If the line settled requests, its text is written,
+// and a record for each of them; otherwise nothing is.
 fn hear(
-    state: &mut GeocomClient,
-    mut client: Client<SlotsOf<Asked>>,
+    client: &mut Client<SlotsOf<Asked>>,
     line: &Line,
     settlements: &mut [GeocomSettlement],
     text: &mut [u8],
 ) -> GeocomHeard
     requires { HasRoomToSettle settlements.old text.old }
-    ensures fed { IsFed client (Frame.Line line.now) result settlements.new text.new }
-    ensures state { StoresClient state.old state.new (client_past client (Frame.Line line.now)) }
-    ensures answered { KeepsAnswered state.old state.new }
+    ensures fed { IsFed client.old (Frame.Line line.now) (feed_effect result settlements.new text.new) }
+    ensures client { client.new ≡ client_past client.old (Frame.Line line.now) }
     ensures written { WritesSettled result.count settlements.old settlements.new text.old text.new }
 {
-    let told = client.on_line(line);
-    store(state, client);
-    match told {
+    match client.on_line(line) {
         Heard::Settled(settled) => {
             let answer = list_line(line);
-            put(text, 0, answer.text.as_slice());
+            put_text(text, 0, answer.text.as_slice());
             put_records(settlements, settled.as_slice(), &answer);
             GeocomHeard {
                 count: settled.len() as u32,
@@ -71,31 +66,30 @@ fn hear(
 // Hands the client the line that a frame is, if it is one, as `hear` does, and returns what came of the frame, with 0 as `used`.
 // Any other frame changes nothing.
 fn feed_frame(
-    state: &mut GeocomClient,
-    client: Client<SlotsOf<Asked>>,
+    client: &mut Client<SlotsOf<Asked>>,
     frame: &Frame,
     settlements: &mut [GeocomSettlement],
     text: &mut [u8],
 ) -> GeocomHeard
     requires { HasRoomToSettle settlements.old text.old }
-    ensures fed { IsFed client frame.now result settlements.new text.new }
-    ensures state { (rest : List ℕ) → StandsForClient state.old client rest → StandsForClient state.new (client_past client frame.now) rest }
-    ensures answered { KeepsAnswered state.old state.new }
+    ensures fed { IsFed client.old frame.now (feed_effect result settlements.new text.new) }
+    ensures client { client.new ≡ client_past client.old frame.now }
     ensures written { WritesSettled result.count settlements.old settlements.new text.old text.new }
 {
     match frame {
-        Frame::Line(line) => hear(state, client, line, settlements, text),
+        Frame::Line(line) => hear(client, line, settlements, text),
         Frame::Cleared => heard(CLEARED),
         Frame::Overlong => heard(OVERLONG),
         Frame::More => heard(MORE),
     }
 }
 
-// Takes bytes through the first line feed, hands the client the frame that it ends, and returns what came of it. Without a line
-// feed all bytes are used, and `state.rest` keeps of them what the frame of the next line feed depends on.
+// Takes bytes through the first line feed, hands the frame that it ends to `client`, which is the client of `state`, stores the
+// client in `state`, and returns what came of the frame. Without a line feed all bytes are used, and `state.rest` keeps of them
+// what the frame of the next line feed depends on.
 fn feed(
     state: &mut GeocomClient,
-    client: Client<SlotsOf<Asked>>,
+    mut client: Client<SlotsOf<Asked>>,
     bytes: &[u8],
     settlements: &mut [GeocomSettlement],
     text: &mut [u8],
@@ -103,14 +97,16 @@ fn feed(
     requires room { HasRoomToSettle settlements.old text.old }
     requires cut { IsValid state.old.rest }
     ensures more { FeedsUnended client bytes.now state.old state.new result }
-    ensures frame { FeedsFirst client bytes.now state.old state.new result settlements.new text.new }
+    ensures frame { FeedsFirst client bytes.now state.old state.new (feed_effect result settlements.new text.new) }
     ensures fault { result.fault ≡ 0 }
     ensures answered { KeepsAnswered state.old state.new }
     ensures used { IsUsedOf bytes.now result.used }
     ensures written { WritesSettled result.count settlements.old settlements.new text.old text.new }
 {
     let (used, frame) = state.rest.take(bytes);
-    using(used, feed_frame(state, client, &frame, settlements, text))
+    let told = feed_frame(&mut client, &frame, settlements, text);
+    store(state, client);
+    using(used, told)
 }
 
 /// Takes bytes as they come, through the first line feed, and writes a record for each request that the line settles.
@@ -134,7 +130,7 @@ pub extern "C" fn geocom_client_feed(
 ) -> GeocomHeard
     ensures more { HasRoomToSettle settlements.old text.old → (c : Windowed Asked) → FeedsUnended c bytes.now state.old state.new result }
     ensures frame { HasRoomToSettle settlements.old text.old → (c : Windowed Asked)
-        → FeedsFirst c bytes.now state.old state.new result settlements.new text.new }
+        → FeedsFirst c bytes.now state.old state.new (feed_effect result settlements.new text.new) }
     ensures used { (result.used ≤ length bytes.now) × (result.fault ≡ 0 → 0 < length bytes.now → 0 < result.used) }
     ensures room { (result.fault ≡ NO_ROOM) ↔ (HasRoomToSettle settlements.old text.old → ⊥) }
     ensures astray { (result.fault ≡ NO_CLIENT) ↔ (HasRoomToSettle settlements.old text.old × IsAstray state.old) }

@@ -3,10 +3,8 @@
 ghost use Rattle.std.specs.Prelude.{◌≡◌, Some};
 ghost use Rattle.gc_lines.specs.Lines.{with_end};
 ghost use Rattle.gc_lines.specs.Requests.{request_text};
-ghost use Rattle.gc_catalogue.specs.declared.asked.Asked.TheVariants.{Raw};
-ghost use Rattle.gc_catalogue.specs.Raws.{IsRawRefusal};
 ghost use Rattle.geocom_c.specs.Rooms.{WritesText};
-ghost use Rattle.geocom_c.specs.Sending.{IsRawOf, AsksOrRefuses, IsSend, raw_number, send_effect};
+ghost use Rattle.geocom_c.specs.Sending.{AsksOrRefuses, IsSend, raw_number, raw_rule, send_effect};
 
 use crate::answers::GeocomCount;
 use crate::header::IN_TABLE;
@@ -31,7 +29,7 @@ fn number_of(fault: RawFault) -> u32
 
 // What a number and parameters ask for exactly as they are. `Err`: the number of the fault with which they are refused.
 fn read_raw(procedure: u16, params: &[u8]) -> Result<Asked, u32>
-    ensures { AsksOrRefuses Raw (IsRawOf procedure params.now) (IsRawRefusal procedure params.now) raw_number result }
+    ensures { AsksOrRefuses (raw_rule procedure params.now) result }
 {
     match raw_call(procedure, params) {
         Ok(raw) => Ok(Asked::Raw(raw)),
@@ -60,7 +58,7 @@ pub extern "C" fn geocom_client_send_raw(
     params: &[u8],
     line: &mut [u8],
 ) -> GeocomCount
-    ensures sends { IsSend Raw (IsRawOf procedure params.now) (IsRawRefusal procedure params.now) raw_number target deadline
+    ensures sends { IsSend (raw_rule procedure params.now) target deadline
         (send_effect state.old state.new line.old line.new result) }
     ensures given { WritesText result line.new
         (with_end (request_text (record { rpc = procedure; id = Some state.old.next; params = params.now }))) }

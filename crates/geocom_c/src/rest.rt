@@ -6,7 +6,7 @@ ghost use Rattle.gc_lines.specs.Frames.{frame_of, is_line_feed};
 ghost use Rattle.gc_lines.specs.Taking.{IsUsedOf};
 ghost use Rattle.geocom_c.specs.Beginning.{IsGiven};
 ghost use Rattle.geocom_c.specs.Rest.{IsValid, IsRest, UsesFirstLine, UsesUnended};
-ghost use Rattle.geocom_c.specs.Rooms.{IsWritten, KeepsLength, KeepsAfter};
+ghost use Rattle.geocom_c.specs.Rooms.{IsWritten, WritesWithin};
 ghost use Rattle.geocom_c.specs.declared.header.TheConstants.{LINE_ROOM};
 
 use crate::header::LINE_ROOM;
@@ -90,7 +90,7 @@ impl GeocomRest {
         let Some(last) = piece.last() else { return };
         let length = usize::from(self.length);
         let fitting = piece.len().min(KEPT - length);
-        put(&mut self.bytes, length, &piece[..fitting]);
+        put_text(&mut self.bytes, length, &piece[..fitting]);
         self.length += fitting as u16;
         if fitting < piece.len() {
             self.bytes[KEPT - 1] = *last;
@@ -106,11 +106,10 @@ fn has_no_line_feed(bytes: &[u8]) -> bool
 }
 
 /// Writes a text over the bytes from place `at` on, counted from 0. There is room for all of it.
-pub(crate) fn put(bytes: &mut [u8], at: usize, text: &[u8])
+pub(crate) fn put_text(bytes: &mut [u8], at: usize, text: &[u8])
     requires { at + length text.now ≤ length bytes.old }
     ensures text { IsWritten at text.now bytes.old bytes.new }
-    ensures untouched { KeepsAfter (at + length text.now) bytes.old bytes.new }
-    ensures length { KeepsLength bytes.old bytes.new }
+    ensures written { WritesWithin (at + length text.now) bytes.old bytes.new }
     ensures fits { at + length text.now ≤ length bytes.new }
 {
     bytes[at..at + text.len()].copy_from_slice(text);
@@ -120,11 +119,10 @@ pub(crate) fn put(bytes: &mut [u8], at: usize, text: &[u8])
 pub(crate) fn put_line(room: &mut [u8], line: &Line) -> u32
     requires { LINE_ROOM ≤ length room.old }
     ensures given { IsGiven (Some line.now.items) result room.new }
-    ensures untouched { KeepsAfter result room.old room.new }
-    ensures length { KeepsLength room.old room.new }
+    ensures written { WritesWithin result room.old room.new }
 {
     let text = with_end(line);
-    put(room, 0, text.as_slice());
+    put_text(room, 0, text.as_slice());
     text.len() as u32
 }
 

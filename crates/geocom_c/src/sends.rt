@@ -3,13 +3,10 @@
 ghost use Rattle.std.specs.Prelude.{◌≡◌, ◌≢◌, ◌<◌, ◌≤◌, ℕ, length, Some, Ok, Err};
 ghost use Rattle.gc_lines.specs.Lines.{with_end};
 ghost use Rattle.gc_catalogue.specs.declared.asked.Asked.{Asked};
-ghost use Rattle.gc_catalogue.specs.declared.asked.Asked.TheVariants.{Table};
 ghost use Rattle.gc_catalogue.specs.Asked.{asked_line};
-ghost use Rattle.gc_catalogue.specs.CallFault.{refusal_number};
-ghost use Rattle.gc_catalogue.specs.Calls.{IsCall, IsRefusal};
 ghost use Rattle.geocom_c.specs.State.{KeepsAnswered};
-ghost use Rattle.geocom_c.specs.Rooms.{FaultLeavesAll, KeepsLength, KeepsAfter, WritesText};
-ghost use Rattle.geocom_c.specs.Sending.{IsOfRequest, AsksOrRefuses, IsSend, SendsAsked, SendsRead, send_effect};
+ghost use Rattle.geocom_c.specs.Rooms.{FaultLeavesAll, WritesText, WritesWithin};
+ghost use Rattle.geocom_c.specs.Sending.{IsOfRequest, AsksOrRefuses, IsSend, SendsAsked, SendsRead, send_effect, table_rule};
 ghost use Rattle.geocom_c.specs.declared.header.TheConstants.{LINE_ROOM, WINDOW_FULL};
 
 use crate::answers::{GeocomCount, counted, refused};
@@ -34,8 +31,7 @@ fn send_asked(
     requires { LINE_ROOM ≤ length line.old }
     ensures sent { SendsAsked client asked target deadline (send_effect state.old state.new line.old line.new result) }
     ensures given { WritesText result line.new (with_end (asked_line (Some client.ids.next) asked)) }
-    ensures untouched { KeepsAfter result.count line.old line.new }
-    ensures length { KeepsLength line.old line.new }
+    ensures written { WritesWithin result.count line.old line.new }
     ensures answered { KeepsAnswered state.old state.new }
     ensures full { result.fault ≡ WINDOW_FULL → length client.ids.waiting ≡ client.width }
     ensures done { result.fault ≡ 0 → length client.ids.waiting < client.width }
@@ -83,7 +79,7 @@ pub(crate) fn send_read(
 
 // What a number and parameters ask for of the table. `Err`: the number of the fault with which they are refused.
 fn read_call(procedure: u16, params: &[u8]) -> Result<Asked, u32>
-    ensures { AsksOrRefuses Table (IsCall procedure params.now) (IsRefusal procedure params.now) refusal_number result }
+    ensures { AsksOrRefuses (table_rule procedure params.now) result }
 {
     let request = Request {
         rpc: procedure,
@@ -115,7 +111,7 @@ pub extern "C" fn geocom_client_send(
     params: &[u8],
     line: &mut [u8],
 ) -> GeocomCount
-    ensures sends { IsSend Table (IsCall procedure params.now) (IsRefusal procedure params.now) refusal_number target deadline
+    ensures sends { IsSend (table_rule procedure params.now) target deadline
         (send_effect state.old state.new line.old line.new result) }
 {
     send_read(state, target, deadline, read_call(procedure, params), line)

@@ -3,7 +3,7 @@
 ghost use Rattle.std.specs.Prelude.{◌≡◌, ◌≤◌, [], length};
 ghost use Rattle.gc_catalogue.specs.Asked.{procedure_of, IsAskedReading};
 ghost use Rattle.gc_client.specs.Settlements.{AreReadBy, IsReadBy, settlement_seen};
-ghost use Rattle.geocom_c.specs.Rooms.{KeepsLength, KeepsAfter};
+ghost use Rattle.geocom_c.specs.Rooms.{WritesWithin};
 ghost use Rattle.geocom_c.specs.Settled.{AreLost, AreRecords, IsKind, IsListingOf, IsRecord, RecordsNoAnswer, ListsAnswer, ListsAnswers, RecordsReading};
 
 use crate::header::{ANSWERED, COM_FAULT, LATE, LOST, NONE, REFUSED, UNREADABLE, VALUE};
@@ -114,8 +114,7 @@ pub(crate) fn put_records(
     requires told { ListsAnswers told.now settled.now }
     requires read { AreReadBy IsAskedReading settled.now }
     ensures records { AreRecords told.now.text.items records.new settled.now }
-    ensures untouched { KeepsAfter (length settled.now) records.old records.new }
-    ensures length { KeepsLength records.old records.new }
+    ensures written { WritesWithin (length settled.now) records.old records.new }
 {
     for k in 0..settled.len() {
         records[k] = record_of(&settled[k], told);
@@ -127,8 +126,7 @@ pub(crate) fn put_lost(records: &mut [GeocomSettlement], settled: &[Settlement<A
     requires room { length settled.now ≤ length records.old }
     requires lost { AreLost settled.now }
     ensures records { AreRecords [] records.new settled.now }
-    ensures untouched { KeepsAfter (length settled.now) records.old records.new }
-    ensures length { KeepsLength records.old records.new }
+    ensures written { WritesWithin (length settled.now) records.old records.new }
 {
     for k in 0..settled.len() {
         records[k] = unanswered(&settled[k], LOST);

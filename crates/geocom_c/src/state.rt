@@ -5,7 +5,7 @@ ghost use Rattle.gc_catalogue.specs.declared.asked.Asked.{Asked};
 ghost use Rattle.gc_catalogue.specs.Asked.{IsAsked};
 ghost use Rattle.gc_client.specs.Beginning.{the_word};
 ghost use Rattle.gc_client.specs.declared.pending.Pending.{Pending};
-ghost use Rattle.gc_client.specs.Rule.{Windowed};
+ghost use Rattle.gc_client.specs.Rule.{IsWidth, Windowed};
 ghost use Rattle.gc_client.specs.Rule;
 ghost use Rattle.geocom_c.specs.Rest.{kept_bytes};
 ghost use Rattle.geocom_c.specs.State.{StoresClient, HasClientNumbers, HoldRequests, IsAstray, IsLineOf, IsOnlyReading, HoldsRequest, KeepsAnswered, StandsForClient, left_of};
@@ -65,8 +65,7 @@ pub(crate) const NULLS: u8 = 8;
 
 // A new client of this width, which hasn't synchronized, with no bytes of an incomplete line.
 pub(crate) fn fresh(width: u8) -> GeocomClient
-    requires least { 1 ≤ width }
-    requires most { width ≤ WINDOW }
+    requires { IsWidth width }
     ensures client { StandsForClient result (record { width = width; ids = Rule.fresh }) [] }
     ensures begins { left_of result ≡ the_word }
 {

@@ -7,38 +7,30 @@ use Rattle.gc_lines.specs.Lines.{with_end}
 use Rattle.gc_lines.specs.declared.frame.Frame.{Frame}
 use Rattle.gc_lines.specs.declared.frame.Frame.TheVariants.{Line}
 use Rattle.gc_scenes.specs.Slow.{SlowState, HearsLine}
-use Rattle.geocom_instrument_c.specs.Bench.{BenchState}
-use Rattle.geocom_instrument_c.specs.Feeding.{HearsAndAnswers, IsFed, IsFedTo, IsSent, IsWithoutReply}
-use Rattle.geocom_instrument_c.specs.Setting.{IsBenchRestarted, IsRestarted}
+use Rattle.geocom_instrument_c.specs.Bench.{BenchState, CallsBench}
+use Rattle.geocom_instrument_c.specs.Feeding.{HearsAndAnswers, IsSent, IsWithoutReply}
 use Rattle.geocom_instrument_c.specs.declared.replied.GeocomReplied.{GeocomReplied}
 
--- if the instrument hears a line and has no reply, a result that says so (`IsWithoutReply`) meets `HearsAndAnswers`
-pub unanswered : (s n : SlowState) (frame : Frame) (line old new : List ℕ) (now used : ℕ) (r : GeocomReplied) → frame ≡ Line (record { items = line })
-    → AppendsAnswer (HearsLine s line now n) old new false → IsWithoutReply 0 used r → HearsAndAnswers s frame now n used r
-unanswered s n frame line old new now used r is heard nothing =
-    subst (λ (f : Frame). HearsAndAnswers s f now n used r) (sym is) (record { text = None; hears = (None, heard.0, refl); says = nothing })
+-- a feed of `used` bytes, whose frame is a line, has the result r
+module _ (s n : SlowState) (frame : Frame) (line old new : List ℕ) (now used : ℕ) (r : GeocomReplied) (is : frame ≡ Line (record { items = line })) where
+  -- if the instrument hears the line and has no reply, a result that says so (`IsWithoutReply`) meets `HearsAndAnswers`
+  pub unanswered : AppendsAnswer (HearsLine s line now n) old new false → IsWithoutReply 0 used r → HearsAndAnswers s frame now n used r
+  unanswered heard nothing =
+      subst (λ (f : Frame). HearsAndAnswers s f now n used r) (sym is) (record { text = None; hears = (None, heard.0, refl); says = nothing })
 
--- if the instrument hears a line and has a reply, and the text was empty before, a result with that reply and its CR LF
--- (`IsSent`) meets `HearsAndAnswers`
-pub answered : (s n : SlowState) (frame : Frame) (line old new sent : List ℕ) (now used : ℕ) (r : GeocomReplied)
-    → frame ≡ Line (record { items = line }) → AppendsAnswer (HearsLine s line now n) old new true → old ≡ []
-    → sent ≡ new ++ 13 ∷ 10 ∷ [] → IsSent sent used n.free_from r → HearsAndAnswers s frame now n used r
-answered s n frame line old new sent now used r is heard empty ends told =
-    let whole : sent ≡ with_end heard.0 = ends ∙ ap (λ (x : List ℕ). x ++ 13 ∷ 10 ∷ []) (heard.2 ∙ ap (λ (x : List ℕ). x ++ heard.0) empty) in
-    subst (λ (f : Frame). HearsAndAnswers s f now n used r) (sym is)
-    (record { text = Some (with_end heard.0); hears = (Some heard.0, heard.1, refl); says = subst (λ (x : List ℕ). IsSent x used n.free_from r) whole told })
+  -- if the instrument hears the line and has a reply, and the text was empty before, a result with that reply and its CR LF
+  -- (`IsSent`) meets `HearsAndAnswers`
+  pub answered : (sent : List ℕ) → AppendsAnswer (HearsLine s line now n) old new true → old ≡ [] → sent ≡ new ++ 13 ∷ 10 ∷ []
+      → IsSent sent used n.free_from r → HearsAndAnswers s frame now n used r
+  answered sent heard empty ends told =
+      let whole : sent ≡ with_end heard.0 = ends ∙ ap (λ (x : List ℕ). x ++ 13 ∷ 10 ∷ []) (heard.2 ∙ ap (λ (x : List ℕ). x ++ heard.0) empty) in
+      subst (λ (f : Frame). HearsAndAnswers s f now n used r) (sym is)
+      (record { text = Some (with_end heard.0); hears = (Some heard.0, heard.1, refl); says = subst (λ (x : List ℕ). IsSent x used n.free_from r) whole told })
 
--- where an instrument is there before the call and after it, `IsFed` follows from `IsFedTo`
-pub is_fed : (o : Option BenchState) (b n : BenchState) (bytes : List ℕ) (now : ℕ) (r : GeocomReplied) → o ≡ Some b
-    → IsFedTo b bytes now n r → IsFed o bytes now (Some n) r
-is_fed o b n bytes now r is so = record {
+-- where an instrument is there before the call and after it, and `With` holds of its states, the call is as `CallsBench` says
+pub calls_bench : (o : Option BenchState) (b n : BenchState) (Without : Type 0) (With : BenchState → BenchState → Type 0) → o ≡ Some b → With b n
+    → CallsBench o (Some n) Without With
+calls_bench o b n Without With is so = record {
   absent = λ none. let bad : Some b ≡ None = sym is ∙ none in cc;
-  present = λ d e. let both : Some b ≡ Some d = sym is ∙ e in let same : b ≡ d = cc in (n, refl, subst (λ (x : BenchState). IsFedTo x bytes now n r) same so);
-}
-
--- where an instrument is there before the call and after it, `IsRestarted` with the fault 0 follows from `IsBenchRestarted`
-pub is_restarted : (o : Option BenchState) (b n : BenchState) → o ≡ Some b → IsBenchRestarted b n → IsRestarted o (Some n) 0
-is_restarted o b n is so = record {
-  absent = λ none. let bad : Some b ≡ None = sym is ∙ none in cc;
-  present = λ d e. let both : Some b ≡ Some d = sym is ∙ e in let same : b ≡ d = cc in (n, refl, subst (λ (x : BenchState). IsBenchRestarted x n) same so, refl);
+  present = λ d e. let both : Some b ≡ Some d = sym is ∙ e in let same : b ≡ d = cc in (n, refl, subst (λ (x : BenchState). With x n) same so);
 }

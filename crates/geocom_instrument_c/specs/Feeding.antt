@@ -5,7 +5,7 @@ use Rattle.gc_lines.specs.Assembler.{StandsFor}
 use Rattle.gc_lines.specs.Frames.{is_line_feed, frame_of}
 use Rattle.gc_lines.specs.declared.frame.Frame.{Frame}
 use Rattle.gc_scenes.specs.Slow.{SlowState, HearsFrame}
-use Rattle.geocom_instrument_c.specs.Bench.{BenchState}
+use Rattle.geocom_instrument_c.specs.Bench.{BenchState, CallsBench}
 use Rattle.geocom_instrument_c.specs.declared.header.TheConstants.{NO_INSTRUMENT}
 use Rattle.geocom_instrument_c.specs.declared.replied.GeocomReplied.{GeocomReplied}
 
@@ -55,6 +55,5 @@ pub record IsFedTo (before : BenchState) (bytes : List ℕ) (now : ℕ) (after :
 
 -- bytes were fed at the moment `now` where there may be no instrument: without one no byte was used, and the fault says so; with
 -- one they were fed to it (`IsFedTo`)
-pub record IsFed (before : Option BenchState) (bytes : List ℕ) (now : ℕ) (after : Option BenchState) (r : GeocomReplied) : Type 0 where
-  pub absent : before ≡ None → (after ≡ None) × IsWithoutReply NO_INSTRUMENT 0 r
-  pub present : (b : BenchState) → before ≡ Some b → (c : BenchState) × (after ≡ Some c) × IsFedTo b bytes now c r
+abbrev pub IsFed : (before : Option BenchState) → (bytes : List ℕ) → (now : ℕ) → (after : Option BenchState) → GeocomReplied → Type 0
+IsFed before bytes now after r = CallsBench before after (IsWithoutReply NO_INSTRUMENT 0 r) (λ from to. IsFedTo from bytes now to r)

@@ -6,7 +6,7 @@ use Rattle.gc_scenes.specs.Slow.{slow_restarted}
 use Rattle.gc_texts.specs.Faults.{run_fault_number}
 use Rattle.gc_texts.specs.declared.fault.RunFault.{RunFault}
 use Rattle.gc_texts.specs.declared.fault.RunFault.TheVariants.{Schedule}
-use Rattle.geocom_instrument_c.specs.Bench.{BenchState}
+use Rattle.geocom_instrument_c.specs.Bench.{BenchState, CallsBench}
 use Rattle.geocom_instrument_c.specs.declared.header.TheConstants.{NO_INSTRUMENT}
 use Rattle.geocom_instrument_c.specs.declared.replied.GeocomMade.{GeocomMade}
 
@@ -17,9 +17,8 @@ pub record IsBenchRestarted (before after : BenchState) : Type 0 where
 
 -- a restart where there may be no instrument: without one the fault is that there is none, and nothing has changed; with one the
 -- fault is 0, and it is restarted (`IsBenchRestarted`)
-pub record IsRestarted (before after : Option BenchState) (fault : ℕ) : Type 0 where
-  pub absent : before ≡ None → (after ≡ None) × (fault ≡ NO_INSTRUMENT)
-  pub present : (b : BenchState) → before ≡ Some b → (c : BenchState) × (after ≡ Some c) × IsBenchRestarted b c × (fault ≡ 0)
+abbrev pub IsRestarted : (before after : Option BenchState) → (fault : ℕ) → Type 0
+IsRestarted before after fault = CallsBench before after (fault ≡ NO_INSTRUMENT) (λ from to. IsBenchRestarted from to × (fault ≡ 0))
 
 -- the number of the scene's line that a fault names; 0 if it names none
 abbrev pub faulty_line : RunFault → ℕ

@@ -34,7 +34,7 @@ fn play_setup(case: &Case<'_>, setup: &Setup, wrong: &mut Told) {
     } else {
         None
     };
-    whole.compare(setup.alloc, case, differs, wrong);
+    whole.compare(case, differs, wrong);
 }
 
 /// The first way of cutting the input in which the run comes to something else than `whole`, to which it came in as few pieces as

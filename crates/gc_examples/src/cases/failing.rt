@@ -77,7 +77,6 @@ fn append_run(end: &End, output: &Told, place: u64, text: &mut Told) {
 // ended.
 #[derive(Drop)]
 struct Groups<'a> {
-    alloc: Global,
     case: Case<'a>,
     // The port that fails.
     port: Port,
@@ -95,7 +94,6 @@ impl<'a> Groups<'a> {
     // No group yet.
     fn new(alloc: Global, case: Case<'a>, port: Port, whole: RunOutcome) -> Groups<'a> {
         Groups {
-            alloc,
             case,
             port,
             whole,
@@ -109,7 +107,7 @@ impl<'a> Groups<'a> {
     // group ends that isn't what the case expects, a line is appended to `wrong`.
     fn play_call(&mut self, setup: &Setup, k: u64, wrong: &mut Told) -> bool {
         let came = setup.run(setup.sizes.as_slice());
-        let mut output = Told::new(self.alloc);
+        let mut output = Told::new(wrong.alloc);
         self.append_output(&came, k, &mut output);
         self.add(&came.end, &output, wrong);
         came.end.is_done
@@ -128,7 +126,7 @@ impl<'a> Groups<'a> {
 
     // Adds a run to the last group, if it came to the same, or begins another one with it.
     fn add(&mut self, end: &End, output: &Told, wrong: &mut Told) {
-        let mut text = Told::new(self.alloc);
+        let mut text = Told::new(wrong.alloc);
         append_run(end, output, self.count, &mut text);
         if self.count > 0 && text.as_bytes() == self.text.as_bytes() {
             self.count = self.count.saturating_add(1);
@@ -156,11 +154,11 @@ impl<'a> Groups<'a> {
     // Compares the last group, how many runs it has and what they came to, with what the case has under the group's key. A
     // sixth or later group has none, and is compared with the value under `?`.
     fn compare(&self, wrong: &mut Told) {
-        let mut told = Told::new(self.alloc);
+        let mut told = Told::new(wrong.alloc);
         told.counted(&self.count, " calls: ");
         told.append(&self.text);
         let key = KEYS.get(self.ended).copied().unwrap_or("?");
-        self.case.tell_told(key, &told, wrong);
+        self.case.compare_told(key, &told, wrong);
     }
 
     // Ends the last group, if it has a run, and compares an empty text with the value under each later key, so that no group
@@ -168,7 +166,7 @@ impl<'a> Groups<'a> {
     fn finish(&mut self, wrong: &mut Told) {
         self.close(wrong);
         for key in KEYS.iter().skip(self.ended) {
-            self.case.tell(key, b"", wrong);
+            self.case.compare(key, b"", wrong);
         }
     }
 }

@@ -87,31 +87,25 @@ impl RunOutcome {
     /// Compares how the run ended, what it wrote and what it sent with what the case has under `end`, `output` and `sent`, and,
     /// if the case has a value under `writes`, the sizes of its writes with this one. `differs` is the way of cutting the input in which
     /// it came to something else; its words are appended to how it ended.
-    pub fn compare(
-        &self,
-        alloc: Global,
-        case: &Case<'_>,
-        differs: Option<Recut>,
-        wrong: &mut Told,
-    ) {
-        self.end.compare(alloc, case, differs, wrong);
-        case.tell("output", self.output.taken(), wrong);
-        case.tell("sent", self.link.taken(), wrong);
-        if !case.is("writes", "") {
-            compare_writes(alloc, case, self.output.sizes.as_slice(), wrong);
+    pub fn compare(&self, case: &Case<'_>, differs: Option<Recut>, wrong: &mut Told) {
+        self.end.compare(case, differs, wrong);
+        case.compare("output", self.output.taken(), wrong);
+        case.compare("sent", self.link.taken(), wrong);
+        if case.has("writes") {
+            compare_writes(case, self.output.sizes.as_slice(), wrong);
         }
     }
 }
 
 // Compares how many bytes each write of the output had, with a space between, with the case's `writes`.
-fn compare_writes(alloc: Global, case: &Case<'_>, sizes: &[usize], wrong: &mut Told) {
-    let mut text = Told::new(alloc);
+fn compare_writes(case: &Case<'_>, sizes: &[usize], wrong: &mut Told) {
+    let mut text = Told::new(wrong.alloc);
     let mut between = "";
     for size in sizes {
         text.titled(between, size);
         between = " ";
     }
-    case.tell_told("writes", &text, wrong);
+    case.compare_told("writes", &text, wrong);
 }
 
 impl End {
@@ -133,8 +127,8 @@ impl End {
 
     // Compares the text, with ` byte ` and `bytes` after it unless they are `None`, and the words of `differs` at the end, with the
     // case's `end`.
-    fn compare(&self, alloc: Global, case: &Case<'_>, differs: Option<Recut>, wrong: &mut Told) {
-        let mut told = Told::new(alloc);
+    fn compare(&self, case: &Case<'_>, differs: Option<Recut>, wrong: &mut Told) {
+        let mut told = Told::new(wrong.alloc);
         told.append(&self.text);
         if let Some(bytes) = self.bytes {
             told.titled(" byte ", &bytes);
@@ -142,7 +136,7 @@ impl End {
         if let Some(way) = differs {
             told.text(way.words());
         }
-        case.tell_told("end", &told, wrong);
+        case.compare_told("end", &told, wrong);
     }
 
     // Stores the end of a run with the fault `Write`: `replies` lines were written whole, and `bytes` bytes of the next.

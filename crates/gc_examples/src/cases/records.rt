@@ -27,10 +27,10 @@ impl Player for Records {
     fn play(&self, rt: &HostRuntime, case: &Case<'_>, wrong: &mut Told) -> io::Result<()> {
         let mut written = Told::new(rt.alloc());
         match form_of(case.value("form")) {
-            Some(form) => write_case(rt.alloc(), case, form, &mut written),
+            Some(form) => write_case(case, form, &mut written),
             None => written.text("no such form"),
         }
-        case.tell_told("is", &written, wrong);
+        case.compare_told("is", &written, wrong);
         Ok(())
     }
 }
@@ -49,18 +49,18 @@ fn form_of(word: &str) -> Option<Form> {
 // Appends the record of a case to `written`; for a case without a command, the head that is written before all records. If
 // memory runs out for the name or the reply, `written` notes that it lacks a part. Where it runs out for the command,
 // `command_of` says what comes instead.
-fn write_case(alloc: Global, case: &Case<'_>, form: Form, written: &mut Told) {
-    if case.is("command", "") {
+fn write_case(case: &Case<'_>, form: Form, written: &mut Told) {
+    if !case.has("command") {
         let _ = write_head(&mut ToWriter::new(written), form);
         return;
     }
-    let Ok(name) = bytes_of(alloc, case.value("name")) else {
+    let Ok(name) = bytes_of(written.alloc, case.value("name")) else {
         return written.lack();
     };
-    let Ok(reply) = bytes_of(alloc, case.value("reply")) else {
+    let Ok(reply) = bytes_of(written.alloc, case.value("reply")) else {
         return written.lack();
     };
-    let command = command_of(alloc, case.value("command").as_bytes());
+    let command = command_of(written.alloc, case.value("command").as_bytes());
     let line = line_of(reply.as_slice());
     let reading = reading_of(&command.call, &line);
     let zeroed = reading_as_zero(&command.call, &line);

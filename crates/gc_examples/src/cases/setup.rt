@@ -1,7 +1,6 @@
 //! What a case says of a run: the engine, its input, and how many calls of each port are answered.
 
-ghost use Rattle.std.specs.Prelude.{◌≤◌};
-ghost use Rattle.gc_client.specs.declared.window.TheConstants.{WINDOW};
+ghost use Rattle.gc_client.specs.Rule.{IsWidth};
 
 use crate::cases::engines::push_single;
 use crate::cases::outcome::{Returned, RunOutcome};
@@ -153,8 +152,7 @@ fn engine_of(word: &str) -> Engine {
 
 /// How many requests may be outstanding, by the width that a case says: 1 to 6 as they are, and 7 for any other.
 pub(crate) fn width_of(width: u8) -> u8
-    ensures least { 1 ≤ result }
-    ensures most { result ≤ WINDOW }
+    ensures { IsWidth result }
 {
     match width {
         1..=6 => width,

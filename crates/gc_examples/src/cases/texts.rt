@@ -2,7 +2,7 @@
 //! so on; or it names a fault, which is printed. The case expects under `is` what comes of it, as the functions here append it to
 //! `came`.
 
-use gc_cases::{Case, Player, Told, bytes_of};
+use gc_cases::{Case, Player, Told, bytes_of, text_of};
 use gc_catalogue::Asked;
 use gc_engines::read_schedule;
 use gc_lines::ToWriter;
@@ -23,45 +23,103 @@ impl Player for Texts {
     // text, `wrong` notes that it lacks a part.
     fn play(&self, rt: &HostRuntime, case: &Case<'_>, wrong: &mut Told) -> io::Result<()> {
         match bytes_of(rt.alloc(), case.value("text")) {
-            Ok(text) => play_text(rt.alloc(), case, text.as_slice(), wrong),
+            Ok(text) => play_text(case, text.as_slice(), wrong),
             Err(_) => wrong.lack(),
         }
         Ok(())
     }
 }
 
-// Compares what comes of the text with the case's value under `is`; and where the case has a value under `of`, the number of a target, also
-// the name of that target with the value under `name`. What differs goes to `wrong`.
-fn play_text(alloc: Global, case: &Case<'_>, text: &[u8], wrong: &mut Told) {
-    let mut came = Told::new(alloc);
-    read_as_said(alloc, case, text, &mut came);
-    case.tell_told("is", &came, wrong);
-    if !case.is("of", "") {
-        compare_name(alloc, case, text, wrong);
-    }
+// Plays a case whose text spells these bytes.
+fn play_text(case: &Case<'_>, text: &[u8], wrong: &mut Told) {
+    let played = TextCase { case: *case, text };
+    played.play(wrong);
 }
 
-// Appends what comes of a text, as the case's `as` says: its line with the number under `line`, counted from 1; what is printed of it as a
-// faulty line; the line that a log has of it; the fault that it names; or what it reads as. For any other word `no such text`.
-fn read_as_said(alloc: Global, case: &Case<'_>, text: &[u8], came: &mut Told) {
-    match case.value("as") {
-        "line" => came.bytes(line_at(text, case.number("line", 0))),
-        "trouble" => append_trouble(text, came),
-        "log" => write_as_log_line(text, came),
-        "fault" => append_named_fault(case, came),
-        "commands" => read_as_commands(alloc, text, came),
-        "schedule" => read_as_schedule(alloc, text, came),
-        "tasks" => read_as_tasks(alloc, case, text, came),
-        "call" => read_as_call(alloc, case, text, came),
-        "place" => read_as_place(text, came),
-        "log line" => read_as_log_line(text, came),
-        _ => came.text("no such text"),
+// A case, and the bytes that its text spells.
+#[derive(Clone, Copy)]
+struct TextCase<'a, 'b> {
+    case: Case<'a>,
+    text: &'b [u8],
+}
+
+impl TextCase<'_, '_> {
+    // Compares what comes of the text with the case's value under `is`; and where the case has a value under `of`, the number of
+    // a target, also the name of that target with the value under `name`. What differs goes to `wrong`.
+    fn play(&self, wrong: &mut Told) {
+        let mut came = Told::new(wrong.alloc);
+        self.read_as_said(&mut came);
+        self.case.compare_told("is", &came, wrong);
+        if self.case.has("of") {
+            self.compare_name(wrong);
+        }
+    }
+
+    // Appends what comes of the text, as the case's `as` says: its line with the number under `line`, counted from 1; what is
+    // printed of it as a faulty line; the line that a log has of it; the fault that it names; or what it reads as. For any other
+    // word `no such text`.
+    fn read_as_said(&self, came: &mut Told) {
+        match self.case.value("as") {
+            "line" => came.bytes(line_at(self.text, self.case.number("line", 0))),
+            "trouble" => append_trouble(self.text, came),
+            "log" => write_as_log_line(self.text, came),
+            "fault" => append_named_fault(&self.case, came),
+            "commands" => read_as_commands(self.text, came),
+            "schedule" => read_as_schedule(self.text, came),
+            "tasks" => self.read_as_tasks(came),
+            "call" => self.read_as_call(came),
+            "place" => read_as_place(self.text, came),
+            "log line" => read_as_log_line(self.text, came),
+            _ => came.text("no such text"),
+        }
+    }
+
+    // Reads a station's text. Until a line says otherwise, its commands have the case's `deadline` in milliseconds, 0 if it has
+    // none, and are chained if its `mode` is `chained`. `Err`: the text is refused, or memory ran out.
+    fn tasks(&self, alloc: Global) -> Result<Tasks, RunFault> {
+        let deadline = self.case.number("deadline", 0);
+        let is_chained = self.case.is("mode", "chained");
+        read_tasks(alloc, self.text, deadline, is_chained)
+    }
+
+    // Reads a station's text, and appends its tasks as `append_tasks` does; or the fault.
+    fn read_as_tasks(&self, came: &mut Told) {
+        match self.tasks(came.alloc) {
+            Ok(all) => append_tasks(&self.case, &all, came),
+            Err(fault) => came.display(&fault),
+        }
+    }
+
+    // Reads a station's text, and appends what its first task asks for if it is sent at the case's `utc`, in milliseconds since
+    // 1970, 0 if it has none; or `no task`, or the fault.
+    fn read_as_call(&self, came: &mut Told) {
+        match self.tasks(came.alloc) {
+            Ok(all) => append_call(all.tasks.as_slice(), self.case.number("utc", 0), came),
+            Err(fault) => came.display(&fault),
+        }
+    }
+
+    // Reads a station's text, and compares the name of the target whose number is under `of` with the case's `name`; where the
+    // text doesn't read, its fault.
+    fn compare_name(&self, wrong: &mut Told) {
+        let mut name = Told::new(wrong.alloc);
+        self.append_name(&mut name);
+        self.case.compare_told("name", &name, wrong);
+    }
+
+    // Reads a station's text, and appends to `name` the name of the target whose number is under `of`, nothing if it has none; or
+    // the fault of the text.
+    fn append_name(&self, name: &mut Told) {
+        match self.tasks(name.alloc) {
+            Ok(all) => name.bytes(all.name_of(self.case.number("of", 0))),
+            Err(fault) => name.display(&fault),
+        }
     }
 }
 
 // Reads a text as commands, and appends each of them in a line; or the fault.
-fn read_as_commands(alloc: Global, text: &[u8], came: &mut Told) {
-    match read_commands(alloc, text) {
+fn read_as_commands(text: &[u8], came: &mut Told) {
+    match read_commands(came.alloc, text) {
         Ok(commands) => append_commands(commands.as_slice(), came),
         Err(fault) => came.display(&fault),
     }
@@ -77,8 +135,8 @@ fn append_commands(commands: &[Command], came: &mut Told) {
 }
 
 // Reads a text as a schedule, and appends each of its events in a line; or the fault.
-fn read_as_schedule(alloc: Global, text: &[u8], came: &mut Told) {
-    match read_schedule(alloc, text) {
+fn read_as_schedule(text: &[u8], came: &mut Told) {
+    match read_schedule(came.alloc, text) {
         Ok(events) => append_events(events.as_slice(), came),
         Err(fault) => came.display(&fault),
     }
@@ -89,21 +147,6 @@ fn append_events(events: &[Event], came: &mut Told) {
     for event in events {
         came.debug(event);
         came.text("\n");
-    }
-}
-
-// Reads a station's text. Until a line says otherwise, its commands have the case's `deadline` in milliseconds, 0 if it has none, and are
-// chained if its `mode` is `chained`. `Err`: the text is refused, or memory ran out.
-fn tasks_of(alloc: Global, case: &Case<'_>, text: &[u8]) -> Result<Tasks, RunFault> {
-    let deadline = case.number("deadline", 0);
-    read_tasks(alloc, text, deadline, case.is("mode", "chained"))
-}
-
-// Reads a station's text, and appends its tasks as `append_tasks` does; or the fault.
-fn read_as_tasks(alloc: Global, case: &Case<'_>, text: &[u8], came: &mut Told) {
-    match tasks_of(alloc, case, text) {
-        Ok(all) => append_tasks(case, &all, came),
-        Err(fault) => came.display(&fault),
     }
 }
 
@@ -136,25 +179,16 @@ fn append_turn(task: &Task, came: &mut Told) {
     came.titled(" others ", &task.others);
     append_codes(" again ", &task.again.codes, came);
     append_outcomes(task, came);
-    came.either(task.now, " now", "");
+    came.text_if(task.now, " now");
 }
 
 // Appends the outcomes, other than return codes, after which a task is asked again.
 fn append_outcomes(task: &Task, came: &mut Told) {
-    came.either(task.again.unreadable, " unreadable", "");
-    came.either(task.again.elsewhere, " elsewhere", "");
-    came.either(task.again.late, " late", "");
-    came.either(task.again.lost, " lost", "");
-    came.either(task.again.skipped, " skipped", "");
-}
-
-// Reads a station's text, and appends what its first task asks for if it is sent at the case's `utc`, in milliseconds since 1970, 0 if it
-// has none; or `no task`, or the fault.
-fn read_as_call(alloc: Global, case: &Case<'_>, text: &[u8], came: &mut Told) {
-    match tasks_of(alloc, case, text) {
-        Ok(all) => append_call(all.tasks.as_slice(), case.number("utc", 0), came),
-        Err(fault) => came.display(&fault),
-    }
+    came.text_if(task.again.unreadable, " unreadable");
+    came.text_if(task.again.elsewhere, " elsewhere");
+    came.text_if(task.again.late, " late");
+    came.text_if(task.again.lost, " lost");
+    came.text_if(task.again.skipped, " skipped");
 }
 
 // Appends what the first of these tasks asks for if it is sent at the moment `utc`, in milliseconds since 1970; or `no task`.
@@ -172,7 +206,7 @@ fn append_task(task: &Task, came: &mut Told) {
     came.titled(" ", &task.command.call.number());
     append_raw(&task.command.call, came);
     came.titled(" within ", &task.deadline);
-    came.either(task.chained, " chained", "");
+    came.text_if(task.chained, " chained");
 }
 
 // Appends the parameters of a procedure that isn't in the table, in brackets; for a call of the table nothing.
@@ -203,23 +237,6 @@ fn append_codes(title: &str, codes: &Codes, came: &mut Told) {
     }
 }
 
-// Reads a station's text, and compares the name of the target whose number is under `of` with the case's `name`; where the text doesn't
-// read, its fault.
-fn compare_name(alloc: Global, case: &Case<'_>, text: &[u8], wrong: &mut Told) {
-    let mut name = Told::new(alloc);
-    append_name(alloc, case, text, &mut name);
-    case.tell_told("name", &name, wrong);
-}
-
-// Reads a station's text, and appends to `name` the name of the target whose number is under `of`, nothing if it has none; or the fault of
-// the text.
-fn append_name(alloc: Global, case: &Case<'_>, text: &[u8], name: &mut Told) {
-    match tasks_of(alloc, case, text) {
-        Ok(all) => name.bytes(all.name_of(case.number("of", 0))),
-        Err(fault) => name.display(&fault),
-    }
-}
-
 // Appends what the program prints of a faulty line of a station's text, as if it were the text's third line.
 fn append_trouble(line: &[u8], came: &mut Told) {
     let _ = trouble_of(line).tell(3, came);
@@ -227,7 +244,7 @@ fn append_trouble(line: &[u8], came: &mut Told) {
 
 // Appends the place of a link that a word names, as `Debug` prints it, or `none` if it names none or isn't UTF-8.
 fn read_as_place(word: &[u8], came: &mut Told) {
-    match place_of(str::from_utf8(word).unwrap_or("no text")) {
+    match place_of(text_of(word)) {
         Some(place) => came.debug(&place),
         None => came.text("none"),
     }

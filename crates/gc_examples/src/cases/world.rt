@@ -3,7 +3,7 @@
 
 use crate::cases::setup::width_of;
 use crate::cases::single_bytes::in_single_bytes;
-use gc_cases::{Case, Player, Rows, Told, play_rows};
+use gc_cases::{Case, Player, Row, Rows, Told, play_rows};
 use gc_catalogue::Call;
 use gc_client::{Client, Outcome, Ring, Settlement, Slots, Window};
 use gc_engines::read_schedule;
@@ -196,15 +196,15 @@ fn append_at_start(report: &Report, came: &mut Told) {
 impl Rows for WorldRows {
     // Adds an event, sets the width or the precision, or appends what the events so far lead to; or appends that the word is
     // unknown.
-    fn play(&mut self, _alloc: Global, word: &str, what: &str, _bytes: &[u8], came: &mut Told) {
-        if let Some(wanted) = wanted_by(word) {
+    fn play(&mut self, row: Row<'_>, came: &mut Told) {
+        if let Some(wanted) = wanted_by(row.word) {
             self.append_wanted(wanted, came);
             return;
         }
-        match word {
-            "send" | "up" | "down" | "expire" | "restart" => self.add_event(word, what),
-            "width" => self.width = came.number_in(what),
-            "precision" => self.precision = came.number_in(what),
+        match row.word {
+            "send" | "up" | "down" | "expire" | "restart" => self.add_event(row.word, row.what),
+            "width" => self.width = came.number_in(row.what),
+            "precision" => self.precision = came.number_in(row.what),
             _ => came.text("an unknown word"),
         }
     }
@@ -263,7 +263,7 @@ impl Player for World {
     fn play(&self, rt: &HostRuntime, case: &Case<'_>, wrong: &mut Told) -> io::Result<()> {
         let mut world = WorldRows::new(rt.alloc());
         add_events(rt, case.value("schedule"), &mut world.text);
-        play_rows(rt.alloc(), case, &mut world, wrong);
+        play_rows(case, &mut world, wrong);
         Ok(())
     }
 }

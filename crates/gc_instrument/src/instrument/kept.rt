@@ -6,15 +6,12 @@ ghost use Rattle.gc_instrument.specs.Replying.{kept_line, kept_after};
 
 use std::marker::Model;
 
-// The most bytes of a line.
-const ROOM: usize = 512;
-
-/// The id of a request and the line of its reply, or nothing. The line is written in place. Bytes of a longer earlier line
-/// stay after it, since clearing them would cost each request time.
+/// The id of a request and the line of its reply, of at most 512 bytes, or nothing. The line is written in place. Bytes of a longer
+/// earlier line stay after it, since clearing them would cost each request time.
 #[derive(Drop)]
 pub struct Kept {
     id: Option<u8>,
-    bytes: [u8; ROOM],
+    bytes: [u8; 512],
     // How many bytes the line has.
     len: usize,
 }
@@ -22,13 +19,12 @@ pub struct Kept {
 impl Model for Kept {
     ghost use Rattle.std.specs.Prelude.{◌≤◌, Option, take};
     ghost use Rattle.gc_instrument.specs.State.{KeptReply, kept_in};
-    ghost use Rattle.gc_instrument.specs.declared.instrument.kept.TheConstants.{ROOM};
 
     ghost Value = { Option KeptReply };
 
     ghost view = { λ k. kept_in k.id (take k.len k.bytes) };
 
-    ghost invariant = { λ k. k.len ≤ ROOM };
+    ghost invariant = { λ k. k.len ≤ 512 };
 }
 
 impl Kept {
@@ -38,7 +34,7 @@ impl Kept {
     {
         Kept {
             id: None,
-            bytes: [0; ROOM],
+            bytes: [0; 512],
             len: 0,
         }
     }

@@ -1,13 +1,11 @@
 //! What the instrument replies to a line: nothing if the line is no request, the communication code 3081 or
 //! 3080 if the request names no call, the stored reply if it has the stored id, and else the call's answer.
 
-ghost use Rattle.std.specs.Prelude.{◌≡◌, ◌<◌, ◌≤◌, ◌+◌, ℕ, Some, length};
+ghost use Rattle.std.specs.Prelude.{◌≡◌, ◌<◌, ◌≤◌, ◌+◌, length};
 ghost use Rattle.std.specs.Option.{option_map, ForSome};
 ghost use Rattle.arrayvec.specs.ArrayVec.{array_vec_len};
 ghost use Rattle.gc_lines.specs.Answering.{AppendsAnswer, AppendsText};
-ghost use Rattle.gc_catalogue.specs.Calls.{IsFitting};
-ghost use Rattle.gc_catalogue.specs.Texts.{request_line};
-ghost use Rattle.gc_instrument.specs.Replying.{IsReplied, IsExchanged, AppendsExchange, IsReplyToCall, IsReplyToExecuted, com_code};
+ghost use Rattle.gc_instrument.specs.Replying.{IsReplied, IsExchanged, AppendsExchange, IsReplyToCall, IsReplyToExecuted, OfItsCall, com_code};
 
 use super::Instrument;
 use crate::codes::{UNKNOWN_PROCEDURE, WRONG_PARAMETERS};
@@ -17,8 +15,6 @@ use gc_catalogue::{Answer, Call, CallFault, decode_call_into, encode_answer_onto
 use gc_lines::{Line, Request, append, push_reply};
 
 impl Instrument {
-    ghost use Rattle.gc_catalogue.specs.declared.call.Call.{Call};
-
     /// Takes a line, and returns the reply to it, both without CR LF. `None`: the line is no request.
     ///
     /// The call is carried out, and its reply has the request's id, or 0 if it has none, and doubles rounded to the precision
@@ -32,9 +28,8 @@ impl Instrument {
     #[tactic(auto, using(crate::proofs::Answering::replied_alone, crate::proofs::Answering::exchanged_alone))]
     pub fn on_line(&mut self, line: &Line) -> Option<Line>
         ensures replied { IsReplied self.old line.now.items self.new (option_map (λ r. r.items) result) }
-        ensures exchanged { (id : ℕ) (call : Call) → id < 8 → IsFitting call
-            → line.now.items ≡ request_line (Some id) call
-            → IsExchanged self.old id call self.new (option_map (λ r. r.items) result) }
+        ensures exchanged { OfItsCall line.now.items
+            (λ id call. IsExchanged self.old id call self.new (option_map (λ r. r.items) result)) }
     {
         let mut reply = Line::new();
         if self.reply_onto(line.as_slice(), &mut reply) {

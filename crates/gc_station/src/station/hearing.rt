@@ -1,10 +1,9 @@
 //! What a station hears: a piece, its lines, and what they settle.
 
-ghost use Rattle.std.specs.Prelude.{◌≡◌};
 ghost use Rattle.gc_lines.specs.Lent.{IsLineWithin};
-ghost use Rattle.gc_lines.specs.Ports.{FailsWith};
 ghost use Rattle.gc_station.specs.Model.{piece_came, piece_taken, piece_at};
 ghost use Rattle.gc_station.specs.Stations.{MovesByReading, as_seen, KeepsToModel, frame_came};
+ghost use Rattle.gc_station.specs.Writing.{KeepsBook};
 
 use super::Station;
 use crate::book::Book;
@@ -28,8 +27,7 @@ impl Station {
     ) -> Result<(), PortFailed>
         requires { IsLineWithin frame }
         ensures hears { KeepsToModel (frame_came begun frame.entry) (B.text book.old) (B.taken book.old) (B.taken book.new) self.old self.new result }
-        ensures fails { FailsWith result (B.failed book.old) (B.failed book.new) }
-        ensures form { B.text book.new ≡ B.text book.old }
+        ensures kept { KeepsBook B.Book book.old book.new result }
     {
         let Lent::Line(line) = frame else {
             return Ok(());
@@ -53,8 +51,7 @@ impl Station {
     // it weren't heard.
     fn listen<B: Book>(&mut self, book: &mut B, begun: bool, piece: &[u8]) -> Result<(), PortFailed>
         ensures listens { KeepsToModel (piece_came begun piece.now) (B.text book.old) (B.taken book.old) (B.taken book.new) self.old self.new result }
-        ensures fails { FailsWith result (B.failed book.old) (B.failed book.new) }
-        ensures form { B.text book.new ≡ B.text book.old }
+        ensures kept { KeepsBook B.Book book.old book.new result }
     {
         let mut cut = Line::new();
         let mut at = 0;
@@ -72,8 +69,7 @@ impl Station {
     // at a record.
     fn take_lines<B: Book>(&mut self, book: &mut B, piece: &[u8]) -> Result<(), PortFailed>
         ensures takes { KeepsToModel (piece_taken piece.now) (B.text book.old) (B.taken book.old) (B.taken book.new) self.old self.new result }
-        ensures fails { FailsWith result (B.failed book.old) (B.failed book.new) }
-        ensures form { B.text book.new ≡ B.text book.old }
+        ensures kept { KeepsBook B.Book book.old book.new result }
     {
         if !self.progress.phase.is_heard() {
             return Ok(());
@@ -93,8 +89,7 @@ impl Station {
         now: Moment,
     ) -> Result<(), PortFailed>
         ensures takes { KeepsToModel (piece_at plan.now until piece.now now) (B.text book.old) (B.taken book.old) (B.taken book.new) self.old self.new result }
-        ensures fails { FailsWith result (B.failed book.old) (B.failed book.new) }
-        ensures form { B.text book.new ≡ B.text book.old }
+        ensures kept { KeepsBook B.Book book.old book.new result }
     {
         let before = self.commands_waiting();
         self.progress.note_moment(now);
@@ -121,8 +116,7 @@ impl Station {
         ensures does { MovesByReading plan.now until
             (as_seen (L.acts link.old) (B.text book.old) (B.taken book.old) self.old)
             (as_seen (L.acts link.new) (B.text book.old) (B.taken book.new) self.new) result }
-        ensures fails { FailsWith result (B.failed book.old) (B.failed book.new) }
-        ensures form { B.text book.new ≡ B.text book.old }
+        ensures kept { KeepsBook B.Book book.old book.new result }
     {
         // One read takes at most 256 bytes.
         let mut buf = [0u8; 256];

@@ -1,12 +1,12 @@
 //! Commands that a station doesn't send: one that is recorded as skipped or missed, and further attempts that aren't needed.
 
 ghost use Rattle.std.specs.Prelude.{◌≡◌, ◌<◌, ◌≤◌, length, OnOk, false};
-ghost use Rattle.gc_lines.specs.Ports.{FailsWith};
 ghost use Rattle.gc_links.specs.Acts.{Told};
 ghost use Rattle.gc_texts.specs.Endings.{ending_seen};
 ghost use Rattle.gc_station.specs.Records.{WritesMore};
 ghost use Rattle.gc_station.specs.Model.{end_unsent, unsent_record};
 ghost use Rattle.gc_station.specs.Stations.{DoesAlone, Moves, as_seen, station_advancing, station_skipping};
+ghost use Rattle.gc_station.specs.Writing.{KeepsBook};
 ghost use Rattle.gc_station.specs.declared.progress.Action.TheVariants.{Skip, Pass};
 
 use super::Station;
@@ -31,8 +31,7 @@ impl Station {
         ensures does { Moves plan.now commands.now Skip
             (as_seen (L.acts link.old) (B.text book.old) (B.taken book.old) self.old)
             (as_seen (L.acts link.new) (B.text book.old) (B.taken book.new) self.new) result }
-        ensures fails { FailsWith result (B.failed book.old) (B.failed book.new) }
-        ensures form { B.text book.new ≡ B.text book.old }
+        ensures kept { KeepsBook B.Book book.old book.new result }
     {
         match self.read_moment(link) {
             Some(moment) => {
@@ -71,7 +70,7 @@ impl Station {
 
     // How the next command ends if it isn't sent: as missed if its cycle is missed, otherwise as skipped.
     fn ending_unsent<'a>(&self) -> Ending<'a>
-        ensures { ending_seen result ≡ end_unsent self.now.progress }
+        ensures { ending_seen result ≡ end_unsent self.now.progress.missed }
     {
         if self.progress.missed {
             Ending::Missed
@@ -93,8 +92,7 @@ impl Station {
         requires within { self.old.progress.unsent ≤ length commands.now }
         ensures wrote { WritesMore (B.text book.old) (B.taken book.old) (B.taken book.new) (unsent_record plan.now commands.now self.old.progress (Told moment)) result }
         ensures after { OnOk result (self.new ≡ station_skipping plan.now commands.now moment self.old) }
-        ensures fails { FailsWith result (B.failed book.old) (B.failed book.new) }
-        ensures form { B.text book.new ≡ B.text book.old }
+        ensures kept { KeepsBook B.Book book.old book.new result }
     {
         let mark = self.mark(plan, commands);
         let task = &commands[self.place(commands)];

@@ -6,7 +6,7 @@ use Rattle.gc_ask.specs.Links.{SeenStep}
 use Rattle.gc_ask.specs.Listening.{heard_by, reads_of, seen_through}
 use Rattle.gc_ask.specs.Looping.{BothEnd, SeenAtBoth}
 use Rattle.gc_ask.proofs.Asked.{course_start, course_all}
-use Rattle.gc_ask.proofs.Ends.{sound_start, sound_on, both_end, both_sound, ends_as}
+use Rattle.gc_ask.proofs.Ends.{sound_start, sound_on, both_end, both_well, ends_with_weaker}
 use Rattle.gc_ask.proofs.Exchanging.{course_next, run_fault}
 use Rattle.gc_ask.proofs.ask.ask_all.Goals as goal
 use Rattle.gc_texts.proofs.SettlementLines.{at_place}
@@ -17,8 +17,7 @@ pub loop-place-init : goal.loop-place-init
 loop-place-init g c = record {
   course = ([], Consumes-nil _, omega arith, rw c.new-asking.ensures.ahead (course_start _ _ _ c.new-asking.ensures.assembler c.new-asking.ensures.client));
   reads = ap (λ n. reads_of g.L.AskedLink c.args.link.now + n) c.new-asking.ensures.reads;
-  client = sound_start _;
-  instrument = sound_start _;
+  sound = record { client = sound_start _; instrument = sound_start _ };
   sink = refl;
   held = refl;
 }
@@ -49,7 +48,7 @@ loop-place-preserved g c =
     (seen_through g.L.AskedLink c.ask.new.link g.K.Sink c.ask.new.sink) at (place_is commands place c.loop-place-test.true) (one.3 at.now at.stands) in
     let sound = sound_on
     (seen_through g.L.AskedLink c.args.link.now g.K.Sink c.args.sink.now) (seen_through g.L.AskedLink c.loop-place.link g.K.Sink c.loop-place.sink)
-    (seen_through g.L.AskedLink c.ask.new.link g.K.Sink c.ask.new.sink) c.loop-place.invariant.client c.loop-place.invariant.instrument c.in_default.ensures.ends in
+    (seen_through g.L.AskedLink c.ask.new.link g.K.Sink c.ask.new.sink) c.loop-place.invariant.sound c.in_default.ensures.ends in
     record {
       course = (
         so.0 ++ one.0,
@@ -59,14 +58,13 @@ loop-place-preserved g c =
           so.2,
           one.2,
           length-append so.0 one.0,
-          c.loop-place.invariant.client.grows,
+          c.loop-place.invariant.sound.client.grows,
           c.in_default.ensures.spends.grows,
         ),
         rw (at_place commands place command c.loop-place-test.true c.index-commands-place.is).0 next,
       );
       reads = omega (arith, c.loop-place.invariant.reads, c.in_default.ensures.spends.reads);
-      client = sound.0;
-      instrument = sound.1;
+      sound = sound;
       sink = c.in_default.ensures.ends.1 ∙ c.loop-place.invariant.sink;
       held = c.in_default.ensures.spends.held ∙ c.loop-place.invariant.held;
     }
@@ -92,7 +90,7 @@ returns-in-Err-clause-asks g c =
         so.2,
         one.2,
         length-append so.0 one.0,
-        c.loop-place.invariant.client.grows,
+        c.loop-place.invariant.sound.client.grows,
         c.in-Err.ensures.spends.grows,
       );
       asks = run_fault g.L.AskedLink.is_remote commands place _ (record {
@@ -102,10 +100,10 @@ returns-in-Err-clause-asks g c =
         order = (at_place commands place command c.loop-place-test.true c.index-commands-place.is).1;
         course = at;
       }) one.0 (heard_by asking.end at.now (old.ahead ++ one.0) asking.ahead) new c.in-Err.fault
-          c.loop-place.invariant.client c.loop-place.invariant.instrument (place_is commands place c.loop-place-test.true)
+          c.loop-place.invariant.sound (place_is commands place c.loop-place-test.true)
           (one.3 at.now at.stands) c.in-Err.ensures.ends;
-      ends = ends_as (SeenStep before new) (BothEnd first new)
-          (λ r. both_end first before new r c.loop-place.invariant.client c.loop-place.invariant.instrument)
+      ends = ends_with_weaker (SeenStep before new) (BothEnd first new)
+          (λ r. both_end first before new r c.loop-place.invariant.sound)
           first.sink.failed before.sink.failed new.sink.failed c.loop-place.invariant.sink (Err c.in-Err.fault) c.in-Err.ensures.ends;
       bound = omega (arith, c.loop-place.invariant.reads, c.in-Err.ensures.spends.reads);
       too_many = λ is. omega (arith, c.loop-place.invariant.reads, c.in-Err.ensures.spends.reads, c.in-Err.ensures.too_many is);
@@ -128,8 +126,8 @@ returns-clause-asks g c =
       few = so.2;
       asks = course_all _ _ (rw whole at so.3);
       ends = (
-        both_sound (seen_through g.L.AskedLink c.args.link.now g.K.Sink c.args.sink.now) (seen_through g.L.AskedLink c.loop-place.link g.K.Sink c.loop-place.sink)
-            c.loop-place.invariant.client c.loop-place.invariant.instrument,
+        both_well (seen_through g.L.AskedLink c.args.link.now g.K.Sink c.args.sink.now) (seen_through g.L.AskedLink c.loop-place.link g.K.Sink c.loop-place.sink)
+            c.loop-place.invariant.sound,
         c.loop-place.invariant.sink,
       );
       bound = omega (arith, c.loop-place.invariant.reads);

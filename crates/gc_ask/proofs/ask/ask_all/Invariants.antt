@@ -3,7 +3,7 @@ use Rattle.std.specs.Io.KnownBytes.{Consumes}
 use Rattle.gc_ask.specs.Listening.{reads_of, seen_through}
 use Rattle.gc_ask.specs.declared.unused.TheConstants.{ROOM}
 use Rattle.gc_ask.proofs.Asked.{Course}
-use Rattle.gc_ask.proofs.Ends.{Sound}
+use Rattle.gc_ask.proofs.Ends.{BothSound}
 use Rattle.gc_ask.proofs.ask.ask_all.Given as goal
 
 -- the first `place` commands were asked and settled (`Course`), by at most `ROOM` bytes for each read; both ends of the link are
@@ -22,8 +22,7 @@ invariant-loop-place g l = record {
         latest = seen_through g.L.AskedLink l.link g.K.Sink l.sink;
       });
   reads : reads_of g.L.AskedLink l.link + l.asking.reads ≡ reads_of g.L.AskedLink l.initial.link + l.max_reads;
-  client : Sound (g.L.AskedLink.client l.initial.link) (g.L.AskedLink.client l.link);
-  instrument : Sound (g.L.AskedLink.instrument l.initial.link) (g.L.AskedLink.instrument l.link);
+  sound : BothSound (seen_through g.L.AskedLink l.initial.link g.K.Sink l.initial.sink) (seen_through g.L.AskedLink l.link g.K.Sink l.sink);
   sink : g.K.Sink.failed l.sink ≡ g.K.Sink.failed l.initial.sink;
   held : g.L.AskedLink.held l.link ≡ g.L.AskedLink.held l.initial.link;
 }

@@ -1,7 +1,6 @@
 use Rattle.std.proofs.Common.{◌≡◌, ap, rules}
-use Rattle.gc_lines.specs.Answering.{ports_of}
+use Rattle.gc_lines.specs.Answering.{ports_of, taken_by}
 use Rattle.gc_ask.specs.AskRuns.{AskRuns, SeenAtClient}
-use Rattle.gc_ask.specs.Asking.{taken_by}
 use Rattle.gc_ask.specs.Looping.{SeenAtBoth}
 use Rattle.gc_ask.proofs.Runs.{runs_remote}
 use Rattle.gc_ask.proofs.ask.run_ask.Goals as goal

@@ -3,7 +3,7 @@ use Rattle.arrayvec.specs.ArrayVec.{ArrayVec}
 use Rattle.gc_client.specs.declared.settlement.Settlement.{Settlement}
 use Rattle.gc_client.specs.Rule.{lost}
 use Rattle.gc_client.specs.Settlements.{AreSettledBy}
-use Rattle.gc_client.proofs.Lists.{left_turn, none_there}
+use Rattle.gc_client.proofs.Lists.{left_turn, none_is_no_some}
 use Rattle.gc_client.proofs.Settling.{next_lost, one_written}
 use Rattle.gc_client.proofs.ending.lose.Goals as goal
 use Rattle.gc_client.proofs.ending.lose.Goals.{in-Some, in_default}
@@ -30,5 +30,5 @@ loop-k-preserved g c =
             left = left;
             places = ap (λ (x : ArrayVec (Settlement _)). length x.items) w.settled-is ∙ length-set old k s ∙ before.places;
           }
-      | in_default w ↦ absurd (none_there c.get_mut.result w.in_default.is (c.get_mut.ensures.variant.1 lt))
+      | in_default w ↦ absurd (none_is_no_some c.get_mut.result w.in_default.is (c.get_mut.ensures.variant.1 lt))
     ]

@@ -30,6 +30,6 @@ returns g c =
     })
     c.args.max_reads c.answer_frames.result ended.ends in
     record {
-      checks = (h.0, h.1, h.2, checked _ given.0 h.0 _ _ _ refl (omega (arith, h.2, few)) h.3);
+      did = (h.0, h.1, h.2, checked _ given.0 h.0 _ _ _ refl (omega (arith, h.2, few)) h.3);
       ended = ended;
     }

@@ -30,7 +30,7 @@ returns-in-Err-check_piece g c =
     c.loop.invariant.so c.in-Ok.ensures.bytes.1 c.in-Err-check_piece.bytes short
     c.in-Err-check_piece.ensures.err in
     record {
-      checks = (it.0, it.1, omega (arith, it.2, c.loop.invariant.reads, c.in-Ok.ensures.counts.0), it.3);
+      did = (it.0, it.1, omega (arith, it.2, c.loop.invariant.reads, c.in-Ok.ensures.counts.0), it.3);
       ended = ended_exactly _ _ _ _ tt
           (omega (arith, c.loop.invariant.reads, c.in-Ok.ensures.counts.0), omega (arith, c.loop.invariant.reads, c.in-Ok.ensures.counts.0), search rules, search rules, search rules);
     }

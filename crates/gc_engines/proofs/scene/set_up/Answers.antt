@@ -1,6 +1,6 @@
-use Rattle.std.proofs.Common.{rules, ◌≡◌, ◌<◌, ◌↔◌, List, length, IfOk, IsErr, true, subst}
+use Rattle.std.proofs.Common.{rules, ◌≡◌, ◌↔◌, List, IfOk, IsErr, true, subst}
 use Rattle.gc_instrument.specs.State.{opening, simulator_opening}
-use Rattle.gc_engines.specs.Scenes.{serial_of, name_of, targets_of}
+use Rattle.gc_engines.specs.Scenes.{HaveManyTargets, serial_of, name_of, targets_of}
 use Rattle.gc_engines.specs.declared.scene_line.SceneLine.{SceneLine}
 use Rattle.gc_engines.proofs.Scenes.{all_plain}
 use Rattle.gc_engines.proofs.scene.set_up.Goals as goal
@@ -11,7 +11,7 @@ returns-in-Some-clause-opens c =
     (all_plain c.args.lines.now) (search rules)
 
 pub returns-in-Some-clause-full : goal.returns-in-Some-clause-full
-returns-in-Some-clause-full c = subst (λ (ls : List SceneLine). IsErr c.new.result ↔ (32 < length (targets_of ls))) (all_plain c.args.lines.now) (search rules)
+returns-in-Some-clause-full c = subst (λ (ls : List SceneLine). IsErr c.new.result ↔ HaveManyTargets ls) (all_plain c.args.lines.now) (search rules)
 
 pub returns-in-None-clause-full : goal.returns-in-None-clause-full
-returns-in-None-clause-full c = subst (λ (ls : List SceneLine). (true ≡ true) ↔ (32 < length (targets_of ls))) (all_plain c.args.lines.now) (search rules)
+returns-in-None-clause-full c = subst (λ (ls : List SceneLine). (true ≡ true) ↔ HaveManyTargets ls) (all_plain c.args.lines.now) (search rules)

@@ -1,4 +1,4 @@
-use Rattle.std.proofs.Common.{rules, ◌≤◌, ◌+◌, arith}
+use Rattle.std.proofs.Common.{rules, ◌≤◌, ◌+◌, ◌∙◌, take, drop, ap, arith}
 use Rattle.gc_files.specs.Files.{content}
 use Rattle.gc_files.proofs.Feeds.{puts_block, counts_block, puts_all}
 use Rattle.gc_files.proofs.Looking.{size_of}
@@ -11,9 +11,11 @@ loop-at-preserved g c =
     record {
       within = room;
       few = omega (arith, c.loop-at.invariant.few, c.feeds_in-lines.ensures.within, size);
-      puts = λ known is. puts_block _ _ _ (content known) c.read_all.new.buf c.loop-at.at c.min-size.result (c.in_ok-read_all.ensures known is) size
+      puts = λ known is. puts_block _ _ _ c.loop-at.at c.min-size.result (content known) c.read_all.new.buf
+          (c.in_ok-read_all.ensures known is ∙ ap (λ n. take n (drop c.loop-at.at (content known))) size)
           (c.loop-at.invariant.puts known is) c.in_ok-append_all.ensures.ok;
-      count = λ known is. counts_block (content known) c.read_all.new.buf c.loop-at.at c.min-size.result c.loop-at.lines c.feeds_in-lines.result (c.in_ok-read_all.ensures known is) size
+      count = λ known is. counts_block c.loop-at.at c.min-size.result (content known) c.read_all.new.buf c.loop-at.lines c.feeds_in-lines.result
+          (c.in_ok-read_all.ensures known is ∙ ap (λ n. take n (drop c.loop-at.at (content known))) size)
           (c.loop-at.invariant.count known is) c.feeds_in-lines.ensures.is;
     }
 

@@ -11,7 +11,7 @@ returns-then-rows-gt0-clause-end g c known is =
     let ends : at + length c.read_all.new.buf ≡ c.loop-end.end = omega (arith, few, size) in
     ap (λ n. at + n) c.whole_len-rows.ensures.len
     ∙ block_some at (length c.read_all.new.buf) c.loop-end.end (content known) c.read_all.new.buf (c.in_ok-read_all.ensures known is) ends
-    (omega (arith, c.loop-end.invariant.within, c.requires known is)) (c.loop-end.invariant.none known is)
+    (c.loop-end.invariant.none known is) (omega (arith, c.loop-end.invariant.within, c.requires known is))
     (omega (arith, c.if-rows-gt0.true, c.whole_len-rows.ensures.len))
 
 pub loop-end-preserved : goal.loop-end-preserved

@@ -3,5 +3,5 @@ use Rattle.gc_logs.proofs.bounded.note_full.Goals as goal
 
 pub returns : goal.returns
 returns g c =
-    all_or_front _ _ _ c.write_whole.result (rw (c.deref.ensures.0, c.full_notice.ensures) at c.write_whole.ensures.ok)
-    (rw (c.deref.ensures.0, c.full_notice.ensures) at c.write_whole.ensures.err)
+    all_or_front _ _ _ c.write_whole.result
+    (rw (c.deref.ensures.0, c.full_notice.ensures) at c.write_whole.ensures.took)

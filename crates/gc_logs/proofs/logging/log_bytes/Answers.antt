@@ -1,4 +1,4 @@
-use Rattle.gc_logs.proofs.LogLines.{took_more, is_behind}
+use Rattle.gc_logs.proofs.LogLines.{took_more, pending_at_next}
 use Rattle.gc_logs.proofs.logging.log_bytes.Goals as goal
 
 pub loop-b-preserved : goal.loop-b-preserved
@@ -11,5 +11,5 @@ loop-b-preserved g c =
     let behind = c.loop-b.invariant.pending in
     record {
       took = took_more p q bs i within behind c.args.utc c.args.way c.loop-b.invariant.took c.log_byte.ensures.took;
-      pending = is_behind p q bs i within behind c.log_byte.new.pending c.log_byte.ensures.pending;
+      pending = pending_at_next p q bs i within behind c.log_byte.new.pending c.log_byte.ensures.pending;
     }

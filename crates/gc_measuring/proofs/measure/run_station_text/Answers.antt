@@ -4,18 +4,16 @@ use Rattle.gc_measuring.proofs.measure.run_station_text.Goals as goal
 pub returns-in-Ok-end-clause-measures : goal.returns-in-Ok-end-clause-measures
 returns-in-Ok-end-clause-measures g c =
     let h = rw (sym c.measure-streams.ensures.input) at c.in-Ok.ensures.found in
-    let ran = rw (c.in-Ok-end.is) at c.measure-streams.ensures.ran in
-    let keeps = rw (c.in-Ok-end.is) at c.measure-streams.ensures.keeps in
-    (h.0, h.1, h.2, inr (_, h.3, inr (record { between = _; front = c.in-Ok-write_front.ensures.ok; end = Ok c.in-Ok-end.tally; is = refl; ran = ran; keeps = keeps })))
+    let run = rw (c.in-Ok-end.is) at c.measure-streams.ensures.runs in
+    (h.0, h.1, h.2, inr (_, h.3, inr (record { between = _; front = c.in-Ok-write_front.ensures.took.0; end = Ok c.in-Ok-end.tally; is = refl; run = record { ran = run.ran; keeps = run.keeps } })))
 
 pub returns-in-Err-end-clause-measures : goal.returns-in-Err-end-clause-measures
 returns-in-Err-end-clause-measures g c =
     let h = rw (sym c.measure-streams.ensures.input) at c.in-Ok.ensures.found in
-    let ran = rw (c.in-Err-end.is) at c.measure-streams.ensures.ran in
-    let keeps = rw (c.in-Err-end.is) at c.measure-streams.ensures.keeps in
-    (h.0, h.1, h.2, inr (_, h.3, inr (record { between = _; front = c.in-Ok-write_front.ensures.ok; end = Err c.in-Err-end.fault; is = refl; ran = ran; keeps = keeps })))
+    let run = rw (c.in-Err-end.is) at c.measure-streams.ensures.runs in
+    (h.0, h.1, h.2, inr (_, h.3, inr (record { between = _; front = c.in-Ok-write_front.ensures.took.0; end = Err c.in-Err-end.fault; is = refl; run = record { ran = run.ran; keeps = run.keeps } })))
 
 pub returns-in_default-clause-measures : goal.returns-in_default-clause-measures
 returns-in_default-clause-measures g c =
     let h = c.in-Ok.ensures.found in
-    (h.0, h.1, h.2, inr (_, h.3, inl (record { is = refl; bytes = _; took = c.in_default.ensures.err; acts = refl; messages = refl; turns = refl })))
+    (h.0, h.1, h.2, inr (_, h.3, inl (record { is = refl; bytes = _; took = c.in_default.ensures.took.1; acts = refl; messages = refl; turns = refl })))

@@ -16,7 +16,7 @@ returns-in-Ok-clause-told g c =
         read = c.with_output-streams.ensures.input;
         messages = c.with_output-streams.ensures.messages;
       };
-      run = t;
+      holds = t;
     }))
     (rw (c.for_file.ensures) at c.measure_at-filed.ensures.told)
 
@@ -33,7 +33,7 @@ returns-in-Ok-clause-done g c =
         read = c.with_output-streams.ensures.input;
         messages = c.with_output-streams.ensures.messages;
       };
-      all = d zero;
+      holds = d zero;
     })
     (rw (c.for_file.ensures) at c.measure_at-filed.ensures.done)
 

@@ -6,14 +6,14 @@ use Rattle.gc_rows.specs.declared.json_line.TheConstants.{STRINGS_ROOM}
 use Rattle.gc_rows.specs.JsonLines.{string_text, strings_text}
 use Rattle.gc_values.specs.Params.{total_length}
 use Rattle.gc_values.proofs.ItemBytes.{total_length_next}
-use Rattle.gc_rows.proofs.Items.{bytes_below}
+use Rattle.gc_rows.proofs.Items.{first_texts_within}
 use Rattle.gc_rows.proofs.JsonLines.{strings_next}
 use Rattle.gc_rows.proofs.json_line.append_strings.Goals as goal
 
 pub append_comma-requires : goal.append_comma-requires
 append_comma-requires g c =
     let lt : c.loop-k.k < length c.args.texts.now = search rules in
-    let below = bytes_below c.args.texts.now c.loop-k.k lt in
+    let below = first_texts_within c.args.texts.now c.loop-k.k lt in
     let few = c.requires.few in
     let short = c.requires.short in
     let room = c.loop-k.invariant.room in
@@ -23,7 +23,7 @@ append_comma-requires g c =
 pub append_string-requires : goal.append_string-requires
 append_string-requires g c =
     let lt : c.loop-k.k < length c.args.texts.now = search rules in
-    let below = bytes_below c.args.texts.now c.loop-k.k lt in
+    let below = first_texts_within c.args.texts.now c.loop-k.k lt in
     let few = c.requires.few in
     let short = c.requires.short in
     let room = c.loop-k.invariant.room in

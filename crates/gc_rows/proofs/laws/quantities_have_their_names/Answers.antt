@@ -1,5 +1,5 @@
-use Rattle.gc_rows.proofs.ProcedureQuantities.{have_their_names}
+use Rattle.gc_rows.proofs.ProcedureQuantities.{quantities_under_their_names}
 use Rattle.gc_rows.proofs.laws.quantities_have_their_names.Goals as goal
 
 pub returns : goal.returns
-returns c = have_their_names
+returns c = quantities_under_their_names

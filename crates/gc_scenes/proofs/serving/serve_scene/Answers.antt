@@ -5,4 +5,4 @@ pub returns : goal.returns
 returns g c =
     let given = c.answer_frames.ensures.answers in
     let h = rw (given.2 refl) at given.1 in
-    record { serves = h; ended = c.answer_frames.ensures.ended }
+    record { did = h; ended = c.answer_frames.ensures.ended }

@@ -33,8 +33,7 @@ returns-in-Err g c =
           noted_closed plan commands scope text told taken (g.L.Link.acts c.loop-unsynced.link) (g.L.Link.acts c.close.new.self) (g.B.Book.taken c.sync.new.self)
           c.loop-unsynced.station c.args.kept.now.turns c.loop-unsynced.kept.turns n c.close.ensures;
       is_durable = tt;
-      fails = c.in-Err.ensures.fails;
-      form = c.sync.ensures.form ∙ c.loop-unsynced.invariant.form;
+      kept = record { form = c.sync.ensures.form ∙ c.loop-unsynced.invariant.form; fails = c.in-Err.ensures.fails };
     }
 
 pub returns-in-Err-step : goal.returns-in-Err-step
@@ -80,8 +79,10 @@ returns-in-Err-step g c =
           (rw (c.report_to-reported.ensures.form ∙ c.sync.ensures.form ∙ c.loop-unsynced.invariant.form) at c.in-Err-step.ensures.does))
           c.close-in-Err-step.ensures c.with_snapshot.ensures (c.report_to-reported.ensures.is_durable ∙ c.in_default.ensures.is_durable);
       is_durable = tt;
-      fails = c.in-Err-step.ensures.fails;
-      form = c.in-Err-step.ensures.form ∙ c.report_to-reported.ensures.form ∙ c.sync.ensures.form ∙ c.loop-unsynced.invariant.form;
+      kept = record {
+        form = c.in-Err-step.ensures.kept.form ∙ c.report_to-reported.ensures.form ∙ c.sync.ensures.form ∙ c.loop-unsynced.invariant.form;
+        fails = c.in-Err-step.ensures.kept.fails;
+      };
     }
 
 pub loop-unsynced-smaller : goal.loop-unsynced-smaller
@@ -143,8 +144,8 @@ loop-unsynced-preserved g c =
           c.loop-unsynced.station c.step.new.self c.action-action.result
           c.args.kept.now.turns c.loop-unsynced.kept.turns c.with_snapshot.result.turns n
           (c.action-action.ensures.action s n.went.stands same) makes are c.with_snapshot.ensures (c.report_to-reported.ensures.is_durable ∙ c.in_default.ensures.is_durable);
-      form = c.in_default-step.ensures.form ∙ c.report_to-reported.ensures.form ∙ c.sync.ensures.form ∙ c.loop-unsynced.invariant.form;
-      failed = c.in_default-step.ensures.fails ∙ c.report_to-reported.ensures.failed ∙ c.in_default.ensures.fails ∙ c.loop-unsynced.invariant.failed;
+      form = c.in_default-step.ensures.kept.form ∙ c.report_to-reported.ensures.form ∙ c.sync.ensures.form ∙ c.loop-unsynced.invariant.form;
+      failed = c.in_default-step.ensures.kept.fails ∙ c.report_to-reported.ensures.failed ∙ c.in_default.ensures.fails ∙ c.loop-unsynced.invariant.failed;
     }
 
 pub loop-unsynced-init : goal.loop-unsynced-init

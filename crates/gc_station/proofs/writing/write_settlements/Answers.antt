@@ -55,6 +55,6 @@ loop-settlement-preserved g c =
           recorded_more reads marks ss i s c.take_mark-mark.result c.loop-settlement-test.true c.settlement-item.is first
           c.args.now c.args.recorded.now c.loop-settlement.recorded c.write_settlement.new.recorded (b.recorded reads are) (c.in_default.ensures.notes reads are);
       marks = c.take_mark-mark.ensures.goes ∙ ap (drop 1) b.marks ∙ drop-drop 1 i marks;
-      form = c.in_default.ensures.form ∙ b.form;
-      failed = c.in_default.ensures.fails ∙ b.failed;
+      form = c.in_default.ensures.kept.form ∙ b.form;
+      failed = c.in_default.ensures.kept.fails ∙ b.failed;
     }

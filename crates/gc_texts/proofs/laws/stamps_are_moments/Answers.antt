@@ -1,5 +1,5 @@
-use Rattle.gc_texts.proofs.Moments.{are_moments}
+use Rattle.gc_texts.proofs.Moments.{stamps_give_moments}
 use Rattle.gc_texts.proofs.laws.stamps_are_moments.Goals as goal
 
 pub returns : goal.returns
-returns c = are_moments
+returns c = stamps_give_moments

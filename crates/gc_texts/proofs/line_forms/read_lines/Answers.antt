@@ -12,7 +12,7 @@ pub loop-left-preserved-then-is_skipped : goal.loop-left-preserved-then-is_skipp
 loop-left-preserved-then-is_skipped g c =
     let at = comes_to g.F.LineForm.form c.args.text.now (option_copied c.loop-left.left) c.in-Some.text.now c.cut_line.result.0.now (option_copied c.cut_line.result.1)
     c.loop-left.number c.loop-left.items.items c.loop-left.invariant (ap option_copied c.in-Some.is) c.cut_line.ensures in
-    line_skips _ _ _ _ _ _ at (sym c.is_skipped.ensures ∙ c.if-is_skipped.true)
+    line_skips _ _ c.cut_line.result.0.now (option_copied c.cut_line.result.1) _ _ at (sym c.is_skipped.ensures ∙ c.if-is_skipped.true)
 
 pub loop-left-preserved : goal.loop-left-preserved
 loop-left-preserved g c =
@@ -20,18 +20,19 @@ loop-left-preserved g c =
     c.loop-left.number c.loop-left.items.items c.loop-left.invariant (ap option_copied c.in-Some.is) c.cut_line.ensures in
     let is : IsTrue c.read.result = search rules in
     let grown : c.push_reserved.new.self.items ≡ c.loop-left.items.items ++ c.read.new.item ∷ [] = search rules in
-    line_reads _ _ _ _ _ _ at c.read.new.item c.push_reserved.new.self.items (sym c.is_skipped.ensures ∙ c.if-is_skipped.false) (c.read.ensures.found is) grown
+    line_reads _ _ c.cut_line.result.0.now (option_copied c.cut_line.result.1) _ _ at c.read.new.item c.push_reserved.new.self.items
+    (sym c.is_skipped.ensures ∙ c.if-is_skipped.false) (c.read.ensures.found is) grown
 
 pub returns-then-not-read-clause-fault : goal.returns-then-not-read-clause-fault
 returns-then-not-read-clause-fault g c =
     let at = comes_to g.F.LineForm.form c.args.text.now (option_copied c.loop-left.left) c.in-Some.text.now c.cut_line.result.0.now (option_copied c.cut_line.result.1)
     c.loop-left.number c.loop-left.items.items c.loop-left.invariant (ap option_copied c.in-Some.is) c.cut_line.ensures in
     let isnt : IsFalse c.read.result = search rules in
-    (c.requires, line_fails _ _ _ _ _ _ at (sym c.is_skipped.ensures ∙ c.if-is_skipped.false) (c.read.ensures.none isnt))
+    (c.requires, line_fails _ _ c.cut_line.result.0.now (option_copied c.cut_line.result.1) _ _ at (sym c.is_skipped.ensures ∙ c.if-is_skipped.false) (c.read.ensures.none isnt))
 
 pub returns-then-is_err-clause-fault : goal.returns-then-is_err-clause-fault
 returns-then-is_err-clause-fault g c =
     let at = comes_to g.F.LineForm.form c.args.text.now (option_copied c.loop-left.left) c.in-Some.text.now c.cut_line.result.0.now (option_copied c.cut_line.result.1)
     c.loop-left.number c.loop-left.items.items c.loop-left.invariant (ap option_copied c.in-Some.is) c.cut_line.ensures in
     let is : IsTrue c.read.result = search rules in
-    (c.requires, line_wants _ _ _ _ _ _ at c.read.new.item (sym c.is_skipped.ensures ∙ c.if-is_skipped.false) (c.read.ensures.found is))
+    (c.requires, line_wants _ _ c.cut_line.result.0.now (option_copied c.cut_line.result.1) _ _ at c.read.new.item (sym c.is_skipped.ensures ∙ c.if-is_skipped.false) (c.read.ensures.found is))

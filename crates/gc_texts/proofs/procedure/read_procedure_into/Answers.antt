@@ -1,6 +1,6 @@
 use Rattle.std.proofs.Common.{◌≡◌, ap, refl, Some, None, rules, [], length, ◌<◌}
 use Rattle.std.specs.Option.{option_copied}
-use Rattle.gc_texts.proofs.Procedures.{no_procedure, procedure_is, with_rest, with_parameters, without_parameters}
+use Rattle.gc_texts.proofs.Procedures.{no_procedure, procedure_read, with_rest, with_parameters, without_parameters}
 use Rattle.gc_texts.proofs.procedure.read_procedure_into.Goals as goal
 
 pub returns-in_default-clause-none : goal.returns-in_default-clause-none
@@ -27,5 +27,5 @@ returns-clause-none c isnt =
 
 pub returns-in_default-params-clause-none : goal.returns-in_default-params-clause-none
 returns-in_default-params-clause-none c isnt =
-    procedure_is c.args.text.now c.cut_at.result.0.now [] None c.in-Some.rpc None
+    procedure_read c.args.text.now c.cut_at.result.0.now [] None c.in-Some.rpc None
     (with_rest 32 c.args.text.now c.cut_at.result.0.now (option_copied c.cut_at.result.1) None c.cut_at.ensures (search rules)) tt refl c.in-Some.ensures (c.read_call.ensures.none isnt)

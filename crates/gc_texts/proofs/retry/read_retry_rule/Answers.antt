@@ -1,6 +1,10 @@
-use Rattle.std.proofs.Common.{subst, sym}
-use Rattle.gc_texts.specs.Retries.{NamesRule}
+use Rattle.std.proofs.Common.{rules, subst, sym}
+use Rattle.gc_texts.specs.Retries.{NamesRule, IsRetryRule}
+use Rattle.gc_texts.specs.declared.retry.Retry.{Retry}
 use Rattle.gc_texts.proofs.retry.read_retry_rule.Goals as goal
 
-pub returns-in_default-read_again : goal.returns-in_default-read_again
-returns-in_default-read_again c retry is = c.in_default-read_again.ensures retry.again (subst (λ t. NamesRule t retry.again) (sym c.behind.ensures.is) is.again_is)
+pub returns-in_err-again : goal.returns-in_err-again
+returns-in_err-again c =
+    let none : (retry : Retry) → IsRetryRule c.args.text.now retry → ⊥ =
+    λ retry is. c.in_err-again.ensures retry.again (subst (λ t. NamesRule t retry.again) (sym c.behind.ensures.is) is.again_is) in
+    search rules

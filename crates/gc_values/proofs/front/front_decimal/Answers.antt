@@ -1,6 +1,9 @@
-use Rattle.std.proofs.Common.{◌≡◌, ◌+◌, false, arith, rules, subst, get_or}
+use Rattle.std.proofs.Common.{◌≡◌, ◌+◌, false, arith, rules, subst, sym, get_or}
 use Rattle.std.proofs.lemmas.List.{take_rest}
+use Rattle.std.proofs.lemmas.Option.{IfSome_then}
+use Rattle.std.specs.Option.{option_copied}
 use Rattle.gc_values.specs.Nearest.{MadeOf}
+use Rattle.gc_values.specs.Plainly.{CutsDecimal}
 use Rattle.gc_values.proofs.FrontDecimals.{counts_room, front_found, front_range}
 use Rattle.gc_values.proofs.front.front_decimal.Goals as goal
 
@@ -20,7 +23,9 @@ returns c =
     let places = c.front_digits-value.result.1 in
     let point : get_or text at 0 ≡ 46 = search rules in
     let made = subst (λ v. MadeOf false v places c.from_parts-decimal.result.digits c.from_parts-decimal.result.scale) c.from.ensures c.from_parts-decimal.ensures in
-    front_found text _ _ places _ c.from_parts-decimal.result
+    IfSome_then c.with_rest.result c.with_rest.ensures
+    (λ r h. subst (λ d. CutsDecimal text d (option_copied r.1)) (sym h.0)
+    (front_found text _ _ places _ c.from_parts-decimal.result
     (record {
       at = at;
       whole = _;
@@ -32,4 +37,4 @@ returns c =
       behind_is = take_rest text (at + 1);
       after_point = c.front_digits-value.ensures;
       tail_is = take_rest _ places;
-    }) c.in_ok-rest.ensures made
+    }) h.1 made))

@@ -3,7 +3,7 @@ use Rattle.gc_lines.specs.Frames.{frame_of}
 use Rattle.gc_catalogue.specs.declared.asked.Asked.{Asked}
 use Rattle.gc_client.specs.Rule.{Windowed}
 use Rattle.geocom_c.specs.State.{StandsForClient}
-use Rattle.geocom_c.specs.Feeding.{FeedsFrame, HasRoomToSettle}
+use Rattle.geocom_c.specs.Feeding.{FeedsFrame, HasRoomToSettle, feed_effect}
 use Rattle.geocom_c.specs.declared.answers.GeocomHeard.{GeocomHeard}
 use Rattle.geocom_c.specs.declared.header.TheConstants.{NO_CLIENT}
 use Rattle.std.proofs.lemmas.Option.{same_Some}
@@ -20,7 +20,7 @@ returns-in-Some-clause-frame c = λ room c' rest at s some.
     let same = same_Some c.in-Some.client c' (sym c.in-Some.is ∙ c.load.ensures.only c' rest s) in
     let frame = frame_of (rest ++ take at c.args.bytes.now) in
     let told = c.feed.ensures.frame rest at (subst (λ (d : Windowed Asked). StandsForClient c.args.state.now d rest) (sym same) s) some in
-    subst (λ (d : Windowed Asked). FeedsFrame d frame (at + 1) c.feed.new.state c.feed.result c.feed.new.settlements c.feed.new.text) same told
+    subst (λ (d : Windowed Asked). FeedsFrame d frame (at + 1) c.feed.new.state (feed_effect c.feed.result c.feed.new.settlements c.feed.new.text)) same told
 
 pub returns-in-Some-clause-astray : goal.returns-in-Some-clause-astray
 returns-in-Some-clause-astray c = (λ e. let zero : 0 ≡ NO_CLIENT = sym c.feed.ensures.fault ∙ e in cc, λ both. absurd (both.1 _ _ c.in-Some.ensures.found))

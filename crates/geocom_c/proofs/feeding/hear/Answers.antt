@@ -2,10 +2,9 @@ use Rattle.std.proofs.Common.{◌≡◌, ◌+◌, ◌++◌, ◌∙◌, ℕ, List
 use Rattle.std.proofs.lemmas.List.{length-map, length-take, take-append-le, take-append-drop}
 use Rattle.gc_lines.specs.Readers.{reply_at}
 use Rattle.gc_catalogue.specs.declared.asked.Asked.{Asked}
-use Rattle.gc_client.specs.Rule.{Settlement, Windowed, hears, heard}
+use Rattle.gc_client.specs.Rule.{Settlement, hears, heard}
 use Rattle.gc_client.specs.Settlements.{settlement_seen}
 use Rattle.geocom_c.specs.FirstAre.{FirstAre}
-use Rattle.geocom_c.specs.State.{StandsForClient}
 use Rattle.geocom_c.specs.Settled.{IsRecord, AnswersHaveLine}
 use Rattle.geocom_c.specs.declared.answers.GeocomHeard.{GeocomHeard}
 use Rattle.geocom_c.proofs.Places.{first_map}
@@ -15,7 +14,7 @@ use Rattle.geocom_c.proofs.feeding.hear.Goals as goal
 pub put_records-requires-clause-told : goal.put_records-requires-clause-told
 put_records-requires-clause-told c =
     let line = c.args.line.now.items in
-    let ids = c.args.client.ids in
+    let ids = c.args.client.now.ids in
     let seen : map settlement_seen c.as_slice-in-Settled.result.now ≡ (hears ids line (heard line)).settlements =
     ap (map settlement_seen) c.as_slice-in-Settled.ensures.value ∙ c.in-Settled.ensures.settled.seen in
     (line, c.list_line-answer.ensures, subst (λ (ss : List (Settlement Asked)). AnswersHaveLine line ss) (sym seen) (heard_have_line ids line (heard line)))
@@ -23,16 +22,16 @@ put_records-requires-clause-told c =
 pub returns-in-Settled-clause-fed : goal.returns-in-Settled-clause-fed
 returns-in-Settled-clause-fed c =
     let line = c.args.line.now.items in
-    let ids = c.args.client.ids in
+    let ids = c.args.client.now.ids in
     let ruled = (hears ids line (heard line)).settlements in
     let h = c.heard.ensures in
     let kinds = settles_kind ids (reply_at line) c.in-Settled.ensures.heard in
     let are = c.in-Settled.ensures.settled.seen in
     let seen : map settlement_seen c.as_slice-in-Settled.result.now ≡ ruled = ap (map settlement_seen) c.as_slice-in-Settled.ensures.value ∙ are in
     let t = c.list_line-answer.result.text.items in
-    let new = c.put.new.bytes in
+    let new = c.put_text.new.bytes in
     let n = 0 + length c.as_slice.result.now in
-    let front : take n new ≡ t = c.put.ensures.text ∙ c.as_slice.ensures.value in
+    let front : take n new ≡ t = c.put_text.ensures.text ∙ c.as_slice.ensures.value in
     let whole : new ≡ t ++ drop n new = sym (take-append-drop n new) ∙ ap (λ (x : List ℕ). x ++ drop n new) front in
     let behind = first_map (IsRecord t) (IsRecord (t ++ drop n new)) (more_record t (drop n new)) c.put_records.new.records _ c.put_records.ensures.records in
     record {
@@ -45,12 +44,3 @@ returns-in-Settled-clause-fed c =
       recorded = subst (λ (ss : List (Settlement Asked)). FirstAre (IsRecord new) c.put_records.new.records ss) seen
           (subst (λ (x : List ℕ). FirstAre (IsRecord x) c.put_records.new.records (map settlement_seen c.as_slice-in-Settled.result.now)) (sym whole) behind);
     }
-
-pub returns-in-Settled-clause-state : goal.returns-in-Settled-clause-state
-returns-in-Settled-clause-state c = λ rest is part. subst (λ (d : Windowed Asked). StandsForClient c.store.new.state d rest) c.on_line-told.ensures.client (c.store.ensures.client rest is part)
-
-pub returns-in-Stray-clause-state : goal.returns-in-Stray-clause-state
-returns-in-Stray-clause-state c = λ rest is part. subst (λ (d : Windowed Asked). StandsForClient c.store.new.state d rest) c.on_line-told.ensures.client (c.store.ensures.client rest is part)
-
-pub returns-in-Unread-clause-state : goal.returns-in-Unread-clause-state
-returns-in-Unread-clause-state c = λ rest is part. subst (λ (d : Windowed Asked). StandsForClient c.store.new.state d rest) c.on_line-told.ensures.client (c.store.ensures.client rest is part)

@@ -1,6 +1,4 @@
-use Rattle.gc_catalogue.specs.declared.asked.Asked.TheVariants.{Raw}
-use Rattle.gc_catalogue.specs.Raws.{IsRawRefusal}
-use Rattle.geocom_c.specs.Sending.{IsRawOf, raw_number}
+use Rattle.geocom_c.specs.Sending.{raw_rule}
 use Rattle.geocom_c.proofs.Sendings.{raw_of_request, reads_fault, reads_found}
 use Rattle.geocom_c.proofs.raws.read_raw.Goals as goal
 
@@ -8,13 +6,13 @@ pub returns-in-Ok : goal.returns-in-Ok
 returns-in-Ok c =
     let procedure = c.args.procedure in
     let params = c.args.params.now in
-    reads_found Raw (IsRawOf procedure params) (IsRawRefusal procedure params) raw_number
+    reads_found (raw_rule procedure params)
     c.raw_call.result (λ raw is. c.raw_call.ensures.only raw is.0 is.1) c.raw_call.ensures.exactly c.in-Ok.raw c.in-Ok.is c.in-Ok.ensures.found
 
 pub returns-in-Err : goal.returns-in-Err
 returns-in-Err c =
     let procedure = c.args.procedure in
     let params = c.args.params.now in
-    reads_fault Raw (IsRawOf procedure params) (IsRawRefusal procedure params) raw_number
+    reads_fault (raw_rule procedure params)
     c.raw_call.result (λ raw is. c.raw_call.ensures.only raw is.0 is.1) c.raw_call.ensures.exactly
     c.in-Err.fault c.number_of.result c.in-Err.is c.in-Err.ensures.fault c.number_of.ensures (raw_of_request c.in-Err.fault)

@@ -6,10 +6,10 @@ pub returns-clause-given : goal.returns-clause-given
 returns-clause-given c =
     let all : c.len.result ≡ 0 + length c.as_slice.result.now = omega (arith, c.len.ensures.value, ap length c.as_slice.ensures.value) in (
       c.len.ensures.value ∙ ap length c.with_end-text.ensures,
-      ap (λ n. take n c.put.new.bytes) all ∙ c.put.ensures.text ∙ c.as_slice.ensures.value ∙ c.with_end-text.ensures,
+      ap (λ n. take n c.put_text.new.bytes) all ∙ c.put_text.ensures.text ∙ c.as_slice.ensures.value ∙ c.with_end-text.ensures,
     )
 
-pub returns-clause-untouched : goal.returns-clause-untouched
-returns-clause-untouched c =
+pub returns-clause-written : goal.returns-clause-written
+returns-clause-written c =
     let all : 0 + length c.as_slice.result.now ≡ c.len.result = omega (arith, c.len.ensures.value, ap length c.as_slice.ensures.value) in
-    subst (λ (n : ℕ). drop n c.put.new.bytes ≡ drop n c.args.room.now) all c.put.ensures.untouched
+    record { untouched = subst (λ (n : ℕ). drop n c.put_text.new.bytes ≡ drop n c.args.room.now) all c.put_text.ensures.written.untouched; length = c.put_text.ensures.written.length }

@@ -1,7 +1,4 @@
-use Rattle.gc_catalogue.specs.declared.asked.Asked.TheVariants.{Table}
-use Rattle.gc_catalogue.specs.CallFault.{refusal_number}
-use Rattle.gc_catalogue.specs.Calls.{IsCall, IsRefusal}
-use Rattle.geocom_c.specs.Sending.{send_effect}
+use Rattle.geocom_c.specs.Sending.{send_effect, table_rule}
 use Rattle.geocom_c.proofs.Sendings.{sends_as}
 use Rattle.geocom_c.proofs.sends.geocom_client_send.Goals as goal
 
@@ -13,7 +10,7 @@ returns c =
     let procedure = c.args.procedure in
     let params = c.args.params.now in
     record {
-      sends = sends_as Table (IsCall procedure params) (IsRefusal procedure params) refusal_number c.read_call.result c.read_call.ensures
+      sends = sends_as (table_rule procedure params) c.read_call.result c.read_call.ensures
           c.args.target c.args.deadline (send_effect c.args.state.now c.send_read.new.state c.args.line.now c.send_read.new.line c.send_read.result)
           c.send_read.ensures.sends;
     }

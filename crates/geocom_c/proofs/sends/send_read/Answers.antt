@@ -26,8 +26,7 @@ returns-then-line-lt-LINE_ROOM-clause-sends c =
       refusal = λ of_request. absurd (of_request.2 fault);
       refused = λ _. (c.refused.ensures.count, refl, refl);
       answered = refl;
-      untouched = refl;
-      same_length = refl;
+      written = record { untouched = refl; length = refl };
     }
 
 pub returns-in_default-clause-sends : goal.returns-in_default-clause-sends
@@ -47,8 +46,7 @@ returns-in_default-clause-sends c =
       refusal = λ of_request. absurd (of_request.3 fault);
       refused = λ _. (c.refused-in_default.ensures.count, refl, refl);
       answered = refl;
-      untouched = refl;
-      same_length = refl;
+      written = record { untouched = refl; length = refl };
     }
 
 pub returns-then-not-has_begun-clause-sends : goal.returns-then-not-has_begun-clause-sends
@@ -68,8 +66,7 @@ returns-then-not-has_begun-clause-sends c =
       refusal = λ of_request. absurd (of_request.4 fault);
       refused = λ _. (c.refused-then-not-has_begun.ensures.count, refl, refl);
       answered = refl;
-      untouched = refl;
-      same_length = refl;
+      written = record { untouched = refl; length = refl };
     }
 
 pub returns-in-Ok-clause-sends : goal.returns-in-Ok-clause-sends
@@ -112,8 +109,7 @@ returns-in-Ok-clause-sends c =
       refusal = λ of_request. absurd (of_request.1 (either of_request.0));
       refused = c.send_asked.ensures.refused;
       answered = c.send_asked.ensures.answered;
-      untouched = c.send_asked.ensures.untouched;
-      same_length = c.send_asked.ensures.length;
+      written = c.send_asked.ensures.written;
     }
 
 pub returns-in-Err-clause-sends : goal.returns-in-Err-clause-sends
@@ -134,8 +130,7 @@ returns-in-Err-clause-sends c =
       refusal = λ _. (c.in-Err.fault, c.in-Err.is, fault);
       refused = λ _. (c.refused-in-Err.ensures.count, refl, refl);
       answered = refl;
-      untouched = refl;
-      same_length = refl;
+      written = record { untouched = refl; length = refl };
     }
 
 pub returns-then-line-lt-LINE_ROOM-clause-given : goal.returns-then-line-lt-LINE_ROOM-clause-given

@@ -10,5 +10,5 @@ returns-then-not-hear c =
 
 pub returns : goal.returns
 returns c =
-    answered c.args.slow.now c.hear.new.self (lent_seen c.args.frame) c.in-Line.line.now c.new-text.result.items c.hear.new.out.items c.as_slice.result.now c.args.now c.args.used c.sent.result
-    (ap (λ f. lent_seen f) c.in-Line.is) c.if-not-hear.ensures.heard (search rules) (search rules) (search rules)
+    answered c.args.slow.now c.hear.new.self (lent_seen c.args.frame) c.in-Line.line.now c.new-text.result.items c.hear.new.out.items c.args.now c.args.used c.sent.result
+    (ap (λ f. lent_seen f) c.in-Line.is) c.as_slice.result.now c.if-not-hear.ensures.heard (search rules) (search rules) (search rules)

@@ -36,13 +36,13 @@ returns-in-Ok-clause-asks g c =
       λ rest s.
           asks_written g.L.AskedLink.is_remote c.args.place c.args.command.now (heard_by asking.end rest (c.args.self.now.ahead ++ ex.0) asking.ahead) c.as_slice.result.now
           (seen_through g.L.AskedLink c.args.link.now g.K.Sink c.args.sink.now) (seen_through g.L.AskedLink c.exchange.new.link g.K.Sink c.write_settlements.new.sink)
-          c.write_settlements.result c.in-Ok.ensures.ends (ex.3 rest s).0 (ex.3 rest s).1 c.as_slice.ensures.value c.write_settlements.ensures,
+          c.write_settlements.result c.in-Ok.ensures.ends (ex.3 rest s).0 (ex.3 rest s).1 c.as_slice.ensures.value (c.write_settlements.ensures.wrote, c.write_settlements.ensures.failed),
     )
 
 pub returns-in-Ok-clause-ends : goal.returns-in-Ok-clause-ends
 returns-in-Ok-clause-ends g c =
     ends_written (seen_through g.L.AskedLink c.args.link.now g.K.Sink c.args.sink.now) (seen_through g.L.AskedLink c.exchange.new.link g.K.Sink c.write_settlements.new.sink)
-    c.args.place _ c.write_settlements.result c.in-Ok.ensures.ends c.write_settlements.ensures
+    c.args.place _ c.write_settlements.result c.in-Ok.ensures.ends (c.write_settlements.ensures.wrote, c.write_settlements.ensures.failed)
 
 pub returns-in-Ok-write_settlements-clause-asks : goal.returns-in-Ok-write_settlements-clause-asks
 returns-in-Ok-write_settlements-clause-asks g c =
@@ -59,13 +59,13 @@ returns-in-Ok-write_settlements-clause-asks g c =
           asks_lost g.L.AskedLink.is_remote c.args.place c.args.command.now heard c.restart-lost.new.self.ids c.as_slice-in-Err.result.now old new c.in-Err.fault
           c.in-Err.ensures.ends (ex.3 rest s)
           (lost_alone c.args.place c.args.command.now asking.end.client.ids c.restart-lost.result.items _ waits c.restart-lost.ensures.settled c.as_slice-in-Err.ensures.value)
-          c.in-Ok-write_settlements.ensures.0,
+          c.in-Ok-write_settlements.ensures.wrote,
     )
 
 pub returns-in-Ok-write_settlements-clause-ends : goal.returns-in-Ok-write_settlements-clause-ends
 returns-in-Ok-write_settlements-clause-ends g c =
     ends_lost (seen_through g.L.AskedLink c.args.link.now g.K.Sink c.args.sink.now)
-    (seen_through g.L.AskedLink c.exchange.new.link g.K.Sink c.write_settlements-in-Err.new.sink) c.in-Err.fault c.in-Err.ensures.ends c.in-Ok-write_settlements.ensures.1
+    (seen_through g.L.AskedLink c.exchange.new.link g.K.Sink c.write_settlements-in-Err.new.sink) c.in-Err.fault c.in-Err.ensures.ends c.in-Ok-write_settlements.ensures.failed
 
 pub returns-in-Err-write_settlements-clause-asks : goal.returns-in-Err-write_settlements-clause-asks
 returns-in-Err-write_settlements-clause-asks g c =
@@ -80,16 +80,16 @@ returns-in-Err-write_settlements-clause-asks g c =
           let heard : ClientHeard = heard_by asking.end rest (c.args.self.now.ahead ++ ex.0) asking.ahead in
           let waits = still_waits g.L.AskedLink.is_remote c.args.place c.args.command.now heard old.client.taken new.client.taken c.in-Err.fault (ex.3 rest s) in
           asks_sink_failed g.L.AskedLink.is_remote c.args.place c.args.command.now heard c.restart-lost.new.self.ids c.as_slice-in-Err.result.now old new
-          c.in-Err.fault c.in-Err-write_settlements.output c.in-Err.ensures.ends (ex.3 rest s)
+          c.in-Err.fault c.in-Err.ensures.ends (ex.3 rest s)
           (lost_alone c.args.place c.args.command.now asking.end.client.ids c.restart-lost.result.items _ waits c.restart-lost.ensures.settled c.as_slice-in-Err.ensures.value)
-          c.in-Err-write_settlements.ensures,
+          c.in-Err-write_settlements.output (c.in-Err-write_settlements.ensures.wrote, c.in-Err-write_settlements.ensures.failed),
     )
 
 pub returns-in-Err-write_settlements-clause-ends : goal.returns-in-Err-write_settlements-clause-ends
 returns-in-Err-write_settlements-clause-ends g c =
     ends_sink_failed (seen_through g.L.AskedLink c.args.link.now g.K.Sink c.args.sink.now)
     (seen_through g.L.AskedLink c.exchange.new.link g.K.Sink c.write_settlements-in-Err.new.sink)
-    c.args.place _ c.in-Err.fault c.in-Err-write_settlements.output c.in-Err.ensures.ends c.in-Err-write_settlements.ensures
+    c.args.place _ c.in-Err.fault c.in-Err-write_settlements.output c.in-Err.ensures.ends (c.in-Err-write_settlements.ensures.wrote, c.in-Err-write_settlements.ensures.failed)
 
 pub returns-in-Ok-clause-spends : goal.returns-in-Ok-clause-spends
 returns-in-Ok-clause-spends g c = c.in-Ok.ensures.spends

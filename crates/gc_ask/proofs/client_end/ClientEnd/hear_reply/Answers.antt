@@ -39,7 +39,7 @@ returns-in-Err g c =
       grows = omega (arith, before.grows, read.grows);
       reads = omega (arith, before.reads, read.reads);
       ends = ends_then (source_of first) (source_of (g.L.AskedLink.client c.loop-used.link)) (source_of now) c.loop-used.reads c.read.new.reads (Err c.in-Err.fault)
-          before.grows read.grows (before.going, before.same, before.failed) read.ends;
+          before.grows read.grows ((before.going, before.same), before.failed) read.ends;
       only = ((next.only.0 ∙ before.only.0.0, next.only.1 ∙ before.only.0.1), next.instrument ∙ before.only.1, next.held ∙ before.only.2);
     }
 
@@ -50,7 +50,7 @@ loop-used-preserved g c =
     let next = c.in_default-read.ensures in
     let read = next.more in
     let ends = ends_then (source_of (g.L.AskedLink.client c.args.link.now)) (source_of (g.L.AskedLink.client c.loop-used.link)) (source_of (g.L.AskedLink.client c.read.new.self))
-    c.loop-used.reads c.read.new.reads (Ok tt) before.grows read.grows (before.going, before.same, before.failed) read.ends in
+    c.loop-used.reads c.read.new.reads (Ok tt) before.grows read.grows ((before.going, before.same), before.failed) read.ends in
     record {
       heard = (
         h.0 ++ c.read.new.ahead,
@@ -62,8 +62,8 @@ loop-used-preserved g c =
       );
       reads = omega (arith, before.reads, read.reads);
       grows = omega (arith, before.grows, read.grows);
-      going = ends.0;
-      same = ends.1;
-      failed = ends.2;
+      going = ends.0.0;
+      same = ends.0.1;
+      failed = ends.1;
       only = ((next.only.0 ∙ before.only.0.0, next.only.1 ∙ before.only.0.1), next.instrument ∙ before.only.1, next.held ∙ before.only.2);
     }

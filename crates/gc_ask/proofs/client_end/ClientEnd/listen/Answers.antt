@@ -43,7 +43,7 @@ returns-then-take_frame-clause-listens c rest s =
     let p = c.loop-at.invariant.passed rest s in
     let next : ClientHeard = record (heard_by c.take_frame.new.self rest piece left) { kept = c.next-used.new.self } in
     rw (c.if-take_frame.ensures.same, ← drop-drop used at piece) (passed_settles _ (heard_by c.loop-at.self rest piece left) next used _ p
-    c.if-take_frame.ensures.takes (λ e. (more e).1) (λ i e. let m = whole i e in (m.0, m.1 p.now p.stands, m.2)))
+    c.if-take_frame.ensures.takes (record { unended = λ e. (more e).1; ended = λ i e. let m = whole i e in (m.0, m.1 p.now p.stands, m.2) }))
 
 pub returns : goal.returns
 returns c = record {

@@ -10,13 +10,13 @@ loop-cut-preserved g c =
     let before = c.loop-cut.invariant in
     let read = c.in_default.ensures in
     let ends = ends_then (input_of g.I.Source c.args.link_in.now) (input_of g.I.Source c.loop-cut.link_in) (input_of g.I.Source c.read_more.new.source)
-    c.loop-cut.reads c.read_more.new.reads (Ok tt) before.grows read.grows (before.going, before.same, before.failed) read.ends in
+    c.loop-cut.reads c.read_more.new.reads (Ok tt) before.grows read.grows ((before.going, before.same), before.failed) read.ends in
     record {
       reads = omega (arith, before.reads, read.reads);
       grows = omega (arith, before.grows, read.grows);
-      going = ends.0;
-      same = ends.1;
-      failed = ends.2;
+      going = ends.0.0;
+      same = ends.0.1;
+      failed = ends.1;
     }
 
 pub returns-in-Err : goal.returns-in-Err
@@ -27,7 +27,7 @@ returns-in-Err g c =
     let now = input_of g.I.Source c.read_more.new.source in
     let left = c.read_more.new.reads in
     let ends : ReadEnds first now left (Err c.in-Err.fault) = ends_then first (input_of g.I.Source c.loop-cut.link_in) now
-    c.loop-cut.reads left (Err c.in-Err.fault) before.grows read.grows (before.going, before.same, before.failed) read.ends in
+    c.loop-cut.reads left (Err c.in-Err.fault) before.grows read.grows ((before.going, before.same), before.failed) read.ends in
     record {
       reads = omega (arith, before.reads, read.reads);
       ends = step_hears

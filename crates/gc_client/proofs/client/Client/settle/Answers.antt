@@ -5,7 +5,7 @@ use Rattle.gc_client.specs.declared.settlement.Settlement.{Settlement}
 use Rattle.gc_client.specs.Rule.{Windowed, lost, settled_by_line, settle, settles_at}
 use Rattle.gc_client.specs.Settlements.{AreSettledBy}
 use Rattle.gc_client.proofs.Ends.{settle_is, fewer_left}
-use Rattle.gc_client.proofs.Lists.{left_turn, none_there}
+use Rattle.gc_client.proofs.Lists.{left_turn, none_is_no_some}
 use Rattle.gc_client.proofs.Settling.{one_written}
 use Rattle.gc_client.proofs.client.Client.settle.Goals as goal
 use Rattle.gc_client.proofs.client.Client.settle.Goals.{in-Some, in_default}
@@ -36,7 +36,7 @@ returns-clause-settled g c =
           (sym (settle_is k line ws p _ (sym c.lose.ensures.left ∙ c.take_first-p.ensures))
           ∙ ap (λ (d : Windowed _). settle k line d.ids.waiting) c.self.view_is) are in
           subst (λ (x : ArrayVec (Settlement _)). AreSettledBy says x.items (settle k line c.args.self.now.ids.waiting)) (sym w.settled-is) by_rule
-      | in_default w ↦ absurd (none_there c.get_mut.result w.in_default.is (c.get_mut.ensures.variant.1 lt))
+      | in_default w ↦ absurd (none_is_no_some c.get_mut.result w.in_default.is (c.get_mut.ensures.variant.1 lt))
     ]
 
 -- the requests after place k still wait

@@ -23,8 +23,7 @@ returns-clause-hears g c s start stands so =
     let items = c.hear-hearing.new.settled.items in
     let same = (c.hear-hearing.ensures.settled short).seen ∙ ap (λ y. y.settlements) seen in
     let reply = c.is_reply.ensures _ _ line _ (c.hear-hearing.ensures.heard short) in
-    let t = settles_ok (g.B.Book.text c.args.book.now) c.args.self.now _ s x (map settlement_seen items) c.write.new.self (length items) start (g.B.Book.taken c.write.new.book)
-    stands
+    let t = settles_ok (g.B.Book.text c.args.book.now) c.args.self.now _ s x (map settlement_seen items) stands
     (record {
       ids_are = ap (λ w. w.ids) client ∙ ap (λ y. y.client) seen;
       width = ap
@@ -35,6 +34,7 @@ returns-clause-hears g c s start stands so =
       recorded = refl;
     })
     same
+    c.write.new.self (length items) start (g.B.Book.taken c.write.new.book)
     (sym (length-map items settlement_seen) ∙ ap length same)
     (hears_paired s.marks s.client line (heard line) stands.paired)
     (λ are. c.in_default-write.ensures.wrote s.reads are start s.records (so are)) c.in_default-write.ensures.after c.in_default-write.ensures.notes in
@@ -60,9 +60,7 @@ returns-in-Err-clause-hears g c s start stands so =
     let items = c.hear-hearing.new.settled.items in
     let same = (c.hear-hearing.ensures.settled short).seen ∙ ap (λ y. y.settlements) seen in
     let t = settles_part (g.B.Book.text c.args.book.now) c.args.self.now
-    (record c.args.self.now { client = c.hear-hearing.new.self; settled = c.hear-hearing.new.settled }) s x (map settlement_seen items) start
-    (g.B.Book.taken c.write.new.book)
-    stands
+    (record c.args.self.now { client = c.hear-hearing.new.self; settled = c.hear-hearing.new.settled }) s x (map settlement_seen items) stands
     (record {
       ids_are = ap (λ w. w.ids) client ∙ ap (λ y. y.client) seen;
       width = ap
@@ -73,6 +71,7 @@ returns-in-Err-clause-hears g c s start stands so =
       recorded = refl;
     })
     same
+    start (g.B.Book.taken c.write.new.book)
     (λ are. c.in-Err.ensures.wrote s.reads are start s.records (so are)) in
     rw c.if-not-begun.false (rw c.in-Line.is t)
 
@@ -90,6 +89,5 @@ returns-in_default g c = record {
       let same : s ≡ lines_taken c.args.begun (option_to_list (line_in (lent_seen c.args.frame))) s =
       sym (ap (λ l. lines_taken c.args.begun (option_to_list l) s) (no_line c.args.frame c.in_default.not-Line) ∙ taken_none c.args.begun s) in
       subst (λ (x : Model). Refines c.args.self.now x × Took (g.B.Book.text c.args.book.now) start (g.B.Book.taken c.args.book.now) x) same (stands, so);
-  fails = refl;
-  form = refl;
+  kept = record { form = refl; fails = refl };
 }

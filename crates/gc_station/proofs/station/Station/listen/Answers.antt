@@ -26,8 +26,8 @@ loop-at-preserved g c =
           rw (← drop-drop used at piece) (hearing_on c.args.begun (g.B.Book.text c.args.book.now) start (g.B.Book.taken c.loop-at.book)
           (g.B.Book.taken c.hear.new.book) c.loop-at.self s piece left used frame c.next-used.new.self h t c.hear.new.self
           ((rw c.loop-at.invariant.form at c.in_default.ensures.hears) (with_rest t.now h.now) start (with_kept c.loop-at.self c.next-used.new.self t.now h.now h.stands t.stands) h.wrote));
-      form = c.in_default.ensures.form ∙ c.loop-at.invariant.form;
-      failed = c.in_default.ensures.fails ∙ c.loop-at.invariant.failed;
+      form = c.in_default.ensures.kept.form ∙ c.loop-at.invariant.form;
+      failed = c.in_default.ensures.kept.fails ∙ c.loop-at.invariant.failed;
     }
 
 pub returns-in-Err-clause-listens : goal.returns-in-Err-clause-listens

@@ -4,7 +4,7 @@ use Rattle.gc_client.specs.Rule.{restarts}
 use Rattle.gc_client.specs.Settlements.{settlement_seen}
 use Rattle.gc_station.specs.Progressing.{loses_all}
 use Rattle.gc_station.specs.Model.{losing}
-use Rattle.gc_station.specs.Stations.{Refines, Took, ComesTo}
+use Rattle.gc_station.specs.Stations.{Refines, Took, RefinesOrTookPart}
 use Rattle.gc_station.proofs.Hearing.{restarts_paired, settles_either}
 use Rattle.gc_station.proofs.station.Station.record_lost.Goals as goal
 
@@ -16,8 +16,7 @@ returns-clause-ends g c s start stands so =
     let items = c.restart-self.result.items in
     let same = c.restart-self.ensures.settled.seen ∙ ap (λ y. y.settlements) seen in
     let loses = sym c.if-not-loses_all.false ∙ c.loses_all.ensures ∙ ap loses_all stands.progress in
-    let t = settles_either (g.B.Book.text c.args.book.now) c.args.self.now _ s x (map settlement_seen items) c.write.new.self (length items) start (g.B.Book.taken c.write.new.book) c.write.result
-    stands
+    let t = settles_either (g.B.Book.text c.args.book.now) c.args.self.now _ s x (map settlement_seen items) stands
     (record {
       ids_are = ap (λ w. w.ids) client ∙ ap (λ y. y.client) seen;
       width = ap
@@ -28,10 +27,11 @@ returns-clause-ends g c s start stands so =
       recorded = refl;
     })
     same
+    c.write.new.self (length items) start (g.B.Book.taken c.write.new.book) c.write.result
     (sym (length-map items settlement_seen) ∙ ap length same)
     (restarts_paired s.marks s.client stands.paired)
     (λ are. c.write.ensures.wrote s.reads are start s.records (so are)) c.write.ensures.after c.write.ensures.notes in
-    subst (λ b. ComesTo (g.B.Book.text c.args.book.now) s.records c.write.new.self start (g.B.Book.taken c.write.new.book) (losing b s) c.write.result) loses t
+    subst (λ b. RefinesOrTookPart (g.B.Book.text c.args.book.now) s.records c.write.new.self start (g.B.Book.taken c.write.new.book) (losing b s) c.write.result) loses t
 
 pub returns-then-not-loses_all-clause-ends : goal.returns-then-not-loses_all-clause-ends
 returns-then-not-loses_all-clause-ends g c s start stands so =

@@ -2,7 +2,7 @@ use Rattle.std.proofs.Common.{refl, ap, ◌∙◌}
 use Rattle.gc_links.specs.Acts.{Told}
 use Rattle.gc_station.specs.declared.progress.Progress.{Progress}
 use Rattle.gc_station.specs.Model.{with_moment}
-use Rattle.gc_station.specs.Progressing.{early_noted, renewed}
+use Rattle.gc_station.specs.Progressing.{early_noted, resynchronized}
 use Rattle.gc_station.proofs.Hearing.{refines_timed_out, untold_does}
 use Rattle.gc_station.proofs.Making.{refines_with}
 use Rattle.gc_station.proofs.station.Station.renew.Goals as goal
@@ -17,7 +17,7 @@ returns-in-Some g c commands text known =
       tells = c.in-Some.ensures.0;
       goes = λ s start stands so. (
         tt,
-        refines_with mid c.note_early.new.self (λ (p : Progress). early_noted plan 0 (renewed plan m p)) (with_moment m s)
+        refines_with mid c.note_early.new.self (λ (p : Progress). early_noted plan 0 (resynchronized plan m p)) (with_moment m s)
             (refines_timed_out c.args.self.now mid m s stands c.in-Some.ensures.1)
             (c.note_early.ensures ∙ ap (early_noted plan 0) c.resynchronize.ensures),
         so,

@@ -1,7 +1,7 @@
 use Rattle.std.proofs.Common.{rules, ◌≡◌, ◌&&◌, sym, ap, ◌∙◌}
 use Rattle.gc_values.specs.Decimals.{units}
 use Rattle.gc_values.specs.Directions.{v_in_face_one, hz_in_face_one, is_close, is_close_on_circle}
-use Rattle.gc_values.proofs.NearLemmas.{near_is}
+use Rattle.gc_values.proofs.NearLemmas.{near_by_angles}
 use Rattle.gc_values.proofs.direction.Direction.is_near.Goals as goal
 
 pub returns-then-v_is_near : goal.returns-then-v_is_near
@@ -10,7 +10,7 @@ returns-then-v_is_near c =
     let v : c.is_close-v_is_near.result ≡ is_close (units c.args.tolerance.now) (v_in_face_one d) (units c.args.place.now.v) = search rules in
     let hz : c.is_close_on_circle-hz_is_near.result ≡ is_close_on_circle (units c.args.tolerance.now) (hz_in_face_one d) (units c.args.place.now.hz) = search rules in
     ap (λ b. b && c.is_close_on_circle-hz_is_near.result) (sym c.if-v_is_near.true)
-    ∙ near_is d c.args.place.now c.args.tolerance.now c.is_close-v_is_near.result c.is_close_on_circle-hz_is_near.result v hz
+    ∙ near_by_angles d c.args.place.now c.args.tolerance.now c.is_close-v_is_near.result c.is_close_on_circle-hz_is_near.result v hz
 
 pub returns-else-v_is_near : goal.returns-else-v_is_near
 returns-else-v_is_near c =
@@ -18,4 +18,4 @@ returns-else-v_is_near c =
     let v : c.is_close-v_is_near.result ≡ is_close (units c.args.tolerance.now) (v_in_face_one d) (units c.args.place.now.v) = search rules in
     let hz : c.is_close_on_circle-hz_is_near.result ≡ is_close_on_circle (units c.args.tolerance.now) (hz_in_face_one d) (units c.args.place.now.hz) = search rules in
     c.if-v_is_near.false ∙ ap (λ b. b && c.is_close_on_circle-hz_is_near.result) (sym c.if-v_is_near.false)
-    ∙ near_is d c.args.place.now c.args.tolerance.now c.is_close-v_is_near.result c.is_close_on_circle-hz_is_near.result v hz
+    ∙ near_by_angles d c.args.place.now c.args.tolerance.now c.is_close-v_is_near.result c.is_close_on_circle-hz_is_near.result v hz

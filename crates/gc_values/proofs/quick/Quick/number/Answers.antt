@@ -11,5 +11,5 @@ returns-clause-reads c = λ v reads vs left.
     record {
       well = left.well;
       left = subst (λ r. LeftPlain (option_copied r) (v ∷ vs)) (sym is)
-          (plain_next c.in_ok-text.text.now made.item (option_copied c.in_ok-number.rest) v vs made.cut (reads made.item made.names) left.left);
+          (plain_next c.in_ok-text.text.now made.item (option_copied c.in_ok-number.rest) v vs made.cut (reads made.item made.is) left.left);
     }

@@ -12,5 +12,5 @@ returns-in-Some-front_decimal-clause-reads c = λ vs left.
     record {
       well = left.well;
       left = subst (λ r. LeftPlain (option_copied r) (v ∷ vs)) (sym c.in-Some.is)
-          (plain_next c.in-Some.text.now made.item (option_copied c.in-Some-front_decimal.rest) v vs made.cut made.spelled left.left);
+          (plain_next c.in-Some.text.now made.item (option_copied c.in-Some-front_decimal.rest) v vs made.cut made.is left.left);
     }

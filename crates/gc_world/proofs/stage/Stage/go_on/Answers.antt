@@ -2,10 +2,9 @@ use Rattle.std.proofs.Common.{◌<◌, sym, subst}
 use Rattle.gc_world.specs.declared.direction.Direction.{Direction}
 use Rattle.gc_world.specs.declared.direction.Direction.TheVariants.{Up, Down}
 use Rattle.gc_world.specs.Clients.{ends}
-use Rattle.gc_world.specs.Directions.{gone, lines, texts}
+use Rattle.gc_world.specs.Directions.{texts, to_go}
 use Rattle.gc_world.specs.Stages.{stage_parts, Shows}
 use Rattle.gc_world.specs.Staging.{after_bytes}
-use Rattle.gc_world.specs.Streams.{remaining}
 use Rattle.gc_world.proofs.Shown.{carries, more_left, streams_begin}
 use Rattle.gc_world.proofs.stage.Stage.go_on.Goals as goal
 
@@ -16,7 +15,7 @@ go_on-requires g c =
       texts Up v.world.wire,
       carries width s v h Up,
       more_left width s v h Up c.args.n
-          (subst (λ (d : Direction). c.args.n < remaining (gone d v) (lines d v.world.wire)) c.in-Up.is (c.requires.some width v h)),
+          (subst (λ (d : Direction). c.args.n < to_go d v) c.in-Up.is (c.requires.some width v h)),
     )
 
 pub go_on-requires-in-Down : goal.go_on-requires-in-Down
@@ -26,7 +25,7 @@ go_on-requires-in-Down g c =
       texts Down v.world.wire,
       carries width s v h Down,
       more_left width s v h Down c.args.n
-          (subst (λ (d : Direction). c.args.n < remaining (gone d v) (lines d v.world.wire)) c.in-Down.is (c.requires.some width v h)),
+          (subst (λ (d : Direction). c.args.n < to_go d v) c.in-Down.is (c.requires.some width v h)),
     )
 
 pub returns-in-Up : goal.returns-in-Up
@@ -35,7 +34,7 @@ returns-in-Up g c =
     let did = c.go_on.ensures in
     λ width v h.
     subst (λ (d : Direction). Shows width (record c.args.self.now { up = c.go_on.new.self; cut = c.go_on.new.cut }) (after_bytes ends width d v c.args.n)) (sym c.in-Up.is)
-    (streams_begin width s v h Up c.args.n c.go_on.new.self (subst (λ (d : Direction). c.args.n < remaining (gone d v) (lines d v.world.wire)) c.in-Up.is (c.requires.some width v h))
+    (streams_begin width s v h Up c.args.n c.go_on.new.self (subst (λ (d : Direction). c.args.n < to_go d v) c.in-Up.is (c.requires.some width v h))
     (did.flow (texts Up v.world.wire) (carries width s v h Up)) did.gone did.queue)
 
 pub returns-in-Down : goal.returns-in-Down
@@ -44,5 +43,5 @@ returns-in-Down g c =
     let did = c.go_on-in-Down.ensures in
     λ width v h.
     subst (λ (d : Direction). Shows width (record c.args.self.now { down = c.go_on-in-Down.new.self; cut = c.go_on-in-Down.new.cut }) (after_bytes ends width d v c.args.n)) (sym c.in-Down.is)
-    (streams_begin width s v h Down c.args.n c.go_on-in-Down.new.self (subst (λ (d : Direction). c.args.n < remaining (gone d v) (lines d v.world.wire)) c.in-Down.is (c.requires.some width v h))
+    (streams_begin width s v h Down c.args.n c.go_on-in-Down.new.self (subst (λ (d : Direction). c.args.n < to_go d v) c.in-Down.is (c.requires.some width v h))
     (did.flow (texts Down v.world.wire) (carries width s v h Down)) did.gone did.queue)

@@ -1,9 +1,8 @@
 use Rattle.std.proofs.Common.{◌≡◌, sym, subst}
 use Rattle.gc_world.specs.declared.direction.Direction.{Direction}
 use Rattle.gc_world.specs.declared.direction.Direction.TheVariants.{Up, Down}
-use Rattle.gc_world.specs.Directions.{gone, lines, texts}
+use Rattle.gc_world.specs.Directions.{texts, to_go}
 use Rattle.gc_world.specs.Stages.{stage_parts}
-use Rattle.gc_world.specs.Streams.{remaining}
 use Rattle.gc_world.proofs.Shown.{carries, left_is}
 use Rattle.gc_world.proofs.stage.Stage.remaining.Goals as goal
 
@@ -17,12 +16,12 @@ pub returns-in-Up : goal.returns-in-Up
 returns-in-Up g c =
     let s = stage_parts c.args.self.now in
     λ width v h.
-    subst (λ (d : Direction). c.remaining.result ≡ remaining (gone d v) (lines d v.world.wire)) (sym c.in-Up.is)
+    subst (λ (d : Direction). c.remaining.result ≡ to_go d v) (sym c.in-Up.is)
     (left_is width s v h Up c.remaining.result (c.remaining.ensures (texts Up v.world.wire) (carries width s v h Up)))
 
 pub returns-in-Down : goal.returns-in-Down
 returns-in-Down g c =
     let s = stage_parts c.args.self.now in
     λ width v h.
-    subst (λ (d : Direction). c.remaining-in-Down.result ≡ remaining (gone d v) (lines d v.world.wire)) (sym c.in-Down.is)
+    subst (λ (d : Direction). c.remaining-in-Down.result ≡ to_go d v) (sym c.in-Down.is)
     (left_is width s v h Down c.remaining-in-Down.result (c.remaining-in-Down.ensures (texts Down v.world.wire) (carries width s v h Down)))

@@ -1,6 +1,9 @@
 use Rattle.std.proofs.Common.{rules}
-use Rattle.geocom_instrument_c.proofs.Cases.{is_fed}
+use Rattle.geocom_instrument_c.specs.Feeding.{IsFedTo, IsWithoutReply}
+use Rattle.geocom_instrument_c.specs.declared.header.TheConstants.{NO_INSTRUMENT}
+use Rattle.geocom_instrument_c.proofs.Cases.{calls_bench}
 use Rattle.geocom_instrument_c.proofs.bench.GeocomInstrument.feed.Goals as goal
 
 pub returns : goal.returns
-returns c = is_fed c.args.self.now c.in-Some.bench c.feed.new.self c.args.bytes.now c.args.now c.feed.result (search rules) c.feed.ensures
+returns c = calls_bench c.args.self.now c.in-Some.bench c.feed.new.self
+    (IsWithoutReply NO_INSTRUMENT 0 c.feed.result) (λ b n. IsFedTo b c.args.bytes.now c.args.now n c.feed.result) (search rules) c.feed.ensures

@@ -1,5 +1,5 @@
 use Rattle.gc_rehearsal.proofs.Happened.{reaches}
-use Rattle.gc_rehearsal.proofs.carried.Carried.reach.Goals as goal
+use Rattle.gc_rehearsal.proofs.carried.Carried.hand_over.Goals as goal
 
 pub invariant_of-self : goal.invariant_of-self
 invariant_of-self c =

@@ -1,6 +1,0 @@
-use Rattle.gc_nights.specs.Runs.{AreRuns}
-use Rattle.gc_nights.proofs.nights.run_night.Given as goal
-
--- what the link recorded so far is what runs recorded
-abbrev pub invariant-loop : goal.invariant-loop
-invariant-loop g l = AreRuns l.programme.tasks.now l.fn.link.carried l.link.carried

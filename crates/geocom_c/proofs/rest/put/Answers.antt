@@ -1,9 +1,0 @@
-use Rattle.std.proofs.Common.{◌+◌, ◌-◌, length, arith, ap}
-use Rattle.std.proofs.lemmas.Slice.{drop-put_mid}
-use Rattle.geocom_c.proofs.rest.put.Goals as goal
-
-pub returns-clause-untouched : goal.returns-clause-untouched
-returns-clause-untouched c =
-    let at = c.args.at in
-    let n = length c.args.text.now in
-    drop-put_mid at (at + n - at) c.args.bytes.now c.copy_from_slice.new.self (at + n) (omega arith) (omega (arith, c.requires)) (omega (arith, ap length c.copy_from_slice.ensures.after))
