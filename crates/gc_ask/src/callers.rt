@@ -1,8 +1,9 @@
 //! The callers of a kept port or device: they are served one after the other, and after a fault of one caller's connection the next
 //! caller is served all the same.
 
-ghost use Rattle.std.specs.Prelude.{◌≡◌, [], ◌∷◌, true, OnOk};
+ghost use Rattle.std.specs.Prelude.{◌≡◌, [], ◌∷◌, true};
 ghost use Rattle.std.specs.Io.KnownBytes.{Appends};
+ghost use Rattle.gc_lines.specs.Ports.{WritesIfOk};
 ghost use Rattle.gc_ask.specs.Keeping.{AddsEnds, ServesCallers, caller_line, end_line, end_of_caller};
 
 use gc_instrument::{ServeFault, Served};
@@ -30,7 +31,7 @@ impl CallerFault {
     /// Writes the line of the fault: the program's name, the connection's number, counted from 1, and why the connection was
     /// left. `Err`: the line couldn't be written whole.
     pub fn tell<E: Write>(self, number: u64, messages: &mut E) -> io::Result<()>
-        ensures { OnOk result (Appends (E.contents messages.old) (E.contents messages.new) (caller_line number self)) }
+        ensures { WritesIfOk E.contents messages.old messages.new result (caller_line number self) }
     {
         match self {
             CallerFault::Serving(fault) => {

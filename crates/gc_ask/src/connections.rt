@@ -5,7 +5,6 @@ ghost use Rattle.gc_ask.specs.AskRuns.{AskRunsConnected, AsksOverFresh};
 ghost use Rattle.gc_lines.specs.Answering.{taken_by};
 ghost use Rattle.gc_ask.specs.Looping.{LoopRunsConnected, LoopsOverFresh};
 ghost use Rattle.gc_ask.specs.Places.{IsFaultOfPlace, fault_of_reason, fault_of_unusable};
-ghost use Rattle.gc_texts.specs.Faults.{end_of_serving};
 ghost use Rattle.gc_texts.specs.WholeTexts.{input_of};
 ghost use Rattle.gc_texts.specs.declared.fault.RunFault.{RunFault};
 
@@ -16,10 +15,10 @@ use crate::instrument_end::InstrumentEnd;
 use crate::link::Remote;
 use crate::looped::Loop;
 use crate::simulated::Simulates;
-use gc_instrument::{Instrument, ServeFault, Served};
+use gc_instrument::Instrument;
 use gc_lines::{Answers, FromReader, Sink, Source, ToWriter};
 use gc_links::{Place, Unusable, accept, both_ends, connect_here, wire_to};
-use gc_texts::{Command, RunFault, read_command_text};
+use gc_texts::{Command, RunFault, end_of_serving, read_command_text};
 use std::alloc::Global;
 use std::fs::File;
 use std::io::{Read, Write};
@@ -246,18 +245,5 @@ pub fn fault_of_unusable(unusable: Unusable) -> RunFault
         Unusable::NoTerminal => RunFault::NoTerminal,
         Unusable::Held => RunFault::Held,
         Unusable::Forbidden => RunFault::Forbidden,
-    }
-}
-
-/// How a connection that was served ended, as the end of a run: well, or with the fault of serving it, which is `Read`, `Write`
-/// or `TooManyReads`.
-pub(crate) fn end_of_serving(end: Result<Served, ServeFault>) -> Result<(), RunFault>
-    ensures { result ≡ end_of_serving end }
-{
-    match end {
-        Ok(_) => Ok(()),
-        Err(ServeFault::Read { .. }) => Err(RunFault::Read),
-        Err(ServeFault::Write { replies, bytes }) => Err(RunFault::Write { replies, bytes }),
-        Err(ServeFault::TooManyReads { .. }) => Err(RunFault::TooManyReads),
     }
 }

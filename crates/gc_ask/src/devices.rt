@@ -6,11 +6,11 @@ ghost use Rattle.gc_ask.specs.Places.{IsFaultOfDevice};
 
 use crate::caller::Connection;
 use crate::callers::{CallerFault, Callers, PAUSE, end_of_caller, keep};
-use crate::connections::{end_of_serving, fault_of_reason, fault_of_unusable};
+use crate::connections::{fault_of_reason, fault_of_unusable};
 use crate::kept_port::Keeping;
 use crate::simulated::Simulates;
 use gc_links::{Unusable, Wire, wire_on};
-use gc_texts::RunFault;
+use gc_texts::{RunFault, end_of_serving};
 use std::fs::File;
 use std::io::Write;
 use std::rt::Files;

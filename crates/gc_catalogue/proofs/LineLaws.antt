@@ -1,9 +1,8 @@
 -- Lines that are written read back.
 use Rattle.std.specs.Prelude.{◌<◌, ℕ, List, [], ◌∷◌, Option, Some, None, refl}
-use Rattle.std.specs.Option.{ForSome}
 use Rattle.std.proofs.Common.{◌∙◌, arith, lit<}
 use Rattle.gc_lines.proofs.Written.{request_back, reply_back}
-use Rattle.gc_lines.specs.Headers.{IsIdInRange}
+use Rattle.gc_lines.specs.Headers.{IsIdInRange, MayBeId}
 use Rattle.gc_values.specs.declared.value.Value.{Value}
 use Rattle.gc_values.specs.declared.value.Value.TheVariants as value
 use Rattle.gc_catalogue.specs.declared.answer.Answer.{Answer}
@@ -62,7 +61,7 @@ refusal_again call id rc places i some fits = record {
   is_reading = (refl, (λ e. omega arith), refl);
 }
 
--- an id that is below 8 where there is one, by `ForSome`, is in range
-pub id_in_range : (id : Option ℕ) → ForSome id (λ i. i < 8) → IsIdInRange id
+-- an id that a function may be given (`MayBeId`) is in range
+pub id_in_range : (id : Option ℕ) → MayBeId id → IsIdInRange id
 id_in_range None h = tt
 id_in_range (Some i) h = h i refl

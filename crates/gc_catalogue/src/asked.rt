@@ -1,8 +1,8 @@
 //! What is asked of an instrument: a call of the table, or a procedure that isn't in it.
 
-ghost use Rattle.std.specs.Prelude.{◌≡◌, ◌+◌, ◌≤◌, ◌<◌, ◌++◌, Some, IfSome};
-ghost use Rattle.std.specs.Option.{ForSome};
+ghost use Rattle.std.specs.Prelude.{◌≡◌, ◌+◌, ◌≤◌, ◌++◌, Some, IfSome};
 ghost use Rattle.arrayvec.specs.ArrayVec.{array_vec_len};
+ghost use Rattle.gc_lines.specs.Headers.{MayBeId};
 ghost use Rattle.gc_lines.specs.Lines.{IsPlain};
 ghost use Rattle.gc_lines.specs.Replies.{reply_seen};
 ghost use Rattle.gc_values.specs.declared.fault.ValueFault.{ValueFault};
@@ -67,7 +67,7 @@ impl Asked {
 
 // Appends the request line of a procedure that isn't in the table, with the id or without one: at most 512 bytes, without CR LF.
 fn encode_raw_onto<const N: usize>(out: &mut ArrayVec<u8, N>, id: Option<u8>, raw: &RawCall)
-    requires id { ForSome id (λ i. i < 8) }
+    requires id { MayBeId id }
     requires room { array_vec_len out.old + 512 ≤ N }
     ensures line { out.new.items ≡ out.old.items ++ raw_line id raw.now }
     ensures is { IsRawCall raw.now.rpc (raw_params raw.now) }
@@ -79,7 +79,7 @@ fn encode_raw_onto<const N: usize>(out: &mut ArrayVec<u8, N>, id: Option<u8>, ra
 /// As [`encode_asked`], but the line is appended to `out`, which has to have room for 512 more bytes.
 #[inline]
 pub fn encode_asked_onto<const N: usize>(out: &mut ArrayVec<u8, N>, id: Option<u8>, asked: &Asked)
-    requires id { ForSome id (λ i. i < 8) }
+    requires id { MayBeId id }
     requires room { array_vec_len out.old + 512 ≤ N }
     ensures line { out.new.items ≡ out.old.items ++ asked_line id asked.now }
     ensures plain { IsPlain (asked_line id asked.now) }
@@ -95,7 +95,7 @@ pub fn encode_asked_onto<const N: usize>(out: &mut ArrayVec<u8, N>, id: Option<u
 /// Writes the request line of what is asked, without its CR LF, with the id, 0 to 7, or without one. It has at most 512 bytes, and
 /// reads back as what is asked.
 pub fn encode_asked(id: Option<u8>, asked: &Asked) -> Line
-    requires { ForSome id (λ i. i < 8) }
+    requires { MayBeId id }
     ensures line { result.items ≡ asked_line id asked.now }
     ensures plain { IsPlain result.items }
     ensures reads_back { ReadsBackAsked id asked.now }

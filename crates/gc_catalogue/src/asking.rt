@@ -1,7 +1,7 @@
 //! What a client can ask: any type whose values have a request line, and with which a reply can be read.
 
-ghost use Rattle.std.specs.Prelude.{◌≡◌, ◌<◌, []};
-ghost use Rattle.std.specs.Option.{ForSome};
+ghost use Rattle.std.specs.Prelude.{◌≡◌, []};
+ghost use Rattle.gc_lines.specs.Headers.{MayBeId};
 ghost use Rattle.gc_lines.specs.Lines.{IsPlain};
 ghost use Rattle.gc_lines.specs.Replies.{reply_seen};
 ghost use Rattle.gc_catalogue.specs.Calls.{IsFitting};
@@ -40,7 +40,7 @@ pub trait Asking: Copy + Drop {
 
     /// Writes the request line, without its CR LF, with the id, 0 to 7, or without one, into `out`, which has to be empty.
     fn write_onto(&self, out: &mut Line, id: Option<u8>)
-        requires id { ForSome id (λ i. i < 8) }
+        requires id { MayBeId id }
         requires empty { out.old.items ≡ [] }
         ensures line { out.new.items ≡ line id self.now }
         ensures plain { IsPlain (line id self.now) }

@@ -17,7 +17,8 @@ use arrayvec::ArrayVec;
 use gc_lines::{Line, Reply, push_reply};
 use gc_values::{Listed, Quick};
 
-/// As [`encode_answer`], but the line is appended to `out`, which has to have room for 512 more bytes.
+/// As [`encode_answer`], but the line is appended to `out`, which has to have room for 512 more bytes, and with a return code other
+/// than 0 `answer` may be any: if it is `Nothing`, the line reads back as the refusal.
 #[inline(always)]
 pub fn encode_answer_onto<const N: usize>(
     out: &mut ArrayVec<u8, N>,
@@ -28,12 +29,11 @@ pub fn encode_answer_onto<const N: usize>(
 )
     requires id { id < 8 }
     requires places { places ≤ 15 }
-    requires refused { rc ≢ 0 → answer.now ≡ Answer.Nothing }
     requires room { array_vec_len out.old + 512 ≤ N }
     ensures line { out.new.items ≡ out.old.items ++ reply_line id rc answer.now places }
     ensures plain { IsPlain (reply_line id rc answer.now places) }
     ensures reads_back { ReadsBackValue id rc answer.now places }
-    ensures refused { ReadsBackRefusal id rc answer.now places }
+    ensures refused { answer.now ≡ Answer.Nothing → ReadsBackRefusal id rc answer.now places }
     ensures fitting { IsFittingAnswer (rounded_answer places answer.now) }
     ensures bound { array_vec_len out.new ≤ array_vec_len out.old + 512 }
 {

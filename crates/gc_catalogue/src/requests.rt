@@ -1,8 +1,8 @@
 //! Calls and their request lines.
 
-ghost use Rattle.std.specs.Prelude.{◌≡◌, ◌+◌, ◌<◌, ◌≤◌, ◌++◌, IsTrue, IfOk, IfErr, OnOk};
-ghost use Rattle.std.specs.Option.{ForSome};
+ghost use Rattle.std.specs.Prelude.{◌≡◌, ◌+◌, ◌≤◌, ◌++◌, IsTrue, IfOk, IfErr, OnOk};
 ghost use Rattle.arrayvec.specs.ArrayVec.{array_vec_len};
+ghost use Rattle.gc_lines.specs.Headers.{MayBeId};
 ghost use Rattle.gc_lines.specs.Lines.{IsPlain};
 ghost use Rattle.gc_catalogue.specs.Calls.{GivesCallOf, GivesRefusalOf, IsCall, IsCallOf, IsFitting, IsRefusal, IsRefusalOf, WritesCallOf};
 ghost use Rattle.gc_catalogue.specs.Laws.{ReadsBackCall};
@@ -18,7 +18,7 @@ use gc_values::{Listed, Quick};
 
 /// As [`encode_call`], but the line is appended to `out`, which has to have room for 512 more bytes.
 pub fn encode_call_onto<const N: usize>(out: &mut ArrayVec<u8, N>, id: Option<u8>, call: &Call)
-    requires id { ForSome id (λ i. i < 8) }
+    requires id { MayBeId id }
     requires room { array_vec_len out.old + 512 ≤ N }
     ensures line { out.new.items ≡ out.old.items ++ request_line id call.now }
     ensures plain { IsPlain (request_line id call.now) }
@@ -32,7 +32,7 @@ pub fn encode_call_onto<const N: usize>(out: &mut ArrayVec<u8, N>, id: Option<u8
 /// Writes the request line of a call, without its CR LF, with the id, 0 to 7, or without one. It has at most 512 bytes, whatever the
 /// call is, and reads back as the call.
 pub fn encode_call(id: Option<u8>, call: &Call) -> Line
-    requires { ForSome id (λ i. i < 8) }
+    requires { MayBeId id }
     ensures line { result.items ≡ request_line id call.now }
     ensures plain { IsPlain result.items }
     ensures reads_back { ReadsBackCall id call.now }

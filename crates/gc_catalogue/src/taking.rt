@@ -1,9 +1,9 @@
 //! Takers, to which the number of a call and the values of a call or an answer are handed one by one: `ArrayVec` appends them as
 //! bytes, and `NumberAlone` stores the number.
 
-ghost use Rattle.std.specs.Prelude.{◌≡◌, ◌+◌, ◌-◌, ◌/◌, ◌<◌, ◌≤◌, ◌++◌, ◌∷◌, [], ℕ, List, Option, length, suc};
-ghost use Rattle.std.specs.Option.{ForSome};
+ghost use Rattle.std.specs.Prelude.{◌≡◌, ◌+◌, ◌-◌, ◌/◌, ◌≤◌, ◌++◌, ◌∷◌, [], ℕ, List, Option, length, suc};
 ghost use Rattle.arrayvec.specs.ArrayVec.{array_vec_len};
+ghost use Rattle.gc_lines.specs.Headers.{MayBeId};
 ghost use Rattle.gc_lines.specs.Requests.{request_text};
 ghost use Rattle.gc_values.specs.Decimals.{rounded};
 ghost use Rattle.gc_values.specs.Lists.{AreValues};
@@ -32,7 +32,7 @@ pub(crate) trait Taker {
     /// Takes a procedure's number, and the request's id, if it has one.
     fn number(&mut self, rpc: u16, id: Option<u8>)
         requires room { 1 ≤ room self.old }
-        requires id { ForSome id (λ i. i < 8) }
+        requires id { MayBeId id }
         ensures room { room self.old ≤ suc (room self.new) }
         ensures takes { (vs : List Value) (t : Self) → takes self.new vs t → begins self.old id rpc vs t };
 

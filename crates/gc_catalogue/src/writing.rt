@@ -1,7 +1,7 @@
 //! The rows for writing: the number, the values and the answer's shape of each procedure, and the values of each answer.
 
-ghost use Rattle.std.specs.Prelude.{◌≡◌, ◌<◌, ◌≤◌, []};
-ghost use Rattle.std.specs.Option.{ForSome};
+ghost use Rattle.std.specs.Prelude.{◌≡◌, ◌≤◌, []};
+ghost use Rattle.gc_lines.specs.Headers.{MayBeId};
 ghost use Rattle.gc_catalogue.specs.Answers.{answer_fields};
 ghost use Rattle.gc_catalogue.specs.Calls.{call_fields};
 ghost use Rattle.gc_catalogue.specs.Lists.{TakesValues, shown_values};
@@ -17,7 +17,7 @@ impl Call {
     /// `call_fields`.
     pub(crate) fn write_row<T: Taker>(&self, id: Option<u8>, to: &mut T) -> Shape
         requires room { 7 ≤ T.room to.old }
-        requires id { ForSome id (λ i. i < 8) }
+        requires id { MayBeId id }
         ensures takes { (t : T) → T.takes to.new [] t → T.begins to.old id (call_fields self.now).number (call_fields self.now).values t }
         ensures answer { result ≡ (call_fields self.now).answer }
     {

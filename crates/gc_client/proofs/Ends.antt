@@ -1,5 +1,5 @@
 -- What a reply settles.
-use Rattle.std.proofs.Common.{◌≡◌, ℕ, zero, suc, ◌≤◌, Bool, false, List, [], ◌∷◌, ◌++◌, length, map, take, drop, Ok, sym, ap, ap₂, ◌∙◌, arith, length-drop, if◌then◌else◌}
+use Rattle.std.proofs.Common.{◌≡◌, ℕ, zero, suc, ◌≤◌, Bool, false, List, [], ◌∷◌, ◌++◌, length, map, take, drop, Ok, sym, ap, ap₂, ◌∙◌, arith, length-drop}
 use Rattle.gc_lines.specs.Replies.{ReplyFields}
 use Rattle.gc_lines.specs.Readers.{reply_at}
 use Rattle.gc_lines.proofs.Replies.{reply_found}
@@ -7,26 +7,21 @@ use Rattle.gc_client.specs.declared.pending.Pending.{Pending}
 use Rattle.gc_client.specs.declared.settlement.Outcome.{Outcome}
 use Rattle.gc_client.specs.declared.settlement.Outcome.TheVariants.{Answered, Late, Lost}
 use Rattle.gc_client.specs.Rule.{lost, settled_by_line, settle}
-use Rattle.gc_client.specs.Rule
 use Rattle.gc_catalogue.specs.Readings.{ReadingRule}
 use Rattle.gc_client.specs.Settlements.{IsAnsweredBy, IsSettledBy}
-
--- the rule's settlement of a request by a reply line: late if the request had timed out (`given_up`), else answered
-abbrev settled_when : {Q : Type 0} → Pending Q → (line : List ℕ) → (given_up : Bool) → Rule.Settlement Q
-settled_when p line given_up = record { target = p.target; call = p.call; outcome = if given_up then Rule.Late else Rule.Answered line }
 
 -- where a request hadn't timed out, and an outcome is the answer that this reply line gives it, the request with that
 -- outcome is the settlement that the rule makes of it by that line
 pub answered_is : {Q : Type 0} (says : ReadingRule Q) (p : Pending Q) (line : List ℕ) (fields : ReplyFields) (o : Outcome) → p.given_up ≡ false
     → reply_at line ≡ Ok fields
     → IsAnsweredBy says p.call fields line o → IsSettledBy says (record { target = p.target; call = p.call; outcome = o }) (settled_by_line p line)
-answered_is says p line fields (Answered reading copy) given_up reads (same, is_said) =
+answered_is says p line fields (Answered reading copy) e reads (same, is_said) =
     record {
-      seen = ap₂ (settled_when p) same (sym given_up);
+      seen = ap₂ (λ (bytes : List ℕ) (b : Bool). settled_by_line (record p { given_up = b }) bytes) same (sym e);
       read = record { reply = fields; is_reply = reply_found copy.items fields (ap reply_at same ∙ reads); is_reading = is_said };
     }
-answered_is says p line fields Late given_up reads is = absurd is
-answered_is says p line fields Lost given_up reads is = absurd is
+answered_is says p line fields Late e reads is = absurd is
+answered_is says p line fields Lost e reads is = absurd is
 
 -- where p is the request at place k, settling through place k settles the first k requests as lost, and p by the line
 pub settle_is : {Q : Type 0} (k : ℕ) (line : List ℕ) (ws : List (Pending Q)) (p : Pending Q) (left : List (Pending Q)) → drop k ws ≡ p ∷ left

@@ -6,7 +6,6 @@ ghost use Rattle.gc_messages.specs.Streams.{are_open, ReportsClosed};
 
 use crate::system::System;
 use gc_lines::{Durable, Source};
-use gc_links::Place;
 use gc_measuring::{Appended, Spot, append_at, check_task_text, measure_at};
 use gc_messages::{Lossy, Noticed, Noting, Streams};
 use gc_station::Kept;
@@ -56,8 +55,8 @@ impl<
         ensures { IfOk result.1 (λ status. exit_status status ≤ 1) }
     {
         match job {
-            ClientJob::Loop { scene } => self.run_loop_job(scene, streams),
-            ClientJob::Ask { place } => self.run_ask_job(place, streams),
+            ClientJob::Loop { scene } => loop_scene(self.rt, self.alloc, scene, streams),
+            ClientJob::Ask { place } => ask_place(self.rt, self.alloc, place, streams),
             ClientJob::Outline { choice } => check_task_text(self.alloc, choice, streams),
             ClientJob::Station {
                 site,
@@ -68,45 +67,6 @@ impl<
                 self.measure_site(site, station, recording, streams)
             }
         }
-    }
-
-    // Asks the commands of the input over a connection within this program, of the instrument of the file `scene`, or of the simulator if
-    // none is named, and reports how that ended. The streams are handed back.
-    fn run_loop_job<S: Source, K: Durable + Drop, E: Write>(
-        &self,
-        scene: Option<&str>,
-        mut streams: Streams<S, K, E>,
-    ) -> (Streams<S, K, E>, io::Result<ExitCode>)
-        ensures { IfOk result.1 (λ status. exit_status status ≤ 1) }
-    {
-        let ended = loop_scene(
-            self.rt,
-            self.alloc,
-            scene,
-            &mut streams.input,
-            &mut streams.output,
-            &mut streams.messages,
-        );
-        (streams, ended)
-    }
-
-    // Asks the commands of the input at a place, and reports how that ended. The streams are handed back.
-    fn run_ask_job<S: Source, K: Durable + Drop, E: Write>(
-        &self,
-        place: Place<'_>,
-        mut streams: Streams<S, K, E>,
-    ) -> (Streams<S, K, E>, io::Result<ExitCode>)
-        ensures { IfOk result.1 (λ status. exit_status status ≤ 1) }
-    {
-        let ended = ask_place(
-            self.rt,
-            self.alloc,
-            place,
-            &mut streams.input,
-            &mut streams.output,
-            &mut streams.messages,
-        );
-        (streams, ended)
     }
 
     // Measures at a site, and reports how that ended. A message that can't be written is lost, which doesn't change the status. If
@@ -123,10 +83,11 @@ impl<
         let noticed = Cell::new(Noticed::nothing());
         let spot = Spot {
             site,
+            station,
             noticed: &noticed,
         };
         let lossy = lossy_of(streams);
-        let (mut lossy, ended) = self.measure_recorded(spot, station, recording, lossy);
+        let (mut lossy, ended) = self.measure_recorded(spot, recording, lossy);
         let _ = spot.report(&mut lossy.messages);
         if !spot.has_system_reason() {
             self.rt.forget();
@@ -139,7 +100,6 @@ impl<
     fn measure_recorded<S: Source, K: Durable + Drop, E: Write>(
         &self,
         spot: Spot<'_>,
-        station: Settings,
         recording: Option<Recording<'_>>,
         streams: Streams<S, K, E>,
     ) -> (Streams<S, K, E>, io::Result<ExitCode>)
@@ -149,14 +109,12 @@ impl<
         let mut kept = Kept::new();
         match recording {
             None => {
-                let (streams, ended, _) = measure_at(
-                    self.rt, self.alloc, spot, station, streams, &mut kept,
-                );
+                let (streams, ended, _) = measure_at(self.rt, self.alloc, spot, streams, &mut kept);
                 (streams, ended)
             }
             Some(recording) => {
                 let (streams, ended, appended) = append_at(
-                    self.rt, self.alloc, spot, station, recording, streams, &mut kept,
+                    self.rt, self.alloc, spot, recording, streams, &mut kept,
                 );
                 end_appending(appended);
                 (streams, ended)

@@ -2,12 +2,12 @@
 -- pieces that come after it. `WritesVerdicts`: the verdicts on the lines that end in a piece went out. `WritesVerdictsInPart`:
 -- only a front of them did. `HasChecked`: they did, and the check keeps the bytes since the last line feed. a, b and c are what the sink had
 -- taken at three moments, in order, and n, m and k how many verdicts had gone out by then.
-use Rattle.std.proofs.Common.{◌≡◌, ℕ, ◌+◌, ◌*◌, ◌<◌, ◌≤◌, get_or, true, List, [], ◌∷◌, ◌++◌, length, take, drop, Option, sym, ap, subst, ◌∙◌, arith, append_assoc, append-nil, length-append}
-use Rattle.std.specs.Io.KnownBytes.{Appends, Consumes}
+use Rattle.std.proofs.Common.{◌≡◌, ℕ, ◌+◌, ◌<◌, get_or, true, List, [], ◌∷◌, ◌++◌, length, take, drop, Option, sym, ap, subst, ◌∙◌, arith, append_assoc, append-nil, length-append}
+use Rattle.std.specs.Io.KnownBytes.{Appends}
 use Rattle.std.proofs.lemmas.Bool.{cond-true}
 use Rattle.std.proofs.lemmas.List.{take_more, take-append-drop}
-use Rattle.std.proofs.KnownBytes.{Appends-trans, Consumes-trans}
-use Rattle.gc_lines.specs.Answering.{GaveInReads, all_of}
+use Rattle.std.proofs.KnownBytes.{Appends-trans}
+use Rattle.gc_lines.specs.Answering.{all_of}
 use Rattle.gc_lines.specs.Frames.{is_line_feed, pieces_behind, rest_behind}
 use Rattle.gc_lines.specs.Ports.{TakesFront}
 use Rattle.gc_lines.proofs.Cutting.{pieces-append, rest-append}
@@ -18,7 +18,7 @@ use Rattle.gc_engines.specs.LogChecking.{IsLogVerdict, AreLogVerdicts, HasChecke
 use Rattle.gc_engines.specs.declared.check_log.LogCheck.{LogCheck}
 
 -- where `WritesVerdicts` is true of p, and then of q after it, it is true of `p ++ q`
-pub verdicts_then : (rest p q : List ℕ) (a b c : Option (List ℕ)) (n m k : ℕ) → WritesVerdicts rest p a b n m
+verdicts_then : (rest p q : List ℕ) (a b c : Option (List ℕ)) (n m k : ℕ) → WritesVerdicts rest p a b n m
     → WritesVerdicts (rest_behind rest p) q b c m k → WritesVerdicts rest (p ++ q) a c n k
 verdicts_then rest p q a b c n m k one next = record {
   texts = one.texts ++ next.texts;
@@ -29,7 +29,7 @@ verdicts_then rest p q a b c n m k one next = record {
 }
 
 -- where `WritesVerdicts` is true of p, and then `WritesVerdictsInPart` of q after it, `WritesVerdictsInPart` is true of `p ++ q`
-pub verdicts_part_then : (rest p q : List ℕ) (a b c : Option (List ℕ)) (n m k bytes : ℕ) → WritesVerdicts rest p a b n m
+verdicts_part_then : (rest p q : List ℕ) (a b c : Option (List ℕ)) (n m k bytes : ℕ) → WritesVerdicts rest p a b n m
     → WritesVerdictsInPart (rest_behind rest p) q b c m k bytes → WritesVerdictsInPart rest (p ++ q) a c n k bytes
 verdicts_part_then rest p q a b c n m k bytes one next = record {
   seen = pieces_behind rest p ++ next.seen;
@@ -47,7 +47,7 @@ verdicts_part_then rest p q a b c n m k bytes one next = record {
 }
 
 -- where `WritesVerdictsInPart` is true of p, it is true of `p ++ q`: what comes after a failed write changes nothing
-pub verdicts_part_before : (rest p q : List ℕ) (a b : Option (List ℕ)) (n k bytes : ℕ) → WritesVerdictsInPart rest p a b n k bytes
+verdicts_part_before : (rest p q : List ℕ) (a b : Option (List ℕ)) (n k bytes : ℕ) → WritesVerdictsInPart rest p a b n k bytes
     → WritesVerdictsInPart rest (p ++ q) a b n k bytes
 verdicts_part_before rest p q a b n k bytes one = record {
   seen = one.seen;
@@ -102,16 +102,25 @@ piece_more bs i within =
     let more = take_more bs i 0 within in
     (more, sym (take-append-drop (i + 1) bs) ∙ ap (λ l. l ++ drop (i + 1) bs) more)
 
+-- the check is done with p, and q, which comes after it, takes it from `check` to `next`
+module _ (check next : LogCheck) (rest p q : List ℕ) (a b c : Option (List ℕ)) (n : ℕ) (so : HasChecked check rest p a b n) where
+  -- where q was checked whole, the check is done with `p ++ q`
+  pub checked_more : TakesPiece check next q b c → HasChecked next rest (p ++ q) a c n
+  checked_more takes =
+      let it = takes (rest_behind rest p) so.0 in (
+        subst (λ l. KeepsLine next.kept l) (sym (rest-append rest p q)) it.0,
+        verdicts_then rest p q a b c n check.replies next.replies so.1 it.1,
+      )
+
+  -- where the sink failed in q, `WritesVerdictsInPart` is true of `p ++ q`
+  pub checked_part : (bytes : ℕ) → TakesPieceInPart check next q b c bytes → WritesVerdictsInPart rest (p ++ q) a c n next.replies bytes
+  checked_part bytes takes = verdicts_part_then rest p q a b c n check.replies next.replies bytes so.1 (takes (rest_behind rest p) so.0)
+
 -- one turn of the loop over the bytes `bs` of a piece, at byte i: the check is `check` before it and `next` after it
 module _ (check next : LogCheck) (rest bs : List ℕ) (i : ℕ) (within : i < length bs) (a b c : Option (List ℕ)) (n : ℕ) where
   -- where the check is done with the first i bytes of a piece, and then takes the next byte, it is done with the first i + 1
   pub loop_on : HasChecked check rest (take i bs) a b n → TakesPiece check next (get_or bs i 0 ∷ []) b c → HasChecked next rest (take (i + 1) bs) a c n
-  loop_on so byte =
-      let it = byte (rest_behind rest (take i bs)) so.0 in
-      let more = (piece_more bs i within).0 in (
-        subst (λ l. KeepsLine next.kept l) (sym (ap (rest_behind rest) more ∙ rest-append rest (take i bs) (get_or bs i 0 ∷ []))) it.0,
-        subst (λ l. WritesVerdicts rest l a c n next.replies) (sym more) (verdicts_then rest (take i bs) (get_or bs i 0 ∷ []) a b c n check.replies next.replies so.1 it.1),
-      )
+  loop_on so byte = subst (λ l. HasChecked next rest l a c n) (sym (piece_more bs i within).0) (checked_more check next rest (take i bs) (get_or bs i 0 ∷ []) a b c n so byte)
 
   -- where the check is done with the first i bytes of a piece, and the sink failed at the next byte, `WritesVerdictsInPart` is true of
   -- the piece
@@ -120,40 +129,4 @@ module _ (check next : LogCheck) (rest bs : List ℕ) (i : ℕ) (within : i < le
   loop_fails bytes so byte =
       subst (λ l. WritesVerdictsInPart rest l a c n next.replies bytes) (sym (piece_more bs i within).1)
       (verdicts_part_before rest (take i bs ++ get_or bs i 0 ∷ []) (drop (i + 1) bs) a c n next.replies bytes
-      (verdicts_part_then rest (take i bs) (get_or bs i 0 ∷ []) a b c n check.replies next.replies bytes so.1 (byte (rest_behind rest (take i bs)) so.0)))
-
--- how far a check has come, by the bytes that were given so far, at most 256 at each of `reads` reads: what is kept of the
--- incomplete line is theirs, and the verdicts on their whole lines went out and were counted
-pub record VerdictsSoFar (source_old source_new sink_old sink_new : Option (List ℕ)) (check : LogCheck) (reads : ℕ) : Type 0 where
-  pub given : List ℕ
-  pub gave : Consumes source_old source_new given
-  pub few : length given ≤ 256 * reads
-  pub keeps : KeepsLine check.kept (rest_behind [] given)
-  pub written : WritesVerdicts [] given sink_old sink_new 0 check.replies
-
--- one more read of a check: the source gave `piece`. a, a' and a'' are what the source had still to give at first, before this
--- read and after it; b, b' and b'' are what the sink had taken then; and the check is `check` before it and `next` after it
-module _ (a a' a'' b b' b'' : Option (List ℕ)) (check next : LogCheck) (reads : ℕ) (piece : List ℕ) (so : VerdictsSoFar a a' b b' check reads) (gave : Consumes a' a'' piece) where
-  -- `VerdictsSoFar` stays true when one more piece, of at most 256 bytes, was read and checked
-  pub so_far_more : length piece ≤ 256 → TakesPiece check next piece b' b'' → VerdictsSoFar a a'' b b'' next (reads + 1)
-  so_far_more short piece_written =
-      let it = piece_written (rest_behind [] so.given) so.keeps in
-      record {
-        given = so.given ++ piece;
-        gave = Consumes-trans a a' a'' so.given piece so.gave gave;
-        few = omega (arith, so.few, short, length-append so.given piece);
-        keeps = subst (λ l. KeepsLine next.kept l) (sym (rest-append [] so.given piece)) it.0;
-        written = verdicts_then [] so.given piece b b' b'' 0 check.replies next.replies so.written it.1;
-      }
-
-  -- where one more piece, of at most 256 bytes, was read, and the sink failed in it, the source has given some bytes, at most 256
-  -- for each read, and the sink has taken a part of the verdicts on their lines
-  pub so_far_part : (bytes : ℕ) → length piece ≤ 256 → TakesPieceInPart check next piece b' b'' bytes
-      → GaveInReads a a'' (reads + 1) (λ given. WritesVerdictsInPart [] given b b'' 0 next.replies bytes)
-  so_far_part bytes short piece_written =
-      let it = piece_written (rest_behind [] so.given) so.keeps in (
-        so.given ++ piece,
-        Consumes-trans a a' a'' so.given piece so.gave gave,
-        omega (arith, so.few, short, length-append so.given piece),
-        verdicts_part_then [] so.given piece b b' b'' 0 check.replies next.replies bytes so.written it,
-      )
+      (checked_part check next rest (take i bs) (get_or bs i 0 ∷ []) a b c n so bytes byte))

@@ -6,7 +6,9 @@ ghost use Rattle.gc_engines.specs.Schedule.{IsNumbered, IsEvent, IsSend, IsReque
 ghost use Rattle.gc_world.specs.declared.event.Event.{Event};
 
 use gc_catalogue::Call;
-use gc_texts::{LineForm, after_word, cut_at, is_word, number_of, read_procedure_into, target_of};
+use gc_texts::{
+    LineForm, after_prefix, cut_at, is_word, number_of, read_procedure_into, target_of,
+};
 use gc_world::Event;
 
 // The greatest count of bytes and place of a line in flight that a schedule may name: the greatest number of 32 bits.
@@ -17,7 +19,7 @@ const COUNT_MAX: u64 = 4294967295;
 fn number_behind(word: &[u8], line: &[u8], max: u64) -> Option<u64>
     ensures { IsReadAs (λ n. IsNumbered word.now line.now n max) result }
 {
-    let digits = after_word(word, line)?;
+    let digits = after_prefix(word, line)?;
     number_of(digits, max)
 }
 
@@ -55,7 +57,7 @@ fn read_send(line: &[u8], event: &mut Event) -> bool
     ensures found { IsTrue result → IsEvent line.now event.new }
     ensures none { IsFalse result → (q : Requested) → IsSend line.now q → ⊥ }
 {
-    match after_word(b"send ", line) {
+    match after_prefix(b"send ", line) {
         Some(rest) => read_requested(rest, event),
         None => false,
     }

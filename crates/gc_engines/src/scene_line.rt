@@ -9,7 +9,7 @@ ghost use Rattle.gc_engines.specs.declared.scene_line.SceneLine.{SceneLine};
 
 use gc_instrument::Target;
 use gc_scenes::Offset;
-use gc_texts::{LineForm, after_word, before, behind, read_double};
+use gc_texts::{LineForm, after_prefix, before, behind, read_double};
 use gc_values::{Text, read_long};
 
 /// What a line of a scene says of the instrument.
@@ -96,7 +96,7 @@ pub(crate) fn read_scene_line(line: &[u8]) -> Option<SceneLine>
 fn read_serial(line: &[u8]) -> Option<i32>
     ensures { IsReadAs (IsSerial line.now) result }
 {
-    let digits = after_word(b"serial ", line)?;
+    let digits = after_prefix(b"serial ", line)?;
     long_of(digits)
 }
 
@@ -111,7 +111,7 @@ fn long_of(digits: &[u8]) -> Option<i32>
 fn read_name(line: &[u8]) -> Option<Text>
     ensures { IsReadAs (IsName line.now) result }
 {
-    let bytes = after_word(b"name ", line)?;
+    let bytes = after_prefix(b"name ", line)?;
     name_from(bytes)
 }
 
@@ -127,7 +127,7 @@ fn name_from(bytes: &[u8]) -> Option<Text>
 fn read_target(line: &[u8]) -> Option<Target>
     ensures { IsReadAs (IsTargetLine line.now) result }
 {
-    let words = after_word(b"target ", line)?;
+    let words = after_prefix(b"target ", line)?;
     let offset = read_offset(words)?;
     Some(Target {
         hz: offset.hz,

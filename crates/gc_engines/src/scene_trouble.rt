@@ -1,7 +1,7 @@
 //! Troubles of scenes: what is at fault in a faulty line of a scene, and what is printed of it.
 
-ghost use Rattle.std.specs.Prelude.{◌≡◌, ◌++◌, IsTrue, OnOk, codes};
-ghost use Rattle.std.specs.Io.KnownBytes.{Appends};
+ghost use Rattle.std.specs.Prelude.{◌≡◌, ◌++◌, IsTrue, codes};
+ghost use Rattle.gc_lines.specs.Ports.{WritesIfOk};
 ghost use Rattle.gc_texts.specs.Faults.{run_fault_text, fault_line};
 ghost use Rattle.gc_texts.specs.LineForms.{IsReadAs};
 ghost use Rattle.gc_texts.specs.declared.fault.RunFault.{RunFault};
@@ -102,7 +102,7 @@ impl SceneTrouble {
     /// Writes the trouble of the scene's line with this number, counted from 1: the program's name, the number, and what is at fault.
     /// `Err`: it couldn't be written whole.
     pub fn tell<E: Write>(self, line: u32, messages: &mut E) -> io::Result<()>
-        ensures { OnOk result (Appends (E.contents messages.old) (E.contents messages.new) (scene_trouble_line line self)) }
+        ensures { WritesIfOk E.contents messages.old messages.new result (scene_trouble_line line self) }
     {
         write!(messages, "geocom: line {line} of the scene: ")?;
         self.tell_fault(messages)
@@ -111,8 +111,8 @@ impl SceneTrouble {
     /// Writes the fault of a scene whose line with this number, counted from 1, doesn't parse (`Schedule`), and then the trouble of that
     /// line (`tell`). `Err`: they couldn't be written whole.
     pub fn tell_with_fault<E: Write>(self, line: u32, messages: &mut E) -> io::Result<()>
-        ensures { OnOk result (Appends (E.contents messages.old) (E.contents messages.new)
-            (fault_line (run_fault_text (RunFault.Schedule line)) ++ scene_trouble_line line self)) }
+        ensures { WritesIfOk E.contents messages.old messages.new result
+            (fault_line (run_fault_text (RunFault.Schedule line)) ++ scene_trouble_line line self) }
     {
         RunFault::Schedule { line }.tell(messages)?;
         self.tell(line, messages)
@@ -120,7 +120,7 @@ impl SceneTrouble {
 
     // Writes what is at fault, and a line feed.
     fn tell_fault<E: Write>(self, messages: &mut E) -> io::Result<()>
-        ensures { OnOk result (Appends (E.contents messages.old) (E.contents messages.new) (scene_trouble_text self ++ codes "\n")) }
+        ensures { WritesIfOk E.contents messages.old messages.new result (scene_trouble_text self ++ codes "\n") }
     {
         match self {
             SceneTrouble::NoWord => writeln!(messages, "no line of a scene begins so"),
@@ -159,7 +159,7 @@ impl SceneTrouble {
 
 // Writes that the line should have this form, and a line feed.
 fn tell_form<E: Write>(form: &str, messages: &mut E) -> io::Result<()>
-    ensures { OnOk result (Appends (E.contents messages.old) (E.contents messages.new) (codes "the form is " ++ form.now ++ codes "\n")) }
+    ensures { WritesIfOk E.contents messages.old messages.new result (codes "the form is " ++ form.now ++ codes "\n") }
 {
     writeln!(messages, "the form is {form}")
 }

@@ -12,7 +12,7 @@ use gc_engines::{
     run_exec,
 };
 use gc_instrument::Instrument;
-use gc_lines::{ServeFault, Served, ToWriter};
+use gc_lines::ToWriter;
 use gc_probes::{PieceSink, PieceSource};
 use gc_scenes::{SceneInstrument, serve_scene};
 use gc_world::{Event, Report, play};
@@ -47,17 +47,18 @@ fn play_without_files(rt: &HostRuntime) -> io::Result<bool> {
 // prints two. Returns whether no run gave a wrong answer.
 fn play_example(rt: &HostRuntime, name: &str, example: &Example) -> io::Result<bool> {
     match example.setup.engine {
-        Engine::Exec => print_outcome(rt, name, "served", serve_requests(example)),
-        Engine::Check => print_outcome(rt, name, "checked", check_recording(example)),
+        Engine::Exec => print_outcome(rt, name, "served", answer_input(example, None)),
+        Engine::Check => print_outcome(rt, name, "checked", answer_input(example, None)),
         Engine::Rules => print_outcome(rt, name, "served", answer_on_scene(example)),
         Engine::DrillRules => print_outcome(rt, name, "drilled", drill_on_scene(example)),
+        // `Engine::Drill`: no example has any other engine.
         _ => play_schedule(rt, name, example),
     }
 }
 
 // Drills a schedule, plays it over both windows, and prints a line for each. Returns whether neither gave a wrong answer.
 fn play_schedule(rt: &HostRuntime, name: &str, example: &Example) -> io::Result<bool> {
-    let is_drilled = print_outcome(rt, name, "drilled", drill_schedule(example))?;
+    let is_drilled = print_outcome(rt, name, "drilled", drill_input(example, None))?;
     let is_same = print_outcome(rt, name, "played", play_over_both(example))?;
     Ok(is_drilled && is_same)
 }
@@ -77,52 +78,34 @@ fn print_outcome(
 // Room for the output of each stream of the folder, in bytes, with at least one byte to spare.
 const ROOM: usize = 4096;
 
-// Runs `exec` on the example's input: `Exact` if the run ended well and wrote the expected output, and else `Other`.
-fn serve_requests(example: &Example) -> OnceOutcome {
-    let mut taken = [0; ROOM];
-    let mut sink = ToWriter::new(&mut taken[..]);
-    let end = run_exec(&mut source_of(example), &mut sink, u32::MAX);
-    outcome_of_serving(end, &taken, example)
-}
-
-// Runs `check` on the example's input: `Exact` if the run ended well and wrote the expected output, and else `Other`.
-fn check_recording(example: &Example) -> OnceOutcome {
-    let mut taken = [0; ROOM];
-    let mut sink = ToWriter::new(&mut taken[..]);
-    let end = run_check(&mut source_of(example), &mut sink, u32::MAX);
-    outcome_of_serving(end, &taken, example)
-}
-
 // The example's input, given whole.
 fn source_of(example: &Example) -> PieceSource<'_> {
     PieceSource::new(example.setup.input.as_slice(), &[], u64::MAX)
 }
 
-// The outcome of a run that ended so and wrote into `taken`, an array of zeros before: `Exact` if it ended well and `taken` holds the
-// expected output, and else `Other`.
-fn outcome_of_serving(
-    end: Result<Served, ServeFault>,
-    taken: &[u8; ROOM],
-    example: &Example,
-) -> OnceOutcome {
-    OnceOutcome::of_answer(end.is_ok() && holds(taken, example.expected.as_slice()))
-}
-
-// Has the instrument of the example's scene answer its requests: `Exact` if it ended well with the expected replies, `NoMemory` if memory
-// ran out for the scene, and else `Other`, also where the scene can't be read.
-fn answer_on_scene(example: &Example) -> OnceOutcome {
-    match read_rule_scene::<RuleForm>(example.setup.alloc, example.setup.scene.as_slice()) {
-        Ok(mut instrument) => answer_on_instrument(&mut instrument, example),
-        Err(fault) => OnceOutcome::of_unread(fault),
-    }
-}
-
-// Has this instrument answer the example's requests: `Exact` if it ended well with the expected replies, and else `Other`.
-fn answer_on_instrument(instrument: &mut SceneInstrument, example: &Example) -> OnceOutcome {
+// Answers the example's input on this instrument, if there is one, and else by `check` or `exec`, whichever is its engine:
+// `Exact` if the run ended well and wrote the expected output, and else `Other`.
+fn answer_input(example: &Example, scene: Option<SceneInstrument>) -> OnceOutcome {
     let mut taken = [0; ROOM];
     let mut sink = ToWriter::new(&mut taken[..]);
-    let end = serve_scene(instrument, &mut source_of(example), &mut sink, u32::MAX);
-    outcome_of_serving(end, &taken, example)
+    let mut source = source_of(example);
+    let end = match scene {
+        Some(mut instrument) => serve_scene(&mut instrument, &mut source, &mut sink, u32::MAX),
+        None if example.setup.engine == Engine::Check => {
+            run_check(&mut source, &mut sink, u32::MAX)
+        }
+        None => run_exec(&mut source, &mut sink, u32::MAX),
+    };
+    OnceOutcome::of_answer(end.is_ok() && holds(&taken, example.expected.as_slice()))
+}
+
+// Answers the example's input on the instrument of its scene: `NoMemory` if memory ran out for the scene, `Other` if the scene
+// can't be read, and else the outcome of `answer_input`.
+fn answer_on_scene(example: &Example) -> OnceOutcome {
+    match read_rule_scene::<RuleForm>(example.setup.alloc, example.setup.scene.as_slice()) {
+        Ok(instrument) => answer_input(example, Some(instrument)),
+        Err(fault) => OnceOutcome::of_unread(fault),
+    }
 }
 
 // Whether `expected`, which has no zero, is all that was written into `taken`, an array of zeros before: `taken` begins with it and has a
@@ -131,38 +114,27 @@ fn holds(taken: &[u8; ROOM], expected: &[u8]) -> bool {
     taken.starts_with(expected) && taken.get(expected.len()) == Some(&0)
 }
 
-// Drills the example's schedule on the simulator, as `drill --totals` does, into a sink that takes at most 5 bytes of a write.
-// The outcome is that of `OnceOutcome::of`: `Exact` if the drill ended well with the expected output.
-fn drill_schedule(example: &Example) -> OnceOutcome {
+// Drills the example's schedule on this instrument, if there is one, and else on the simulator, with totals and a window of 7
+// requests, into a sink that takes at most 5 bytes of a write. The outcome is that of `OnceOutcome::of`: `Exact` if the drill
+// ended well with the expected output.
+fn drill_input(example: &Example, scene: Option<SceneInstrument>) -> OnceOutcome {
     let alloc = example.setup.alloc;
     let mut sink = PieceSink::new(alloc, 5, u64::MAX);
-    let end = run_drill(alloc, &mut source_of(example), &mut sink, true);
+    let mut source = source_of(example);
+    let end = match scene {
+        Some(instrument) => run_drill_on(alloc, instrument, &mut source, &mut sink, true, 7),
+        None => run_drill(alloc, &mut source, &mut sink, true),
+    };
     OnceOutcome::of(end, &sink, example.expected.as_slice())
 }
 
-// Drills the example's schedule on the instrument of its scene, as `drill --totals` does: `NoMemory` if memory ran out for the scene,
-// `Other` if the scene can't be read, and else the outcome of `drill_on_instrument`.
+// Drills the example's schedule on the instrument of its scene: `NoMemory` if memory ran out for the scene, `Other` if the scene
+// can't be read, and else the outcome of `drill_input`.
 fn drill_on_scene(example: &Example) -> OnceOutcome {
     match read_rule_scene::<StillForm>(example.setup.alloc, example.setup.scene.as_slice()) {
-        Ok(instrument) => drill_on_instrument(instrument, example),
+        Ok(instrument) => drill_input(example, Some(instrument)),
         Err(fault) => OnceOutcome::of_unread(fault),
     }
-}
-
-// Drills the example's schedule on this instrument, with totals and a window of 7 requests, into a sink that takes at most 5
-// bytes of a write. The outcome is that of `OnceOutcome::of`: `Exact` if the drill ended well with the expected output.
-fn drill_on_instrument(instrument: SceneInstrument, example: &Example) -> OnceOutcome {
-    let alloc = example.setup.alloc;
-    let mut sink = PieceSink::new(alloc, 5, u64::MAX);
-    let end = run_drill_on(
-        alloc,
-        instrument,
-        &mut source_of(example),
-        &mut sink,
-        true,
-        7,
-    );
-    OnceOutcome::of(end, &sink, example.expected.as_slice())
 }
 
 // Plays the example's schedule over a ring and over places: `Exact` if the two reports are the same, `NoMemory` if memory ran out

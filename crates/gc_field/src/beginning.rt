@@ -14,11 +14,12 @@ pub fn begins_cleanly<State>()
     ensures { BeginsCleanly State }
 {}
 
-/// For any instrument, and a new client after a clean synchronization: each answer, from the client's first request on, was made
-/// on executing its very request, however many are sent at once, and the instrument executed each request that is late, if the
-/// request in question is safe (`IsSafe`): all requests are calls of the table, or the instrument keeps after each request its
-/// own reply or none, or one of the seven requests before it is a call of the table that a reply had ended, or the
-/// synchronization's eighth null procedure. The rest of what `answers_are_their_own` says holds whether requests are safe or not.
+/// For any instrument, and a new client after a clean synchronization, however many requests are sent at once: each answer, from
+/// the client's first request on, was made on executing its very request, and the instrument executed each request that is late,
+/// if that request is safe (`IsSafe`). A request is safe by one of three: all requests are calls of the table; the instrument
+/// keeps after each request the reply to that one, or none; or one of the seven requests before it is a call of the table that a
+/// reply had ended, or is the synchronization's eighth null procedure. The rest of what `answers_are_their_own` says holds of
+/// every request.
 pub fn answers_are_their_own_once_begun<State>()
     ensures { AnswersAreTheirOwnOnceBegun State }
 {}

@@ -10,7 +10,7 @@ ghost use Rattle.gc_files.specs.Rows.{Fits, IsEndOfRows, IsLengthOf, IsMended, I
 
 use crate::appending::Appending;
 use crate::rows_file::{RowsFile, RowsOptions};
-use gc_lines::PortFailed;
+use gc_lines::{PortFailed, bytes_from};
 use memchr::memrchr;
 
 // How many bytes are read at once at most.
@@ -27,6 +27,18 @@ pub enum Refused {
     Failed,
 }
 
+// A file of which a call failed is refused with `Failed`.
+impl From<PortFailed> for Refused {
+    ghost use Rattle.std.specs.Prelude.{◌≡◌};
+    ghost use Rattle.gc_files.specs.declared.opening.Refused.TheVariants.{Failed};
+
+    ghost from_gives = { λ _ why. why ≡ Failed };
+
+    fn from(_: PortFailed) -> Refused {
+        Refused::Failed
+    }
+}
+
 /// How far a file of rows reaches.
 #[derive(Clone, Copy)]
 pub(crate) struct Extent {
@@ -34,14 +46,6 @@ pub(crate) struct Extent {
     pub(crate) len: u64,
     /// How many of them its whole rows have: where the last one ends.
     pub(crate) end: u64,
-}
-
-// The bytes after the first `at`.
-fn bytes_from(bytes: &[u8], at: usize) -> &[u8]
-    requires { at ≤ length bytes.now }
-    ensures { result.now ≡ drop at bytes.now }
-{
-    &bytes[at..]
 }
 
 // Fills the buffer with the file's bytes after the first `at`. It fails where a read failed or gave nothing.
@@ -168,19 +172,12 @@ pub(crate) fn extent_of<F: Appending>(file: &F, sign: &[u8]) -> Result<Extent, R
     ensures extent { IfOk result (λ extent. IsExtentOf (F.life file.now) extent) }
     ensures why { IsErrOf result Refused.Foreign → Fits sign.now (F.life file.now) false }
 {
-    let Ok(len) = file.len() else {
-        return Err(Refused::Failed);
-    };
-    let Ok(is_one) = has_sign(file, len, sign) else {
-        return Err(Refused::Failed);
-    };
-    if !is_one {
+    let len = file.len()?;
+    if !has_sign(file, len, sign)? {
         return Err(Refused::Foreign);
     }
-    match end_of_rows(file, len) {
-        Ok(end) => Ok(Extent { len, end }),
-        Err(_) => Err(Refused::Failed),
-    }
+    let end = end_of_rows(file, len)?;
+    Ok(Extent { len, end })
 }
 
 /// Opens a file of rows: one that begins with the sign that `options` name, or that is a front of it, as an empty one is. It

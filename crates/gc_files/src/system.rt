@@ -126,10 +126,7 @@ impl Appending for SystemFile {
     }
 
     fn read_at(&self, at: u64, buf: &mut [u8]) -> Result<usize, PortFailed> {
-        match self.file.read_at(buf, at) {
-            Ok(n) => Ok(n),
-            Err(_) => Err(PortFailed),
-        }
+        self.file.read_at(buf, at).map_err(|_| PortFailed)
     }
 
     fn cut(&mut self, len: u64) -> Result<(), PortFailed> {

@@ -40,6 +40,11 @@ abbrev pub distance_outcome : State → (Decimal → Answer) → Option Decimal 
 distance_outcome s answer_with (Some d) = done s (answer_with d)
 distance_outcome s answer_with None = refused s 1285
 
+-- the outcome of asking for the angles and the distance of the state `s`, with the state `after` after it: code 0 and these
+-- values, or code 1285 alone if `s` has no distance
+abbrev pub measured_outcome : (after s : State) → Executed
+measured_outcome after s = distance_outcome after (λ d. answer.Measured s.pointing.hz s.pointing.v d) s.distance
+
 -- whether a precision can be this number of places: 0 to 15
 abbrev pub is_precision : ℤ → Bool
 is_precision n = is_up_to (pos 15) n
@@ -111,8 +116,8 @@ exec s call.GetHeight = done s (answer.Height s.height)
 exec s (call.SetHeight h) = done (record s { height = h }) answer.Nothing
 exec s call.GetFace = done s (answer.Long (face_number s.face))
 exec s (call.GetAngle mode) = done s (answer.Angles s.pointing.hz s.pointing.v)
-exec s (call.SimpleMea wait mode) = distance_outcome s (λ d. answer.Measured s.pointing.hz s.pointing.v d) s.distance
-exec s call.QuickDist = distance_outcome (measured s) (λ d. answer.Measured s.pointing.hz s.pointing.v d) (measured s).distance
+exec s (call.SimpleMea wait mode) = measured_outcome s s
+exec s call.QuickDist = measured_outcome (measured s) (measured s)
 exec s (call.SetPrism n) = set_if (is_prism n) s (record s { prism = n })
 exec s call.GetPrism = done s (answer.Long s.prism)
 exec s (call.MeasDistance mode) =

@@ -16,7 +16,7 @@ pub use codes::{INVALID_PARAMETER, NO_DISTANCE, NO_TARGET, UNKNOWN_PROCEDURE, WR
 pub use face::Face;
 pub use gc_lines::{ServeFault, Served};
 pub use instrument::{Instrument, Kept, SceneFull};
-pub use measurement::first_at;
+pub use measurement::{first_at, is_at};
 pub use pointing::Pointing;
 pub use replies::{Replies, answer_frame, reply_to_line};
 pub use serving::serve;

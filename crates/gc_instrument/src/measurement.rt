@@ -7,8 +7,8 @@ use crate::pointing::Pointing;
 use crate::target::Target;
 use gc_values::Decimal;
 
-// Whether the target lies exactly where the telescope points.
-fn is_at(pointing: &Pointing, target: &Target) -> bool
+/// Whether the target lies exactly where the telescope points.
+pub fn is_at(pointing: &Pointing, target: &Target) -> bool
     ensures { result ≡ is_at pointing.now target.now }
 {
     target.hz == pointing.hz && target.v == pointing.v

@@ -1,10 +1,10 @@
 //! What the simulator and the instrument of a scene have in common: how they reply to lines and frames, by how they reply to requests.
 
-ghost use Rattle.std.specs.Prelude.{◌<◌, ◌≤◌, ◌+◌, ℕ, List, length};
-ghost use Rattle.std.specs.Option.{ForSome};
+ghost use Rattle.std.specs.Prelude.{◌≤◌, ◌+◌, ℕ, List, length};
 ghost use Rattle.arrayvec.specs.ArrayVec.{array_vec_len};
-ghost use Rattle.gc_lines.specs.Answering.{AppendsAnswer, AppendsText};
+ghost use Rattle.gc_lines.specs.Answering.{AppendsAnswer, AppendsText, GrowsByReply, HasRoomForReply};
 ghost use Rattle.gc_lines.specs.AnsweringLines.{AnswersLines, RepliesTo};
+ghost use Rattle.gc_lines.specs.Headers.{MayBeId};
 ghost use Rattle.gc_lines.specs.Lent.{lent_seen};
 ghost use Rattle.gc_lines.specs.Requests.{request_seen};
 
@@ -20,10 +20,10 @@ pub trait Replies<const N: usize> {
 
     /// Appends the reply to a request, without CR LF.
     fn reply_to(&mut self, request: &Request<'_>, out: &mut ArrayVec<u8, N>)
-        requires id { ForSome request.now.id (λ id. id < 8) }
-        requires room { array_vec_len out.old + 512 ≤ N }
+        requires id { MayBeId request.now.id }
+        requires room { HasRoomForReply N out.old }
         ensures replies { AppendsText (does self.old (request_seen request.now) self.new) out.old.items out.new.items }
-        ensures bound { length out.new.items ≤ length out.old.items + 512 };
+        ensures bound { GrowsByReply out.old.items out.new.items };
 }
 
 /// Appends an instrument's reply to a line, without CR LF, and returns whether there is one: `false` if the line is no request, and
@@ -34,9 +34,9 @@ pub fn reply_to_line<const N: usize, I: Replies<N>>(
     line: &[u8],
     out: &mut ArrayVec<u8, N>,
 ) -> bool
-    requires { array_vec_len out.old + 512 ≤ N }
+    requires { HasRoomForReply N out.old }
     ensures replied { AppendsAnswer (RepliesTo I.does instrument.old line.now instrument.new) out.old.items out.new.items result }
-    ensures bound { length out.new.items ≤ length out.old.items + 512 }
+    ensures bound { GrowsByReply out.old.items out.new.items }
 {
     match read_request(line) {
         Ok(request) => {

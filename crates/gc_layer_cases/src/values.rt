@@ -23,7 +23,7 @@ impl Rows for Values {
             "compare" => compare(row.what, came),
             "round" => round(row.what, came),
             "within" => within(row.what, came),
-            "whole" => read_whole_word(row.what, came),
+            "whole" => read_whole_number(row.what, came),
             "long" => tell_read(read_long(row.bytes), came),
             word => play_item(word, row.bytes, came),
         }
@@ -129,7 +129,7 @@ fn within(words: &str, came: &mut Told) {
 }
 
 // Reads the second word as a whole number of at most the first word, and reports the number or the fault.
-fn read_whole_word(words: &str, came: &mut Told) {
+fn read_whole_number(words: &str, came: &mut Told) {
     let (most, item) = cut_word(words);
     let most = came.number_in(most);
     tell_read(read_whole(item.as_bytes(), most), came);

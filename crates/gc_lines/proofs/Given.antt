@@ -1,6 +1,6 @@
--- What was read so far, and what was done with its frames. In the lemmas, in the order of the run: a, a', a'' are the bytes that
+-- What the source gave so far, and what was done with it. In the lemmas, in the order of the run: a, a', a'' are the bytes that
 -- the source still has, and s, t, u say how far the answering has come (`Progress`).
-use Rattle.std.proofs.Common.{◌≡◌, Bool, false, ℕ, ◌+◌, ◌*◌, ◌≤◌, List, [], ◌++◌, length, Option, sym, subst, arith, length-append}
+use Rattle.std.proofs.Common.{ℕ, ◌+◌, ◌≤◌, Bool, List, [], ◌++◌, length, Option, sym, subst, arith, length-append}
 use Rattle.std.specs.Io.KnownBytes.{Consumes}
 use Rattle.std.proofs.lemmas.List.{append-nil}
 use Rattle.std.proofs.KnownBytes.{Consumes-trans}
@@ -13,63 +13,49 @@ use Rattle.gc_lines.proofs.InOrder.{all_then, part_then}
 use Rattle.gc_lines.proofs.Cutting.{rest-append}
 use Rattle.gc_lines.proofs.Passing.{frames-append}
 
--- what the loop has done in `reads` reads: the source gave the bytes `given`, at most 256 a read; the assembler stands for those
--- after their last line feed; and all frames of `given` were answered
-pub record AnsweredSoFar {State : Type 0} (rule : AnswerRule State Frame) (source_old source_new : Option (List ℕ)) (kept : Kept)
-    (from to : Progress State) (reads : ℕ) : Type 0 where
-  pub given : List ℕ
-  pub gave : Consumes source_old source_new given
-  pub few : length given ≤ 256 * reads
-  pub stands : StandsFor kept (rest_behind [] given)
-  pub all : AnswersAll rule from to (frames given)
+-- where the source gave bytes in `reads` reads, and then in one more a piece of at most 256 bytes, it gave these bytes and then the
+-- piece in `more` reads, where that is more than `reads`. `Q` is what is true of them
+pub gave_more : (a a' a'' : Option (List ℕ)) (reads more : ℕ) (P Q : List ℕ → Type 0) (piece : List ℕ) (so : GaveInReads a a' reads P)
+    → Consumes a' a'' piece → length piece ≤ 256 → reads + 1 ≤ more → Q (so.0 ++ piece) → GaveInReads a a'' more Q
+gave_more a a' a'' reads more P Q piece so gave short one_more is =
+    (so.0 ++ piece, Consumes-trans a a' a'' so.0 piece so.1 gave, omega (arith, so.2, short, one_more, length-append so.0 piece), is)
 
--- Here `AnsweredSoFar` is true, and one more read leaves the source the bytes a''.
-module _ {State : Type 0} (rule : AnswerRule State Frame) (a a' a'' : Option (List ℕ)) (kept : Kept) (s t : Progress State) (reads : ℕ)
-    (so : AnsweredSoFar rule a a' kept s t reads) where
-  -- where that read gives no byte, the source gave at most 256 bytes for each of the `reads` reads before it, and all frames of
-  -- these bytes were answered
-  pub given_end : Consumes a' a'' [] → GaveInReads a a'' reads (λ given. AnswersAll rule s t (frames given))
-  given_end gave = (
-    so.given,
-    subst (λ (xs : List ℕ). Consumes a a'' xs) (append-nil so.given) (Consumes-trans a a' a'' so.given [] so.gave gave),
-    so.few,
-    so.all,
-  )
+-- the assembler stands for what follows the last line feed of the bytes `given`, and all of their frames were answered
+abbrev pub HasAnswered : {State : Type 0} → AnswerRule State Frame → Kept → (from to : Progress State) → (given : List ℕ) → Type 0
+HasAnswered rule kept from to given = StandsFor kept (rest_behind [] given) × AnswersAll rule from to (frames given)
 
-  -- Here that read gives a piece of at most 256 bytes.
-  module _ (piece : List ℕ) (gave : Consumes a' a'' piece) (short : length piece ≤ 256) where
-    -- where, whatever rest the assembler stood for, all frames that the piece completes after that rest are answered, and the
-    -- assembler then stands for the bytes after the last line feed, `AnsweredSoFar` is true with the piece and one read more
-    pub given_more : (kept' : Kept) (u : Progress State)
-        → ((rest : List ℕ) → StandsFor kept rest → StandsFor kept' (rest_behind rest piece) × AnswersAll rule t u (frames_behind rest piece))
-        → AnsweredSoFar rule a a'' kept' s u (reads + 1)
-    given_more kept' u answered =
-        let it = answered (rest_behind [] so.given) so.stands in
-        record {
-          given = so.given ++ piece;
-          gave = Consumes-trans a a' a'' so.given piece so.gave gave;
-          few = omega (arith, so.few, length-append so.given piece);
-          stands = subst (λ (rest : List ℕ). StandsFor kept' rest) (sym (rest-append [] so.given piece)) it.0;
-          all = subst (λ (seen : List Frame). AnswersAll rule s u seen) (sym (frames-append so.given piece))
-              (all_then rule s t u (frames so.given) (frames_behind (rest_behind [] so.given) piece) so.all it.1);
-        }
+-- where a read gives no byte, all frames of the bytes that the source gave have still been answered, in as many reads
+pub given_end : {State : Type 0} (rule : AnswerRule State Frame) (a a' a'' : Option (List ℕ)) (kept : Kept) (s t : Progress State) (reads : ℕ)
+    → GaveInReads a a' reads (HasAnswered rule kept s t) → Consumes a' a'' [] → GaveInReads a a'' reads (λ given. AnswersAll rule s t (frames given))
+given_end rule a a' a'' kept s t reads so gave = (
+  so.0,
+  subst (λ (xs : List ℕ). Consumes a a'' xs) (append-nil so.0) (Consumes-trans a a' a'' so.0 [] so.1 gave),
+  so.2,
+  so.3.1,
+)
 
-    -- where, whatever rest the assembler stood for, the text of a frame that the piece completes after that rest goes out only in
-    -- part, as `GathersPart` has it, the frames of all bytes that the source gave were answered up to the one whose text was cut
-    -- (`AnswersPart`). That took the answerer to the state `reached`, which is that of u without `gathers`
-    pub given_part : (u : Progress State) (bytes : ℕ) (gathers : Bool)
-        → ((rest : List ℕ) → StandsFor kept rest → GathersPart rule t u (frames_behind rest piece) bytes gathers)
-        → (reached : State) × GaveInReads a a'' (reads + 1) (λ given. AnswersPart rule s (progress reached u.taken u.whole) (frames given) bytes)
-        × (gathers ≡ false → reached ≡ u.state)
-    given_part u bytes gathers answered =
-        let it = answered (rest_behind [] so.given) so.stands in (
-          it.reached,
-          (
-            so.given ++ piece,
-            Consumes-trans a a' a'' so.given piece so.gave gave,
-            omega (arith, so.few, length-append so.given piece),
-            subst (λ (seen : List Frame). AnswersPart rule s (progress it.reached u.taken u.whole) seen bytes) (sym (frames-append so.given piece))
-                (part_then rule s t (progress it.reached u.taken u.whole) (frames so.given) (frames_behind (rest_behind [] so.given) piece) bytes so.all it.part),
-          ),
-          it.alone,
-        )
+-- Here `HasAnswered` is true of the bytes `given`, and a piece comes after them.
+module _ {State : Type 0} (rule : AnswerRule State Frame) (kept : Kept) (s t u : Progress State) (given piece : List ℕ) (so : HasAnswered rule kept s t given) where
+  -- where, whatever rest the assembler stood for, all frames that the piece completes after that rest are answered, and the
+  -- assembler then stands for the bytes after the last line feed, `HasAnswered` is true of `given ++ piece`
+  pub answered_more : (kept' : Kept) → ((rest : List ℕ) → StandsFor kept rest → StandsFor kept' (rest_behind rest piece) × AnswersAll rule t u (frames_behind rest piece))
+      → HasAnswered rule kept' s u (given ++ piece)
+  answered_more kept' answered =
+      let it = answered (rest_behind [] given) so.0 in (
+        subst (λ (rest : List ℕ). StandsFor kept' rest) (sym (rest-append [] given piece)) it.0,
+        subst (λ (seen : List Frame). AnswersAll rule s u seen) (sym (frames-append given piece))
+            (all_then rule s t u (frames given) (frames_behind (rest_behind [] given) piece) so.1 it.1),
+      )
+
+  -- where, whatever rest the assembler stood for, the text of a frame that the piece completes after that rest goes out only in
+  -- part, as `GathersPart` has it, so it does of the frames of `given ++ piece`
+  pub answered_part : (bytes : ℕ) (gathers : Bool) → ((rest : List ℕ) → StandsFor kept rest → GathersPart rule t u (frames_behind rest piece) bytes gathers)
+      → GathersPart rule s u (frames (given ++ piece)) bytes gathers
+  answered_part bytes gathers answered =
+      let it = answered (rest_behind [] given) so.0 in
+      record {
+        reached = it.reached;
+        part = subst (λ (seen : List Frame). AnswersPart rule s (progress it.reached u.taken u.whole) seen bytes) (sym (frames-append given piece))
+            (part_then rule s t (progress it.reached u.taken u.whole) (frames given) (frames_behind (rest_behind [] given) piece) bytes so.1 it.part);
+        alone = it.alone;
+      }

@@ -4,6 +4,7 @@ use Rattle.std.specs.Fmt.{decimal}
 use Rattle.std.specs.Io.KnownBytes.{Appends, Consumes, IsAtEnd}
 use Rattle.std.specs.List.{flat_map}
 use Rattle.std.specs.Option.{option_to_list}
+use Rattle.arrayvec.specs.ArrayVec.{ArrayVec, array_vec_len}
 use Rattle.gc_lines.specs.Frames.{frames}
 use Rattle.gc_lines.specs.declared.frame.Frame.{Frame}
 use Rattle.gc_lines.specs.declared.ports.Source.{Ghosts as Source}
@@ -196,6 +197,14 @@ AnswersRun {State} rule from to old new gathers result =
 abbrev pub AppendsAnswer : (answered : Option (List ℕ) → Type 0) → (old new : List ℕ) → (appended : Bool) → Type 0
 AppendsAnswer answered old new true = (text : List ℕ) × answered (Some text) × (new ≡ old ++ text)
 AppendsAnswer answered old new false = answered None × (new ≡ old)
+
+-- a text with room for so many bytes has room for one reply more, of at most 512
+abbrev pub HasRoomForReply : (room : ℕ) → ArrayVec ℕ → Type 0
+HasRoomForReply room text = array_vec_len text + 512 ≤ room
+
+-- a text has at most the 512 bytes of a reply more than before
+abbrev pub GrowsByReply : (old new : List ℕ) → Type 0
+GrowsByReply old new = length new ≤ length old + 512
 
 -- `new` is `old` and then a text of which `Is` is true
 pub record AppendsText (Is : List ℕ → Type 0) (old new : List ℕ) : Type 0 where

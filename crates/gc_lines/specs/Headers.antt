@@ -2,6 +2,7 @@
 -- ids from 0 to 7 are this project's own.
 use Rattle.std.specs.Prelude.{◌≡◌, ◌≢◌, ℕ, ◌+◌, ◌<◌, List, [], ◌∷◌, ◌++◌, Option, Some, None, Result, Ok, Err, IfSome}
 use Rattle.std.specs.Fmt.{decimal}
+use Rattle.std.specs.Option.{ForSome}
 use Rattle.gc_lines.specs.declared.fault.LineFault.{LineFault}
 use Rattle.gc_lines.specs.declared.fault.LineFault.TheVariants.{Signature, Number, Id, Colon, Code, TooLong}
 use Rattle.gc_lines.specs.Numbers.{NoDigitFirst, HasNumber}
@@ -14,6 +15,10 @@ id_text (Some id) = 44 ∷ (48 + id) ∷ []
 -- the id, where there is one, is from 0 to 7
 abbrev pub IsIdInRange : Option ℕ → Type 0
 IsIdInRange id = IfSome id (λ i. i < 8)
+
+-- a function may be given this id: `IsIdInRange`, in the form that proofs apply to an id
+abbrev pub MayBeId : Option ℕ → Type 0
+MayBeId id = ForSome id (λ i. i < 8)
 
 -- the field of an id ends before the bytes `rest`: no further digit follows an id, and no comma comes where there is no id
 abbrev pub EndsId : Option ℕ → (rest : List ℕ) → Type 0

@@ -31,6 +31,11 @@ abbrev pub FailsWith : {X E : Type 0} → Result X E → (old new : Bool) → Ty
 FailsWith (Ok _) old new = new ≡ old
 FailsWith (Err _) old new = new ≡ true
 
+-- if a call succeeded, it wrote this text, at the end of what `contents` gives of the writer (`None`: it isn't known)
+abbrev pub WritesIfOk : {W X E : Type 0} → (contents : W → Option (List ℕ)) → (old new : W) → Result X E → (text : List ℕ)
+    → Type 0
+WritesIfOk contents old new result text = OnOk result (Appends (contents old) (contents new) text)
+
 -- a sink took the first n bytes of a text, which aren't all of it
 abbrev pub TakesFront : (old new : Option (List ℕ)) (n : ℕ) (text : List ℕ) → Type 0
 TakesFront old new n text = (n < length text) × Appends old new (take n text)

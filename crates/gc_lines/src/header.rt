@@ -1,9 +1,8 @@
 //! What requests and replies share: a signature, a number, an id where there is one, and a colon.
 
-ghost use Rattle.std.specs.Prelude.{◌≡◌, ◌+◌, ◌<◌, ◌≤◌, ◌++◌, [], length};
-ghost use Rattle.std.specs.Option.{ForSome};
+ghost use Rattle.std.specs.Prelude.{◌≡◌, ◌+◌, ◌≤◌, ◌++◌, [], length};
 ghost use Rattle.arrayvec.specs.ArrayVec.{array_vec_len};
-ghost use Rattle.gc_lines.specs.Headers.{GivesSame, id_text, header_text};
+ghost use Rattle.gc_lines.specs.Headers.{GivesSame, MayBeId, id_text, header_text};
 ghost use Rattle.gc_lines.specs.Readers.{header_seen, signature_at, id_at, colon_at, header_at};
 
 use crate::fault::LineFault;
@@ -77,7 +76,7 @@ pub(crate) fn push_header<const N: usize>(
     number: u16,
     id: Option<u8>,
 )
-    requires id { ForSome id (λ i. i < 8) }
+    requires id { MayBeId id }
     requires room { array_vec_len to.old + 13 ≤ N }
     ensures items { to.new.items ≡ to.old.items ++ header_text signature.now number id }
     ensures len { array_vec_len to.new ≤ array_vec_len to.old + 13 }
@@ -91,7 +90,7 @@ pub(crate) fn push_header<const N: usize>(
 // Appends a comma and the id, if there is one: at most 2 bytes.
 #[inline(always)]
 fn push_id<const N: usize>(to: &mut ArrayVec<u8, N>, id: Option<u8>)
-    requires id { ForSome id (λ i. i < 8) }
+    requires id { MayBeId id }
     requires room { array_vec_len to.old + 2 ≤ N }
     ensures items { to.new.items ≡ to.old.items ++ id_text id }
     ensures len { array_vec_len to.new ≤ array_vec_len to.old + 2 }

@@ -29,7 +29,7 @@ pub use assembler::Assembler;
 pub use fault::LineFault;
 pub use frame::{Frame, Lent};
 pub use from_reader::FromReader;
-pub use line::{Line, append, is_plain, line_from, with_end};
+pub use line::{Line, append, bytes_from, is_plain, line_from, with_end};
 pub use ports::{Durable, PortFailed, Sink, Source};
 pub use read_ahead::ReadAhead;
 pub use reply::{Reply, push_reply, read_reply, write_reply};

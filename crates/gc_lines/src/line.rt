@@ -1,6 +1,6 @@
 //! A line holds at most 512 bytes, without its CR LF.
 
-ghost use Rattle.std.specs.Prelude.{◌≡◌, ◌+◌, ◌≤◌, ◌++◌, ◌↔◌, length, IsTrue};
+ghost use Rattle.std.specs.Prelude.{◌≡◌, ◌+◌, ◌≤◌, ◌++◌, ◌↔◌, length, drop, IsTrue};
 ghost use Rattle.arrayvec.specs.ArrayVec.{array_vec_len};
 ghost use Rattle.gc_lines.specs.Lines.{IsPlain, with_end};
 
@@ -35,6 +35,15 @@ pub fn line_from(bytes: &[u8]) -> Line
     let mut line = Line::new();
     append(&mut line, bytes);
     line
+}
+
+/// The bytes from place `at` on, counted from 0. `at` is at most their number.
+#[inline]
+pub fn bytes_from(bytes: &[u8], at: usize) -> &[u8]
+    requires { at ≤ length bytes.now }
+    ensures { result.now ≡ drop at bytes.now }
+{
+    &bytes[at..]
 }
 
 /// A line and then CR LF.

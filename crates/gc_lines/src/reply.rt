@@ -1,9 +1,8 @@
 //! A reply line: `%R1P,<RC_COM>[,<TrId>]:<RC>[,<P0>,<P1>,...]`, read leniently and written in one form.
 
 ghost use Rattle.std.specs.Prelude.{◌≡◌, ◌+◌, ◌<◌, ◌≤◌, ◌++◌, [], Some, IfOk, IfErr};
-ghost use Rattle.std.specs.Option.{ForSome};
 ghost use Rattle.arrayvec.specs.ArrayVec.{array_vec_len};
-ghost use Rattle.gc_lines.specs.Headers.{FailsEach, GivesSame, GivesEach};
+ghost use Rattle.gc_lines.specs.Headers.{FailsEach, GivesSame, GivesEach, MayBeId};
 
 use crate::fault::LineFault;
 use crate::header::{header_of, push_header};
@@ -116,7 +115,7 @@ pub fn push_reply<const N: usize>(to: &mut ArrayVec<u8, N>, rc_com: u16, id: u8,
 
 // As `push_reply`, with an id or without one, and always field by field.
 fn push_reply_fields<const N: usize>(to: &mut ArrayVec<u8, N>, rc_com: u16, id: Option<u8>, rc: u16)
-    requires id { ForSome id (λ i. i < 8) }
+    requires id { MayBeId id }
     requires room { array_vec_len to.old + 18 ≤ N }
     ensures items { to.new.items ≡ to.old.items ++ reply_text (record { rc_com = rc_com; id = id; rc = rc; params = [] }) }
     ensures len { array_vec_len to.new ≤ array_vec_len to.old + 18 }
@@ -127,7 +126,7 @@ fn push_reply_fields<const N: usize>(to: &mut ArrayVec<u8, N>, rc_com: u16, id: 
 
 // A reply line through its return code; parameters may be appended, each after a comma.
 fn begin_reply(rc_com: u16, id: Option<u8>, rc: u16) -> Line
-    requires { ForSome id (λ i. i < 8) }
+    requires { MayBeId id }
     ensures items { result.items ≡ reply_text (record { rc_com = rc_com; id = id; rc = rc; params = [] }) }
     ensures room { array_vec_len result ≤ 18 }
 {
@@ -140,7 +139,7 @@ fn begin_reply(rc_com: u16, id: Option<u8>, rc: u16) -> Line
 /// [`LineFault::TooLong`] exactly where the line would have more than 512 bytes.
 #[inline]
 pub fn write_reply(r: &Reply<'_>) -> Result<Line, LineFault>
-    requires id { ForSome r.now.id (λ i. i < 8) }
+    requires id { MayBeId r.now.id }
     requires plain { IsPlain r.now.params.now }
     ensures ok { IfOk result (λ line. IsLineWithText (reply_text (reply_seen r.now)) line.items) }
     ensures err { IfErr result (λ f. IsTooLong (reply_text (reply_seen r.now)) f) }

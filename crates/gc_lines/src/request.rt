@@ -1,10 +1,9 @@
 //! A request line: `%R1Q,<RPC>[,<TrId>]:[<P0>][,<P1>,...]`, read leniently and written in one form.
 
-ghost use Rattle.std.specs.Prelude.{◌≡◌, ◌+◌, ◌<◌, ◌≤◌, ◌++◌, [], IfOk, IfErr};
-ghost use Rattle.std.specs.Option.{ForSome};
+ghost use Rattle.std.specs.Prelude.{◌≡◌, ◌+◌, ◌≤◌, ◌++◌, [], IfOk, IfErr};
 ghost use Rattle.arrayvec.specs.ArrayVec.{array_vec_len};
 ghost use Rattle.gc_lines.specs.Lines.{IsPlain, IsLineWithText, IsTooLong};
-ghost use Rattle.gc_lines.specs.Headers.{FailsEach, GivesSame, GivesEach};
+ghost use Rattle.gc_lines.specs.Headers.{FailsEach, GivesSame, GivesEach, MayBeId};
 
 use crate::fault::LineFault;
 use crate::header::{header_of, push_header};
@@ -59,7 +58,7 @@ pub fn read_request(line: &[u8]) -> Result<Request<'_>, LineFault>
 /// Appends a request through its colon, at most 13 bytes; the parameters may follow.
 #[inline]
 pub fn push_request<const N: usize>(to: &mut ArrayVec<u8, N>, rpc: u16, id: Option<u8>)
-    requires id { ForSome id (λ i. i < 8) }
+    requires id { MayBeId id }
     requires room { array_vec_len to.old + 13 ≤ N }
     ensures items { to.new.items ≡ to.old.items ++ request_text (record { rpc = rpc; id = id; params = [] }) }
     ensures len { array_vec_len to.new ≤ array_vec_len to.old + 13 }
@@ -69,7 +68,7 @@ pub fn push_request<const N: usize>(to: &mut ArrayVec<u8, N>, rpc: u16, id: Opti
 
 /// A request line through its colon, at most 13 bytes, to which the parameters may be appended.
 pub fn begin_request(rpc: u16, id: Option<u8>) -> Line
-    requires { ForSome id (λ i. i < 8) }
+    requires { MayBeId id }
     ensures items { result.items ≡ request_text (record { rpc = rpc; id = id; params = [] }) }
     ensures room { array_vec_len result ≤ 13 }
 {
@@ -82,7 +81,7 @@ pub fn begin_request(rpc: u16, id: Option<u8>) -> Line
 /// bytes.
 #[inline]
 pub fn write_request(r: &Request<'_>) -> Result<Line, LineFault>
-    requires id { ForSome r.now.id (λ i. i < 8) }
+    requires id { MayBeId r.now.id }
     requires plain { IsPlain r.now.params.now }
     ensures ok { IfOk result (λ line. IsLineWithText (request_text (request_seen r.now)) line.items) }
     ensures err { IfErr result (λ f. IsTooLong (request_text (request_seen r.now)) f) }

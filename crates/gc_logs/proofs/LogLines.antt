@@ -1,6 +1,6 @@
 -- The lines that a log has of more and more bytes, what is pending after these, and the bytes that the lines stand for
 -- (`wire`). `TakesUnlessFailed` says that a log's sink, if it hasn't failed, took a text: a, b and c are what is seen of the sink at first,
--- then and at last. `p` is what is pending.
+-- then and at last; so they are of where the lines go for `TakesEntries`. `p` is what is pending.
 use Rattle.std.proofs.Common.{◌≡◌, ℕ, ◌+◌, ◌-◌, ◌<◌, ◌==◌, ◌&&◌, true, inl, inr, not, List, [], ◌∷◌, ◌++◌, length, take, get_or, refl, sym, ap, subst, ◌∙◌, arith, append_assoc, append-nil}
 use Rattle.std.specs.Prelude.{nat_lt}
 use Rattle.std.proofs.lemmas.Bool.{cases_Bool, cond_both, eqb-true, ltb-true, and_parts}
@@ -10,8 +10,10 @@ use Rattle.std.proofs.KnownBytes.{Appends-trans}
 use Rattle.gc_lines.specs.Answering.{Taken}
 use Rattle.gc_lines.specs.Frames.{ends_in_return}
 use Rattle.gc_lines.specs.Lines.{with_end}
+use Rattle.gc_lines.specs.declared.ports.Sink.{Ghosts as Sink}
 use Rattle.gc_texts.specs.Logs.{log_line}
-use Rattle.gc_logs.specs.Logging.{Entry, entry, line_mark, part_mark, entry_of_line, entries_at, pending_at, entries, pending_behind, log_text_of, TakesUnlessFailed, wire_of, wire, LogKeepsAll}
+use Rattle.gc_logs.specs.Logging.{Entry, entry, line_mark, part_mark, entry_of_line, entries_at, pending_at, entries, pending_behind, log_text_of, TakesEntries, TakesUnlessFailed, wire_of, wire, LogKeepsAll}
+use Rattle.gc_logs.specs.declared.logging.Lines.{Lines}
 use Rattle.gc_logs.specs.declared.logging.Unwritten.{Unwritten}
 use Rattle.gc_logs.specs.declared.logging.Direction.{Direction}
 use Rattle.gc_logs.specs.declared.logging.Direction.TheVariants.{Went, Came}
@@ -29,8 +31,8 @@ pending_more p [] b = refl
 pending_more p (c ∷ cs) b = pending_more (pending_at p c) cs b
 
 -- if a log took one text, and then another, it took both as one
-takes_both : {a b c : Taken} (xs ys : List ℕ) → TakesUnlessFailed a b xs → TakesUnlessFailed b c ys → TakesUnlessFailed a c (xs ++ ys)
-takes_both {a} {b} {c} xs ys one next = record {
+takes_both_texts : {a b c : Taken} (xs ys : List ℕ) → TakesUnlessFailed a b xs → TakesUnlessFailed b c ys → TakesUnlessFailed a c (xs ++ ys)
+takes_both_texts {a} {b} {c} xs ys one next = record {
   took = λ stands. Appends-trans a.bytes b.bytes c.bytes xs ys (one.took (next.stood stands)) (next.took stands);
   stood = λ stands. one.stood (next.stood stands);
 }
@@ -40,20 +42,26 @@ pub takes_both_lists : {a b c : Taken} (utc now : ℕ) (es fs : List Entry) → 
     → TakesUnlessFailed a b (log_text_of utc es) → TakesUnlessFailed b c (log_text_of now fs) → TakesUnlessFailed a c (log_text_of utc (es ++ fs))
 takes_both_lists {a} {b} {c} utc now es fs same one next =
     subst (TakesUnlessFailed a c) (sym (flat_map-append (λ (e : Entry). log_line utc e.mark e.bytes) es fs))
-    (takes_both (log_text_of utc es) (log_text_of utc fs) one (subst (λ u. TakesUnlessFailed b c (log_text_of u fs)) same next))
+    (takes_both_texts (log_text_of utc es) (log_text_of utc fs) one (subst (λ u. TakesUnlessFailed b c (log_text_of u fs)) same next))
+
+-- if where the lines of a log go took those of one list, and then those of another, it took those of both
+pub takes_both : {K : Type 0} {of_sink : Sink K} {a b c : Lines K} (es fs : List Entry)
+    → TakesEntries of_sink a b es → TakesEntries of_sink b c fs → TakesEntries of_sink a c (es ++ fs)
+takes_both {K} {of_sink} {a} {b} {c} es fs one next =
+    record { took = takes_both_lists a.utc b.utc es fs one.utc one.took next.took; utc = next.utc ∙ one.utc }
 
 -- one turn of the loop over the bytes `bs`, at byte i: `p` is pending before the loop, and `q` before this byte
 module _ (p q : Unwritten) (bs : List ℕ) (i : ℕ) (within : i < length bs) (behind : q ≡ pending_behind p (take i bs)) where
   -- if a log took the lines of the first i bytes, and then those of byte i, it took the lines of the first i + 1
-  pub took_more : {a b c : Taken} (utc : ℕ) (way : Direction)
-      → TakesUnlessFailed a b (log_text_of utc (entries way p (take i bs))) → TakesUnlessFailed b c (log_text_of utc (entries_at way q (get_or bs i 0)))
-      → TakesUnlessFailed a c (log_text_of utc (entries way p (take (i + 1) bs)))
-  took_more {a} {b} {c} utc way one next =
+  pub took_more : {K : Type 0} {of_sink : Sink K} {a b c : Lines K} (way : Direction)
+      → TakesEntries of_sink a b (entries way p (take i bs)) → TakesEntries of_sink b c (entries_at way q (get_or bs i 0))
+      → TakesEntries of_sink a c (entries way p (take (i + 1) bs))
+  took_more {K} {of_sink} {a} {b} {c} way one next =
       let es = entries way p (take i bs) in
       let fs = entries_at way (pending_behind p (take i bs)) (get_or bs i 0) in
       let whole : es ++ fs ≡ entries way p (take (i + 1) bs) = sym (ap (entries way p) (take_more bs i 0 within) ∙ entries_more way p (take i bs) (get_or bs i 0)) in
-      let last : TakesUnlessFailed b c (log_text_of utc fs) = subst (λ z. TakesUnlessFailed b c (log_text_of utc (entries_at way z (get_or bs i 0)))) behind next in
-      subst (TakesUnlessFailed a c) (ap (log_text_of utc) whole) (takes_both_lists utc utc es fs refl one last)
+      let last : TakesEntries of_sink b c fs = subst (λ z. TakesEntries of_sink b c (entries_at way z (get_or bs i 0))) behind next in
+      subst (TakesEntries of_sink a c) whole (takes_both es fs one last)
 
   -- if byte i makes `r` of what is pending before it, `r` is pending after the first i + 1
   pub pending_at_next : (r : Unwritten) → r ≡ pending_at q (get_or bs i 0) → r ≡ pending_behind p (take (i + 1) bs)

@@ -51,4 +51,4 @@ has_ended bounded = bounded.is_ended
 
 -- the sink that a link's log is written into
 abbrev pub sink_of : {L K : Type 0} → Logged L K → K
-sink_of logged = logged.log.sink
+sink_of logged = logged.log.lines.sink

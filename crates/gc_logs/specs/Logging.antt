@@ -11,6 +11,7 @@ use Rattle.gc_texts.specs.Logs.{log_line}
 use Rattle.gc_texts.specs.declared.log_line.LogMark.{LogMark}
 use Rattle.gc_texts.specs.declared.log_line.LogMark.TheVariants as mark
 use Rattle.gc_links.specs.Acts.{Act, Told, Put, Cut, Gave, Silent, Ended, Broke, Closed, Opened, Unopened}
+use Rattle.gc_logs.specs.declared.logging.Lines.{Lines}
 use Rattle.gc_logs.specs.declared.logging.Log.{Log}
 use Rattle.gc_logs.specs.declared.logging.Unwritten.{Unwritten}
 use Rattle.gc_logs.specs.declared.logging.Direction.{Direction}
@@ -87,10 +88,11 @@ pub record TakesUnlessFailed (old new : Taken) (text : List ℕ) : Type 0 where
   pub took : new.failed ≡ false → Appends old.bytes new.bytes text
   pub stood : new.failed ≡ false → old.failed ≡ false
 
--- if this sink hasn't failed now, it took the text of these lines, written at the moment `utc` (`TakesUnlessFailed`). `old` and `new`
--- are the sink before and after
-abbrev pub TakesEntries : {K : Type 0} → Sink K → (old new : K) → (utc : ℕ) → List Entry → Type 0
-TakesEntries of_sink old new utc es = TakesUnlessFailed (taken_by of_sink old) (taken_by of_sink new) (log_text_of utc es)
+-- lines of a log were written at the moment that `old` has, and `new` has the same: if the sink hasn't failed now, it took their
+-- text (`TakesUnlessFailed`)
+pub record TakesEntries {K : Type 0} (of_sink : Sink K) (old new : Lines K) (es : List Entry) : Type 0 where
+  pub took : TakesUnlessFailed (taken_by of_sink old.sink) (taken_by of_sink new.sink) (log_text_of old.utc es)
+  pub utc : new.utc ≡ old.utc
 
 -- the bytes on the link that a line of a log with this mark and these bytes stands for: its bytes, with CR LF after a whole line; none for
 -- a word on the connection
@@ -121,7 +123,7 @@ pub record LogSeen : Type 0 where
 
 -- what is seen of this log, by the ghost members of its sink
 abbrev pub log_seen : {K : Type 0} → Sink K → Log K → LogSeen
-log_seen of_sink log = record { sink = taken_by of_sink log.sink; went = log.went; came = log.came; utc = log.utc }
+log_seen of_sink log = record { sink = taken_by of_sink log.lines.sink; went = log.went; came = log.came; utc = log.lines.utc }
 
 -- the line of a log that says what became of the connection, in this word
 abbrev pub link_entry : List ℕ → Entry

@@ -38,14 +38,14 @@ impl<L: Link, K: Sink> Logged<L, K> {
     pub fn has_lost_its_log(&self) -> bool
         ensures { result ≡ K.failed (sink_of self.now) }
     {
-        self.log.sink.has_failed()
+        self.log.lines.sink.has_failed()
     }
 
     /// The sink that the log is written into.
     pub fn sink(&self) -> &K
-        ensures { result.now ≡ self.now.log.sink }
+        ensures { result.now ≡ self.now.log.lines.sink }
     {
-        &self.log.sink
+        &self.log.lines.sink
     }
 }
 
@@ -70,7 +70,7 @@ impl<L: Link, K: Sink> Link for Logged<L, K> {
     {
         let told = self.link.now();
         if let Ok(moment) = &told {
-            self.log.utc = moment.utc;
+            self.log.lines.utc = moment.utc;
         }
         told
     }
@@ -86,10 +86,10 @@ impl<L: Link, K: Sink> Link for Logged<L, K> {
         let came = self.link.read(buf, millis);
         match came {
             Came::Bytes(n, moment) => {
-                self.log.utc = moment.utc;
+                self.log.lines.utc = moment.utc;
                 self.log.add_received(&buf[..n]);
             }
-            Came::Silence(moment) => self.log.utc = moment.utc,
+            Came::Silence(moment) => self.log.lines.utc = moment.utc,
             Came::End => self.log.add_word(b"ended"),
             Came::Failure => self.log.add_word(b"failed"),
             Came::NoMoment => {}

@@ -39,6 +39,27 @@ impl Direction {
     }
 }
 
+/// Where the lines of a log go, and the moment that they have.
+#[derive(Drop)]
+pub(crate) struct Lines<K> {
+    pub(crate) sink: K,
+    // The last moment that the link's clock gave, in milliseconds since 1970; before the first, the moment given to `Log::new`.
+    pub(crate) utc: u64,
+}
+
+impl<K: Sink> Lines<K> {
+    // Writes a line of the log with this mark and these bytes, at most 514. If the sink fails, the line isn't written whole, and
+    // the sink's `failed` shows it.
+    fn write_entry(&mut self, mark: LogMark, bytes: &[u8])
+        requires { length bytes.now ≤ 514 }
+        ensures { TakesEntries K.Sink self.old self.new (entry mark bytes.now ∷ []) }
+    {
+        let mut line = LogBytes::new();
+        append(&mut line, bytes);
+        let _ = write_log_line(&mut self.sink, self.utc, mark, &line);
+    }
+}
+
 // The most pending bytes of one direction: as many as a line of 512 bytes has with its CR.
 const PENDING_ROOM: usize = 513;
 
@@ -69,60 +90,108 @@ impl Unwritten {
         self.bytes.clear();
         self.is_long = false;
     }
+
+    // Logs bytes of this direction that come after the pending ones, in order, as `add` does it: each line that they end is
+    // written, and of a longer line each `PENDING_ROOM` bytes as a part. What isn't written is pending then.
+    fn add_all<K: Sink>(&mut self, lines: &mut Lines<K>, way: Direction, bytes: &[u8])
+        ensures took { TakesEntries K.Sink lines.old lines.new (entries way self.old bytes.now) }
+        ensures pending { self.new ≡ pending_behind self.old bytes.now }
+    {
+        for b in bytes {
+            self.add(lines, way, *b);
+        }
+    }
+
+    // Logs one more byte. A line feed ends a line, which is written. Any other byte is pending; if `PENDING_ROOM` bytes are
+    // pending already, these are first written as a part of their line.
+    fn add<K: Sink>(&mut self, lines: &mut Lines<K>, way: Direction, b: u8)
+        ensures took { TakesEntries K.Sink lines.old lines.new (entries_at way self.old b) }
+        ensures pending { self.new ≡ pending_at self.old b }
+    {
+        if b == b'\n' {
+            self.end_line(lines, way);
+            return;
+        }
+        if self.bytes.len() < PENDING_ROOM {
+            self.bytes.push(b);
+            return;
+        }
+        lines.write_entry(way.part_mark(), &self.bytes);
+        self.bytes.clear();
+        self.bytes.push(b);
+        self.is_long = true;
+    }
+
+    // Logs a line feed: writes the pending bytes as a line, without CR LF, if they are all of it and end in a CR, else as a part,
+    // with the line feed. Nothing is pending after that.
+    fn end_line<K: Sink>(&mut self, lines: &mut Lines<K>, way: Direction)
+        ensures took { TakesEntries K.Sink lines.old lines.new (entry_of_line way self.old ∷ []) }
+        ensures pending { self.new ≡ nothing }
+    {
+        let is_line = !self.is_long && self.bytes.last() == Some(&b'\r');
+        if is_line {
+            let len = self.bytes.len() - 1;
+            lines.write_entry(way.line_mark(), &self.bytes[..len]);
+        } else {
+            let mut part = LogBytes::new();
+            append(&mut part, &self.bytes);
+            append(&mut part, b"\n");
+            lines.write_entry(way.part_mark(), &part);
+        }
+        self.clear();
+    }
+
+    // Writes the pending bytes, if there are any, as a part of a line. Nothing is pending after that.
+    fn flush<K: Sink>(&mut self, lines: &mut Lines<K>, way: Direction)
+        ensures took { TakesEntries K.Sink lines.old lines.new (entries_of_pending way self.old.bytes.items) }
+        ensures pending { self.new ≡ nothing }
+    {
+        if !self.bytes.is_empty() {
+            lines.write_entry(way.part_mark(), &self.bytes);
+        }
+        self.clear();
+    }
 }
 
 /// A log over a sink. If the sink has failed nothing more is written, and the link that is logged goes on.
 #[derive(Drop)]
 pub(crate) struct Log<K> {
-    pub(crate) sink: K,
+    pub(crate) lines: Lines<K>,
     went: Unwritten,
     came: Unwritten,
-    // The last moment that the link's clock gave, in milliseconds since 1970; before the first, the moment given to `new`.
-    pub(crate) utc: u64,
 }
 
 impl<K: Sink> Log<K> {
     // A log without a line, at the moment `utc`, in milliseconds since 1970.
     pub(crate) fn new(sink: K, utc: u64) -> Log<K>
-        ensures sink { result.sink ≡ sink }
+        ensures sink { result.lines.sink ≡ sink }
         ensures went { result.went ≡ nothing }
         ensures came { result.came ≡ nothing }
-        ensures utc { result.utc ≡ utc }
+        ensures utc { result.lines.utc ≡ utc }
     {
         Log {
-            sink,
+            lines: Lines { sink, utc },
             went: Unwritten::nothing(),
             came: Unwritten::nothing(),
-            utc,
         }
     }
 
-    // Logs sent bytes, as `log_bytes` says: writes the lines that end in them, and full parts of longer ones. The rest is pending then.
+    // Logs sent bytes, as `Unwritten::add_all` says: writes the lines that end in them, and full parts of longer ones. The
+    // rest is pending then.
     pub(crate) fn add_sent(&mut self, bytes: &[u8])
         ensures { TakesLines (log_seen K.Sink self.old) (log_seen K.Sink self.new)
             (entries Went self.old.went bytes.now) (pending_behind self.old.went bytes.now) self.old.came }
     {
-        log_bytes(
-            &mut self.sink,
-            self.utc,
-            Direction::Went,
-            &mut self.went,
-            bytes,
-        );
+        self.went.add_all(&mut self.lines, Direction::Went, bytes);
     }
 
-    // Logs received bytes, as `log_bytes` says: writes the lines that end in them, and full parts of longer ones. The rest is pending then.
+    // Logs received bytes, as `Unwritten::add_all` says: writes the lines that end in them, and full parts of longer ones. The
+    // rest is pending then.
     pub(crate) fn add_received(&mut self, bytes: &[u8])
         ensures { TakesLines (log_seen K.Sink self.old) (log_seen K.Sink self.new)
             (entries Came self.old.came bytes.now) self.old.went (pending_behind self.old.came bytes.now) }
     {
-        log_bytes(
-            &mut self.sink,
-            self.utc,
-            Direction::Came,
-            &mut self.came,
-            bytes,
-        );
+        self.came.add_all(&mut self.lines, Direction::Came, bytes);
     }
 
     // Writes the pending bytes of both directions, the sent ones first, each as a part of a line; of a direction without pending
@@ -131,8 +200,8 @@ impl<K: Sink> Log<K> {
         ensures { TakesLines (log_seen K.Sink self.old) (log_seen K.Sink self.new)
             (entries_of_pending Went self.old.went.bytes.items ++ entries_of_pending Came self.old.came.bytes.items) nothing nothing }
     {
-        log_pending(&mut self.sink, self.utc, Direction::Went, &mut self.went);
-        log_pending(&mut self.sink, self.utc, Direction::Came, &mut self.came);
+        self.went.flush(&mut self.lines, Direction::Went);
+        self.came.flush(&mut self.lines, Direction::Came);
     }
 
     // Writes a line that says, in these words of at most 514 bytes, what became of the connection.
@@ -140,78 +209,6 @@ impl<K: Sink> Log<K> {
         requires { length word.now ≤ 514 }
         ensures { TakesLines (log_seen K.Sink self.old) (log_seen K.Sink self.new) (link_entry word.now ∷ []) self.old.went self.old.came }
     {
-        write_entry(&mut self.sink, self.utc, LogMark::Link, word);
+        self.lines.write_entry(LogMark::Link, word);
     }
-}
-
-// Logs bytes of this direction that come after the pending ones, in order, as `log_byte` does it: each line that they end is
-// written, and of a longer line each `PENDING_ROOM` bytes as a part. What isn't written is pending then.
-fn log_bytes<K: Sink>(sink: &mut K, utc: u64, way: Direction, pending: &mut Unwritten, bytes: &[u8])
-    ensures took { TakesEntries K.Sink sink.old sink.new utc (entries way pending.old bytes.now) }
-    ensures pending { pending.new ≡ pending_behind pending.old bytes.now }
-{
-    for b in bytes {
-        log_byte(sink, utc, way, pending, *b);
-    }
-}
-
-// Logs one more byte. A line feed ends a line, which is written. Any other byte is pending; if `PENDING_ROOM` bytes are pending
-// already, these are first written as a part of their line.
-fn log_byte<K: Sink>(sink: &mut K, utc: u64, way: Direction, pending: &mut Unwritten, b: u8)
-    ensures took { TakesEntries K.Sink sink.old sink.new utc (entries_at way pending.old b) }
-    ensures pending { pending.new ≡ pending_at pending.old b }
-{
-    if b == b'\n' {
-        log_line_end(sink, utc, way, pending);
-        return;
-    }
-    if pending.bytes.len() < PENDING_ROOM {
-        pending.bytes.push(b);
-        return;
-    }
-    write_entry(sink, utc, way.part_mark(), &pending.bytes);
-    pending.bytes.clear();
-    pending.bytes.push(b);
-    pending.is_long = true;
-}
-
-// Logs a line feed: writes the pending bytes as a line, without CR LF, if they are all of it and end in a CR, else as a part, with the line
-// feed. Nothing is pending after that.
-fn log_line_end<K: Sink>(sink: &mut K, utc: u64, way: Direction, pending: &mut Unwritten)
-    ensures took { TakesEntries K.Sink sink.old sink.new utc (entry_of_line way pending.old ∷ []) }
-    ensures pending { pending.new ≡ nothing }
-{
-    let is_line = !pending.is_long && pending.bytes.last() == Some(&b'\r');
-    if is_line {
-        let len = pending.bytes.len() - 1;
-        write_entry(sink, utc, way.line_mark(), &pending.bytes[..len]);
-    } else {
-        let mut part = LogBytes::new();
-        append(&mut part, &pending.bytes);
-        append(&mut part, b"\n");
-        write_entry(sink, utc, way.part_mark(), &part);
-    }
-    pending.clear();
-}
-
-// Writes the pending bytes of one direction, if there are any, as a part of a line. Nothing is pending after that.
-fn log_pending<K: Sink>(sink: &mut K, utc: u64, way: Direction, pending: &mut Unwritten)
-    ensures took { TakesEntries K.Sink sink.old sink.new utc (entries_of_pending way pending.old.bytes.items) }
-    ensures pending { pending.new ≡ nothing }
-{
-    if !pending.bytes.is_empty() {
-        write_entry(sink, utc, way.part_mark(), &pending.bytes);
-    }
-    pending.clear();
-}
-
-// Writes a line of the log with this moment, this mark and these bytes, at most 514. If the sink fails, the line isn't written whole,
-// and the sink's `failed` shows it.
-fn write_entry<K: Sink>(sink: &mut K, utc: u64, mark: LogMark, bytes: &[u8])
-    requires { length bytes.now ≤ 514 }
-    ensures { TakesEntries K.Sink sink.old sink.new utc (entry mark bytes.now ∷ []) }
-{
-    let mut line = LogBytes::new();
-    append(&mut line, bytes);
-    let _ = write_log_line(sink, utc, mark, &line);
 }

@@ -1,5 +1,5 @@
 -- Why a station that measures the commands of a text stopped before its end, and how that is reported: this project's own.
-use Rattle.std.specs.Prelude.{◌≡◌, ℕ, List, ◌++◌, Option, Some, None, Result, Ok, Err, codes}
+use Rattle.std.specs.Prelude.{◌≡◌, ℕ, List, [], ◌++◌, Option, Some, None, Result, Ok, Err, codes}
 use Rattle.gc_ask.specs.Places.{fault_of_unusable}
 use Rattle.gc_measuring.specs.declared.stop.Stop.{Stop}
 use Rattle.gc_measuring.specs.declared.stop.Stop.TheVariants.{Text, Empty, Line, Run}
@@ -16,13 +16,17 @@ fault_of_stop Empty = NoCommand
 fault_of_stop (Line n trouble) = Schedule n
 fault_of_stop (Run fault) = fault
 
--- what is written of a stop: the line of its fault, and in two cases a second line after it. If the text has no command, that
--- one says so; where line n of the text is faulty, it says what the trouble with that line is
+-- what is written of a stop after the line of its fault: if the text has no command, a line that says so; where line n of the
+-- text is faulty, a line that says what the trouble with that line is; else nothing
+abbrev pub stop_detail : Stop → List ℕ
+stop_detail (Text fault) = []
+stop_detail Empty = codes "geocom: the text has no command\n"
+stop_detail (Line n trouble) = trouble_line n trouble
+stop_detail (Run fault) = []
+
+-- what is written of a stop
 abbrev pub stop_text : Stop → List ℕ
-stop_text (Text fault) = fault_line (run_fault_text fault)
-stop_text Empty = fault_line (run_fault_text NoCommand) ++ codes "geocom: the text has no command\n"
-stop_text (Line n trouble) = fault_line (run_fault_text (Schedule n)) ++ trouble_line n trouble
-stop_text (Run fault) = fault_line (run_fault_text fault)
+stop_text stop = fault_line (run_fault_text (fault_of_stop stop)) ++ stop_detail stop
 
 -- the end of a run over tasks, as the end of measuring a text
 abbrev pub end_of_run : {X : Type 0} → Result X RunFault → Result X Stop

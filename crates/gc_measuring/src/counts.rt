@@ -1,9 +1,9 @@
 //! How the end of a station's run is reported: by its counts if it is done or its end was asked for, else by the fault for which
 //! it stopped.
 
-ghost use Rattle.std.specs.Prelude.{◌≤◌, IfOk, OnOk};
-ghost use Rattle.std.specs.Io.KnownBytes.{Appends};
+ghost use Rattle.std.specs.Prelude.{◌≤◌, IfOk};
 ghost use Rattle.std.specs.Process.{exit_status};
+ghost use Rattle.gc_lines.specs.Ports.{WritesIfOk};
 ghost use Rattle.gc_measuring.specs.Measuring.{ReportsEndOfRun, main_counts_text, other_counts_text, repeats_text, tally_line};
 
 use crate::stop::Stop;
@@ -34,7 +34,7 @@ pub(crate) fn report_end_of_run<E: Write>(
 
 // Writes the line of the counts: how the commands of each chain's last attempt ended, and how many times a chain was sent again.
 fn write_counts<E: Write>(tally: Tally, messages: &mut E) -> io::Result<()>
-    ensures { OnOk result (Appends (E.contents messages.old) (E.contents messages.new) (tally_line tally)) }
+    ensures { WritesIfOk E.contents messages.old messages.new result (tally_line tally) }
 {
     write_main_counts(tally, messages)?;
     write_other_counts(tally, messages)?;
@@ -43,7 +43,7 @@ fn write_counts<E: Write>(tally: Tally, messages: &mut E) -> io::Result<()>
 
 /// Writes the front of the line of the counts: how many commands were answered, late and lost, and a space.
 pub fn write_main_counts<E: Write>(tally: Tally, messages: &mut E) -> io::Result<()>
-    ensures { OnOk result (Appends (E.contents messages.old) (E.contents messages.new) (main_counts_text tally)) }
+    ensures { WritesIfOk E.contents messages.old messages.new result (main_counts_text tally) }
 {
     let Tally {
         answered,
@@ -57,7 +57,7 @@ pub fn write_main_counts<E: Write>(tally: Tally, messages: &mut E) -> io::Result
 /// Writes the middle of the line of the counts, after `write_main_counts`: how many commands were skipped, unreadable, missed and
 /// elsewhere.
 pub fn write_other_counts<E: Write>(tally: Tally, messages: &mut E) -> io::Result<()>
-    ensures { OnOk result (Appends (E.contents messages.old) (E.contents messages.new) (other_counts_text tally)) }
+    ensures { WritesIfOk E.contents messages.old messages.new result (other_counts_text tally) }
 {
     let Tally {
         skipped,
@@ -74,7 +74,7 @@ pub fn write_other_counts<E: Write>(tally: Tally, messages: &mut E) -> io::Resul
 
 // Writes the end of the line of the counts, after `write_other_counts`: how many times a chain was sent again.
 fn write_repeats<E: Write>(tally: Tally, messages: &mut E) -> io::Result<()>
-    ensures { OnOk result (Appends (E.contents messages.old) (E.contents messages.new) (repeats_text tally)) }
+    ensures { WritesIfOk E.contents messages.old messages.new result (repeats_text tally) }
 {
     let again = tally.again;
     writeln!(messages, " again {again}")

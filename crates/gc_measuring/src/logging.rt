@@ -17,7 +17,7 @@ use gc_logs::{Bounded, Logged};
 use gc_messages::{FilesSeen, LogSeen, Noticed, Streams, note_files};
 use gc_station::Kept;
 use gc_texts::RunFault;
-use gc_words::{LogPlace, Settings};
+use gc_words::LogPlace;
 use std::alloc::Global;
 use std::cell::Cell;
 use std::fs::File;
@@ -54,9 +54,7 @@ fn open_log<R: Files<File = File>>(rt: &R, path: &str) -> Result<RowsFile<System
         return Err(Unfit::Held);
     }
     let mut front = [0u8; FRONT];
-    let Ok(count) = file.read_at(0, &mut front) else {
-        return Err(Unfit::Failed);
-    };
+    let count = file.read_at(0, &mut front).map_err(|_| Unfit::Failed)?;
     if !begins_log(&front[..count]) {
         return Err(Unfit::Foreign);
     }
@@ -165,22 +163,22 @@ fn note_torn(noticed: &Cell<Noticed>, torn: u64) {
 pub(crate) fn measure_logged<L: Link, G: Sink, S: Source, K: Durable, E: Write>(
     alloc: Global,
     logged: &mut Logged<L, G>,
-    station: Settings,
     spot: Spot<'_>,
     streams: Streams<S, K, E>,
     kept: &mut Kept,
 ) -> (Streams<S, K, E>, io::Result<ExitCode>)
     // As without a log; and after that the messages say that the log isn't complete exactly if its sink has ended or failed.
-    ensures told { IfOk result.1 (λ status. ReportsLogged (views_by S.Source K.Sink K.is_durable E.contents) station
+    ensures told { IfOk result.1 (λ status. ReportsLogged (views_by S.Source K.Sink K.is_durable E.contents) spot.entry.station
         (stage streams (L.acts logged.old.link) kept.old.turns) (stage result.0 (L.acts logged.new.link) kept.new.turns)
         (G.failed (sink_of logged.new)) (exit_status status)) }
 
     // Status 0 only if the source gave a text to its end, and the run over its commands is done, or its end was asked for.
-    ensures done { IfOk result.1 (λ status. exit_status status ≡ 0 → MeasuresAll (views_by S.Source K.Sink K.is_durable E.contents) station
+    ensures done { IfOk result.1 (λ status. exit_status status ≡ 0
+        → MeasuresAll (views_by S.Source K.Sink K.is_durable E.contents) spot.entry.station
         (stage streams (L.acts logged.old.link) kept.old.turns) (stage result.0 (L.acts logged.new.link) kept.new.turns)) }
     ensures bound { IfOk result.1 (λ status. exit_status status ≤ 1) }
 {
-    let (mut streams, ended) = measure_over(alloc, logged, station, spot, streams, kept);
+    let (mut streams, ended) = measure_over(alloc, logged, spot, streams, kept);
     let ended = report_loss(ended, logged.has_lost_its_log(), &mut streams.messages);
     (streams, ended)
 }

@@ -21,13 +21,13 @@ use gc_messages::{Noticed, Streams, report_odd_angles, report_unasked};
 use gc_rows::write_head;
 use gc_station::{Book, Kept, LinkHealth, Tally, is_well, run_station};
 use gc_texts::{Ending, Name, RunFault, Stamp, Tasks, Wish};
-use gc_words::{Layout, Settings};
+use gc_words::Layout;
 use std::alloc::Global;
 use std::cell::Cell;
 use std::io::Write;
 
-/// Reads the whole text of the input, writes what comes before the records on the output, unless `station.layout.headed` says
-/// that it is there already, and measures the commands over a link by the settings of `station`, in at most `max_turns` acts.
+/// Reads the whole text of the input, writes what comes before the records on the output, unless `spot.station.layout.headed`
+/// says that it is there already, and measures the commands over a link by the settings of `spot`, in at most `max_turns` acts.
 /// What was seen of link and output at each act is noted in `kept`. The streams are handed back, with how the run ended.
 ///
 /// Before the link is used or anything is written, `Text` comes with `Read` if the input failed, with `InputTooLong` if it gave
@@ -44,7 +44,6 @@ use std::io::Write;
 pub fn run_station_text<L: Link, S: Source, K: Durable, E: Write>(
     alloc: Global,
     link: &mut L,
-    station: Settings,
     spot: Spot<'_>,
     mut streams: Streams<S, K, E>,
     max_turns: u64,
@@ -53,7 +52,7 @@ pub fn run_station_text<L: Link, S: Source, K: Durable, E: Write>(
     // The text was refused; or the output failed before the records; or the text's commands were measured, and the link, the
     // output and the run's end are as the model has them. At each act all that the acts before it settled was written, and
     // lasted.
-    ensures measures { MeasuresText station max_turns
+    ensures measures { MeasuresText spot.entry.station max_turns
         (ports_seen S.Source K.Sink E.contents streams (L.acts link.old) kept.old.turns)
         (ports_seen S.Source K.Sink E.contents result.0 (L.acts link.new) kept.new.turns)
         result.1 }
@@ -73,37 +72,36 @@ pub fn run_station_text<L: Link, S: Source, K: Durable, E: Write>(
         (ports_seen S.Source K.Sink E.contents result.0 (L.acts link.new) kept.new.turns)
         result.1 }
 {
-    let (tasks, text) = match read_task_text(alloc, &mut streams.input, &station.choice) {
+    let (tasks, text) = match read_task_text(alloc, &mut streams.input, &spot.station.choice) {
         Ok(read) => read,
         Err(stop) => return (streams, Err(stop)),
     };
-    let Ok(()) = write_front(&mut streams.output, station.layout) else {
+    let Ok(()) = write_front(&mut streams.output, spot.station.layout) else {
         return (streams, Err(Stop::Run(RunFault::Output)));
     };
     let _ = report_odd_angles(text.as_slice(), &tasks, &mut streams.messages);
     let _ = report_unasked(&tasks, &mut streams.messages);
     // A run may take months: the memory of the text is given back first.
     drop(text);
-    let (streams, end) = measure(link, station, tasks, max_turns, spot, streams, kept);
+    let (streams, end) = measure(link, tasks, max_turns, spot, streams, kept);
     match end {
         Ok(tally) => (streams, Ok(tally)),
         Err(fault) => (streams, Err(Stop::Run(fault))),
     }
 }
 
-// Measures these tasks over a link by the settings of `station`, in at most `max_turns` acts, and writes their records on the
+// Measures these tasks over a link by the settings of `spot`, in at most `max_turns` acts, and writes their records on the
 // output. The streams are handed back, with how the run ended. What was seen of link and output at each act is noted in
 // `kept`.
 fn measure<L: Link, S: Source, K: Durable, E: Write>(
     link: &mut L,
-    station: Settings,
     tasks: Tasks,
     max_turns: u64,
     spot: Spot<'_>,
     streams: Streams<S, K, E>,
     kept: &mut Kept,
 ) -> (Streams<S, K, E>, Result<Tally, RunFault>)
-    ensures runs { RunsSurvey (survey_of station max_turns (tasks_seen tasks))
+    ensures runs { RunsSurvey (survey_of spot.entry.station max_turns (tasks_seen tasks))
         (ports_seen S.Source K.Sink E.contents streams (L.acts link.old) kept.old.turns)
         (ports_seen S.Source K.Sink E.contents result.0 (L.acts link.new) kept.new.turns)
         result.1 }
@@ -123,15 +121,15 @@ fn measure<L: Link, S: Source, K: Durable, E: Write>(
         names,
         nears: _,
     } = tasks;
-    let plan = plan_of(station.choice, setup, tasks.as_slice());
-    let mut reporter = Reporter::new(station.choice.watch, messages);
+    let plan = plan_of(spot.station.choice, setup, tasks.as_slice());
+    let mut reporter = Reporter::new(spot.station.choice.watch, messages);
     reporter.begin(spot.site.place, commands);
     let mut records = Records {
         sink: output,
-        layout: station.layout,
+        layout: spot.station.layout,
         names,
         noticed: spot.noticed,
-        fresh: station.layout.run,
+        fresh: spot.station.layout.run,
         reporter,
     };
     let end = run_station(link, &mut records, tasks.as_slice(), &plan, max_turns, kept);

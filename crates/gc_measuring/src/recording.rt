@@ -1,9 +1,10 @@
 //! A station that appends its records, as rows, to a file that outlasts the program.
 
-ghost use Rattle.std.specs.Prelude.{◌≡◌, ◌≤◌, [], IfOk, OnOk, OnErr};
+ghost use Rattle.std.specs.Prelude.{◌≡◌, ◌≤◌, [], IfOk, OnErr};
 ghost use Rattle.std.specs.Io.KnownBytes.{Appends};
 ghost use Rattle.std.specs.Option.{is_some};
 ghost use Rattle.std.specs.Process.{exit_status};
+ghost use Rattle.gc_lines.specs.Ports.{WritesIfOk};
 ghost use Rattle.gc_measuring.specs.Recording.{IsOpenedFor, ReportsOpening, fault_of_unfit, opened_lines, rotation_line, unfit_text};
 ghost use Rattle.gc_measuring.specs.Appending.{appending_run};
 ghost use Rattle.gc_measuring.specs.Telling.{AppendsAll, ReportsAppending, views_by};
@@ -44,7 +45,7 @@ fn fault_of_unfit(why: Unfit) -> RunFault
 // Writes what the opening of a file did: how many rows it copied, and how many bytes of a torn row it cut off; nothing of what is
 // 0.
 fn report_opened<E: Write>(copied: u64, torn: u64, messages: &mut E) -> io::Result<()>
-    ensures { OnOk result (Appends (E.contents messages.old) (E.contents messages.new) (opened_lines copied torn)) }
+    ensures { WritesIfOk E.contents messages.old messages.new result (opened_lines copied torn) }
 {
     report_copied(copied, messages)?;
     report_torn(torn, messages)
@@ -52,7 +53,7 @@ fn report_opened<E: Write>(copied: u64, torn: u64, messages: &mut E) -> io::Resu
 
 // Writes, for `Foreign` alone, the line on what may have happened to the file and how to rotate it.
 fn write_rotation<E: Write>(why: Unfit, messages: &mut E) -> io::Result<()>
-    ensures { OnOk result (Appends (E.contents messages.old) (E.contents messages.new) (rotation_line why)) }
+    ensures { WritesIfOk E.contents messages.old messages.new result (rotation_line why) }
 {
     match why {
         Unfit::Foreign => writeln!(
@@ -86,14 +87,9 @@ fn open_records<R: Files<File = File>, E: Write>(
         sign: sign(form),
         sync: recording.sync,
     };
-    let opened = open_at(rt, alloc, recording.path, options);
-    match opened {
-        Ok((rows, copied)) => {
-            let told = report_opened(copied, rows.torn(), messages);
-            Ok((rows, told))
-        }
-        Err(why) => Err(why),
-    }
+    let (rows, copied) = open_at(rt, alloc, recording.path, options)?;
+    let told = report_opened(copied, rows.torn(), messages);
+    Ok((rows, told))
 }
 
 /// What is left of a run that appended to a file: the file, and the link, if there was one.
@@ -134,7 +130,6 @@ pub fn append_at<
     rt: &'a R,
     alloc: Global,
     spot: Spot<'a>,
-    station: Settings,
     recording: Recording<'a>,
     mut streams: Streams<S, K, E>,
     kept: &mut Kept,
@@ -148,24 +143,26 @@ pub fn append_at<
     // acts that the link recorded. At each act the file had all rows that the acts before it settled, and they lasted.
     ensures told { IfOk result.1 (λ status. ReportsAppending
         (views_by S.Source ⟦<Followed<'a, R> as Sink>⟧ ⟦<Followed<'a, R> as Durable>⟧.is_durable E.contents)
-        (is_some spot.entry.site.log) station
+        (is_some spot.entry.site.log) spot.entry.station
         (appending_run streams result.0 kept.old.turns kept.new.turns result.2) (exit_status status)) }
 
     // Status 0 only if the source gave a text to its end, and the run over its commands is done, or its end was asked for.
     ensures done { IfOk result.1 (λ status. exit_status status ≡ 0 → AppendsAll
-        (views_by S.Source ⟦<Followed<'a, R> as Sink>⟧ ⟦<Followed<'a, R> as Durable>⟧.is_durable E.contents) station
+        (views_by S.Source ⟦<Followed<'a, R> as Sink>⟧ ⟦<Followed<'a, R> as Durable>⟧.is_durable E.contents) spot.entry.station
         (appending_run streams result.0 kept.old.turns kept.new.turns result.2)) }
 
     // Nothing is written on the output.
     ensures output { result.0.output ≡ streams.output }
     ensures bound { IfOk result.1 (λ status. exit_status status ≤ 1) }
 {
-    match open_records(rt, alloc, recording, station, &mut streams.messages) {
+    match open_records(rt, alloc, recording, spot.station, &mut streams.messages) {
         // If the messages on the opening can't be written, the station measures all the same.
         Ok((rows, _)) => {
             let followed = Followed::new(rt, alloc, recording.path, rows, spot.noticed);
             let (filed, output) = streams.with_output(followed);
-            let (filed, ended, link) = measure_at(rt, alloc, spot, station.for_file(), filed, kept);
+            let station = spot.station.for_file();
+            let spot = Spot { station, ..spot };
+            let (filed, ended, link) = measure_at(rt, alloc, spot, filed, kept);
             let (streams, file) = filed.with_output(output);
             (streams, ended, Some(Appended { file, link }))
         }

@@ -1,8 +1,8 @@
 //! The messages that a station writes while it runs. An error of writing them is ignored, because neither its requests nor its
 //! records depend on them.
 
-ghost use Rattle.std.specs.Prelude.{◌≡◌, OnOk};
-ghost use Rattle.std.specs.Io.KnownBytes.{Appends};
+ghost use Rattle.std.specs.Prelude.{◌≡◌};
+ghost use Rattle.gc_lines.specs.Ports.{WritesIfOk};
 ghost use Rattle.gc_measuring.specs.Measuring.{overrun_line};
 ghost use Rattle.gc_station.specs.Tallies.{counted};
 ghost use Rattle.gc_texts.specs.Endings.{ending_seen};
@@ -109,7 +109,7 @@ fn report_start<E: Write>(place: Place<'_>, count: usize, messages: &mut E) -> i
 
 // Writes the line of a cycle that was not done when the next was due.
 fn tell_overrun<E: Write>(cycle: u64, messages: &mut E) -> io::Result<()>
-    ensures { OnOk result (Appends (E.contents messages.old) (E.contents messages.new) (overrun_line cycle)) }
+    ensures { WritesIfOk E.contents messages.old messages.new result (overrun_line cycle) }
 {
     writeln!(
         messages,

@@ -37,7 +37,7 @@ pub(crate) struct Signs {
     // Whether a trouble was reported and no line yet says that it is over; and whether a command was answered since the last
     // report of a trouble, and since the last look without a connection.
     is_troubled: bool,
-    is_answered: bool,
+    answers_again: bool,
     // How many skipped commands no line has reported yet, how many of them there were after the last look, and when the first of
     // them was skipped, in milliseconds since 1970.
     skipped: u64,
@@ -51,7 +51,7 @@ pub(crate) struct Signs {
     // deadlines (`None`: no answer came yet).
     cycle: u64,
     counts: Tally,
-    answered: Option<u64>,
+    last_answer: Option<u64>,
     // Whether a terminal shows its status line.
     is_shown: bool,
     // What was reported as odd about the line.
@@ -81,14 +81,14 @@ impl Signs {
             elapsed: 0,
             wanted: Wanted::new(),
             is_troubled: false,
-            is_answered: false,
+            answers_again: false,
             skipped: 0,
             skipped_before: 0,
             skipped_since: 0,
             unprepared_since: None,
             cycle: 0,
             counts: Tally::new(),
-            answered: None,
+            last_answer: None,
             is_shown: false,
             odd: Oddities::none(),
             unconnected: RateLimit::new(),
@@ -139,8 +139,8 @@ impl Signs {
     fn note_answer(&mut self)
         ensures { self.new.counts ≡ self.old.counts }
     {
-        self.answered = Some(self.elapsed);
-        self.is_answered = true;
+        self.last_answer = Some(self.elapsed);
+        self.answers_again = true;
         self.wanted.hear();
     }
 
@@ -258,7 +258,7 @@ impl Signs {
         if self.health != LinkHealth::Unconnected {
             return Ok(());
         }
-        self.is_answered = false;
+        self.answers_again = false;
         if !is_lost || before == LinkHealth::Idle {
             return Ok(());
         }
@@ -321,7 +321,7 @@ impl Signs {
     // line says that this is over (`report_recovery`).
     fn report_since<E: Write>(&mut self, utc: u64, what: &str, messages: &mut E) -> io::Result<()> {
         self.is_troubled = true;
-        self.is_answered = false;
+        self.answers_again = false;
         self.clear(messages)?;
         let since = stamp_text(utc);
         let since = str::from_utf8(&since).unwrap_or("");
@@ -331,7 +331,7 @@ impl Signs {
     // Reports the end of a trouble, once a command was answered after the last report of a trouble and after the last look
     // without a connection, unless a line of this kind was written in the last minute.
     fn report_recovery<E: Write>(&mut self, messages: &mut E) -> io::Result<()> {
-        if !self.is_troubled || !self.is_answered || !self.connected.claim(self.elapsed, MINUTE) {
+        if !self.is_troubled || !self.answers_again || !self.connected.claim(self.elapsed, MINUTE) {
             return Ok(());
         }
         self.is_troubled = false;
@@ -379,7 +379,7 @@ impl Signs {
     // Writes how many seconds ago the last answer of any kind came, if one did. They count from the last look before the answer,
     // and are 0 if the clock for deadlines went back since then.
     fn show_age<E: Write>(&self, row: &mut E) -> io::Result<()> {
-        match self.answered {
+        match self.last_answer {
             Some(moment) => {
                 let age = self.elapsed.saturating_sub(moment) / SECOND;
                 write!(row, " (last {age} s ago)")

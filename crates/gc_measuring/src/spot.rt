@@ -1,15 +1,16 @@
-//! Where a station works, with what is noticed there while it does.
+//! Where a station works and by which settings, with what is noticed there while it does.
 
 use gc_messages::{Noticed, tell_place};
 use gc_texts::RunFault;
-use gc_words::Site;
+use gc_words::{Settings, Site};
 use std::cell::Cell;
 use std::io::{self, Write};
 
-/// Where a station works, and what is noticed there.
+/// Where a station works, by which settings, and what is noticed there.
 #[derive(Clone, Copy)]
 pub struct Spot<'a> {
     pub site: Site<'a>,
+    pub station: Settings,
     pub noticed: &'a Cell<Noticed>,
 }
 

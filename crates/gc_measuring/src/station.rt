@@ -19,7 +19,6 @@ use gc_logs::Logged;
 use gc_messages::{Noticing, Streams};
 use gc_station::{Kept, Tally};
 use gc_texts::RunFault;
-use gc_words::Settings;
 use std::alloc::Global;
 use std::fs::File;
 use std::io::{self, Write};
@@ -45,7 +44,6 @@ pub fn measure_at<
     rt: &'a R,
     alloc: Global,
     spot: Spot<'a>,
-    station: Settings,
     mut streams: Streams<S, K, E>,
     kept: &mut Kept,
 ) -> (
@@ -57,12 +55,13 @@ pub fn measure_at<
     // or the output failed before the records, or the text's commands were measured: the link that is handed back has recorded
     // all acts of the run and no other, the sink its records, and at each act all that was settled before lasted. Or log, link or
     // clock couldn't be had, and nothing was done.
-    ensures told { IfOk result.1 (λ status. ReportsAtSite (views_by S.Source K.Sink K.is_durable E.contents) (is_some spot.entry.site.log) station
+    ensures told { IfOk result.1 (λ status. ReportsAtSite (views_by S.Source K.Sink K.is_durable E.contents)
+        (is_some spot.entry.site.log) spot.entry.station
         (stage streams (Some []) kept.old.turns) (stage result.0 (acts_of result.2) kept.new.turns) (exit_status status)) }
 
     // Status 0 only if the source gave a text to its end, and the run over its commands is done, or its end was asked for.
     ensures done { IfOk result.1 (λ status. exit_status status ≡ 0
-        → MeasuresAllAtLink (views_by S.Source K.Sink K.is_durable E.contents) station
+        → MeasuresAllAtLink (views_by S.Source K.Sink K.is_durable E.contents) spot.entry.station
         (stage streams (Some []) kept.old.turns) (stage result.0 (acts_of result.2) kept.new.turns)) }
     ensures bound { IfOk result.1 (λ status. exit_status status ≤ 1) }
 {
@@ -73,17 +72,18 @@ pub fn measure_at<
             return (streams, ended, None);
         }
     };
-    let station = station.begun(moment);
+    let station = spot.station.begun(moment);
+    let spot = Spot { station, ..spot };
     let told = Telling::new(Watched::new(rt, link, spot.site.until));
     let mut link = Noticing::new(told, spot.noticed);
     match log {
         None => {
-            let (streams, ended) = measure_over(alloc, &mut link, station, spot, streams, kept);
+            let (streams, ended) = measure_over(alloc, &mut link, spot, streams, kept);
             (streams, ended, Some(link.into_link()))
         }
         Some(log) => {
             let mut logged = Logged::new(link, log, moment.utc);
-            let (streams, ended) = measure_logged(alloc, &mut logged, station, spot, streams, kept);
+            let (streams, ended) = measure_logged(alloc, &mut logged, spot, streams, kept);
             (streams, ended, Some(logged.into_link().into_link()))
         }
     }
@@ -151,23 +151,22 @@ fn fault_without_link(reason: Option<Unusable>) -> RunFault
 pub(crate) fn measure_over<L: Link, S: Source, K: Durable, E: Write>(
     alloc: Global,
     link: &mut L,
-    station: Settings,
     spot: Spot<'_>,
     streams: Streams<S, K, E>,
     kept: &mut Kept,
 ) -> (Streams<S, K, E>, io::Result<ExitCode>)
     // The text was refused, or the output failed before the records, or the text's commands were measured; and the status and the
     // messages report how that ended.
-    ensures told { IfOk result.1 (λ status. ReportsMeasuring (views_by S.Source K.Sink K.is_durable E.contents) station
+    ensures told { IfOk result.1 (λ status. ReportsMeasuring (views_by S.Source K.Sink K.is_durable E.contents) spot.entry.station
         (stage streams (L.acts link.old) kept.old.turns) (stage result.0 (L.acts link.new) kept.new.turns) (exit_status status)) }
 
     // Status 0 only if the source gave a text to its end, and the run over its commands is done, or its end was asked for.
     ensures done { IfOk result.1 (λ status. exit_status status ≡ 0
-        → MeasuresAll (views_by S.Source K.Sink K.is_durable E.contents) station
+        → MeasuresAll (views_by S.Source K.Sink K.is_durable E.contents) spot.entry.station
         (stage streams (L.acts link.old) kept.old.turns) (stage result.0 (L.acts link.new) kept.new.turns)) }
     ensures bound { IfOk result.1 (λ status. exit_status status ≤ 1) }
 {
-    let (mut streams, end) = run_station_text(alloc, link, station, spot, streams, u64::MAX, kept);
+    let (mut streams, end) = run_station_text(alloc, link, spot, streams, u64::MAX, kept);
     note_stop(spot, end);
     let ended = report_end_of_run(end, &mut streams.messages);
     (streams, ended)

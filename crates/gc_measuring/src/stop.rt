@@ -1,8 +1,8 @@
 //! The stop: why a station that measures the commands of a text stopped before its end, and how that is reported.
 
-ghost use Rattle.std.specs.Prelude.{◌≡◌, OnOk};
-ghost use Rattle.std.specs.Io.KnownBytes.{Appends};
-ghost use Rattle.gc_measuring.specs.Stops.{fault_of_stop, stop_text, end_of_run};
+ghost use Rattle.std.specs.Prelude.{◌≡◌};
+ghost use Rattle.gc_lines.specs.Ports.{WritesIfOk};
+ghost use Rattle.gc_measuring.specs.Stops.{fault_of_stop, stop_detail, stop_text};
 
 use gc_texts::{RunFault, Trouble};
 use std::io::{self, Write};
@@ -37,30 +37,21 @@ impl Stop {
     /// Writes the message of the fault. In two cases a second message follows: for `Empty`, that the text has no command; for
     /// `Line`, which field of the text's faulty line is at fault.
     pub fn report<E: Write>(self, messages: &mut E) -> io::Result<()>
-        ensures { OnOk result (Appends (E.contents messages.old) (E.contents messages.new) (stop_text self)) }
+        ensures { WritesIfOk E.contents messages.old messages.new result (stop_text self) }
+    {
+        self.fault().tell(messages)?;
+        self.report_detail(messages)
+    }
+
+    // Writes the second message, if there is one.
+    fn report_detail<E: Write>(self, messages: &mut E) -> io::Result<()>
+        ensures { WritesIfOk E.contents messages.old messages.new result (stop_detail self) }
     {
         match self {
-            Stop::Text(fault) => fault.tell(messages),
-            Stop::Empty => report_empty(messages),
-            Stop::Line(line, trouble) => report_line(line, trouble, messages),
-            Stop::Run(fault) => fault.tell(messages),
+            Stop::Empty => writeln!(messages, "geocom: the text has no command"),
+            Stop::Line(line, trouble) => trouble.tell(line, messages),
+            // For the proof: writing an empty text gives the clause, which an `Ok(())` alone doesn't.
+            Stop::Text(_) | Stop::Run(_) => write!(messages, ""),
         }
     }
-}
-
-// Writes the message of the fault `NoCommand`, and a second message: that the text has no command.
-fn report_empty<E: Write>(messages: &mut E) -> io::Result<()>
-    ensures { OnOk result (Appends (E.contents messages.old) (E.contents messages.new) (stop_text Stop.Empty)) }
-{
-    RunFault::NoCommand.tell(messages)?;
-    writeln!(messages, "geocom: the text has no command")
-}
-
-// Writes the message of the fault `Schedule`, with the number of the text's faulty line, and a second message: which field of
-// that line is at fault.
-fn report_line<E: Write>(line: u32, trouble: Trouble, messages: &mut E) -> io::Result<()>
-    ensures { OnOk result (Appends (E.contents messages.old) (E.contents messages.new) (stop_text (Stop.Line line trouble))) }
-{
-    RunFault::Schedule { line }.tell(messages)?;
-    trouble.tell(line, messages)
 }

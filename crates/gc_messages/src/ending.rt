@@ -8,7 +8,7 @@ ghost use Rattle.gc_messages.specs.Refusals.{Refuses, refusal_line, range_line, 
 
 use gc_lines::{ServeFault, Served};
 use gc_links::Place;
-use gc_texts::RunFault;
+use gc_texts::{RunFault, end_of_serving};
 use std::io::{self, Write};
 use std::process::ExitCode;
 
@@ -103,19 +103,12 @@ pub fn tell_place<E: Write>(place: Place<'_>, fault: RunFault, messages: &mut E)
     writeln!(messages, "geocom: {place}: {why}")
 }
 
-/// Reports how serving or checking ended: with status 0 and no line, or with status 1 and the line of the fault. `Err`: the messages
-/// couldn't be written.
+/// Reports as `report_end` does how serving or checking ended. `Err`: the messages couldn't be written.
 pub fn report_served<E: Write>(
     end: Result<Served, ServeFault>,
     messages: &mut E,
 ) -> io::Result<ExitCode>
     ensures told { IfOk result (λ status. Tells serve_fault_text end (exit_status status) (E.contents messages.old) (E.contents messages.new)) }
 {
-    match end {
-        Ok(_) => Ok(ExitCode::SUCCESS),
-        Err(fault) => {
-            writeln!(messages, "geocom: {fault}")?;
-            Ok(ExitCode::from(1))
-        }
-    }
+    report_end(end_of_serving(end), messages)
 }

@@ -2,8 +2,7 @@
 //! what is noted or reported here. The path of the rows leads astray if it isn't known to lead to the file that takes the rows,
 //! and no new file can be had at the path.
 
-ghost use Rattle.std.specs.Prelude.{OnOk};
-ghost use Rattle.std.specs.Io.KnownBytes.{Appends};
+ghost use Rattle.gc_lines.specs.Ports.{WritesIfOk};
 ghost use Rattle.gc_messages.specs.Repairs.{copied_line, count_line, torn_line};
 
 use crate::rate_limit::RateLimit;
@@ -177,7 +176,7 @@ impl FilesNews {
 // Writes a line on a number of things, with these texts before and after the number; nothing if there are none. `Err`: the line
 // couldn't be written.
 fn report_count<E: Write>(before: &str, count: u64, after: &str, messages: &mut E) -> io::Result<()>
-    ensures { OnOk result (Appends (E.contents messages.old) (E.contents messages.new) (count_line before.now count after.now)) }
+    ensures { WritesIfOk E.contents messages.old messages.new result (count_line before.now count after.now) }
 {
     if count == 0 {
         // For the proof: writing an empty text gives the clause, which an `Ok(())` alone doesn't.
@@ -189,7 +188,7 @@ fn report_count<E: Write>(before: &str, count: u64, after: &str, messages: &mut 
 /// Writes how many rows were copied to a new file (`open_at`), as after a kill or a failed sync; nothing if there were none.
 /// `Err`: the line couldn't be written.
 pub fn report_copied<E: Write>(copied: u64, messages: &mut E) -> io::Result<()>
-    ensures { OnOk result (Appends (E.contents messages.old) (E.contents messages.new) (copied_line copied)) }
+    ensures { WritesIfOk E.contents messages.old messages.new result (copied_line copied) }
 {
     report_count(
         "the last run was killed, or a sync failed: ",
@@ -201,7 +200,7 @@ pub fn report_copied<E: Write>(copied: u64, messages: &mut E) -> io::Result<()>
 
 /// Writes how many bytes of an incomplete row were cut off; nothing if there were none. `Err`: the line couldn't be written.
 pub fn report_torn<E: Write>(torn: u64, messages: &mut E) -> io::Result<()>
-    ensures { OnOk result (Appends (E.contents messages.old) (E.contents messages.new) (torn_line torn)) }
+    ensures { WritesIfOk E.contents messages.old messages.new result (torn_line torn) }
 {
     report_count(
         "",

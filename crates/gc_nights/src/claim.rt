@@ -41,7 +41,7 @@ fn is_asked_by(id: u8, call: &Asked, asked: &[u8]) -> bool
 }
 
 // Whether `asked` is the request line of this call with one of the ids 0 to 7.
-fn is_asked(call: &Asked, asked: &[u8]) -> bool
+fn is_request_for(call: &Asked, asked: &[u8]) -> bool
     ensures { IsTrue result ↔ IsRequestFor call.now asked.now }
 {
     for id in 0..8u8 {
@@ -79,7 +79,7 @@ fn speaks_of(claim: &Claim, truth: &Truth) -> bool
         && claim.sent == truth.sent
         && is_in_time(claim) == claim.line.is_some()
         && has_no_other_line(claim, &truth.reply)
-        && is_asked(&claim.call, truth.asked.as_slice())
+        && is_request_for(&claim.call, truth.asked.as_slice())
 }
 
 // How many claims, from the first on, are matched with replies once this reply came, if `matched` were before it: one more if the

@@ -35,7 +35,7 @@ pub(crate) struct Programme<'a> {
     /// How many of the tasks in front are the setup.
     pub(crate) setup: usize,
     /// How many commands a cycle has.
-    pub(crate) commands: u64,
+    pub(crate) commands: usize,
     /// What the operator chose. Its number of cycles isn't used: each run has as many as are left of its night.
     pub(crate) choice: Choice,
     /// How many nights there are.
@@ -189,27 +189,35 @@ fn cycles_left(programme: Programme<'_>, begins: u64, now: u64) -> u64 {
     programme.cycles.saturating_sub(gone)
 }
 
-// After how many acts of its run the next kill of a night comes, if `left` kills are left of the night; the greatest `u64` if none
-// is. It is `ACTS_BEFORE_KILL`, and a number that is drawn uniformly from 0 to a greatest one. The greatest one is twice the number
-// of acts with which the commands of the night's cycles are reckoned (`ACTS_OF_COMMAND`), divided by one more than the night's
-// kills, so that the kills are spread over the night; it is at most the greatest `u32`. Each planned kill has a draw of its own,
-// whether it comes or not.
+// How many acts are drawn at most until a kill, beyond `ACTS_BEFORE_KILL`: twice the acts with which the commands of a night's
+// cycles are reckoned (`ACTS_OF_COMMAND`), divided by one more than its kills, so that these are spread over the night; at most
+// the greatest `u32`.
+fn most_acts_drawn(programme: Programme<'_>) -> u32 {
+    let acts = (programme.commands as u64)
+        .saturating_mul(programme.cycles)
+        .saturating_mul(ACTS_OF_COMMAND);
+    let share = quotient(acts.saturating_mul(2), programme.kills.saturating_add(1));
+    u32::try_from(share).unwrap_or(u32::MAX)
+}
+
+// The number of the next kill of a night among those planned for all nights, counted from 1. `left`: how many kills are left of
+// the night, that one included.
+fn number_of_kill(programme: Programme<'_>, night: u64, left: u64) -> u64 {
+    night
+        .saturating_mul(programme.kills)
+        .saturating_add(programme.kills.saturating_sub(left))
+        .saturating_add(1)
+}
+
+// After how many acts of its run the next kill of a night comes, if `left` kills are left of the night; the greatest `u64` if
+// none is. It is the sum of `ACTS_BEFORE_KILL` and of a number that is drawn uniformly from 0 to `most_acts_drawn`. Each planned
+// kill has a draw of its own (`number_of_kill`), whether it comes or not.
 fn acts_until_kill(programme: Programme<'_>, night: u64, left: u64) -> u64 {
     if left == 0 {
         return u64::MAX;
     }
-    let acts = programme
-        .commands
-        .saturating_mul(programme.cycles)
-        .saturating_mul(ACTS_OF_COMMAND);
-    let share = quotient(acts.saturating_mul(2), programme.kills.saturating_add(1));
-    let most = u32::try_from(share).unwrap_or(u32::MAX);
-    let kill = night
-        .saturating_mul(programme.kills)
-        .saturating_add(programme.kills.saturating_sub(left))
-        .saturating_add(1);
-    let draw = Draws::of_kills(programme.seed).draw(kill, 1);
-    among(draw, 0, most).saturating_add(ACTS_BEFORE_KILL)
+    let draw = Draws::of_kills(programme.seed).draw(number_of_kill(programme, night, left), 1);
+    among(draw, 0, most_acts_drawn(programme)).saturating_add(ACTS_BEFORE_KILL)
 }
 
 // How a run ended that stopped for this fault; `None`: it is done. The summary counts the last cycle of a run that is done, and

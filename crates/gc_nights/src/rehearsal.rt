@@ -161,19 +161,6 @@ fn kills_of(rules: &Rules) -> u64 {
     }
 }
 
-// What was seen before the first row, of these tasks, of which the first `setup` are the setup; a cycle has `commands` commands.
-// `Err`: memory was refused.
-fn seen_at_first(
-    alloc: Global,
-    tasks: &[Task],
-    setup: usize,
-    commands: usize,
-) -> Result<Seen, AllocError> {
-    let summary = Summary::new(alloc, commands)?;
-    let deadlines = Deadlines::new(alloc, tasks, setup)?;
-    Ok(Seen::new(alloc, BEGINNING, deadlines, summary))
-}
-
 // The programme of a rehearsal on a line with these rules, of these tasks, of which the first `setup` are the setup; a cycle has
 // `commands` commands.
 fn programme_of<'a>(
@@ -186,7 +173,7 @@ fn programme_of<'a>(
     Programme {
         tasks,
         setup,
-        commands: commands as u64,
+        commands,
         choice: rehearsal.station.choice,
         nights: rehearsal.nights,
         cycles: rehearsal.cycles,
@@ -194,6 +181,13 @@ fn programme_of<'a>(
         seed: rehearsal.seed,
         start: BEGINNING,
     }
+}
+
+// What was seen of this programme before the first row. `Err`: memory was refused.
+fn seen_at_first(alloc: Global, programme: Programme<'_>) -> Result<Seen, AllocError> {
+    let summary = Summary::new(alloc, programme.commands)?;
+    let deadlines = Deadlines::new(alloc, programme.tasks, programme.setup)?;
+    Ok(Seen::new(alloc, programme.start, deadlines, summary))
 }
 
 // Rehearses the nights of these texts, writes the rows on the output, with a header if their form has one, and, once the nights
@@ -218,14 +212,14 @@ fn rehearse_texts<K: Sink + Drop, E: Write>(
         names,
         nears: _,
     } = tasks;
-    let Ok(seen) = seen_at_first(alloc, tasks.as_slice(), setup, commands) else {
+    let programme = programme_of(rehearsal, &rules, tasks.as_slice(), setup, commands);
+    let Ok(seen) = seen_at_first(alloc, programme) else {
         return (output, Err(Halt::Fault(RunFault::Memory)));
     };
     let layout = rehearsal.station.layout;
     if write_head(&mut output, layout.form).is_err() {
         return (output, Err(Halt::Fault(RunFault::Output)));
     }
-    let programme = programme_of(rehearsal, &rules, tasks.as_slice(), setup, commands);
     let book = RunBook::new(output, layout, names, seen);
     let chance = Seeded::new(rules, rehearsal.seed);
     let link = Rehearsed::new(alloc, chance, instrument, BEGINNING);

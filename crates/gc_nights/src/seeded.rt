@@ -78,8 +78,8 @@ impl Chance for Seeded {
         (self.up.draw(self.ups, CUT_DRAW) % CUT_MAX) as usize
     }
 
-    // Whether the lines in flight at a close, in either direction, arrive all the same: draw `LOSS_DRAW` of the request that set out
-    // last is even.
+    // Whether the lines in flight at a close, in either direction, arrive all the same. They do if draw `LOSS_DRAW` of the
+    // request that set out last is even.
     fn keeps(&mut self) -> bool {
         self.up.draw(self.ups, LOSS_DRAW) % 2 == 0
     }

@@ -178,10 +178,7 @@ fn failure_outcome<L: Link>(link: &mut L) -> Outcome {
 
 // Opens this link, puts bytes and closes it. Returns `Open` if it could be opened and all bytes were sent, and otherwise `Shut`.
 fn opening_outcome<L: Link>(link: &mut L) -> Outcome {
-    if link.open().is_err() {
-        return Outcome::Shut;
-    }
-    if link.put(b"abc").is_err() {
+    if link.open().is_err() || link.put(b"abc").is_err() {
         return Outcome::Shut;
     }
     link.close();

@@ -55,21 +55,10 @@ impl Seen {
 /// can be read at the other at once. No read of either waits. `Err`: the system gives no pair, or can't set an end so that no read
 /// of it waits.
 pub fn paired_ends(net: &impl Net) -> io::Result<(TcpStream, TcpStream)> {
-    let ends = UnixStream::pair(net)?;
-    unblock_both(&ends)?;
-    Ok(streams_of(ends))
-}
-
-// Sets these two ends so that no read of them waits. `Err`: the system can't set one of them so.
-fn unblock_both(ends: &(UnixStream, UnixStream)) -> io::Result<()> {
-    ends.0.set_nonblocking(true)?;
-    ends.1.set_nonblocking(true)
-}
-
-// Both ends as TCP streams.
-fn streams_of(ends: (UnixStream, UnixStream)) -> (TcpStream, TcpStream) {
-    let (near, far) = ends;
-    (stream_of(near), stream_of(far))
+    let (near, far) = UnixStream::pair(net)?;
+    near.set_nonblocking(true)?;
+    far.set_nonblocking(true)?;
+    Ok((stream_of(near), stream_of(far)))
 }
 
 // An end as a TCP stream: the system's calls are the same for both.

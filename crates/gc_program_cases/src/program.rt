@@ -145,20 +145,14 @@ impl<'a, 'b> Run<'a, 'b> {
         }
     }
 
-    // The program's name, and after it these words, which have spaces between. `PORT` stands for the port. `Err`: memory ran out.
+    // The program's name, and after it these words, which have spaces between, the port in place of `PORT`. `Err`: memory ran out.
     fn split_words(&self, words: &str) -> Result<Args, AllocError> {
         let mut all = Vec::new(self.alloc);
-        self.push_words(words, &mut all)?;
-        Ok(all.into_iter())
-    }
-
-    // Appends the program's name and these words, the port in place of `PORT`. `Err`: memory ran out; some words may be appended.
-    fn push_words(&self, words: &str, all: &mut Vec<String>) -> Result<(), AllocError> {
-        push_word(self.alloc, "geocom", all)?;
+        push_word(self.alloc, "geocom", &mut all)?;
         for word in words.split(' ') {
-            push_word(self.alloc, port_or_word(word, self.port), all)?;
+            push_word(self.alloc, port_or_word(word, self.port), &mut all)?;
         }
-        Ok(())
+        Ok(all.into_iter())
     }
 }
 

@@ -34,7 +34,7 @@ impl Said {
     }
 
     /// Reports where the status, the output or the messages came otherwise than the case has them, and each part that the case
-    /// asks for and that the output, which counts as `no text` if it isn't UTF-8, or the messages lack. Without a far end the
+    /// asks for and that the output, which counts as empty if it isn't UTF-8, or the messages lack. Without a far end the
     /// messages have `PORT` for the digits `port`.
     pub fn compare(&self, case: &Case<'_>, port: &str, wrong: &mut Told) {
         let mut told = Told::new(wrong.alloc);
@@ -42,7 +42,8 @@ impl Said {
         case.compare("status", self.status_text(case).as_bytes(), wrong);
         case.compare("output", self.compared_output(case), wrong);
         compare_messages(case, &told, wrong);
-        tell_parts(case, text_of(self.output.bytes.as_slice()), &told, wrong);
+        let output = str::from_utf8(self.output.bytes.as_slice()).unwrap_or("");
+        tell_parts(case, output, &told, wrong);
     }
 
     // The status in a digit, or `any` if the case takes any; or that there is none, which no case takes.

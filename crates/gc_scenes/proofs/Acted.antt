@@ -1,5 +1,5 @@
 -- What holds of each outcome with ways of real instruments, and that without ways it is that of the execution table.
-use Rattle.std.proofs.Common.{◌≡◌, ◌≢◌, ℕ, ℤ, ◌<◌, ◌&&◌, Bool, true, false, cond, Option, Some, None, refl, sym, ap, ◌∙◌, subst, lit<}
+use Rattle.std.proofs.Common.{◌≡◌, ℕ, ℤ, ◌<◌, ◌&&◌, Bool, true, false, cond, Option, Some, None, refl, sym, ap, ◌∙◌, subst, lit<}
 use Rattle.std.specs.Prelude.{pos}
 use Rattle.std.specs.Ordering.{int_eq}
 use Rattle.std.proofs.lemmas.Bool.{cond_both}
@@ -9,17 +9,18 @@ use Rattle.gc_catalogue.specs.declared.answer.Answer.TheVariants as answer
 use Rattle.gc_catalogue.specs.declared.call.Call.{Call}
 use Rattle.gc_catalogue.specs.declared.call.Call.TheVariants as call
 use Rattle.gc_catalogue.specs.declared.call.DateTime.{DateTime}
-use Rattle.gc_instrument.specs.Execution.{Executed, Gives, exec, done, refused, distance_outcome, adjusted, pointed, unmeasured}
+use Rattle.gc_instrument.specs.Execution.{Executed, Gives, exec, done, distance_outcome, measured_outcome, adjusted, pointed, unmeasured}
 use Rattle.gc_instrument.specs.Replying.{with_kept, executed_with}
 use Rattle.gc_instrument.specs.State.{State, KeptReply}
+use Rattle.gc_instrument.specs.declared.pointing.Pointing.{Pointing}
 use Rattle.gc_instrument.specs.declared.target.Target.{Target}
 use Rattle.gc_instrument.proofs.Executions.{exec_outcome}
 use Rattle.gc_instrument.proofs.Keeping.{executes_apart, distance_apart, adjusted_apart}
-use Rattle.gc_scenes.specs.Acting.{acted, acted_faceless, dated, faced}
+use Rattle.gc_scenes.specs.Acting.{acted, acted_faceless, aimed, dated, faced, pointed_over}
 use Rattle.gc_scenes.specs.SceneExecution.{outcome, clock_shows, seen_by}
 use Rattle.gc_scenes.specs.SceneState.{SceneState, seeing}
 use Rattle.gc_scenes.specs.Seen.{scene_of}
-use Rattle.gc_scenes.specs.Ways.{no_ways, nearest, other_hz, other_v}
+use Rattle.gc_scenes.specs.Ways.{no_ways, nearest}
 use Rattle.gc_scenes.specs.declared.instrument.SceneInstrument.TheInside.{Inside}
 use Rattle.gc_scenes.specs.declared.ways.Ways.{Ways}
 
@@ -31,32 +32,27 @@ faced_outcome faces x = record { state = faced faces x.state; rc = x.rc; answer 
 abbrev outcome_in : Executed → State → Executed
 outcome_in x s = record { state = s; rc = x.rc; answer = x.answer }
 
--- an outcome is sound: its return code has 16 bits, and with a code other than 0 there is no answer
-pub record HasSoundCode (x : Executed) : Type 0 where
-  pub code : x.rc < 65536
-  pub refuses : x.rc ≢ 0 → x.answer ≡ answer.Nothing
+-- an outcome is sound: its return code has 16 bits
+abbrev HasSoundCode : Executed → Type 0
+HasSoundCode x = x.rc < 65536
 
 -- each outcome of the table is sound
 table_sound : (s : State) (asked : Call) → HasSoundCode (exec s asked)
-table_sound s asked = let is = exec_outcome s asked in record { code = is.code; refuses = is.refuses }
+table_sound s asked = (exec_outcome s asked).code
 
 -- an outcome with code 0 is sound
 done_sound : (s : State) (a : Answer) → HasSoundCode (done s a)
-done_sound s a = record { code = lit< tt; refuses = λ some. absurd (some refl) }
-
--- an outcome with a code of 16 bits and no answer is sound
-refused_sound : (s : State) (code : ℕ) → code < 65536 → HasSoundCode (refused s code)
-refused_sound s code small = record { code = small; refuses = λ some. refl }
+done_sound s a = lit< tt
 
 -- the outcome of a search that found a target, or none, is sound
 adjusted_sound : (s : State) (o : Option Target) → HasSoundCode (adjusted s o)
 adjusted_sound s (Some t) = done_sound (pointed s t.hz t.v) answer.Nothing
-adjusted_sound s None = refused_sound s 8710 (lit< tt)
+adjusted_sound s None = lit< tt
 
 -- the outcome of asking for the distance is sound
 distance_sound : (s : State) (f : Decimal → Answer) (o : Option Decimal) → HasSoundCode (distance_outcome s f o)
 distance_sound s f (Some d) = done_sound s (f d)
-distance_sound s f None = refused_sound s 1285 (lit< tt)
+distance_sound s f None = lit< tt
 
 -- the outcome of asking for the date is sound
 dated_sound : (now : Option DateTime) (s : State) → HasSoundCode (dated now s)
@@ -70,19 +66,20 @@ either_sound b x y is other = cond_both b x y HasSoundCode (λ _. is) (λ _. oth
 -- each outcome with ways, but for the face, is sound
 faceless_sound : (w : Ways) (now : Option DateTime) (s : State) (asked : Call) → HasSoundCode (acted_faceless w now s asked)
 faceless_sound w now s (call.Position hz v pos_mode atr_mode dummy) =
-    either_sound (w.aims && int_eq atr_mode (pos 1)) _ _ (adjusted_sound (pointed s hz v) (nearest (record { hz = hz; v = v }) s.scene)) (table_sound s (call.Position hz v pos_mode atr_mode dummy))
+    let there : Pointing = record { hz = hz; v = v } in
+    either_sound (w.aims && int_eq atr_mode (pos 1)) (aimed s hz v) (exec s (call.Position hz v pos_mode atr_mode dummy)) (adjusted_sound (pointed s hz v) (nearest there s.scene))
+    (table_sound s (call.Position hz v pos_mode atr_mode dummy))
 faceless_sound w now s (call.ChangeFace pos_mode atr_mode dummy) =
-    either_sound w.faces _ _ (done_sound (pointed s (other_hz s.pointing.hz) (other_v s.pointing.v)) answer.Nothing) (table_sound s (call.ChangeFace pos_mode atr_mode dummy))
+    either_sound w.faces (done (pointed_over s) answer.Nothing) (exec s (call.ChangeFace pos_mode atr_mode dummy)) (done_sound (pointed_over s) answer.Nothing)
+    (table_sound s (call.ChangeFace pos_mode atr_mode dummy))
 faceless_sound w now s (call.SimpleMea wait mode) =
-    either_sound w.takes _ _ (distance_sound (unmeasured s) (λ d. answer.Measured s.pointing.hz s.pointing.v d) s.distance) (table_sound s (call.SimpleMea wait mode))
+    either_sound w.takes (measured_outcome (unmeasured s) s) (exec s (call.SimpleMea wait mode)) (distance_sound (unmeasured s) _ s.distance) (table_sound s (call.SimpleMea wait mode))
 faceless_sound w now s call.GetDate = dated_sound now s
 faceless_sound w now s asked = table_sound s asked
 
 -- each outcome of a scene's instrument is sound
-pub outcome_sound : (s : SceneState) (asked : Call) → HasSoundCode (outcome s asked)
-outcome_sound s asked =
-    let is = faceless_sound s.ways (clock_shows s) (seeing (seen_by s asked) s.base) asked in
-    record { code = is.code; refuses = is.refuses }
+pub outcome_sound : (s : SceneState) (asked : Call) → (outcome s asked).rc < 65536
+outcome_sound s asked = faceless_sound s.ways (clock_shows s) (seeing (seen_by s asked) s.base) asked
 
 -- without ways, and where no clock runs, the outcome (but for the face) is the table's
 pub table_without_ways : (s : State) (asked : Call) → acted_faceless no_ways None s asked ≡ exec s asked
@@ -113,7 +110,7 @@ module _ (kept : Option KeptReply) where
       (executes_apart s kept (call.Position hz v pos_mode atr_mode dummy))
   faceless_apart w now s (call.ChangeFace pos_mode atr_mode dummy) = either_apart w.faces _ _ _ _ refl (executes_apart s kept (call.ChangeFace pos_mode atr_mode dummy))
   faceless_apart w now s (call.SimpleMea wait mode) =
-      either_apart w.takes _ _ _ _ (sym (distance_apart (unmeasured s) kept (λ d. answer.Measured s.pointing.hz s.pointing.v d) s.distance))
+      either_apart w.takes _ _ _ _ (sym (distance_apart (unmeasured s) kept _ s.distance))
       (executes_apart s kept (call.SimpleMea wait mode))
   faceless_apart w now s call.GetDate = dated_apart now s
   faceless_apart w now s asked = executes_apart s kept asked
@@ -155,17 +152,17 @@ acts_over_seen i s seen t now asked code said e over date does =
 
 -- with `faces`, the outcome of a face change, but for the face, is that of pointing at the other face's angles
 pub face_row : (w : Ways) (now : Option DateTime) (s : State) (pos_mode atr_mode : ℤ) (dummy : Bool) (x : Executed) → w.faces ≡ true
-    → done (pointed s (other_hz s.pointing.hz) (other_v s.pointing.v)) answer.Nothing ≡ x
+    → done (pointed_over s) answer.Nothing ≡ x
     → acted_faceless w now s (call.ChangeFace pos_mode atr_mode dummy) ≡ x
 face_row w now s pos_mode atr_mode dummy x is does =
-    ap (λ (b : Bool). cond b (done (pointed s (other_hz s.pointing.hz) (other_v s.pointing.v)) answer.Nothing) (exec s (call.ChangeFace pos_mode atr_mode dummy))) is ∙ does
+    ap (λ (b : Bool). cond b (done (pointed_over s) answer.Nothing) (exec s (call.ChangeFace pos_mode atr_mode dummy))) is ∙ does
 
 -- with `takes`, the outcome of TMC_GetSimpleMea, but for the face, is that of answering the distance and clearing it
 pub take_row : (w : Ways) (now : Option DateTime) (s : State) (wait mode : ℤ) (x : Executed) → w.takes ≡ true
-    → distance_outcome (unmeasured s) (λ d. answer.Measured s.pointing.hz s.pointing.v d) s.distance ≡ x
+    → measured_outcome (unmeasured s) s ≡ x
     → acted_faceless w now s (call.SimpleMea wait mode) ≡ x
 take_row w now s wait mode x is does =
-    ap (λ (b : Bool). cond b (distance_outcome (unmeasured s) (λ d. answer.Measured s.pointing.hz s.pointing.v d) s.distance) (exec s (call.SimpleMea wait mode))) is ∙ does
+    ap (λ (b : Bool). cond b (measured_outcome (unmeasured s) s) (exec s (call.SimpleMea wait mode))) is ∙ does
 
 -- where no clock runs, the outcome of asking for the date, but for the face, is the table's
 pub date_row : (w : Ways) (now : Option DateTime) (s : State) (x : Executed) → now ≡ None → exec s call.GetDate ≡ x

@@ -22,4 +22,4 @@ fault_bound rpc fs code e = code_bound (find (is_due rpc) fs) code e
 pub call_bound : (s : SceneState) (call : Call) (o : Option ℕ) → ((code : ℕ) → o ≡ Some code → code < 65536) → (unless_faulted s call o).rc < 65536
 unfolding plays
 call_bound s call (Some code) is = is code refl
-call_bound s call None is = (outcome_sound s call).code
+call_bound s call None is = outcome_sound s call

@@ -6,5 +6,4 @@ pub mod Nearest
 pub mod Playing
 pub mod Shifts
 pub mod Turns
-pub mod Values
 pub mod Slowly

@@ -1,5 +1,5 @@
 -- What the code appends for a request is what the definitions give.
-use Rattle.std.proofs.Common.{◌≡◌, ◌≢◌, ℕ, List, [], ◌++◌, Some, None, Option, refl, sym, ap, ◌∙◌, subst}
+use Rattle.std.proofs.Common.{◌≡◌, ℕ, List, ◌++◌, Some, None, Option, refl, sym, ap, ◌∙◌, subst}
 use Rattle.std.specs.Prelude.{unwrap_or}
 use Rattle.gc_lines.specs.Answering.{AppendsText}
 use Rattle.gc_lines.specs.Requests.{RequestFields}
@@ -7,20 +7,17 @@ use Rattle.gc_values.specs.declared.fault.ValueFault.{ValueFault}
 use Rattle.gc_catalogue.specs.Calls.{IsCall, IsRefusal}
 use Rattle.gc_catalogue.specs.Texts.{reply_line}
 use Rattle.gc_catalogue.specs.declared.answer.Answer.{Answer}
-use Rattle.gc_catalogue.specs.declared.answer.Answer.TheVariants as answer
 use Rattle.gc_catalogue.specs.declared.call.Call.{Call}
 use Rattle.gc_catalogue.specs.declared.fault.CallFault.TheVariants.{Unknown, Parameters}
 use Rattle.gc_instrument.specs.Execution.{Executed}
 use Rattle.gc_instrument.specs.Replying.{refusal_line, reply_id}
 use Rattle.gc_scenes.specs.Appending.{AppendsHanded, AppendsPlayed}
 use Rattle.gc_scenes.specs.Rules.{fault_of, scripted_reply, noisy, noise_after}
-use Rattle.gc_scenes.specs.SceneExecution.{Played, Reports, plays, outcome, after_call, replied_answer, played_call, played_raw, unless_faulted_raw, scripted, counting, faulted}
+use Rattle.gc_scenes.specs.SceneExecution.{Played, Reports, plays, outcome, after_call, replied_answer, played_call, played_raw, unless_faulted_raw, scripted, scripted_played, counting, faulted}
 use Rattle.gc_scenes.specs.SceneReplying.{names_call, unreadable, AnswersRequest, resent_line, again_or_played, handed_call, handed_raw, played_or_refused, holding, kept_if_repeating, played_line}
 use Rattle.gc_scenes.specs.SceneState.{SceneState}
 use Rattle.gc_scenes.specs.declared.rules.Noise.{Noise}
 use Rattle.gc_scenes.specs.declared.rules.Scripted.{Scripted}
-use Rattle.gc_scenes.specs.Params.{scripted_params}
-use Rattle.gc_scenes.proofs.Acted.{outcome_sound}
 
 -- A request that is answered again, or for the first time.
 
@@ -42,13 +39,6 @@ gave_played s id p played after old new none h kept =
       appended = h.appended;
     })
 
--- what `again_or_played` says of a call is what `handed_call` says of a request for it
-pub gave_call : (s after : SceneState) (rpc : ℕ) (id : Option ℕ) (call : Call) (old new : List ℕ)
-    → AppendsHanded (again_or_played s id (played_call s rpc call) (resent_line s id)) after old new
-    → AppendsHanded (handed_call s rpc id call) after old new
-unfolding handed_call
-gave_call s after rpc id call old new h = h
-
 -- A request of a procedure that isn't in the table, by what the scene has for it.
 module _ (s after : SceneState) (rpc : ℕ) (id : Option ℕ) (old new : List ℕ) where
   -- where `played_raw` gives `o` for the request, what `played_or_refused` says of `o` is what `handed_raw` says of the request
@@ -60,17 +50,17 @@ module _ (s after : SceneState) (rpc : ℕ) (id : Option ℕ) (old new : List �
   -- where a fault answers the request, what `again_or_played` says of a reply with its code, without parameters, is what
   -- `handed_raw` says of the request
   pub gave_fault : (code : ℕ) → Some code ≡ fault_of rpc s.faults
-      → AppendsHanded (again_or_played s id (record { state = counting rpc s; rc = code; params = [] }) (resent_line s id)) after old new
+      → AppendsHanded (again_or_played s id (faulted (counting rpc s) code) (resent_line s id)) after old new
       → AppendsHanded (handed_raw s rpc id) after old new
   gave_fault code is h = by_played (Some (faulted (counting rpc s) code)) (ap (unless_faulted_raw (counting rpc s) rpc) (sym is)) h
 
   -- where no fault answers the request, and the scene has a reply for the request's procedure, what `again_or_played` says of
   -- that reply is what `handed_raw` says of the request
   pub gave_scripted : (a : Scripted) → None ≡ fault_of rpc s.faults → Some a ≡ scripted_reply rpc s.answers
-      → AppendsHanded (again_or_played s id (record { state = counting rpc s; rc = a.rc; params = scripted_params a.with }) (resent_line s id)) after old new
+      → AppendsHanded (again_or_played s id (scripted_played (counting rpc s) a) (resent_line s id)) after old new
       → AppendsHanded (handed_raw s rpc id) after old new
   gave_scripted a none is h =
-      by_played (Some (record { state = counting rpc s; rc = a.rc; params = scripted_params a.with }))
+      by_played (Some (scripted_played (counting rpc s) a))
       (ap (unless_faulted_raw (counting rpc s) rpc) (sym none) ∙ ap (scripted (counting rpc s)) (sym is)) h
 
   -- where no fault answers the request, and the scene has no reply for the request's procedure, counting the request and
@@ -82,17 +72,6 @@ module _ (s after : SceneState) (rpc : ℕ) (id : Option ℕ) (old new : List �
       by_played None (ap (unless_faulted_raw (counting rpc s) rpc) (sym none) ∙ ap (scripted (counting rpc s)) (sym unknown)) (record { state = state; appended = appended })
 
 -- Executing.
-
--- noise leaves the answer `Nothing` as it is
-noise_of_none : (n : Option Noise) (a : Answer) → a ≡ answer.Nothing → noisy n a ≡ answer.Nothing
-noise_of_none None a is = is
-noise_of_none (Some n) a is = ap (noisy (Some n)) is
-
--- with a return code other than 0 there is no answer, also with the noise
-pub unanswered_where_refused : (s t : SceneState) (call : Call) (code : ℕ) (said told : Answer) → Reports (outcome s call) code said
-    → told ≡ noisy t.noise said → code ≢ 0 → told ≡ answer.Nothing
-unanswered_where_refused s t call code said told is noise some =
-    noise ∙ noise_of_none t.noise said (sym (ap (λ (y : Executed). y.answer) is) ∙ (outcome_sound s call).refuses (λ none. some (sym (ap (λ (y : Executed). y.rc) is) ∙ none)))
 
 -- how the call was executed in the state s, and its reply, with this id, appended to `old`: `t` is the state after the call, but with
 -- the old noise, and `u` that with the noise after the answer; `said` is the answer, and `told` the answer with the noise
@@ -128,11 +107,12 @@ executed s call number u old new h =
 
 -- Lines.
 
--- where a request names a call, and `AppendsHanded` holds of what `handed_call` gives for it, the text that was appended is the
--- reply to the request (`AnswersRequest`)
+-- where a request names a call, and `AppendsHanded` holds of what `again_or_played` says of the call, the text that was appended is
+-- the reply to the request (`AnswersRequest`)
 pub call_reply : (before after : SceneState) (q : RequestFields) (call : Call) (old new : List ℕ) → IsCall q.rpc q.params call
-    → AppendsHanded (handed_call before q.rpc q.id call) after old new
+    → AppendsHanded (again_or_played before q.id (played_call before q.rpc call) (resent_line before q.id)) after old new
     → AppendsText (AnswersRequest before q after) old new
+unfolding handed_call
 call_reply before after q call old new is h =
     record { text = (handed_call before q.rpc q.id call).reply; appended = h.appended; is = names_call call is (record { state = h.state; line = refl }) }
 

@@ -2,11 +2,12 @@
 -- changes a call's outcome, it is that of the execution table. This project's own, from memory.
 use Rattle.std.specs.Prelude.{pos, ◌&&◌, Bool, true, false, Option, Some, None, if◌then◌else◌}
 use Rattle.std.specs.Ordering.{int_eq}
+use Rattle.gc_values.specs.declared.decimal.Decimal.{Decimal}
 use Rattle.gc_catalogue.specs.declared.answer.Answer.TheVariants as answer
 use Rattle.gc_catalogue.specs.declared.call.Call.{Call}
 use Rattle.gc_catalogue.specs.declared.call.Call.TheVariants as call
 use Rattle.gc_catalogue.specs.declared.call.DateTime.{DateTime}
-use Rattle.gc_instrument.specs.Execution.{Executed, exec, done, distance_outcome, adjusted, pointed, unmeasured}
+use Rattle.gc_instrument.specs.Execution.{Executed, exec, done, measured_outcome, adjusted, pointed, unmeasured}
 use Rattle.gc_instrument.specs.State.{State}
 use Rattle.gc_scenes.specs.Ways.{nearest, other_hz, other_v, face_at}
 use Rattle.gc_scenes.specs.declared.ways.Ways.{Ways}
@@ -16,19 +17,28 @@ abbrev pub dated : (now : Option DateTime) → State → Executed
 dated (Some d) s = done s (answer.Date d)
 dated None s = done s (answer.Date s.date)
 
+-- the outcome of a positioning with target recognition at these angles: that of a search (`adjusted`), with the telescope at the
+-- angles and the nearest target within the window round them
+abbrev pub aimed : State → (hz v : Decimal) → Executed
+aimed s hz v = adjusted (pointed s hz v) (nearest (record { hz = hz; v = v }) s.scene)
+
+-- the state in which the telescope points at the other face's angles, without a distance
+abbrev pub pointed_over : State → State
+pointed_over s = pointed s (other_hz s.pointing.hz) (other_v s.pointing.v)
+
 -- the outcome of the call with these ways, but for the face. `now` is what a running clock shows, and CSV_GetDateTime answers it.
 -- With `aims`, a positioning with target recognition (mode 1) turns to the nearest target within the window round its angles; if
 -- there is none it stays at these, with code 8710. With `faces`, a face change turns to the other face's angles. With `takes`,
 -- TMC_GetSimpleMea clears the distance that it answers
 abbrev pub acted_faceless : Ways → (now : Option DateTime) → State → Call → Executed
 acted_faceless w now s (call.Position hz v pos_mode atr_mode dummy) =
-    if w.aims && int_eq atr_mode (pos 1) then adjusted (pointed s hz v) (nearest (record { hz = hz; v = v }) s.scene)
+    if w.aims && int_eq atr_mode (pos 1) then aimed s hz v
     else exec s (call.Position hz v pos_mode atr_mode dummy)
 acted_faceless w now s (call.ChangeFace pos_mode atr_mode dummy) =
-    if w.faces then done (pointed s (other_hz s.pointing.hz) (other_v s.pointing.v)) answer.Nothing
+    if w.faces then done (pointed_over s) answer.Nothing
     else exec s (call.ChangeFace pos_mode atr_mode dummy)
 acted_faceless w now s (call.SimpleMea wait mode) =
-    if w.takes then distance_outcome (unmeasured s) (λ d. answer.Measured s.pointing.hz s.pointing.v d) s.distance
+    if w.takes then measured_outcome (unmeasured s) s
     else exec s (call.SimpleMea wait mode)
 acted_faceless w now s call.GetDate = dated now s
 acted_faceless w now s other = exec s other

@@ -167,10 +167,13 @@ unless_faulted s asked None = plays s asked
 abbrev pub played_call : SceneState → (rpc : ℕ) → Call → Played
 played_call s rpc asked = unless_faulted (counting rpc s) asked (fault_of rpc s.faults)
 
+-- a request of a procedure that isn't in the table and gets this reply: nothing is executed
+abbrev pub scripted_played : SceneState → Scripted → Played
+scripted_played s a = record { state = s; rc = a.rc; params = scripted_params a.with }
+
 -- the reply of the scene to a request of a procedure that isn't in the table; none if the scene has none
 abbrev pub scripted : SceneState → Option Scripted → Option Played
-scripted s (Some a) = Some (record { state = s; rc = a.rc; params = scripted_params a.with })
-scripted s None = None
+scripted s a = option_map (scripted_played s) a
 
 -- what the instrument does with a request of a procedure that isn't in the table: a fault answers it with this code, or none does
 -- (`None`), and then the scene's reply answers it, if there is one

@@ -11,8 +11,10 @@ use Rattle.gc_catalogue.specs.declared.call.Call.{Call}
 use Rattle.gc_catalogue.specs.declared.fault.CallFault.TheVariants.{Unknown, Parameters}
 use Rattle.gc_instrument.specs.Replying.{Handed, kept_line, kept_after, with_kept, refusal_line, reply_id}
 use Rattle.gc_instrument.specs.State.{KeptReply}
-use Rattle.gc_scenes.specs.SceneExecution.{Played, played_call, played_raw, counting}
+use Rattle.gc_scenes.specs.SceneExecution.{Played, played_call, played_raw, scripted_played, counting}
 use Rattle.gc_scenes.specs.SceneState.{SceneState}
+use Rattle.gc_scenes.specs.declared.replying.Fresh.{Fresh}
+use Rattle.gc_scenes.specs.declared.replying.Fresh.TheVariants as fresh
 
 -- the reply line with this id, this return code and these parameters
 abbrev pub line_with : (id rc : ℕ) → (params : List ℕ) → List ℕ
@@ -79,8 +81,12 @@ pub data AnswersRequest (before : SceneState) (q : RequestFields) (after : Scene
 abbrev pub IsPlayed : (before : SceneState) → (line : List ℕ) → (after : SceneState) → (reply : Option (List ℕ)) → Type 0
 IsPlayed before line after reply = RepliesTo AnswersRequest before line after reply
 
--- what the instrument does with a request that is answered with this code and these parameters, and isn't executed: it sends the
--- stored line again, if there is one for the id; else the faults count the request of this procedure, and the reply is stored
--- (`kept_if_repeating`)
-abbrev pub handed_unexecuted : SceneState → (rpc : ℕ) → (id : Option ℕ) → (rc : ℕ) → (params : List ℕ) → Handed SceneState
-handed_unexecuted s rpc id rc params = again_or_played s id (record { state = counting rpc s; rc = rc; params = params }) (resent_line s id)
+-- what the instrument does with a request of the procedure with this number, where the request isn't a repeat
+abbrev pub played_fresh : SceneState → (rpc : ℕ) → Fresh → Played
+played_fresh s rpc (fresh.Call call) = played_call s rpc call.now
+played_fresh s rpc (fresh.Raw reply) = scripted_played (counting rpc s) reply.now
+
+-- what the instrument does with a request of the procedure with this number: it sends a stored line again, or else does
+-- `played_fresh`
+abbrev pub handed_fresh : SceneState → (rpc : ℕ) → (id : Option ℕ) → Fresh → Handed SceneState
+handed_fresh s rpc id asked = again_or_played s id (played_fresh s rpc asked) (resent_line s id)

@@ -1,12 +1,10 @@
 -- The ways of real instruments that a scene's instrument may have, each by itself: this project's own, from memory, and no
 -- statement about an instrument. Angles are whole numbers of units, 10^-24 radians each.
 use Rattle.std.specs.Prelude.{ℕ, ℤ, ◌+◌, ◌-◌, ◌%◌, ◌==◌, ◌&&◌, ◌||◌, ◌+ℤ◌, ◌-ℤ◌, not, Bool, true, false, List, [], ◌∷◌, Option, Some, None, nat_le, int_le, int_lt, unsigned_abs, if◌then◌else◌, min, max}
-use Rattle.gc_values.specs.Decimals.{rounded, units}
+use Rattle.gc_values.specs.Decimals.{units}
 use Rattle.gc_values.specs.Directions.{half_turn, turn}
 use Rattle.gc_values.specs.Fraction.{signed}
 use Rattle.gc_values.specs.declared.decimal.Decimal.{Decimal}
-use Rattle.gc_values.specs.declared.value.Value.{Value}
-use Rattle.gc_values.specs.declared.value.Value.TheVariants.{Double}
 use Rattle.gc_catalogue.specs.declared.answer.Answer.{Answer}
 use Rattle.gc_catalogue.specs.declared.answer.Answer.TheVariants as answer
 use Rattle.gc_catalogue.specs.declared.call.Call.{Call}
@@ -110,12 +108,3 @@ valued there (call.SimpleMea wait mode) d = answer.Measured there.hz there.v d
 valued there call.QuickDist d = answer.Measured there.hz there.v d
 valued there (call.MeasDistance mode) d = answer.MeasuredMode there.hz there.v d mode
 valued there other d = answer.Nothing
-
--- the two angles of a pointing as values of a reply, rounded to the places
-abbrev pub angle_values : Pointing → (places : ℕ) → List Value
-angle_values there places = Double (rounded there.hz places) ∷ Double (rounded there.v places) ∷ []
-
--- the two angles of a pointing and a distance as values of a reply, rounded to the places
-abbrev pub measured_values : Pointing → (distance : Decimal) → (places : ℕ) → List Value
-measured_values there distance places =
-    Double (rounded there.hz places) ∷ Double (rounded there.v places) ∷ Double (rounded distance places) ∷ []

@@ -1,11 +1,10 @@
 //! How the instrument carries out calls whose outcome its ways of real instruments change; all others have that of the execution table.
 
 ghost use Rattle.std.specs.Prelude.{◌≡◌, Option, true};
-ghost use Rattle.gc_catalogue.specs.declared.answer.Answer.TheVariants.{Nothing, Measured};
+ghost use Rattle.gc_catalogue.specs.declared.answer.Answer.TheVariants.{Nothing};
 ghost use Rattle.gc_catalogue.specs.declared.call.DateTime.{DateTime};
-ghost use Rattle.gc_instrument.specs.Execution.{Executes, Gives, done, distance_outcome, adjusted, pointed, unmeasured};
-ghost use Rattle.gc_scenes.specs.Acting.{acted_faceless, faced, is_unchanged_by_ways};
-ghost use Rattle.gc_scenes.specs.Ways.{nearest, other_hz, other_v};
+ghost use Rattle.gc_instrument.specs.Execution.{Executes, Gives, done, measured_outcome, unmeasured};
+ghost use Rattle.gc_scenes.specs.Acting.{acted_faceless, aimed, faced, is_unchanged_by_ways, pointed_over};
 ghost use Rattle.gc_scenes.specs.declared.ways.Ways.{Ways};
 
 use crate::ways::{Ways, face_at, nearest, other_hz, other_v};
@@ -87,8 +86,7 @@ fn carry_out_unchanged(instrument: &mut Instrument, call: &Call, answer: &mut An
 // Turns to these angles, and then to the nearest target within the window of target recognition; the code is 0. If there is none, the
 // telescope stays at the angles, and the code is 8710. The distance is cleared in either case.
 fn aim(instrument: &mut Instrument, hz: &Decimal, v: &Decimal) -> u16
-    ensures { Gives (adjusted (pointed instrument.old hz.now v.now) (nearest (record { hz = hz.now; v = v.now }) instrument.old.scene))
-        instrument.new result Nothing }
+    ensures { Gives (aimed instrument.old hz.now v.now) instrument.new result Nothing }
 {
     match nearest(&Pointing { hz: *hz, v: *v }, instrument.scene()) {
         Some(target) => {
@@ -104,8 +102,7 @@ fn aim(instrument: &mut Instrument, hz: &Decimal, v: &Decimal) -> u16
 
 // Turns the telescope to the other face's angles, which clears the distance. The code is always 0.
 fn turn_over(instrument: &mut Instrument) -> u16
-    ensures { Gives (done (pointed instrument.old (other_hz instrument.old.pointing.hz) (other_v instrument.old.pointing.v)) Nothing)
-        instrument.new result Nothing }
+    ensures { Gives (done (pointed_over instrument.old) Nothing) instrument.new result Nothing }
 {
     let there = instrument.pointing();
     instrument.turn_to(&other_hz(&there.hz), &other_v(&there.v));
@@ -116,9 +113,7 @@ fn turn_over(instrument: &mut Instrument) -> u16
 // is answered.
 fn take_distance(instrument: &mut Instrument, answer: &mut Answer) -> u16
     requires { answer.old ≡ Nothing }
-    ensures { Gives (distance_outcome (unmeasured instrument.old)
-        (λ d. Measured instrument.old.pointing.hz instrument.old.pointing.v d) instrument.old.distance)
-        instrument.new result answer.new }
+    ensures { Gives (measured_outcome (unmeasured instrument.old) instrument.old) instrument.new result answer.new }
 {
     let known = instrument.distance();
     instrument.clear_distance();

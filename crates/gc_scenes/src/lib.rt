@@ -4,7 +4,6 @@
 #![tactic(auto)]
 
 mod acting;
-mod beside;
 mod clock;
 mod delay;
 mod instrument;

@@ -1,18 +1,17 @@
 //! What a scene's instrument replies to a line.
 
-ghost use Rattle.std.specs.Prelude.{◌≡◌, ◌≢◌, ◌<◌, ◌≤◌, ◌+◌, ◌++◌, ℕ, List, Option, Some, None, length, unwrap_or, IfSome};
-ghost use Rattle.std.specs.Option.{ForSome, option_map};
-ghost use Rattle.arrayvec.specs.ArrayVec.{array_vec_len};
-ghost use Rattle.gc_lines.specs.Answering.{AppendsAnswer};
-ghost use Rattle.gc_instrument.specs.Replying.{Handed};
+ghost use Rattle.std.specs.Prelude.{◌≡◌, ◌<◌, ◌≤◌, ◌++◌, length, IfSome};
+ghost use Rattle.std.specs.Option.{option_map};
+ghost use Rattle.gc_lines.specs.Answering.{AppendsAnswer, GrowsByReply, HasRoomForReply};
+ghost use Rattle.gc_lines.specs.Headers.{MayBeId};
 ghost use Rattle.gc_catalogue.specs.Texts.{reply_line};
-ghost use Rattle.gc_scenes.specs.SceneExecution.{Played, answer_or_values, plays, unless_faulted, warned};
-ghost use Rattle.gc_scenes.specs.SceneReplying.{IsPlayed, IsHanded, resent_line, handed_call, handed_raw, handed_unexecuted, played_line, line_with, kept_if_repeating, holding};
+ghost use Rattle.gc_scenes.specs.SceneExecution.{answer_or_values, plays, unless_faulted, warned};
+ghost use Rattle.gc_scenes.specs.SceneReplying.{IsPlayed, resent_line, handed_fresh, handed_raw, played_fresh, played_line, line_with, kept_if_repeating, holding};
 ghost use Rattle.gc_scenes.specs.Appending.{AppendsHanded, AppendsPlayed};
 
-use crate::beside::push_reply_with_values;
 use crate::instrument::SceneInstrument;
-use crate::ways::is_warning;
+use crate::rules::Scripted;
+use crate::ways::{is_warning, valued};
 use arrayvec::ArrayVec;
 use gc_catalogue::{Answer, Call, CallFault, decode_call_into, encode_answer_onto};
 use gc_instrument::{Replies, UNKNOWN_PROCEDURE, WRONG_PARAMETERS, reply_to_line};
@@ -22,10 +21,16 @@ use gc_values::Decimal;
 // The size of the buffer in which a line is put together before it is appended, in bytes.
 const BUFFER: usize = 1024;
 
-impl SceneInstrument {
-    ghost use Rattle.gc_catalogue.specs.declared.call.Call.{Call};
-    ghost use Rattle.gc_catalogue.specs.declared.answer.Answer.TheVariants.{Nothing};
+// What is done with a request that isn't a repeat.
+#[derive(Clone, Copy)]
+enum Fresh<'a> {
+    // A fault answers this call, or it is executed.
+    Call(&'a Call),
+    // This reply is sent, as the request's procedure isn't in the table.
+    Raw(&'a Scripted),
+}
 
+impl SceneInstrument {
     /// Appends the reply to a line to `out`, without CR LF, and returns `true`. If the line is no request, it returns `false`, and `out`
     /// and the instrument are unchanged.
     ///
@@ -37,9 +42,9 @@ impl SceneInstrument {
     /// stored id gets the stored reply again, and changes nothing. Neither holds of a request that is refused with a communication code
     /// (3080 or 3081).
     pub fn reply_onto<const N: usize>(&mut self, line: &[u8], out: &mut ArrayVec<u8, N>) -> bool
-        requires { array_vec_len out.old + 512 ≤ N }
+        requires { HasRoomForReply N out.old }
         ensures played { AppendsAnswer (IsPlayed self.old line.now self.new) out.old.items out.new.items result }
-        ensures bound { length out.new.items ≤ length out.old.items + 512 }
+        ensures bound { GrowsByReply out.old.items out.new.items }
     {
         reply_to_line(self, line, out)
     }
@@ -70,29 +75,53 @@ impl SceneInstrument {
         }
     }
 
-    // Appends the reply to a call. A repeat gets the stored reply (`resent_line`), and changes nothing. Else the faults count the call, and
-    // it gets a new reply, which is passed to `keep`.
-    fn answer_call<const N: usize>(
+    // Appends the reply to a request. A repeat gets the stored reply (`resent_line`), and changes nothing. Else the request gets a
+    // new reply (`fresh_onto`), which is passed to `keep`.
+    fn answer_request<const N: usize>(
         &mut self,
         rpc: u16,
         id: Option<u8>,
-        call: &Call,
+        fresh: &Fresh<'_>,
         out: &mut ArrayVec<u8, N>,
     )
-        requires id { ForSome id (λ id. id < 8) }
-        requires room { array_vec_len out.old + 512 ≤ N }
-        ensures gave { AppendsHanded (handed_call self.old rpc id call.now) self.new out.old.items out.new.items }
-        ensures bound { length out.new.items ≤ length out.old.items + 512 }
+        requires id { MayBeId id }
+        requires room { HasRoomForReply N out.old }
+        ensures gave { AppendsHanded (handed_fresh self.old rpc id fresh.now) self.new out.old.items out.new.items }
+        ensures bound { GrowsByReply out.old.items out.new.items }
     {
         if let Some(line) = self.resent_line(id) {
             append(out, line);
             return;
         }
         let start = out.len();
-        let fault = self.fault_of(rpc);
-        self.count(rpc);
-        self.play_onto(id.unwrap_or(0), call, fault, out);
+        self.fresh_onto(rpc, id.unwrap_or(0), fresh, out);
         self.keep(id, &out[start..]);
+    }
+
+    // Appends a new reply to a request, which the faults count.
+    fn fresh_onto<const N: usize>(
+        &mut self,
+        rpc: u16,
+        id: u8,
+        fresh: &Fresh<'_>,
+        out: &mut ArrayVec<u8, N>,
+    )
+        requires id { id < 8 }
+        requires room { HasRoomForReply N out.old }
+        ensures played { AppendsPlayed id (played_fresh self.old rpc fresh.now) self.new out.old.items out.new.items }
+        ensures bound { GrowsByReply out.old.items out.new.items }
+    {
+        match fresh {
+            Fresh::Call(call) => {
+                let fault = self.fault_of(rpc);
+                self.count(rpc);
+                self.play_onto(id, call, fault, out);
+            }
+            Fresh::Raw(reply) => {
+                self.count(rpc);
+                push_reply_with(id, reply.rc, reply.params(), out);
+            }
+        }
     }
 
     // Appends the reply to a call that isn't a repeat: that of the fault with this code or, if no fault answers the call (`None`), that of
@@ -105,9 +134,9 @@ impl SceneInstrument {
         out: &mut ArrayVec<u8, N>,
     )
         requires id { id < 8 }
-        requires room { array_vec_len out.old + 512 ≤ N }
+        requires room { HasRoomForReply N out.old }
         ensures played { AppendsPlayed id (unless_faulted self.old call.now fault) self.new out.old.items out.new.items }
-        ensures bound { length out.new.items ≤ length out.old.items + 512 }
+        ensures bound { GrowsByReply out.old.items out.new.items }
     {
         match fault {
             Some(rc) => self.reply_faulted_onto(id, call, rc, out),
@@ -115,7 +144,7 @@ impl SceneInstrument {
         }
     }
 
-    // Appends the reply to a call that a fault answers with this code. It has no answer, or the values of `reply_with_onto`, with
+    // Appends the reply to a call that a fault answers with this code. It has no answer, or values (`answer_or_values`), with
     // the distance of `distance_in_warning`.
     fn reply_faulted_onto<const N: usize>(
         &self,
@@ -125,52 +154,38 @@ impl SceneInstrument {
         out: &mut ArrayVec<u8, N>,
     )
         requires id { id < 8 }
-        requires room { array_vec_len out.old + 512 ≤ N }
+        requires room { HasRoomForReply N out.old }
         ensures line { out.new.items ≡ out.old.items ++ played_line id (warned self.now call.now rc) }
-        ensures bound { length out.new.items ≤ length out.old.items + 512 }
+        ensures bound { GrowsByReply out.old.items out.new.items }
     {
         let distance = self.distance_in_warning(call, rc);
-        self.reply_with_onto(id, rc, call, &Answer::Nothing, &distance, out);
+        let answer = self.answer_or_values(call, rc, &distance, Answer::Nothing);
+        self.answer_onto(id, rc, &answer, out);
     }
 
-    // Executes a call, and appends its reply. Where that has the values of `reply_with_onto`, the distance is 0.
+    // Executes a call, and appends its reply. Where that has values with a warning (`answer_or_values`), the distance is 0.
     fn execute_onto<const N: usize>(&mut self, id: u8, call: &Call, out: &mut ArrayVec<u8, N>)
         requires id { id < 8 }
-        requires room { array_vec_len out.old + 512 ≤ N }
+        requires room { HasRoomForReply N out.old }
         ensures played { AppendsPlayed id (plays self.old call.now) self.new out.old.items out.new.items }
-        ensures bound { length out.new.items ≤ length out.old.items + 512 }
+        ensures bound { GrowsByReply out.old.items out.new.items }
     {
         let mut answer = Answer::Nothing;
         let rc = self.execute(call, &mut answer);
         self.disturb(&mut answer);
-        self.reply_with_onto(id, rc, call, &answer, &Decimal::zero(), out);
+        let replied = self.answer_or_values(call, rc, &Decimal::zero(), answer);
+        self.answer_onto(id, rc, &replied, out);
     }
 
-    // Appends the reply to a call with this code. It has this answer or, if the code is a warning and the instrument has values
-    // with warnings, the values of `push_reply_with_values`, with this distance.
-    fn reply_with_onto<const N: usize>(
-        &self,
-        id: u8,
-        rc: u16,
-        call: &Call,
-        answer: &Answer,
-        distance: &Decimal,
-        out: &mut ArrayVec<u8, N>,
-    )
-        requires id { id < 8 }
-        requires refused { rc ≢ 0 → answer.now ≡ Nothing }
-        requires room { array_vec_len out.old + 512 ≤ N }
-        ensures line { out.new.items ≡ out.old.items ++ reply_line id rc
-            (answer_or_values self.now.ways.values self.now.base.pointing call.now rc distance.now answer.now)
-            self.now.base.precision }
-        ensures bound { length out.new.items ≤ length out.old.items + 512 }
+    // The answer that the reply to a call has with this code: the given one or, if the code is a warning and the instrument has
+    // values with warnings, that of `valued`, with this distance.
+    fn answer_or_values(&self, call: &Call, rc: u16, distance: &Decimal, given: Answer) -> Answer
+        ensures { result ≡ answer_or_values self.now.ways.values self.now.base.pointing call.now rc distance.now given }
     {
         if self.ways.values && is_warning(rc) {
-            let there = self.base.pointing();
-            let places = self.base.precision();
-            push_reply_with_values(out, id, rc, &there, call, distance, places);
+            valued(&self.base.pointing(), call, distance)
         } else {
-            self.answer_onto(id, rc, answer, out);
+            given
         }
     }
 
@@ -185,10 +200,9 @@ impl SceneInstrument {
         out: &mut ArrayVec<u8, N>,
     )
         requires id { id < 8 }
-        requires refused { rc ≢ 0 → answer.now ≡ Nothing }
-        requires room { array_vec_len out.old + 512 ≤ N }
+        requires room { HasRoomForReply N out.old }
         ensures line { out.new.items ≡ out.old.items ++ reply_line id rc answer.now self.now.base.precision }
-        ensures bound { length out.new.items ≤ length out.old.items + 512 }
+        ensures bound { GrowsByReply out.old.items out.new.items }
     {
         let mut line: ArrayVec<u8, BUFFER> = ArrayVec::new();
         encode_answer_onto(&mut line, id, rc, answer, self.base.precision());
@@ -199,53 +213,28 @@ impl SceneInstrument {
     // scene's reply, if it has one; else with the communication code 3081. In place of the first two a repeat gets the stored
     // reply, and no fault counts it. In every other case the faults count the request.
     fn answer_raw<const N: usize>(&mut self, rpc: u16, id: Option<u8>, out: &mut ArrayVec<u8, N>)
-        requires id { ForSome id (λ id. id < 8) }
-        requires room { array_vec_len out.old + 512 ≤ N }
+        requires id { MayBeId id }
+        requires room { HasRoomForReply N out.old }
         ensures gave { AppendsHanded (handed_raw self.old rpc id) self.new out.old.items out.new.items }
-        ensures bound { length out.new.items ≤ length out.old.items + 512 }
+        ensures bound { GrowsByReply out.old.items out.new.items }
     {
         match self.fault_of(rpc) {
-            Some(rc) => self.answer_unexecuted(rpc, id, rc, b"", out),
-            None => match self.scripted_reply(rpc) {
-                Some(scripted) => self.answer_unexecuted(
+            Some(rc) => {
+                let reply = Scripted {
                     rpc,
-                    id,
-                    scripted.rc,
-                    scripted.params(),
-                    out,
-                ),
+                    rc,
+                    with: None,
+                };
+                self.answer_request(rpc, id, &Fresh::Raw(&reply), out);
+            }
+            None => match self.scripted_reply(rpc) {
+                Some(reply) => self.answer_request(rpc, id, &Fresh::Raw(&reply), out),
                 None => {
                     self.count(rpc);
                     push_reply(out, UNKNOWN_PROCEDURE, id.unwrap_or(0), 0);
                 }
             },
         }
-    }
-
-    // Appends the reply to a request that isn't executed. A repeat gets the stored reply (`resent_line`), and changes nothing. Else the
-    // faults count the request, and it gets a reply with this return code and these parameters, which is passed to `keep`.
-    fn answer_unexecuted<const N: usize>(
-        &mut self,
-        rpc: u16,
-        id: Option<u8>,
-        rc: u16,
-        params: &[u8],
-        out: &mut ArrayVec<u8, N>,
-    )
-        requires id { ForSome id (λ id. id < 8) }
-        requires few { length params.now ≤ 490 }
-        requires room { array_vec_len out.old + 512 ≤ N }
-        ensures gave { AppendsHanded (handed_unexecuted self.old rpc id rc params.now) self.new out.old.items out.new.items }
-        ensures bound { length out.new.items ≤ length out.old.items + 512 }
-    {
-        if let Some(line) = self.resent_line(id) {
-            append(out, line);
-            return;
-        }
-        let start = out.len();
-        self.count(rpc);
-        push_reply_with(id.unwrap_or(0), rc, params, out);
-        self.keep(id, &out[start..]);
     }
 }
 
@@ -259,7 +248,7 @@ impl<const N: usize> Replies<N> for SceneInstrument {
     fn reply_to(&mut self, request: &Request<'_>, out: &mut ArrayVec<u8, N>) {
         let mut call = Call::NullProc;
         match decode_call_into(request, &mut call) {
-            Ok(()) => self.answer_call(request.rpc, request.id, &call, out),
+            Ok(()) => self.answer_request(request.rpc, request.id, &Fresh::Call(&call), out),
             Err(CallFault::Unknown) => self.answer_raw(request.rpc, request.id, out),
             Err(CallFault::Parameters(_)) => {
                 push_reply(out, WRONG_PARAMETERS, request.id.unwrap_or(0), 0)
@@ -272,9 +261,9 @@ impl<const N: usize> Replies<N> for SceneInstrument {
 fn push_reply_with<const N: usize>(id: u8, rc: u16, params: &[u8], out: &mut ArrayVec<u8, N>)
     requires id { id < 8 }
     requires few { length params.now ≤ 490 }
-    requires room { array_vec_len out.old + 512 ≤ N }
+    requires room { HasRoomForReply N out.old }
     ensures line { out.new.items ≡ out.old.items ++ line_with id rc params.now }
-    ensures bound { length out.new.items ≤ length out.old.items + 512 }
+    ensures bound { GrowsByReply out.old.items out.new.items }
 {
     push_reply(out, 0, id, rc);
     if !params.is_empty() {

@@ -11,7 +11,7 @@ use crate::rules::{Fault, Noise, Offset, Prism, Scripted, Sight};
 use crate::shifting::{deviation, next, shifted};
 use crate::ways::target_in_face;
 use gc_catalogue::{Answer, RawCall};
-use gc_instrument::Target;
+use gc_instrument::{Target, is_at};
 use gc_values::Decimal;
 
 impl Fault {
@@ -146,7 +146,7 @@ impl Prism {
         ensures { result ≡ moved sight.now self.now }
     {
         let at = target_in_face(sight.turned, &self.at);
-        if self.is_clear(sight.look) && at.hz == sight.there.hz && at.v == sight.there.v {
+        if self.is_clear(sight.look) && is_at(&sight.there, &at) {
             self.moved_by_drift()
         } else {
             *self

@@ -1,9 +1,8 @@
 //! An instrument whose replies take time. It doesn't wait, and has no clock: its caller says when each line came, learns when the reply
 //! goes out, and waits until then.
 
-ghost use Rattle.std.specs.Prelude.{◌≡◌, ◌+◌, ◌<◌, ◌≤◌, length, true, IsTrue, IsFalse};
-ghost use Rattle.arrayvec.specs.ArrayVec.{array_vec_len};
-ghost use Rattle.gc_lines.specs.Answering.{AppendsAnswer};
+ghost use Rattle.std.specs.Prelude.{◌≡◌, ◌<◌, true, IsTrue, IsFalse};
+ghost use Rattle.gc_lines.specs.Answering.{AppendsAnswer, GrowsByReply, HasRoomForReply};
 ghost use Rattle.gc_catalogue.specs.Moments.{later};
 ghost use Rattle.gc_scenes.specs.Slow.{HearsLine, IsDelay, TakesUp, delay_of, slow_restarted, taken_up};
 
@@ -74,9 +73,9 @@ impl SlowInstrument {
     /// discarded, the moment at which the instrument starts on it is set in the scene's instrument
     /// (`SceneInstrument::set_moment`).
     pub fn hear<const N: usize>(&mut self, line: &[u8], at: u64, out: &mut ArrayVec<u8, N>) -> bool
-        requires { array_vec_len out.old + 512 ≤ N }
+        requires { HasRoomForReply N out.old }
         ensures heard { AppendsAnswer (HearsLine self.old line.now at self.new) out.old.items out.new.items result }
-        ensures bound { length out.new.items ≤ length out.old.items + 512 }
+        ensures bound { GrowsByReply out.old.items out.new.items }
     {
         if self.drops_at(at) {
             return false;

@@ -3,9 +3,10 @@
 ghost use Rattle.std.specs.Prelude.{◌≡◌, ◌≤◌, ◌*◌, ◌^◌, ◌-ℤ◌, List, unsigned_abs};
 ghost use Rattle.gc_values.specs.Decimals.{units};
 ghost use Rattle.gc_values.specs.Directions.{half_turn};
-ghost use Rattle.gc_scenes.specs.Ways.{no_ways, with_way, is_in_face_two, face_at, other_hz, other_v, target_in_face, is_turned, on_circle, apart, nearer, nearest, is_warning, has_distance};
+ghost use Rattle.gc_scenes.specs.Ways.{no_ways, with_way, is_in_face_two, face_at, other_hz, other_v, target_in_face, is_turned, on_circle, apart, nearer, nearest, is_warning, has_distance, valued};
 
 use crate::shifting::shifted;
+use gc_catalogue::{Answer, Call};
 use gc_instrument::{Face, NO_DISTANCE, Pointing, Target};
 use gc_values::Decimal;
 
@@ -236,4 +237,25 @@ pub(crate) fn has_distance(rc: u16) -> bool
     ensures { result ≡ has_distance rc }
 {
     rc == UNCORRECTED || rc == UNGUARANTEED
+}
+
+/// The answer of a call that answers angles: those of `there`, then this distance if the call answers one, and then the mode if
+/// the call answers that, too. For any other call it is `Answer::Nothing`.
+pub(crate) fn valued(there: &Pointing, call: &Call, distance: &Decimal) -> Answer
+    ensures { result ≡ valued there.now call.now distance.now }
+{
+    let Pointing { hz, v } = *there;
+    let distance = *distance;
+    match call {
+        Call::GetAngle { .. } => Answer::Angles { hz, v },
+        Call::SimpleMea { .. } => Answer::Measured { hz, v, distance },
+        Call::QuickDist => Answer::Measured { hz, v, distance },
+        Call::MeasDistance { mode } => Answer::MeasuredMode {
+            hz,
+            v,
+            distance,
+            mode: *mode,
+        },
+        _ => Answer::Nothing,
+    }
 }

@@ -158,7 +158,7 @@ module _ (plan : Plan) (commands : List Task) (scope : Scope) (acts : List Act) 
 
   -- each act of a run is as `SynchronizesInOrder` says: `IsSynchronizing` while the station synchronizes, and
   -- `IsResynchronizing` if it resynchronizes
-  pub begins_so : Runs plan commands (opening plan scope) (acts ++ act ∷ []) → SynchronizesInOrder plan commands scope acts act
-  begins_so runs =
-      let obeys = (runs_split plan commands (opening plan scope) acts [] act runs).1 in
+  pub begins_so : (later : List Act) → Runs plan commands (opening plan scope) (acts ++ act ∷ later) → SynchronizesInOrder plan commands scope acts act
+  begins_so later runs =
+      let obeys = (runs_split plan commands (opening plan scope) acts later act runs).1 in
       record { starts = refl; begins = λ begins. of_beginning obeys begins; anew = λ begun begins. of_resynchronizing obeys begun begins }

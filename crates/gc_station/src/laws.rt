@@ -5,7 +5,7 @@
 //! request is sent where its bytes are written, all of them or some. It is outstanding until it is settled, also once it has timed
 //! out at its deadline. A chain is a row of commands for one target, each sent only once the one before it was answered well.
 
-ghost use Rattle.std.specs.Prelude.{◌≡◌, List, [], ◌∷◌, ◌++◌};
+ghost use Rattle.std.specs.Prelude.{◌≡◌, List, ◌∷◌, ◌++◌};
 ghost use Rattle.gc_lines.specs.Frames.{rest_of};
 ghost use Rattle.gc_texts.specs.declared.tasks.Task.{Task};
 ghost use Rattle.gc_station.specs.declared.cause.Cause.{Cause};
@@ -38,7 +38,7 @@ ghost use Rattle.gc_station.specs.Setups.{EachSetUpOnce, SetUpsGoOn, NoneBeforeT
 ghost use Rattle.gc_station.specs.Silences.{IsMuteFor};
 ghost use Rattle.gc_station.specs.Stopping.{ClosesStale, StopsAtItsClose, EndsOnceStale, GoesOnInItsChain, ClosesBetweenChains};
 ghost use Rattle.gc_station.specs.Tasked.{EachRecordIsOfItsTask};
-ghost use Rattle.gc_station.specs.Model.{opening, action_at, Runs};
+ghost use Rattle.gc_station.specs.Model.{action_at};
 ghost use Rattle.gc_station.specs.Tries.{StopsOnlyAfterAllTries};
 
 /// The commands of cycles that had their turn, sent or not, cycle by cycle and in order, are the records of cycles followed by
@@ -97,8 +97,7 @@ pub fn each_act_is_due()
 /// a command of the setup wasn't answered well; or all turns were used up; or the run was stale; or its end was asked for, and
 /// it could end there; or the act before it shows that a call failed or that the other end closed.
 pub fn closes_for_a_cause()
-    ensures { (plan : Plan) (commands : List Task) (scope : Scope) (earlier later : List Act)
-        → Runs plan commands (opening plan scope) (earlier ++ Closed ∷ later) → ClosesForACause plan commands scope earlier }
+    ensures { OfEachAct (λ plan commands scope earlier act. act ≡ Closed → ClosesForACause plan commands scope earlier) }
 {}
 
 /// If a connection is closed for a dead line, a time was read on it, and twice the longest deadline has passed by the clock
@@ -194,9 +193,8 @@ pub fn no_command_goes_out_before_the_last_answer()
 /// is outstanding, and what is sent is the null procedure of the first of these ids that isn't answered. Only a reply with that
 /// id answers it, and the next one is sent then, also if the connection was closed in between. A run resynchronizes only when
 /// seven requests are outstanding, all timed out.
-pub fn each_beginning_goes_on_by_its_answers()
-    ensures { (plan : Plan) (commands : List Task) (scope : Scope) (acts : List Act) (act : Act)
-        → Runs plan commands (opening plan scope) (acts ++ act ∷ []) → SynchronizesInOrder plan commands scope acts act }
+pub fn each_synchronization_goes_on_by_its_answers()
+    ensures { OfEachAct SynchronizesInOrder }
 {}
 
 /// Records are never changed or removed: those of a run's first acts stay, in order, before the records of the acts that

@@ -50,5 +50,5 @@ pub fn read_logged(scene: Scene<'_>, outcome: &mut Outcome) {
         let _ = link.read(&mut buf, 1);
     }
     link.close();
-    outcome.take_log(link.sink().taken(), false);
+    outcome.take_log(link.sink().taken(), link.has_lost_its_log());
 }

@@ -8,7 +8,7 @@ use clap::Command;
 use gc_ask::ask_at;
 use gc_lines::{Sink, Source};
 use gc_links::Place;
-use gc_messages::report_end_at;
+use gc_messages::{Streams, report_end_at};
 use gc_words::help::COMMANDS;
 use gc_words::{Argument, PLACE, command_of};
 use std::alloc::{AllocError, Global};
@@ -33,11 +33,11 @@ pub fn ask_command<'a>(alloc: Global, name: &'a str) -> Result<Command<'a>, Allo
     )
 }
 
-/// Asks the commands of a source at a place, writes a line for each settlement into a sink, and reports how that ended, with status 0
-/// or 1. `Err`: the line of the fault couldn't be written.
+/// Asks the commands of the input at a place, writes a line for each settlement on the output, and reports how that ended, with
+/// status 0 or 1. `Err`: the line of the fault couldn't be written. The streams are handed back.
 ///
-/// The clause has only the range of the status. What is asked and written `ask_at` promises; that the status and the messages report
-/// its result no clause says.
+/// The clause has only the range of the status. What is asked and written `ask_at` promises; that the status and the messages
+/// report its result no clause says.
 pub fn ask_place<
     R: Net<Listener = TcpListener, Stream = TcpStream> + Files<File = File> + Clock,
     S: Source,
@@ -47,12 +47,18 @@ pub fn ask_place<
     rt: &R,
     alloc: Global,
     place: Place<'_>,
-    source: &mut S,
-    sink: &mut K,
-    messages: &mut E,
-) -> io::Result<ExitCode>
-    ensures { IfOk result (λ status. exit_status status ≤ 1) }
+    mut streams: Streams<S, K, E>,
+) -> (Streams<S, K, E>, io::Result<ExitCode>)
+    ensures { IfOk result.1 (λ status. exit_status status ≤ 1) }
 {
-    let end = ask_at(rt, alloc, place, source, sink, MOST_READS);
-    report_end_at(place, end, messages)
+    let end = ask_at(
+        rt,
+        alloc,
+        place,
+        &mut streams.input,
+        &mut streams.output,
+        MOST_READS,
+    );
+    let ended = report_end_at(place, end, &mut streams.messages);
+    (streams, ended)
 }

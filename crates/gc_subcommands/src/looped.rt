@@ -7,8 +7,8 @@ use crate::answerer::MOST_READS;
 use crate::scene::{Staged, instrument_of};
 use clap::Command;
 use gc_ask::loop_tcp_on;
-use gc_lines::{Sink, Source};
-use gc_messages::report_end;
+use gc_lines::{Answers, Sink, Source};
+use gc_messages::{Streams, report_end};
 use gc_texts::RunFault;
 use gc_words::help::COMMANDS;
 use gc_words::{Argument, SCENE, command_of};
@@ -32,12 +32,12 @@ pub fn loop_command<'a>(alloc: Global, name: &'a str) -> Result<Command<'a>, All
     )
 }
 
-/// Asks the commands of a source over a connection to the instrument of a scene, which is read first, or to the simulator where no
-/// scene is named; writes a line for each settlement into a sink, and reports how that ended, with status 0 or 1. `Err`: the line
-/// of the fault couldn't be written, or the line after it on what is at fault in the scene.
+/// Asks the commands of the input over a connection to the instrument of a scene, which is read first, or to the simulator where
+/// no scene is named; writes a line for each settlement on the output, and reports how that ended, with status 0 or 1. `Err`: the
+/// line of the fault couldn't be written, or the line after it on what is at fault in the scene. The streams are handed back.
 ///
-/// The clause has only the range of the status. What is asked and written `loop_tcp_on` promises; which instrument the scene sets up,
-/// and that the status and the messages report the result, no clause says.
+/// The clause has only the range of the status. What is asked and written `loop_tcp_on` promises; which instrument the scene sets
+/// up, and that the status and the messages report the result, no clause says.
 pub fn loop_scene<
     R: Net<Listener = TcpListener, Stream = TcpStream> + Files,
     S: Source,
@@ -47,27 +47,49 @@ pub fn loop_scene<
     rt: &R,
     alloc: Global,
     scene: Option<&str>,
-    source: &mut S,
-    sink: &mut K,
-    messages: &mut E,
+    mut streams: Streams<S, K, E>,
+) -> (Streams<S, K, E>, io::Result<ExitCode>)
+    ensures { IfOk result.1 (λ status. exit_status status ≤ 1) }
+{
+    let ended = match instrument_of::<Staged, R>(rt, alloc, scene) {
+        Ok(Staged::Plain(instrument)) => loop_on(rt, alloc, scene, instrument, &mut streams),
+        Ok(Staged::Ruled(instrument)) => loop_on(rt, alloc, scene, instrument, &mut streams),
+        Err(refusal) => refusal.tell_with_file(scene, &mut streams.messages),
+    };
+    (streams, ended)
+}
+
+// Asks the commands of the input over a connection to an instrument, that of the scene if one is named, and reports how that
+// ended, with status 0 or 1. `Err`: the line of the fault couldn't be written.
+fn loop_on<
+    R: Net<Listener = TcpListener, Stream = TcpStream>,
+    T: Answers + Drop,
+    S: Source,
+    K: Sink,
+    E: Write,
+>(
+    rt: &R,
+    alloc: Global,
+    scene: Option<&str>,
+    instrument: T,
+    streams: &mut Streams<S, K, E>,
 ) -> io::Result<ExitCode>
     ensures { IfOk result (λ status. exit_status status ≤ 1) }
 {
-    let end = match instrument_of::<Staged, R>(rt, alloc, scene) {
-        Ok(Staged::Plain(instrument)) => {
-            loop_tcp_on(rt, alloc, instrument, source, sink, MOST_READS)
-        }
-        Ok(Staged::Ruled(instrument)) => {
-            loop_tcp_on(rt, alloc, instrument, source, sink, MOST_READS)
-        }
-        Err(refusal) => return refusal.tell_with_file(scene, messages),
-    };
-    report_loop(scene, end, messages)
+    let end = loop_tcp_on(
+        rt,
+        alloc,
+        instrument,
+        &mut streams.input,
+        &mut streams.output,
+        MOST_READS,
+    );
+    report_loop(scene, end, &mut streams.messages)
 }
 
-// Reports how commands were asked of an instrument, that of the scene if one is named, with status 0 or 1. If a scene is named, and
-// the fault is one of the commands' text (`Schedule`, `InputTooLong`), a further line says that the fault is of standard input.
-// `Err`: the line of the fault couldn't be written.
+// Reports how commands were asked of an instrument, that of the scene if one is named, with status 0 or 1. If a scene is named,
+// and so two texts were read, and the fault is one of the commands' text (`Schedule`, `InputTooLong`), a further line says that
+// the fault is of standard input. `Err`: the line of the fault couldn't be written.
 fn report_loop<E: Write>(
     scene: Option<&str>,
     end: Result<(), RunFault>,
@@ -76,16 +98,9 @@ fn report_loop<E: Write>(
     ensures { IfOk result (λ status. exit_status status ≤ 1) }
 {
     let ended = report_end(end, messages);
-    if let Err(RunFault::Schedule { .. } | RunFault::InputTooLong) = end {
-        let _ = tell_commands(scene, messages);
+    if scene.is_some() && matches!(end, Err(RunFault::Schedule { .. } | RunFault::InputTooLong)) {
+        // If this line can't be written, the fault's line is written all the same.
+        let _ = writeln!(messages, "geocom: of the commands of standard input");
     }
     ended
-}
-
-// Writes, if a scene is named and so two texts were read, that the fault is in the commands of standard input.
-fn tell_commands<E: Write>(scene: Option<&str>, messages: &mut E) -> io::Result<()> {
-    match scene {
-        Some(_) => writeln!(messages, "geocom: of the commands of standard input"),
-        None => Ok(()),
-    }
 }

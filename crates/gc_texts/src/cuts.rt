@@ -1,4 +1,4 @@
-//! Texts cut at a mark, which is a byte: lines at an LF, words at a space; and texts that are a word, or begin with one.
+//! Texts cut at a mark, which is a byte: lines at an LF, words at a space; and texts that are a word, or begin with a prefix.
 
 ghost use Rattle.std.specs.Prelude.{◌≡◌, ◌≤◌, ◌↔◌, ◌++◌, ℕ, List, length, IsTrue, MatchOption};
 ghost use Rattle.std.specs.Option.{option_copied};
@@ -35,11 +35,11 @@ pub fn behind(mark: u8, text: &[u8]) -> &[u8]
     }
 }
 
-/// What follows the prefix `word` of a line. `None`: the line doesn't begin with `word`.
-pub fn after_word<'a>(word: &[u8], line: &'a [u8]) -> Option<&'a [u8]>
-    ensures { MatchOption result ((rest : List ℕ) → line.now ≡ word.now ++ rest → ⊥) (λ rest. line.now ≡ word.now ++ rest.now) }
+/// What follows this prefix of a line. `None`: the line doesn't begin with it.
+pub fn after_prefix<'a>(prefix: &[u8], line: &'a [u8]) -> Option<&'a [u8]>
+    ensures { MatchOption result ((rest : List ℕ) → line.now ≡ prefix.now ++ rest → ⊥) (λ rest. line.now ≡ prefix.now ++ rest.now) }
 {
-    line.strip_prefix(word)
+    line.strip_prefix(prefix)
 }
 
 /// Whether the text is this word.

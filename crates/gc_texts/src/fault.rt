@@ -1,10 +1,10 @@
 //! Why a run stopped early: each fault has one number and one printed line.
 
-ghost use Rattle.std.specs.Prelude.{◌≡◌, OnOk};
-ghost use Rattle.std.specs.Io.KnownBytes.{Appends};
-ghost use Rattle.gc_texts.specs.Faults.{run_fault_number, run_fault_text, fault_line};
+ghost use Rattle.std.specs.Prelude.{◌≡◌};
+ghost use Rattle.gc_lines.specs.Ports.{WritesIfOk};
+ghost use Rattle.gc_texts.specs.Faults.{run_fault_number, run_fault_text, fault_line, end_of_serving};
 
-use gc_lines::{READ_FAILED, READS_SPENT, WRITE_FAILED};
+use gc_lines::{READ_FAILED, READS_SPENT, ServeFault, Served, WRITE_FAILED};
 use std::error::Error;
 use std::fmt;
 use std::io::{self, Write};
@@ -100,7 +100,7 @@ impl RunFault {
 
     /// Writes the line of the fault: the program's name, and the text that `Display` prints.
     pub fn tell<E: Write>(self, messages: &mut E) -> io::Result<()>
-        ensures { OnOk result (Appends (E.contents messages.old) (E.contents messages.new) (fault_line (run_fault_text self))) }
+        ensures { WritesIfOk E.contents messages.old messages.new result (fault_line (run_fault_text self)) }
     {
         writeln!(messages, "geocom: {self}")
     }
@@ -125,3 +125,15 @@ impl fmt::Display for RunFault {
 }
 
 impl Error for RunFault {}
+
+/// How serving ended, as the end of a run: well, or with the fault of serving, which is `Read`, `Write` or `TooManyReads`.
+pub fn end_of_serving(end: Result<Served, ServeFault>) -> Result<(), RunFault>
+    ensures { result ≡ end_of_serving end }
+{
+    match end {
+        Ok(_) => Ok(()),
+        Err(ServeFault::Read { .. }) => Err(RunFault::Read),
+        Err(ServeFault::Write { replies, bytes }) => Err(RunFault::Write { replies, bytes }),
+        Err(ServeFault::TooManyReads { .. }) => Err(RunFault::TooManyReads),
+    }
+}

@@ -125,7 +125,7 @@ fn again_with(again: Again, count: usize, reason: Reason) -> Again
 
 // Reads the words after the number of a line `retry`, with one space between two. `None`: a word is neither a code nor an outcome, or
 // there are more than 16 codes.
-fn read_again(text: &[u8]) -> Option<Again>
+fn read_reasons(text: &[u8]) -> Option<Again>
     ensures { IsReadAs (NamesRule text.now) result }
 {
     let mut again = Again::none();
@@ -153,7 +153,7 @@ pub(crate) fn read_retry_rule(text: &[u8]) -> Option<Retry>
     if times == 0 {
         return None;
     }
-    let again = read_again(behind(b' ', text))?;
+    let again = read_reasons(behind(b' ', text))?;
     Some(Retry {
         times: times as u8,
         again,

@@ -4,7 +4,7 @@ ghost use Rattle.gc_texts.specs.LineForms.{IsReadAs};
 ghost use Rattle.gc_texts.specs.TaskLines.{IsDeadline, IsNameLine, IsNearLine, SetsAccepted, SetsRetry, SetsClock, IsTaskLine};
 
 use crate::codes::{Codes, read_code_list};
-use crate::cuts::{after_word, before, behind, cut_at, is_word};
+use crate::cuts::{after_prefix, before, behind, cut_at, is_word};
 use crate::name::{Name, is_name};
 use crate::near::{Near, read_near};
 use crate::procedure::{number_of, target_of};
@@ -45,7 +45,7 @@ pub(crate) enum TaskLine {
 fn read_deadline(line: &[u8]) -> Option<u64>
     ensures { IsReadAs (IsDeadline line.now) result }
 {
-    let digits = after_word(b"deadline ", line)?;
+    let digits = after_prefix(b"deadline ", line)?;
     let deadline = number_of(digits, DEADLINE_MAX)?;
     if deadline == 0 {
         return None;
@@ -58,7 +58,7 @@ fn read_deadline(line: &[u8]) -> Option<u64>
 fn read_naming(line: &[u8]) -> Option<Name>
     ensures { IsReadAs (IsNameLine line.now) result }
 {
-    let rest = after_word(b"name ", line)?;
+    let rest = after_prefix(b"name ", line)?;
     let (target, text) = cut_at(b' ', rest);
     let text = text?;
     let target = target_of(target)?;
@@ -72,7 +72,7 @@ fn read_naming(line: &[u8]) -> Option<Name>
 fn read_locating(line: &[u8]) -> Option<Near>
     ensures { IsReadAs (IsNearLine line.now) result }
 {
-    let rest = after_word(b"near ", line)?;
+    let rest = after_prefix(b"near ", line)?;
     read_near(rest)
 }
 
@@ -84,7 +84,7 @@ fn read_accepting(line: &[u8]) -> Option<Codes>
     if is_word(b"accept", line) {
         return Some(Codes::none());
     }
-    let rest = after_word(b"accept ", line)?;
+    let rest = after_prefix(b"accept ", line)?;
     read_code_list(rest)
 }
 
@@ -96,7 +96,7 @@ fn read_retrying(line: &[u8]) -> Option<Retry>
     if is_word(b"retry 0", line) {
         return Some(Retry::none());
     }
-    let rest = after_word(b"retry ", line)?;
+    let rest = after_prefix(b"retry ", line)?;
     read_retry_rule(rest)
 }
 

@@ -1,7 +1,7 @@
 //! Troubles: which field of a faulty line of a station's text is at fault, and what is printed of it.
 
-ghost use Rattle.std.specs.Prelude.{◌≡◌, ◌++◌, OnOk, IsTrue, IsFalse, MatchOption, codes};
-ghost use Rattle.std.specs.Io.KnownBytes.{Appends};
+ghost use Rattle.std.specs.Prelude.{◌≡◌, ◌++◌, IsTrue, IsFalse, MatchOption, codes};
+ghost use Rattle.gc_lines.specs.Ports.{WritesIfOk};
 ghost use Rattle.gc_texts.specs.Troubles.{parameters_trouble, raw_trouble, IsCallTrouble, IsRawTrouble, IsRawWordsTrouble, HasTarget, NoTarget, BeginsAsCommand, IsSettingTrouble, IsAskingTrouble, IsTrouble, in_table_text, trouble_text, trouble_line};
 ghost use Rattle.gc_texts.specs.Words.{second_word, third_word};
 ghost use Rattle.gc_texts.specs.ProcedureNames.{name_in_table};
@@ -57,7 +57,7 @@ pub enum Trouble {
 impl Trouble {
     /// Writes the message about the line with this number, counted from 1: the program's name, the number, and which field is at fault.
     pub fn tell<E: Write>(self, line: u32, messages: &mut E) -> io::Result<()>
-        ensures { OnOk result (Appends (E.contents messages.old) (E.contents messages.new) (trouble_line line self)) }
+        ensures { WritesIfOk E.contents messages.old messages.new result (trouble_line line self) }
     {
         write!(messages, "geocom: line {line}: ")?;
         self.tell_field(messages)
@@ -65,7 +65,7 @@ impl Trouble {
 
     // Writes which field is at fault, and a line feed.
     fn tell_field<E: Write>(self, messages: &mut E) -> io::Result<()>
-        ensures { OnOk result (Appends (E.contents messages.old) (E.contents messages.new) (trouble_text self ++ codes "\n")) }
+        ensures { WritesIfOk E.contents messages.old messages.new result (trouble_text self ++ codes "\n") }
     {
         match self {
             Trouble::NoProcedure(rpc) => writeln!(messages, "no procedure {rpc}"),
@@ -96,7 +96,7 @@ impl Trouble {
 
 // Writes that the procedure with this number and this name is in the table, and a line feed.
 fn tell_in_table<E: Write>(rpc: u16, name: &str, messages: &mut E) -> io::Result<()>
-    ensures { OnOk result (Appends (E.contents messages.old) (E.contents messages.new) (in_table_text rpc name.now ++ codes "\n")) }
+    ensures { WritesIfOk E.contents messages.old messages.new result (in_table_text rpc name.now ++ codes "\n") }
 {
     writeln!(messages, "{rpc} is {name}: leave out raw")
 }

@@ -172,7 +172,7 @@ impl Entries<Settlement<Call>> {
             call: *call,
             outcome: Outcome::Answered(*reading, Line::new()),
         });
-        append_answer(&mut self.entries[place].outcome, line);
+        put_answer_line(&mut self.entries[place].outcome, line);
         Ok(())
     }
 
@@ -197,7 +197,7 @@ impl Entries<Settlement<Call>> {
 
 // Copies a line into an outcome that is an answer with an empty line.
 #[inline]
-fn append_answer(outcome: &mut Outcome, line: &Line)
+fn put_answer_line(outcome: &mut Outcome, line: &Line)
     requires { (reading : Reading) × (outcome.old ≡ Answered reading (record { items = [] })) }
     ensures { (reading : Reading) → outcome.old ≡ Answered reading (record { items = [] }) → outcome.new ≡ Answered reading line.now }
 {

@@ -2,7 +2,6 @@
 
 ghost use Rattle.std.specs.Prelude.{◌≡◌, ◌+◌, ◌<◌, ◌≤◌, ◌^◌, ◌∷◌, ℕ, List, [], Some, OnOk, IsOk, length, map};
 ghost use Rattle.gc_lines.specs.Assembler.{StandsFor};
-ghost use Rattle.gc_lines.specs.Lent.{IsLentLine};
 ghost use Rattle.gc_lines.specs.Lines.{with_end};
 ghost use Rattle.gc_world.specs.Memory.{IsNoRepeat};
 ghost use Rattle.gc_world.specs.Sides.{Carries, CarriesMoreThan, Changes, IsFlow, KeepsFlow, text_at};
@@ -74,17 +73,20 @@ impl Side {
     /// Feeds the assembler what remains of this line, which was taken from the front of the queue, and returns the completed line.
     /// `cut` is where the assembler puts together a line of which bytes have gone before (`feed_rest`).
     #[inline(always)]
-    pub fn finish<'a>(&mut self, line: &'a [u8], cut: &'a mut Line) -> Lent<'a>
+    pub fn finish<'a>(&mut self, line: &'a [u8], cut: &'a mut Line) -> &'a [u8]
         requires flow { (texts : List (List ℕ)) × IsFlow self.old.assembler self.old.gone (line.now ∷ texts) }
         requires within { length line.now ≤ 512 }
-        ensures line { IsLentLine result line.now }
+        ensures line { result.now ≡ line.now }
         ensures start { StandsFor self.new.assembler [] }
         ensures gone { self.new.gone ≡ 0 }
         ensures queue { self.new.queue ≡ self.old.queue }
     {
         let frame = feed_rest(&mut self.assembler, line, self.gone, cut);
         self.gone = 0;
-        frame
+        let Lent::Line(whole) = frame else {
+            unreachable!()
+        };
+        whole
     }
 
     /// Takes line k, counted from 0 at the front, out of the queue: it is lost. If there is no line k, or its first byte has gone,

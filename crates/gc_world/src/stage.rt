@@ -23,7 +23,7 @@ use arrayvec::ArrayVec;
 use gc_catalogue::Call;
 use gc_client::{Client, Hearing, Settlement, WINDOW, Window};
 use gc_instrument::Instrument;
-use gc_lines::{Assembler, Lent, Line};
+use gc_lines::{Assembler, Line};
 use std::alloc::{AllocError, Global};
 
 /// The state of a run after the events so far: the report, both directions of the line, and the client. The instrument is in
@@ -156,11 +156,7 @@ impl<W: Window<Asked = Call>> Stage<W> {
         };
         let mut reply = Line::new();
         let line = self.report.sent.at(number).line.as_slice();
-        let frame = self.up.finish(line, &mut self.cut);
-        // By the contract of `finish` the frame is a line.
-        let Lent::Line(request) = frame else {
-            return Ok(());
-        };
+        let request = self.up.finish(line, &mut self.cut);
         let kept = self.report.instrument.kept_id();
         if self.report.instrument.reply_onto(request, &mut reply) {
             let id = self.report.instrument.kept_id();
@@ -185,11 +181,7 @@ impl<W: Window<Asked = Call>> Stage<W> {
             return Ok(());
         };
         let line = self.report.made.at(place).line.as_slice();
-        let frame = self.down.finish(line, &mut self.cut);
-        // By the contract of `finish` the frame is a line.
-        let Lent::Line(reply) = frame else {
-            return Ok(());
-        };
+        let reply = self.down.finish(line, &mut self.cut);
         if let Hearing::Settled = self.client.hear(reply, &mut self.settled) {
             self.report.settled.append_all(self.settled.as_slice())?;
         }

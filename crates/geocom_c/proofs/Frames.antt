@@ -6,10 +6,14 @@ use Rattle.gc_lines.specs.declared.frame.Frame.TheVariants.{Line, Cleared, Overl
 use Rattle.gc_lines.specs.Frames.{frame_of, ends_in_return}
 use Rattle.gc_catalogue.specs.declared.asked.Asked.{Asked}
 use Rattle.gc_client.specs.Rule.{Windowed}
+use Rattle.geocom_c.specs.Rest.{IsRest}
+use Rattle.geocom_c.specs.State.{StandsForClient}
 use Rattle.geocom_c.specs.Feeding.{IsFed, IsInFront, feed_effect, unended}
 use Rattle.geocom_c.specs.declared.answers.GeocomHeard.{GeocomHeard}
 use Rattle.geocom_c.specs.declared.header.TheConstants.{MORE}
+use Rattle.geocom_c.specs.declared.rest.GeocomRest.{GeocomRest}
 use Rattle.geocom_c.specs.declared.settled.GeocomSettlement.{GeocomSettlement}
+use Rattle.geocom_c.specs.declared.state.GeocomClient.{GeocomClient}
 
 -- a frame that is chosen among `Overlong`, `Cleared` and l isn't `More`, if l isn't
 chosen_not_more : (a b : Bool) (l : Frame) → (l ≡ More → ⊥) → (if a then (if b then Overlong else l) else Cleared) ≡ More → ⊥
@@ -20,6 +24,18 @@ chosen_not_more true false l other e = other e
 -- what a line feed makes of the bytes before it is never `More`
 pub never_more : (bs : List ℕ) → frame_of bs ≡ More → ⊥
 never_more bs e = chosen_not_more (ends_in_return bs) (nat_lt 512 (length bs - 1)) (Line (record { items = take (length bs - 1) bs })) (λ same. cc) e
+
+-- if a state stands for a client, then with another rest (`IsRest`) it stands for the same client with the bytes of that rest
+pub stands_with_rest : (s : GeocomClient) (r : GeocomRest) (c : Windowed Asked) (old new : List ℕ) → StandsForClient s c old → IsRest r new → StandsForClient (record s { rest = r }) c new
+stands_with_rest s r c old new is rest =
+    record {
+      width = is.width;
+      next = is.next;
+      waiting = is.waiting;
+      head = record { width = is.head.width; next = is.head.next; few = is.head.few; answered = is.head.answered };
+      places = is.places;
+      incomplete = rest;
+    }
 
 -- Here the frame f was fed, and q says the same of it as r (`IsFed`), but that `used` bytes were used.
 module _ (c : Windowed Asked) (f : Frame) (r q : GeocomHeard) (records : List GeocomSettlement) (text : List ℕ) (used : ℕ) (same : q ≡ record r { used = used })

@@ -13,10 +13,10 @@ ghost use Rattle.geocom_c.specs.declared.header.TheConstants.{LINE_ROOM};
 
 use crate::answers::{GeocomBeginning, synchronizing, unbegun};
 use crate::header::{LINE_ROOM, NO_CLIENT, NO_ROOM};
-use crate::rest::{GeocomRest, bytes_from, put_line};
+use crate::rest::{GeocomRest, put_line};
 use crate::state::{GeocomClient, load};
 use gc_client::Beginning;
-use gc_lines::Frame;
+use gc_lines::{Frame, bytes_from};
 
 // Hands the synchronization the line that a frame is, if it is one.
 fn hear_frame(beginning: &mut Beginning, frame: &Frame)

@@ -8,7 +8,7 @@ ghost use Rattle.gc_client.specs.Beginning.{the_word};
 ghost use Rattle.gc_client.specs.declared.window.TheConstants.{WINDOW};
 ghost use Rattle.geocom_c.specs.Beginning.{left_by_restart};
 ghost use Rattle.geocom_c.specs.Rest.{IsValid};
-ghost use Rattle.geocom_c.specs.State.{IsAstray, IsOfClient, KeepsAnswered, left_of};
+ghost use Rattle.geocom_c.specs.State.{IsAstray, IsOfClient, KeepsAnswered, StandsForClient, left_of};
 ghost use Rattle.geocom_c.specs.Rooms.{FaultLeavesAll, ReportsNoClient, ReportsNoRoom, WritesFirst};
 ghost use Rattle.geocom_c.specs.Feeding.{FeedFaultLeavesState, FeedsFirst, FeedsUnended, HasRoomToSettle, IsFed, RestartsClient, WritesSettled, client_past, feed_effect};
 ghost use Rattle.geocom_c.specs.declared.header.TheConstants.{NO_ROOM, NO_CLIENT};
@@ -63,33 +63,38 @@ fn hear(
     }
 }
 
-// Hands the client the line that a frame is, if it is one, as `hear` does, and returns what came of the frame, with 0 as `used`.
-// Any other frame changes nothing.
+// Hands the line that a frame is, if it is one, to `client`, which is the client of `state`, as `hear` does, stores the client in
+// `state`, and returns what came of the frame, with 0 as `used`. Any other frame changes nothing.
 fn feed_frame(
-    client: &mut Client<SlotsOf<Asked>>,
+    state: &mut GeocomClient,
+    mut client: Client<SlotsOf<Asked>>,
     frame: &Frame,
     settlements: &mut [GeocomSettlement],
     text: &mut [u8],
 ) -> GeocomHeard
     requires { HasRoomToSettle settlements.old text.old }
-    ensures fed { IsFed client.old frame.now (feed_effect result settlements.new text.new) }
-    ensures client { client.new ≡ client_past client.old frame.now }
+    ensures fed { IsFed client frame.now (feed_effect result settlements.new text.new) }
+    ensures state { (rest : List ℕ) → StandsForClient state.old client rest → StandsForClient state.new (client_past client frame.now) rest }
+    ensures answered { KeepsAnswered state.old state.new }
     ensures written { WritesSettled result.count settlements.old settlements.new text.old text.new }
 {
     match frame {
-        Frame::Line(line) => hear(client, line, settlements, text),
+        Frame::Line(line) => {
+            let told = hear(&mut client, line, settlements, text);
+            store(state, client);
+            told
+        }
         Frame::Cleared => heard(CLEARED),
         Frame::Overlong => heard(OVERLONG),
         Frame::More => heard(MORE),
     }
 }
 
-// Takes bytes through the first line feed, hands the frame that it ends to `client`, which is the client of `state`, stores the
-// client in `state`, and returns what came of the frame. Without a line feed all bytes are used, and `state.rest` keeps of them
-// what the frame of the next line feed depends on.
+// Takes bytes through the first line feed, hands the client the frame that it ends, and returns what came of it. Without a line
+// feed all bytes are used, and `state.rest` keeps of them what the frame of the next line feed depends on.
 fn feed(
     state: &mut GeocomClient,
-    mut client: Client<SlotsOf<Asked>>,
+    client: Client<SlotsOf<Asked>>,
     bytes: &[u8],
     settlements: &mut [GeocomSettlement],
     text: &mut [u8],
@@ -104,9 +109,7 @@ fn feed(
     ensures written { WritesSettled result.count settlements.old settlements.new text.old text.new }
 {
     let (used, frame) = state.rest.take(bytes);
-    let told = feed_frame(&mut client, &frame, settlements, text);
-    store(state, client);
-    using(used, told)
+    using(used, feed_frame(state, client, &frame, settlements, text))
 }
 
 /// Takes bytes as they come, through the first line feed, and writes a record for each request that the line settles.

@@ -13,11 +13,11 @@ use crate::feeding::{geocom_client_feed, geocom_client_restart};
 use crate::header::{LINE_ROOM, NONE, TEXT_ROOM};
 use crate::listed::NOWHERE;
 use crate::raws::geocom_client_send_raw;
-use crate::rest::bytes_from;
 use crate::sends::geocom_client_send;
 use crate::settled::GeocomSettlement;
 use crate::state::GeocomClient;
 use gc_client::WINDOW;
+use gc_lines::bytes_from;
 use gc_values::MOST_ITEMS;
 
 /// A call on a state: each variant is the `geocom_client_` function of its name, with the arguments but the state and the rooms

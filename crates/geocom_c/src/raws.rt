@@ -15,7 +15,7 @@ use gc_lines::LineFault;
 use gc_values::ValueFault;
 
 // The fault number of a raw request that is refused.
-fn number_of(fault: RawFault) -> u32
+fn raw_number(fault: RawFault) -> u32
     ensures { result ≡ raw_number fault }
 {
     match fault {
@@ -33,7 +33,7 @@ fn read_raw(procedure: u16, params: &[u8]) -> Result<Asked, u32>
 {
     match raw_call(procedure, params) {
         Ok(raw) => Ok(Asked::Raw(raw)),
-        Err(fault) => Err(number_of(fault)),
+        Err(fault) => Err(raw_number(fault)),
     }
 }
 

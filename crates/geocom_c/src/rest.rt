@@ -1,6 +1,6 @@
 //! The bytes of an incomplete line: a state keeps of them what the frame of the next line feed depends on.
 
-ghost use Rattle.std.specs.Prelude.{◌≡◌, ◌≢◌, ◌≤◌, ◌↔◌, All, ◌+◌, ◌++◌, ℕ, List, [], length, drop, Some, None, IsTrue};
+ghost use Rattle.std.specs.Prelude.{◌≡◌, ◌≢◌, ◌≤◌, ◌↔◌, All, ◌+◌, ◌++◌, ℕ, List, [], length, Some, None, IsTrue};
 ghost use Rattle.std.specs.List.{position};
 ghost use Rattle.gc_lines.specs.Frames.{frame_of, is_line_feed};
 ghost use Rattle.gc_lines.specs.Taking.{IsUsedOf};
@@ -124,12 +124,4 @@ pub(crate) fn put_line(room: &mut [u8], line: &Line) -> u32
     let text = with_end(line);
     put_text(room, 0, text.as_slice());
     text.len() as u32
-}
-
-/// The bytes from place `at` on, counted from 0. `at` is at most their number.
-pub(crate) fn bytes_from(bytes: &[u8], at: usize) -> &[u8]
-    requires { at ≤ length bytes.now }
-    ensures { result.now ≡ drop at bytes.now }
-{
-    bytes.split_at(at).1
 }

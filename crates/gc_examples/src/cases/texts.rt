@@ -48,7 +48,9 @@ impl TextCase<'_, '_> {
     // a target, also the name of that target with the value under `name`. What differs goes to `wrong`.
     fn play(&self, wrong: &mut Told) {
         let mut came = Told::new(wrong.alloc);
-        self.read_as_said(&mut came);
+        if let Err(fault) = self.read_as_said(&mut came) {
+            came.display(&fault);
+        }
         self.case.compare_told("is", &came, wrong);
         if self.case.has("of") {
             self.compare_name(wrong);
@@ -56,22 +58,29 @@ impl TextCase<'_, '_> {
     }
 
     // Appends what comes of the text, as the case's `as` says: its line with the number under `line`, counted from 1; what is
-    // printed of it as a faulty line; the line that a log has of it; the fault that it names; or what it reads as. For any other
-    // word `no such text`.
-    fn read_as_said(&self, came: &mut Told) {
+    // printed of it as a faulty line; the line that a log has of it; the fault that it names; what it reads as; or, of a
+    // station's text under `call`, what its first task asks for if it is sent at the case's `utc`, in milliseconds since 1970, 0
+    // if it has none. For any other word `no such text`. `Err`: the fault for which the text doesn't read as commands, a schedule
+    // or a station's text.
+    fn read_as_said(&self, came: &mut Told) -> Result<(), RunFault> {
         match self.case.value("as") {
             "line" => came.bytes(line_at(self.text, self.case.number("line", 0))),
             "trouble" => append_trouble(self.text, came),
             "log" => write_as_log_line(self.text, came),
             "fault" => append_named_fault(&self.case, came),
-            "commands" => read_as_commands(self.text, came),
-            "schedule" => read_as_schedule(self.text, came),
-            "tasks" => self.read_as_tasks(came),
-            "call" => self.read_as_call(came),
+            "commands" => append_commands(read_commands(came.alloc, self.text)?.as_slice(), came),
+            "schedule" => append_events(read_schedule(came.alloc, self.text)?.as_slice(), came),
+            "tasks" => append_tasks(&self.case, &self.tasks(came.alloc)?, came),
+            "call" => append_call(
+                self.tasks(came.alloc)?.tasks.as_slice(),
+                self.case.number("utc", 0),
+                came,
+            ),
             "place" => read_as_place(self.text, came),
             "log line" => read_as_log_line(self.text, came),
             _ => came.text("no such text"),
         }
+        Ok(())
     }
 
     // Reads a station's text. Until a line says otherwise, its commands have the case's `deadline` in milliseconds, 0 if it has
@@ -80,23 +89,6 @@ impl TextCase<'_, '_> {
         let deadline = self.case.number("deadline", 0);
         let is_chained = self.case.is("mode", "chained");
         read_tasks(alloc, self.text, deadline, is_chained)
-    }
-
-    // Reads a station's text, and appends its tasks as `append_tasks` does; or the fault.
-    fn read_as_tasks(&self, came: &mut Told) {
-        match self.tasks(came.alloc) {
-            Ok(all) => append_tasks(&self.case, &all, came),
-            Err(fault) => came.display(&fault),
-        }
-    }
-
-    // Reads a station's text, and appends what its first task asks for if it is sent at the case's `utc`, in milliseconds since
-    // 1970, 0 if it has none; or `no task`, or the fault.
-    fn read_as_call(&self, came: &mut Told) {
-        match self.tasks(came.alloc) {
-            Ok(all) => append_call(all.tasks.as_slice(), self.case.number("utc", 0), came),
-            Err(fault) => came.display(&fault),
-        }
     }
 
     // Reads a station's text, and compares the name of the target whose number is under `of` with the case's `name`; where the
@@ -117,28 +109,12 @@ impl TextCase<'_, '_> {
     }
 }
 
-// Reads a text as commands, and appends each of them in a line; or the fault.
-fn read_as_commands(text: &[u8], came: &mut Told) {
-    match read_commands(came.alloc, text) {
-        Ok(commands) => append_commands(commands.as_slice(), came),
-        Err(fault) => came.display(&fault),
-    }
-}
-
 // Appends each command in a line: its target and its call, as `Debug` prints it.
 fn append_commands(commands: &[Command], came: &mut Told) {
     for command in commands {
         came.counted(&command.target, " ");
         came.debug(&command.call);
         came.text("\n");
-    }
-}
-
-// Reads a text as a schedule, and appends each of its events in a line; or the fault.
-fn read_as_schedule(text: &[u8], came: &mut Told) {
-    match read_schedule(came.alloc, text) {
-        Ok(events) => append_events(events.as_slice(), came),
-        Err(fault) => came.display(&fault),
     }
 }
 

@@ -100,70 +100,65 @@ impl WorldRows {
         )
     }
 
-    // Appends what events lead to over this window. If memory runs out, `came` notes that it lacks a part.
-    fn append_over<W: Window<Asked = Call>>(&self, window: W, events: &[Event], came: &mut Told) {
-        match self.play_events(window, events) {
-            Ok((report, client)) => append_report(&report, &client, came),
-            Err(_) => came.lack(),
-        }
+    // What events lead to over this window, as `append_report` has it. `Err`: memory ran out.
+    fn told_over<W: Window<Asked = Call>>(
+        &self,
+        window: W,
+        events: &[Event],
+    ) -> Result<Told, AllocError> {
+        let (report, client) = self.play_events(window, events)?;
+        let mut told = Told::new(self.alloc);
+        append_report(&report, &client, &mut told);
+        Ok(told)
     }
 
-    // Appends what events lead to over a ring. If memory runs out, `came` notes that it lacks a part.
-    fn append_over_ring(&self, events: &[Event], came: &mut Told) {
-        match Ring::new(self.alloc) {
-            Ok(ring) => self.append_over(ring, events, came),
-            Err(_) => came.lack(),
-        }
-    }
-
-    // Appends what events lead to over places, with each delivery in single bytes. If memory runs out, `came` notes that it lacks
-    // a part.
-    fn append_in_single_bytes(&self, events: &[Event], came: &mut Told) {
-        match in_single_bytes(self, events) {
-            Ok(pieces) => self.append_over(Slots::new(), pieces.as_slice(), came),
-            Err(_) => came.lack(),
-        }
-    }
-
-    // Appends what events lead to over places, as `append_report` has it; and what they lead to over a ring, and with each
-    // delivery in single bytes, where that differs.
-    fn append_end(&self, events: &[Event], came: &mut Told) {
-        let mut places = Told::new(self.alloc);
-        self.append_over(Slots::new(), events, &mut places);
+    // Appends what events lead to over places; and what they lead to over a ring, and with each delivery in single bytes, where
+    // that differs. `Err`: memory ran out, and nothing was appended.
+    fn append_end(&self, events: &[Event], came: &mut Told) -> Result<(), AllocError> {
+        let places = self.told_over(Slots::new(), events)?;
+        let ring = self.told_over(Ring::new(self.alloc)?, events)?;
+        let single = in_single_bytes(self, events)?;
+        let pieces = self.told_over(Slots::new(), single.as_slice())?;
         came.append(&places);
-        let mut ring = Told::new(self.alloc);
-        self.append_over_ring(events, &mut ring);
         append_difference(&places, ", and over a ring ", &ring, came);
-        let mut pieces = Told::new(self.alloc);
-        self.append_in_single_bytes(events, &mut pieces);
         append_difference(&places, ", and in single bytes ", &pieces, came);
+        Ok(())
     }
 
-    // Plays events over places, and appends this part of their report. If memory runs out, `came` notes that it lacks a part.
-    fn append_played_part(&self, part: Part, events: &[Event], came: &mut Told) {
-        match self.play_events(Slots::new(), events) {
-            Ok((report, _)) => append_part(&report, part, came),
-            Err(_) => came.lack(),
-        }
-    }
-
-    // Plays events, and appends what is wanted of what they lead to.
-    fn append_wanted_of(&self, wanted: Wanted, events: &[Event], came: &mut Told) {
+    // Plays events, and appends what is wanted of what they lead to: all of it (`append_end`), or a part of the report over
+    // places. `Err`: memory ran out, and nothing was appended.
+    fn append_wanted_of(
+        &self,
+        wanted: Wanted,
+        events: &[Event],
+        came: &mut Told,
+    ) -> Result<(), AllocError> {
         match wanted {
             Wanted::End => self.append_end(events, came),
-            Wanted::Part(part) => self.append_played_part(part, events, came),
+            Wanted::Part(part) => {
+                let (report, _) = self.play_events(Slots::new(), events)?;
+                append_part(&report, part, came);
+                Ok(())
+            }
         }
     }
 
-    // Plays the events so far, and appends what is wanted of what they lead to; or `no schedule` if their lines don't read as one, or
-    // memory ran out for the list of events. If memory had run out for a line, or the case's schedule couldn't be read, `came` notes
-    // that it lacks a part.
+    // Plays the events so far, and appends what is wanted of what they lead to; or `no schedule` if their lines don't read as
+    // one, or memory ran out for the list of events. If memory had run out for a line, or the case's schedule couldn't be read,
+    // or memory runs out for what the events lead to, `came` notes that it lacks a part.
     fn append_wanted(&self, wanted: Wanted, came: &mut Told) {
         if self.text.is_lacking() {
             came.lack();
         }
         match read_schedule(self.alloc, self.text.as_bytes()) {
-            Ok(events) => self.append_wanted_of(wanted, events.as_slice(), came),
+            Ok(events) => {
+                if self
+                    .append_wanted_of(wanted, events.as_slice(), came)
+                    .is_err()
+                {
+                    came.lack();
+                }
+            }
             Err(_) => came.text("no schedule"),
         }
     }

@@ -3,7 +3,7 @@
 
 ghost use Rattle.std.specs.Prelude.{◌≡◌};
 ghost use Rattle.gc_instrument.specs.Numbers.{temperature};
-ghost use Rattle.gc_instrument.specs.Execution.{Gives, Executes, done, distance_outcome, is_date, commanded, measured, pointed, turned_over, searched};
+ghost use Rattle.gc_instrument.specs.Execution.{Gives, Executes, done, measured_outcome, is_date, commanded, measured, pointed, turned_over, searched};
 
 use super::Instrument;
 use crate::codes::{INVALID_PARAMETER, NO_DISTANCE, NO_TARGET};
@@ -14,7 +14,7 @@ use gc_values::Decimal;
 
 impl Instrument {
     ghost use Rattle.gc_catalogue.specs.declared.call.Call.TheVariants.{SetPrecision, SetDate, SetStation, SetHeight, GetAngle, SimpleMea, QuickDist, SetPrism, MeasDistance};
-    ghost use Rattle.gc_catalogue.specs.declared.answer.Answer.TheVariants.{Nothing, Name, Place, Angles, Measured, MeasuredMode};
+    ghost use Rattle.gc_catalogue.specs.declared.answer.Answer.TheVariants.{Nothing, Name, Place, Angles};
 
     /// Carries out a call, and returns the return code and the answer. The code is 0, 2 for a value that isn't allowed, 1285 if no
     /// distance is known, or 8710 if no target is found. With a code other than 0 the answer is `Answer::Nothing`, and nothing changes,
@@ -29,7 +29,7 @@ impl Instrument {
     }
 
     // As `execute`, but the answer is written into `answer`, which has to be `Answer::Nothing` before, and the return code alone is
-    // returned. Each call that sets values, has several outcomes or has a large answer has a method below, which does the same.
+    // returned. A call that sets values, has several outcomes or has a large answer is carried out by a method of its own, below.
     #[inline(always)]
     #[tactic(auto, unfolding(crate::specs::Execution::exec))]
     pub(super) fn carry_out(&mut self, call: &Call, answer: &mut Answer) -> u16
@@ -204,8 +204,7 @@ impl Instrument {
     #[inline(never)]
     fn answer_measured(&self, answer: &mut Answer) -> u16
         requires { answer.old ≡ Nothing }
-        ensures { Gives (distance_outcome self.now (λ d. Measured self.now.pointing.hz self.now.pointing.v d)
-            self.now.distance) self.now result answer.new }
+        ensures { Gives (measured_outcome self.now self.now) self.now result answer.new }
     {
         let Some(distance) = self.settings.distance else {
             return NO_DISTANCE;

@@ -1,10 +1,10 @@
 //! What the instrument replies to a line: nothing if the line is no request, the communication code 3081 or
 //! 3080 if the request names no call, the stored reply if it has the stored id, and else the call's answer.
 
-ghost use Rattle.std.specs.Prelude.{◌≡◌, ◌<◌, ◌≤◌, ◌+◌, length};
-ghost use Rattle.std.specs.Option.{option_map, ForSome};
-ghost use Rattle.arrayvec.specs.ArrayVec.{array_vec_len};
-ghost use Rattle.gc_lines.specs.Answering.{AppendsAnswer, AppendsText};
+ghost use Rattle.std.specs.Prelude.{◌≡◌, ◌<◌};
+ghost use Rattle.std.specs.Option.{option_map};
+ghost use Rattle.gc_lines.specs.Answering.{AppendsAnswer, AppendsText, GrowsByReply, HasRoomForReply};
+ghost use Rattle.gc_lines.specs.Headers.{MayBeId};
 ghost use Rattle.gc_instrument.specs.Replying.{IsReplied, IsExchanged, AppendsExchange, IsReplyToCall, IsReplyToExecuted, OfItsCall, com_code};
 
 use super::Instrument;
@@ -43,9 +43,9 @@ impl Instrument {
     /// more bytes. It returns whether there is a reply: `false` if the line is no request, and then `out` is unchanged.
     #[inline(always)]
     pub fn reply_onto<const N: usize>(&mut self, line: &[u8], out: &mut ArrayVec<u8, N>) -> bool
-        requires { array_vec_len out.old + 512 ≤ N }
+        requires { HasRoomForReply N out.old }
         ensures replied { AppendsAnswer (IsReplied self.old line.now self.new) out.old.items out.new.items result }
-        ensures bound { length out.new.items ≤ length out.old.items + 512 }
+        ensures bound { GrowsByReply out.old.items out.new.items }
         ensures exchanged { AppendsExchange self.old line.now self.new out.old.items out.new.items result }
     {
         reply_to_line(self, line, out)
@@ -59,10 +59,10 @@ impl Instrument {
         call: &Call,
         out: &mut ArrayVec<u8, N>,
     )
-        requires id { ForSome id (λ id. id < 8) }
-        requires room { array_vec_len out.old + 512 ≤ N }
+        requires id { MayBeId id }
+        requires room { HasRoomForReply N out.old }
         ensures replies { AppendsText (IsReplyToCall self.old id call.now self.new) out.old.items out.new.items }
-        ensures bound { length out.new.items ≤ length out.old.items + 512 }
+        ensures bound { GrowsByReply out.old.items out.new.items }
     {
         if let Some(line) = self.kept.line_of(id) {
             append(out, line);
@@ -77,9 +77,9 @@ impl Instrument {
     #[inline]
     fn carry_out_onto<const N: usize>(&mut self, id: u8, call: &Call, out: &mut ArrayVec<u8, N>)
         requires id { id < 8 }
-        requires room { array_vec_len out.old + 512 ≤ N }
+        requires room { HasRoomForReply N out.old }
         ensures replies { AppendsText (IsReplyToExecuted self.old id call.now self.new) out.old.items out.new.items }
-        ensures bound { length out.new.items ≤ length out.old.items + 512 }
+        ensures bound { GrowsByReply out.old.items out.new.items }
     {
         let mut answer = Answer::Nothing;
         let rc = self.carry_out(call, &mut answer);

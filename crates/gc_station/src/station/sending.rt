@@ -65,7 +65,7 @@ fn put_line<L: Link>(link: &mut L, line: &Line) -> Result<(), usize>
 
 impl Station {
     // Notes, if a write was cut (`put` is `Err`, with the number of bytes that were sent), that the connection is to be closed for
-    // that. `requests` is the number that `commands_before` returns.
+    // that. `requests` is the number that `commands_before` returned before the write: sending a command moves it on.
     fn note_cut(&mut self, put: Result<(), usize>, requests: usize)
         ensures { self.new ≡ record self.old { progress = cut_progress put requests self.old.progress } }
     {

@@ -7,3 +7,6 @@ returns-clause-line c = c.encode_answer_onto.ensures.line ∙ ap (λ bytes. byte
 
 pub returns-clause-plain : goal.returns-clause-plain
 returns-clause-plain c = rw (returns-clause-line c) c.encode_answer_onto.ensures.plain
+
+pub returns-clause-refused : goal.returns-clause-refused
+returns-clause-refused c = λ call refused. c.encode_answer_onto.ensures.refused (c.requires.refused refused) call refused

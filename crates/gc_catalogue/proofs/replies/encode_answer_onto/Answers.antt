@@ -48,8 +48,8 @@ returns-clause-reads_back g c = λ call success of_call.
     rw success (answer_again call c.args.id c.args.answer.now c.args.places c.requires.id of_call (returns-clause-fitting g c))
 
 pub returns-clause-refused : goal.returns-clause-refused
-returns-clause-refused g c = λ call refused.
-    rw (c.requires.refused refused) (refusal_again call c.args.id c.args.rc c.args.places c.requires.id (omega arith) c.ranges.rc.fits)
+returns-clause-refused g c = λ nothing call refused.
+    rw nothing (refusal_again call c.args.id c.args.rc c.args.places c.requires.id (omega arith) c.ranges.rc.fits)
 
 pub returns-clause-bound : goal.returns-clause-bound
 returns-clause-bound g c =

@@ -1,13 +1,14 @@
-use Rattle.std.proofs.Common.{◌≡◌, ◌+◌, ◌*◌, ◌<◌, ◌≤◌, length, false}
-use Rattle.gc_engines.proofs.LogVerdicts.{VerdictsSoFar}
+use Rattle.std.proofs.Common.{◌≡◌, ◌+◌, ◌*◌, ◌<◌, ◌≤◌, [], length, false}
+use Rattle.gc_lines.specs.Answering.{GaveInReads}
+use Rattle.gc_engines.specs.LogChecking.{HasChecked}
 use Rattle.gc_engines.proofs.check_log.run_check_log.Given as goal
 
--- the verdicts on the lines of all bytes read so far went out (`VerdictsSoFar`), in `counter` reads, at most 256 verdicts for
--- each; the last read, if there was one, wasn't the end; whether a port has failed is as at the start; and the buffer has room
--- for 256 bytes
+-- the check is done with all bytes read so far (`HasChecked`), in `counter` reads, at most 256 verdicts for each; the last read, if
+-- there was one, wasn't the end; whether a port has failed is as at the start; and the buffer has room for 256 bytes
 abbrev pub invariant-loop : goal.invariant-loop
 invariant-loop g l = record {
-  so : VerdictsSoFar (g.S.Source.remaining l.initial.source) (g.S.Source.remaining l.source) (g.K.Sink.taken l.initial.sink) (g.K.Sink.taken l.sink) l.check l.counter;
+  so : GaveInReads (g.S.Source.remaining l.initial.source) (g.S.Source.remaining l.source) l.counter
+      (λ given. HasChecked l.check [] given (g.K.Sink.taken l.initial.sink) (g.K.Sink.taken l.sink) 0);
   reads : g.S.Source.reads l.source ≡ g.S.Source.reads l.initial.source + l.counter;
   going : 0 < l.counter → g.S.Source.ended l.source ≡ false;
   source : g.S.Source.failed l.source ≡ g.S.Source.failed l.initial.source;

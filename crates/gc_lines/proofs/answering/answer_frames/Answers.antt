@@ -2,14 +2,15 @@ use Rattle.std.proofs.Common.{◌≤◌, length, take, arith, sym, ◌∙◌, ru
 use Rattle.std.proofs.lemmas.Bool.{ne_eqb}
 use Rattle.std.proofs.lemmas.List.{length-take}
 use Rattle.gc_lines.proofs.Exactly.{ended_exactly}
-use Rattle.gc_lines.proofs.Given.{given_more, given_part, given_end}
+use Rattle.gc_lines.proofs.Given.{answered_more, answered_part, gave_more, given_end}
 use Rattle.gc_lines.proofs.answering.answer_frames.Goals as goal
 
 pub loop-preserved : goal.loop-preserved
 loop-preserved g c =
+    let it = c.loop.invariant.so in
     let short : length (take c.in-Ok.n c.read.new.buf) ≤ 256 = omega (arith, c.loop.invariant.room, c.read.auto.buf, length-take c.in-Ok.n c.read.new.buf) in
     record {
-      so = given_more _ _ (g.S.Source.remaining c.loop.source) _ c.loop.session.assembler _ _ c.loop.counter c.loop.invariant.so _ c.in-Ok.ensures.bytes.1 short _ _ c.in_default.ensures.answered;
+      so = gave_more _ _ _ c.loop.counter _ _ _ _ it c.in-Ok.ensures.bytes.1 short (omega arith) (answered_more _ _ _ _ _ it.0 _ it.3 _ c.in_default.ensures.answered);
       reads = omega (arith, c.loop.invariant.reads, c.in-Ok.ensures.counts.0);
       going = λ _. c.in-Ok.ensures.counts.1 ∙ ne_eqb c.in-Ok.n 0 c.in-Ok.n-test.1;
       source = c.in-Ok.ensures.fails.1 ∙ sym c.in-Ok.ensures.fails.0 ∙ c.loop.invariant.source;
@@ -22,10 +23,13 @@ loop-preserved g c =
 
 pub returns-in-Err-answer_piece-clause-answers : goal.returns-in-Err-answer_piece-clause-answers
 returns-in-Err-answer_piece-clause-answers g c =
+    let it = c.loop.invariant.so in
     let short : length (take c.in-Ok.n c.read.new.buf) ≤ 256 = omega (arith, c.loop.invariant.room, c.read.auto.buf, length-take c.in-Ok.n c.read.new.buf) in
-    let it = given_part _ _ (g.S.Source.remaining c.loop.source) _ c.loop.session.assembler _ _ c.loop.counter c.loop.invariant.so
-    _ c.in-Ok.ensures.bytes.1 short _ _ c.loop.session.gathers c.in-Err-answer_piece.ensures.answered in
-    (it.0, (it.1.0, it.1.1, omega (arith, it.1.2, c.loop.invariant.reads, c.in-Ok.ensures.counts.0), it.1.3), λ e. it.2 (c.loop.invariant.gathers ∙ e))
+    let part = answered_part _ _ _ _ _ it.0 _ it.3 _ _ c.in-Err-answer_piece.ensures.answered in (
+      part.reached,
+      gave_more _ _ _ c.loop.counter _ _ _ _ it c.in-Ok.ensures.bytes.1 short (omega (arith, c.loop.invariant.reads, c.in-Ok.ensures.counts.0)) part.part,
+      λ e. part.alone (c.loop.invariant.gathers ∙ e),
+    )
 
 pub returns-in-Err-answer_piece-clause-ended : goal.returns-in-Err-answer_piece-clause-ended
 returns-in-Err-answer_piece-clause-ended g c =

@@ -1,13 +1,13 @@
 use Rattle.std.proofs.Common.{◌≡◌, ◌+◌, ◌*◌, ◌<◌, ◌≤◌, length, false}
-use Rattle.gc_lines.specs.Answering.{progress}
+use Rattle.gc_lines.specs.Answering.{GaveInReads, progress}
 use Rattle.gc_lines.specs.Passing.{NoneWait}
-use Rattle.gc_lines.proofs.Given.{AnsweredSoFar}
+use Rattle.gc_lines.proofs.Given.{HasAnswered}
 use Rattle.gc_lines.proofs.answering.answer_frames.Given as goal
 
 abbrev pub invariant-loop : goal.invariant-loop
 invariant-loop g l = record {
-  so : AnsweredSoFar g.A.Answers.answers (g.S.Source.remaining l.initial.source) (g.S.Source.remaining l.source) l.session.assembler
-      (progress l.initial.answerer (g.K.Sink.taken l.initial.sink) 0) (progress l.answerer (g.K.Sink.taken l.sink) l.session.replies) l.counter;
+  so : GaveInReads (g.S.Source.remaining l.initial.source) (g.S.Source.remaining l.source) l.counter
+      (HasAnswered g.A.Answers.answers l.session.assembler (progress l.initial.answerer (g.K.Sink.taken l.initial.sink) 0) (progress l.answerer (g.K.Sink.taken l.sink) l.session.replies));
   reads : g.S.Source.reads l.source ≡ g.S.Source.reads l.initial.source + l.counter;
   going : 0 < l.counter → g.S.Source.ended l.source ≡ false;
   source : g.S.Source.failed l.source ≡ g.S.Source.failed l.initial.source;

@@ -18,7 +18,7 @@ returns-in-Ok-clause-told g c =
       };
       holds = t;
     }))
-    (rw (c.for_file.ensures) at c.measure_at-filed.ensures.told)
+    (rw (c.for_file-station.ensures) at c.measure_at-filed.ensures.told)
 
 pub returns-in-Ok-clause-done : goal.returns-in-Ok-clause-done
 returns-in-Ok-clause-done g c =
@@ -35,7 +35,7 @@ returns-in-Ok-clause-done g c =
       };
       holds = d zero;
     })
-    (rw (c.for_file.ensures) at c.measure_at-filed.ensures.done)
+    (rw (c.for_file-station.ensures) at c.measure_at-filed.ensures.done)
 
 pub returns-in-Err-clause-told : goal.returns-in-Err-clause-told
 returns-in-Err-clause-told g c =

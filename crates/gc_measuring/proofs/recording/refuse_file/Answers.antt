@@ -1,4 +1,4 @@
-use Rattle.std.proofs.Common.{subst}
+use Rattle.std.proofs.Common.{subst, ap, ◌∙◌, append-nil}
 use Rattle.std.proofs.KnownBytes.{Appends-trans}
 use Rattle.std.specs.Io.KnownBytes.{Appends}
 use Rattle.gc_texts.specs.Faults.{fault_line, run_fault_text}
@@ -11,8 +11,8 @@ returns g c =
       told = (
         t.0,
         Appends-trans _ _ _ _ _
-            (subst (λ fault. Appends (g.E.Write.contents c.args.messages.now) (g.E.Write.contents c.report_end_of_run.new.messages) (fault_line (run_fault_text fault)))
-            c.fault_of_unfit.ensures t.1)
+            (subst (Appends (g.E.Write.contents c.args.messages.now) (g.E.Write.contents c.report_end_of_run.new.messages))
+            (append-nil _ ∙ ap (λ fault. fault_line (run_fault_text fault)) c.fault_of_unfit.ensures) t.1)
             c.in_ok-write_rotation.ensures,
       );
     }

@@ -44,7 +44,7 @@ returns-in-None-clause-told g c =
       is_lost = false;
       logged = λ lost. absurd (false≢true lost);
       ran =
-          inl (measures_at_link _ c.args.station _ new c.measure_over-streams.new.link.link.history.acts c.in-Ok.opened.moment.utc _ (ap (λ l. Some l.history.acts) c.into_link.ensures) t);
+          inl (measures_at_link _ c.args.spot.station _ new c.measure_over-streams.new.link.link.history.acts c.in-Ok.opened.moment.utc _ (ap (λ l. Some l.history.acts) c.into_link.ensures) t);
       fails = t.fails;
       counts = t.counts;
       loss = refl;
@@ -55,7 +55,7 @@ pub returns-in-None-clause-done : goal.returns-in-None-clause-done
 returns-in-None-clause-done g c =
     let new = stage c.measure_over-streams.result.0 (acts_of (Some c.into_link.result)) c.measure_over-streams.new.kept.turns in
     IfOk-weaker c.measure_over-streams.result.1 _ _
-    (λ status d zero. measures_all_at_link _ c.args.station _ new c.measure_over-streams.new.link.link.history.acts c.in-Ok.opened.moment.utc
+    (λ status d zero. measures_all_at_link _ c.args.spot.station _ new c.measure_over-streams.new.link.link.history.acts c.in-Ok.opened.moment.utc
     (ap (λ l. Some l.history.acts) c.into_link.ensures) (d zero))
     (rw (c.new-link.ensures, c.new-told.ensures, c.begun-station.ensures) at c.measure_over-streams.ensures.done)
 
@@ -69,7 +69,7 @@ returns-in-Some-clause-told g c =
       behind = t.0;
       is_lost = _;
       logged = λ _. sym c.in-Ok.ensures.logged ∙ ap is_some c.in-Some.is;
-      ran = inl (measures_at_link _ c.args.station _ (with_messages new t.0) c.measure_logged-streams.new.logged.link.link.history.acts c.in-Ok.opened.moment.utc _
+      ran = inl (measures_at_link _ c.args.spot.station _ (with_messages new t.0) c.measure_logged-streams.new.logged.link.link.history.acts c.in-Ok.opened.moment.utc _
           (ap (λ l. Some l.history.acts) (c.into_link-in-Some-2.ensures ∙ ap (λ n. n.link) c.into_link-in-Some.ensures)) t.1);
       fails = t.1.fails;
       counts = t.1.counts;
@@ -81,6 +81,6 @@ pub returns-in-Some-clause-done : goal.returns-in-Some-clause-done
 returns-in-Some-clause-done g c =
     let new = stage c.measure_logged-streams.result.0 (acts_of (Some c.into_link-in-Some-2.result)) c.measure_logged-streams.new.kept.turns in
     IfOk-weaker c.measure_logged-streams.result.1 _ _
-    (λ status d zero. measures_all_at_link _ c.args.station _ new c.measure_logged-streams.new.logged.link.link.history.acts c.in-Ok.opened.moment.utc
+    (λ status d zero. measures_all_at_link _ c.args.spot.station _ new c.measure_logged-streams.new.logged.link.link.history.acts c.in-Ok.opened.moment.utc
     (ap (λ l. Some l.history.acts) (c.into_link-in-Some-2.ensures ∙ ap (λ n. n.link) c.into_link-in-Some.ensures)) (d zero))
     (rw (c.new-logged.ensures, c.new-link.ensures, c.new-told.ensures, c.begun-station.ensures) at c.measure_logged-streams.ensures.done)

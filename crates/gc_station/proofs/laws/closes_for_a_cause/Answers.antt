@@ -1,7 +1,12 @@
-use Rattle.gc_links.specs.Acts.{Closed}
-use Rattle.gc_station.specs.Model.{opening}
+use Rattle.std.proofs.Common.{subst}
+use Rattle.gc_links.specs.Acts.{Act}
+use Rattle.gc_station.specs.Model.{opening, action_at, Performs}
+use Rattle.gc_station.specs.Runs.{state_after}
 use Rattle.gc_station.proofs.Closings.{runs_split, closed_for}
 use Rattle.gc_station.proofs.laws.closes_for_a_cause.Goals as goal
 
 pub returns : goal.returns
-returns c plan commands scope earlier later runs = let split = runs_split plan commands (opening plan scope) earlier later Closed runs in closed_for plan commands scope earlier split.0 split.1
+returns c plan commands scope earlier later act runs is =
+    let s = state_after plan commands scope earlier in
+    let split = runs_split plan commands (opening plan scope) earlier later act runs in
+    closed_for plan commands scope earlier split.0 (subst (λ (a : Act). Performs commands s (action_at plan s) a) is split.1)

@@ -15,4 +15,4 @@ returns-in-Err c =
     let params = c.args.params.now in
     reads_fault (raw_rule procedure params)
     c.raw_call.result (λ raw is. c.raw_call.ensures.only raw is.0 is.1) c.raw_call.ensures.exactly
-    c.in-Err.fault c.number_of.result c.in-Err.is c.in-Err.ensures.fault c.number_of.ensures (raw_of_request c.in-Err.fault)
+    c.in-Err.fault c.raw_number.result c.in-Err.is c.in-Err.ensures.fault c.raw_number.ensures (raw_of_request c.in-Err.fault)

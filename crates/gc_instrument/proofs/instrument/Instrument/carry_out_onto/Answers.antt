@@ -1,4 +1,4 @@
-use Rattle.std.proofs.Common.{◌≡◌, ◌≢◌, sym, ap, ◌∙◌, subst, rules}
+use Rattle.std.proofs.Common.{◌≡◌, ◌≢◌, sym, ap, ◌∙◌, subst}
 use Rattle.gc_catalogue.specs.Laws.{ReadsBackValue, ReadsBackRefusal}
 use Rattle.gc_catalogue.specs.Texts.{reply_line}
 use Rattle.gc_catalogue.specs.declared.answer.Answer.TheVariants.{Nothing}
@@ -9,14 +9,6 @@ use Rattle.gc_instrument.proofs.Answering.{reads_executed}
 use Rattle.gc_instrument.proofs.Executions.{exec_outcome}
 use Rattle.gc_instrument.proofs.instrument.Instrument.carry_out_onto.Goals as goal
 
-pub encode_answer_onto-requires : goal.encode_answer_onto-requires
-encode_answer_onto-requires g c =
-    let e = c.carry_out-rc.ensures in
-    let rc = ap (λ (x : Executed). x.rc) e in
-    let answer = ap (λ (x : Executed). x.answer) e in
-    let refuses : c.carry_out-rc.result ≢ 0 → c.carry_out-rc.new.answer ≡ Nothing = λ h. sym answer ∙ (exec_outcome c.args.self.now c.args.call.now).refuses (λ none. h (sym rc ∙ none)) in
-    (search rules, (search rules, (search rules, (refuses, search rules))))
-
 pub returns-clause-replies : goal.returns-clause-replies
 returns-clause-replies g c =
     let s = c.args.self.now in
@@ -25,8 +17,11 @@ returns-clause-replies g c =
     let precision = c.self.inside.settings.precision in
     let places : precision ≡ x.state.precision = ap (λ (t : State). t.precision) c.self.view_is in
     let line : reply_line id x.rc x.answer precision ≡ executed_line id x = ap (reply_line id x.rc x.answer) places in
+    let refuses : x.rc ≢ 0 → x.answer ≡ Nothing =
+    subst (λ (y : Executed). y.rc ≢ 0 → y.answer ≡ Nothing) c.carry_out-rc.ensures (exec_outcome s c.args.call.now).refuses in
+    let refused : ReadsBackRefusal id x.rc x.answer precision = λ call some. c.encode_answer_onto.ensures.refused (refuses some) call some in
     let says : IsAnswered s id c.args.call.now (executed_line id x) = reads_executed s id c.args.call.now x c.carry_out-rc.ensures
-    (subst (ReadsBackValue id x.rc x.answer) places c.encode_answer_onto.ensures.reads_back) (subst (ReadsBackRefusal id x.rc x.answer) places c.encode_answer_onto.ensures.refused) in
+    (subst (ReadsBackValue id x.rc x.answer) places c.encode_answer_onto.ensures.reads_back) (subst (ReadsBackRefusal id x.rc x.answer) places refused) in
     record {
       text = _;
       appended = c.encode_answer_onto.ensures.line;

@@ -6,7 +6,7 @@ use Rattle.gc_logs.proofs.logged.LoggedLink.close.Goals as goal
 
 pub returns-clause-logs : goal.returns-clause-logs
 returns-clause-logs g c = record {
-  took = takes_both_lists c.args.self.now.log.utc _ (entries_of_pending Went c.args.self.now.log.went.bytes.items
+  took = takes_both_lists c.args.self.now.log.lines.utc _ (entries_of_pending Went c.args.self.now.log.went.bytes.items
       ++ entries_of_pending Came c.args.self.now.log.came.bytes.items) (link_entry (codes "closed") ∷ []) c.flush.ensures.utc
       c.flush.ensures.took c.add_word.ensures.took;
   went = c.add_word.ensures.went ∙ c.flush.ensures.went;

@@ -5,12 +5,12 @@ use Rattle.gc_scenes.proofs.Playing.{gave_fault, gave_scripted, gave_refusal}
 use Rattle.gc_scenes.proofs.instrument.SceneInstrument.answer_raw.Goals as goal
 
 pub returns-in-Some-clause-gave : goal.returns-in-Some-clause-gave
-returns-in-Some-clause-gave g c = gave_fault c.args.self.now _ c.args.rpc c.args.id _ _ c.in-Some.rc (sym c.in-Some.is ∙ c.fault_of.ensures) c.answer_unexecuted.ensures.gave
+returns-in-Some-clause-gave g c = gave_fault c.args.self.now _ c.args.rpc c.args.id _ _ c.in-Some.rc (sym c.in-Some.is ∙ c.fault_of.ensures) c.answer_request.ensures.gave
 
 pub returns-in-Some-scripted_reply-clause-gave : goal.returns-in-Some-scripted_reply-clause-gave
 returns-in-Some-scripted_reply-clause-gave g c =
-    let h = rw c.params.ensures.value at c.answer_unexecuted-in-Some-scripted_reply.ensures.gave in
-    gave_scripted c.args.self.now _ c.args.rpc c.args.id _ _ c.in-Some-scripted_reply.scripted (sym c.in-None.is ∙ c.fault_of.ensures) (sym c.in-Some-scripted_reply.is ∙ c.scripted_reply.ensures) h
+    gave_scripted c.args.self.now _ c.args.rpc c.args.id _ _ c.in-Some-scripted_reply.reply (sym c.in-None.is ∙ c.fault_of.ensures) (sym c.in-Some-scripted_reply.is ∙ c.scripted_reply.ensures)
+    c.answer_request-in-Some-scripted_reply.ensures.gave
 
 pub returns-in-None-scripted_reply-clause-gave : goal.returns-in-None-scripted_reply-clause-gave
 returns-in-None-scripted_reply-clause-gave g c =

@@ -6,7 +6,7 @@ use Rattle.gc_scenes.proofs.Playing.{call_reply, unread_reply}
 use Rattle.gc_scenes.proofs.replying.SceneInstrumentReplies.reply_to.Goals as goal
 
 pub returns-in-Ok-clause-replies : goal.returns-in-Ok-clause-replies
-returns-in-Ok-clause-replies g c = call_reply c.args.self.now _ (request_seen c.args.request.now) c.decode_call_into.new.call _ _ c.in-Ok.ensures.found c.answer_call.ensures.gave
+returns-in-Ok-clause-replies g c = call_reply c.args.self.now _ (request_seen c.args.request.now) c.decode_call_into.new.call _ _ c.in-Ok.ensures.found c.answer_request.ensures.gave
 
 pub returns-in-Err-Parameters-clause-replies : goal.returns-in-Err-Parameters-clause-replies
 returns-in-Err-Parameters-clause-replies g c =

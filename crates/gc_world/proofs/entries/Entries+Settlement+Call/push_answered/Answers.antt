@@ -13,9 +13,9 @@ returns c =
     let items : c.push_reserved.new.self.items ≡ xs ++ blank ∷ [] = search rules in
     let place : c.len-place.result ≡ length xs = search rules in
     let was : c.index_mut.result.now ≡ blank = at_last xs c.push_reserved.new.self.items c.len-place.result blank c.index_mut.result.now items place c.index_mut.ensures.value in
-    let outcome : c.append_answer.new.outcome ≡ Answered c.args.reading.now c.args.line.now =
-    c.append_answer.ensures c.args.reading.now (ap (λ (s : Settlement Call). s.outcome) was
+    let outcome : c.put_answer_line.new.outcome ≡ Answered c.args.reading.now c.args.line.now =
+    c.put_answer_line.ensures c.args.reading.now (ap (λ (s : Settlement Call). s.outcome) was
     ∙ ap (Answered c.args.reading.now) (empty_line c.new.result c.new.ensures)) in
     set_last xs c.push_reserved.new.self.items c.len-place.result blank _ _ items place
-    (ap {A = Settlement Call} {B = Settlement Call} (λ s. record { target = s.target; call = s.call; outcome = c.append_answer.new.outcome }) was
+    (ap {A = Settlement Call} {B = Settlement Call} (λ s. record { target = s.target; call = s.call; outcome = c.put_answer_line.new.outcome }) was
     ∙ ap {A = Outcome} {B = Settlement Call} (λ o. record { target = c.args.target; call = c.args.call.now; outcome = o }) outcome)

@@ -1,3 +1,4 @@
+use Rattle.gc_world.proofs.Pieces.{came_out, none_else}
 use Rattle.gc_world.proofs.Streaming.{front_of}
 use Rattle.gc_world.proofs.side.Side.finish.Goals as goal
 
@@ -12,3 +13,10 @@ feed_rest-frame-requires-clause-some c =
 pub feed_rest-frame-requires-clause-stands : goal.feed_rest-frame-requires-clause-stands
 feed_rest-frame-requires-clause-stands c =
     let s = c.args.self.now in (front_of s.assembler s.gone c.args.line.now c.requires.flow.0 c.requires.flow.1).stands
+
+-- the line came out
+pub unreachable-requires : goal.unreachable-requires
+unreachable-requires c = none_else c.feed_rest-frame.result c.args.line.now c.feed_rest-frame.ensures.line c.in_default.not-Line
+
+pub returns-clause-line : goal.returns-clause-line
+returns-clause-line c = came_out c.feed_rest-frame.result c.in-Line.whole c.args.line.now c.in-Line.is c.feed_rest-frame.ensures.line

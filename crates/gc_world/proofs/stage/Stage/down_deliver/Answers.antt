@@ -7,7 +7,6 @@ use Rattle.gc_world.specs.declared.direction.Direction.TheVariants.{Down}
 use Rattle.gc_world.specs.declared.report.Made.{Made}
 use Rattle.gc_world.specs.Stages.{stage_parts}
 use Rattle.gc_world.specs.Streams.{down_texts}
-use Rattle.gc_world.proofs.Pieces.{came_out, none_else}
 use Rattle.gc_world.proofs.Showing.{none_settled}
 use Rattle.gc_world.proofs.Shown.{carries, front_reply, streams_down_deliver}
 use Rattle.gc_world.proofs.Sides.{front_flow}
@@ -21,8 +20,8 @@ at-requires g c =
     let front = front_reply shown.0 s shown.1 shown.2 c.in-Some.place c.take_front.new.self c.in-Some.ensures in
     slice_get_within s.report.made c.in-Some.place front.0 front.1
 
-pub finish-frame-requires-clause-flow : goal.finish-frame-requires-clause-flow
-finish-frame-requires-clause-flow g c =
+pub finish-reply-requires-clause-flow : goal.finish-reply-requires-clause-flow
+finish-reply-requires-clause-flow g c =
     let s = stage_parts c.args.self.now in
     let shown = c.requires.shown in
     let texts = down_texts shown.1.world.wire in
@@ -30,18 +29,13 @@ finish-frame-requires-clause-flow g c =
     ap (option_map (λ (m : Made). m.line.items)) c.at.ensures ∙ ap Some (sym c.as_slice-line.ensures.value) in
     front_flow Down s.report s.down texts (carries shown.0 s shown.1 shown.2 Down) c.in-Some.place c.take_front.new.self c.as_slice-line.result.now c.in-Some.ensures text
 
--- the line came out
-pub returns-in_default-frame : goal.returns-in_default-frame
-returns-in_default-frame g c =
-    absurd (none_else c.finish-frame.result c.as_slice-line.result.now c.finish-frame.ensures.line c.in_default-frame.not-Line)
-
 pub returns-in_err-append_all-clause-spare : goal.returns-in_err-append_all-clause-spare
 returns-in_err-append_all-clause-spare g c =
     let s = stage_parts c.args.self.now in
     let shown = c.requires.shown in
     let line = c.at.result.now.line in
-    let reply = c.in-Line.reply.now in
-    let came : reply ≡ c.as_slice-line.result.now = came_out c.finish-frame.result c.in-Line.reply c.as_slice-line.result.now c.in-Line.is c.finish-frame.ensures.line in
+    let reply = c.finish-reply.result.now in
+    let came : reply ≡ c.as_slice-line.result.now = c.finish-reply.ensures.line in
     let out : reply ≡ line.items = came ∙ c.as_slice-line.ensures.value in
     let fits : length reply ≤ 512 = subst (λ l. length l ≤ 512) (sym came) c.as_slice-line.ensures.fits in
     λ width v h t. absurd (false≢true (sym (stray width s.report s.up.queue s.down.queue s.client v.world h.lines c.in-Some.place c.take_front.new.self
@@ -52,45 +46,45 @@ returns-in_ok-append_all-clause-follows g c =
     let s = stage_parts c.args.self.now in
     let shown = c.requires.shown in
     let line = c.at.result.now.line in
-    let reply = c.in-Line.reply.now in
-    let came : reply ≡ c.as_slice-line.result.now = came_out c.finish-frame.result c.in-Line.reply c.as_slice-line.result.now c.in-Line.is c.finish-frame.ensures.line in
+    let reply = c.finish-reply.result.now in
+    let came : reply ≡ c.as_slice-line.result.now = c.finish-reply.ensures.line in
     let out : reply ≡ line.items = came ∙ c.as_slice-line.ensures.value in
     let fits : length reply ≤ 512 = subst (λ l. length l ≤ 512) (sym came) c.as_slice-line.ensures.fits in
-    λ width v h. streams_down_deliver width s v h c.finish-frame.new.self (record {
+    λ width v h. streams_down_deliver width s v h c.finish-reply.new.self (record {
       place = c.in-Some.place;
       reply = c.at.result.now;
       line = reply;
       more = c.hear.new.settled.items;
       settled = c.append_all.new.self;
       client = c.hear.new.self;
-      front = c.in-Some.ensures ∙ ap (λ q. c.in-Some.place ∷ q) (sym c.finish-frame.ensures.queue);
+      front = c.in-Some.ensures ∙ ap (λ q. c.in-Some.place ∷ q) (sym c.finish-reply.ensures.queue);
       found = c.at.ensures;
       line_is = out;
       more_are = c.hear.ensures.settled fits;
       client_is = c.hear.ensures.client fits;
       settled_is = c.in_ok-append_all.ensures ∙ ap (λ l. s.report.settled ++ l) c.as_slice.ensures.value;
-    }) c.finish-frame.ensures.start c.finish-frame.ensures.gone
+    }) c.finish-reply.ensures.start c.finish-reply.ensures.gone
 
 pub returns-in_default-hear-clause-follows : goal.returns-in_default-hear-clause-follows
 returns-in_default-hear-clause-follows g c =
     let s = stage_parts c.args.self.now in
     let shown = c.requires.shown in
     let line = c.at.result.now.line in
-    let reply = c.in-Line.reply.now in
-    let came : reply ≡ c.as_slice-line.result.now = came_out c.finish-frame.result c.in-Line.reply c.as_slice-line.result.now c.in-Line.is c.finish-frame.ensures.line in
+    let reply = c.finish-reply.result.now in
+    let came : reply ≡ c.as_slice-line.result.now = c.finish-reply.ensures.line in
     let out : reply ≡ line.items = came ∙ c.as_slice-line.ensures.value in
     let fits : length reply ≤ 512 = subst (λ l. length l ≤ 512) (sym came) c.as_slice-line.ensures.fits in
-    λ width v h. streams_down_deliver width s v h c.finish-frame.new.self (record {
+    λ width v h. streams_down_deliver width s v h c.finish-reply.new.self (record {
       place = c.in-Some.place;
       reply = c.at.result.now;
       line = reply;
       more = c.hear.new.settled.items;
       settled = s.report.settled;
       client = c.hear.new.self;
-      front = c.in-Some.ensures ∙ ap (λ q. c.in-Some.place ∷ q) (sym c.finish-frame.ensures.queue);
+      front = c.in-Some.ensures ∙ ap (λ q. c.in-Some.place ∷ q) (sym c.finish-reply.ensures.queue);
       found = c.at.ensures;
       line_is = out;
       more_are = c.hear.ensures.settled fits;
       client_is = c.hear.ensures.client fits;
       settled_is = none_settled s.client.ids c.hear.new.self.ids reply c.hear.result c.hear.new.settled.items s.report.settled (c.hear.ensures.heard fits) c.in_default-hear.not-Settled;
-    }) c.finish-frame.ensures.start c.finish-frame.ensures.gone
+    }) c.finish-reply.ensures.start c.finish-reply.ensures.gone

@@ -3,7 +3,7 @@ use Rattle.std.specs.Option.{option_copied}
 use Rattle.gc_texts.specs.Retries.{NamesRule}
 use Rattle.gc_texts.specs.declared.again.Again.{Again}
 use Rattle.gc_texts.proofs.ReasonForms.{reason_fails, reasons_too_many, reason_reads, all_reasons_read}
-use Rattle.gc_texts.proofs.retry.read_again.Goals as goal
+use Rattle.gc_texts.proofs.retry.read_reasons.Goals as goal
 
 pub returns-in_err-reason : goal.returns-in_err-reason
 returns-in_err-reason c =

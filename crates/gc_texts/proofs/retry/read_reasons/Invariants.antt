@@ -1,7 +1,7 @@
 use Rattle.std.specs.Option.{option_copied}
 use Rattle.gc_texts.proofs.ReasonForms.{NamesSoFar}
 use Rattle.gc_texts.proofs.TextLines.{much_left}
-use Rattle.gc_texts.proofs.retry.read_again.Given as goal
+use Rattle.gc_texts.proofs.retry.read_reasons.Given as goal
 
 -- the words so far name the rule so far, with `count` codes
 abbrev pub invariant-loop-left : goal.invariant-loop-left

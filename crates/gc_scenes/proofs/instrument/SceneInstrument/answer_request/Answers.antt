@@ -1,0 +1,28 @@
+use Rattle.std.proofs.Common.{◌≡◌, sym, ap, ◌∙◌, subst, ℕ, None}
+use Rattle.std.specs.Option.{option_map}
+use Rattle.std.specs.Prelude.{unwrap_or}
+use Rattle.gc_instrument.proofs.Keeping.{appended_bytes}
+use Rattle.gc_scenes.specs.Appending.{AppendsPlayed}
+use Rattle.gc_scenes.specs.SceneReplying.{resent_line, played_fresh, played_line, holding, kept_if_repeating}
+use Rattle.gc_scenes.specs.SceneState.{SceneState}
+use Rattle.gc_scenes.proofs.Playing.{gave_again, gave_played}
+use Rattle.gc_scenes.proofs.instrument.SceneInstrument.answer_request.Goals as goal
+
+pub returns-in-Some-clause-gave : goal.returns-in-Some-clause-gave
+returns-in-Some-clause-gave g c =
+    let s = c.args.self.now in
+    gave_again s c.args.id (played_fresh s c.args.rpc c.args.fresh.now) c.in-Some.line.now _ _ (sym c.resent_line.ensures.line ∙ ap (option_map (λ r. r.now)) c.in-Some.is) c.append.ensures
+
+pub returns-clause-gave : goal.returns-clause-gave
+returns-clause-gave g c =
+    let s = c.args.self.now in
+    let id = c.args.id in
+    let n = unwrap_or id 0 in
+    let old = c.args.out.now.items in
+    let new = c.fresh_onto.new.out.items in
+    let p = played_fresh s c.args.rpc c.args.fresh.now in
+    let played : SceneState = c.fresh_onto.new.self in
+    let h : AppendsPlayed n p played old new = subst (λ (m : ℕ). AppendsPlayed m p played old new) c.unwrap_or.ensures c.fresh_onto.ensures.played in
+    let none : resent_line s id ≡ None = sym c.resent_line.ensures.line ∙ ap (option_map (λ r. r.now)) c.in_default.is in
+    let own = appended_bytes old c.deref.result.now (played_line n p) c.len-start.result (c.deref.ensures.0 ∙ h.appended) c.len-start.ensures.value in
+    gave_played s id p played c.keep.new.self old new none h (c.keep.ensures ∙ ap (λ l. holding (kept_if_repeating played id l) played) own)

@@ -1,0 +1,18 @@
+use Rattle.std.proofs.Common.{Option, subst, ℕ}
+use Rattle.gc_scenes.specs.Appending.{AppendsPlayed}
+use Rattle.gc_scenes.specs.Rules.{fault_of}
+use Rattle.gc_scenes.specs.SceneExecution.{unless_faulted}
+use Rattle.gc_scenes.specs.SceneState.{SceneState}
+use Rattle.gc_scenes.proofs.instrument.SceneInstrument.fresh_onto.Goals as goal
+
+pub returns-in-Call-clause-played : goal.returns-in-Call-clause-played
+returns-in-Call-clause-played g c =
+    let call = c.in-Call.call.now in
+    let Does : SceneState → Option ℕ → Type 0 = λ s fault. AppendsPlayed c.args.id (unless_faulted s call fault) c.play_onto.new.self c.args.out.now.items c.play_onto.new.out.items in
+    rw c.in-Call.is (subst (λ (s : SceneState). Does s (fault_of c.args.rpc c.args.self.now.faults)) c.count.ensures
+    (subst (λ (fault : Option ℕ). Does c.count.new.self fault) c.fault_of-fault.ensures c.play_onto.ensures.played))
+
+pub returns-in-Raw-clause-played : goal.returns-in-Raw-clause-played
+returns-in-Raw-clause-played g c =
+    let line = rw c.params.ensures.value at c.push_reply_with.ensures.line in
+    rw c.in-Raw.is (record { state = c.count-in-Raw.ensures; appended = line })
