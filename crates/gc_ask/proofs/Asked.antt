@@ -13,15 +13,15 @@ use Rattle.gc_lines.proofs.Cutting.{rest-append}
 use Rattle.gc_lines.proofs.InOrder.{all_of-append}
 use Rattle.gc_lines.proofs.Known.{Appends-is}
 use Rattle.gc_catalogue.specs.declared.call.Call.{Call}
-use Rattle.gc_client.specs.Rule.{ById, Settlement, heard, fits, hears, settled_by_line, place_in}
+use Rattle.gc_client.specs.Rule.{ById, Settlement, heard, fits, hears, hears_line, settled_by_line, place_in}
 use Rattle.gc_client.specs.Settlements.{settlement_seen}
-use Rattle.gc_ask.specs.Asking.{awaited, idle, waiting_for, FirstReply, first_reply, settled_by, asked_from, asked, written_request, written_requests, lost_of}
+use Rattle.gc_ask.specs.Asking.{awaited, ready_for, waiting_for, FirstReply, first_reply, settled_by, asked_from, asked, written_request, written_requests, lost_of}
 use Rattle.gc_ask.specs.Asking.{LinkResult, IsNext, AsksAll, ReachesCommand, IsCutAt, LosesOne, StopsAt, WritesPart}
 use Rattle.gc_texts.specs.declared.commands.Command.{Command}
-use Rattle.gc_texts.specs.Settlements.{settlement_line, settlement_lines, lines_from, WrotePartOfSettlements}
+use Rattle.gc_texts.specs.Settlements.{settlement_line, settlement_lines, settlement_lines_from, WrotePartOfSettlements}
 use Rattle.gc_ask.specs.Looping.{SeenAtBoth, written_at_both}
 use Rattle.gc_ask.specs.Listening.{ClientHeard, Settles}
-use Rattle.gc_texts.proofs.SettlementLines.{lines_one}
+use Rattle.gc_texts.proofs.SettlementLines.{lines_of_one_more}
 use Rattle.gc_ask.proofs.FirstReplies.{lines_completed-append, first_reply-at}
 
 -- One request that waits.
@@ -30,14 +30,13 @@ use Rattle.gc_ask.proofs.FirstReplies.{lines_completed-append, first_reply-at}
 zero_if_below_one : (p : ℕ) (b : Bool) → b ≡ ltb p 1 → b ≡ true → p ≡ 0
 zero_if_below_one p b is e = omega (arith, ltb-true p 1 (sym is ∙ e))
 
--- a line that fits the client which waits for request k settles that request alone, and the client is then the one before request
--- k + 1, for which nothing waits
+-- a line that fits the client which waits for request k settles that request alone, and the client is then ready for the next
 pub hears_one : (k : ℕ) (c : Command) (line : List ℕ) → fits (waiting_for k c) (heard line) ≡ true
-    → ((hears (waiting_for k c) line (heard line)).settlements ≡ settled_by_line (awaited c) line ∷ []) × ((hears (waiting_for k c) line (heard line)).client ≡ idle (k + 1))
+    → ((hears_line (waiting_for k c) line).settlements ≡ settled_by_line (awaited c) line ∷ []) × ((hears_line (waiting_for k c) line).client ≡ ready_for (k + 1))
 hears_one k c line fit = by_id (heard line) fit where
   -- the lemma above for whatever id is heard (`o`), or none, where it fits the client
   by_id : (o : Option ℕ) → fits (waiting_for k c) o ≡ true
-      → ((hears (waiting_for k c) line o).settlements ≡ settled_by_line (awaited c) line ∷ []) × ((hears (waiting_for k c) line o).client ≡ idle (k + 1))
+      → ((hears (waiting_for k c) line o).settlements ≡ settled_by_line (awaited c) line ∷ []) × ((hears (waiting_for k c) line o).client ≡ ready_for (k + 1))
   by_id None e = (cc)
   by_id (Some id) e =
       let first : place_in (waiting_for k c) id ≡ 0 = zero_if_below_one _ _ refl e in
@@ -61,23 +60,12 @@ all_requests_last done c =
 
 -- the lines of k settlements and one more are those of the k, and then the line of that one, at place k
 pub lines_last : (settled : List (Settlement Call)) (k : ℕ) (next : Settlement Call) → length settled ≡ k
-    → settlement_lines (settled ++ next ∷ []) ≡ settlement_lines settled ++ lines_from k (next ∷ [])
+    → settlement_lines (settled ++ next ∷ []) ≡ settlement_lines settled ++ settlement_lines_from k (next ∷ [])
 lines_last settled k next is =
     let place : 0 + length settled ≡ k = omega (arith, is) in
-    lines_one 0 settled next ∙ ap (λ n. settlement_lines settled ++ settlement_line n next) place ∙ ap (λ t. settlement_lines settled ++ t) (sym (append-nil (settlement_line k next)))
+    lines_of_one_more 0 settled next ∙ ap (λ n. settlement_lines settled ++ settlement_line n next) place ∙ ap (λ t. settlement_lines settled ++ t) (sym (append-nil (settlement_line k next)))
 
--- The bytes that came.
-
--- where the lines of `given` are `looked` and then those that `left` completes after `now`, the rest of a line, and the bytes
--- after the last line feed of `given` are those that `now` and `left` end with, both are still true with `more` at the end of
--- `given` and of `left`
-more_came : (given left more now : List ℕ) (looked : List (List ℕ)) → lines given ≡ looked ++ lines_completed now left → rest_of given ≡ rest_behind now left
-    → (lines (given ++ more) ≡ looked ++ lines_completed now (left ++ more)) × (rest_of (given ++ more) ≡ rest_behind now (left ++ more))
-more_came given left more now looked seen rests = (
-  lines_completed-append [] given more ∙ ap (λ r. lines given ++ lines_completed r more) rests ∙ ap (λ zs. zs ++ lines_completed (rest_behind now left) more) seen
-      ∙ append_assoc looked (lines_completed now left) (lines_completed (rest_behind now left) more) ∙ ap (λ zs. looked ++ zs) (sym (lines_completed-append now left more)),
-  rest-append [] given more ∙ ap (λ r. rest_behind r more) rests ∙ sym (rest-append now left more),
-)
+-- The course of a run.
 
 -- where a run is: the bytes that the link gave (`given`), those of them that weren't looked at yet (`left`), what the assembler keeps,
 -- the client, and what is seen of both ends of the link and of the sink, at first and by now
@@ -100,23 +88,35 @@ pub record Course (done : List Command) (s : RunState) : Type 0 where
   pub rests : rest_of s.given ≡ rest_behind now s.left
   pub count : length settled ≡ length done
   pub asks : (more : List Command) (later : List (List ℕ)) → asked_from 0 (done ++ more) (looked ++ later) ≡ settled ++ asked_from (length done) more later
-  pub client_is : s.client ≡ idle (length done)
+  pub client_is : s.client ≡ ready_for (length done)
   pub link : Appends s.first.client.taken s.latest.client.taken (all_of (written_requests 0 done))
   pub sink : Appends s.first.sink.bytes s.latest.sink.bytes (settlement_lines settled)
 
--- what the client's end has heard once the bytes `more` came: what `h` has, but that it was heard after the rest of a line that the
--- assembler kept, and that its bytes are those that weren't looked at, and then `more`
+-- the bytes `more` go on where the course is: with them at the end of the bytes given, and of those left, its lines and its rest are
+-- still as `Course` has them (`seen`, `rests`)
+lines_and_rest_with_more : (done : List Command) (s : RunState) (more : List ℕ) (at : Course done s)
+    → (lines (s.given ++ more) ≡ at.looked ++ lines_completed at.now (s.left ++ more)) × (rest_of (s.given ++ more) ≡ rest_behind at.now (s.left ++ more))
+lines_and_rest_with_more done s more at =
+    let old = lines_completed at.now s.left in
+    let new = lines_completed (rest_behind at.now s.left) more in (
+      lines_completed-append [] s.given more ∙ ap (λ r. lines s.given ++ lines_completed r more) at.rests ∙ ap (λ zs. zs ++ new) at.seen
+          ∙ append_assoc at.looked old new ∙ ap (λ zs. at.looked ++ zs) (sym (lines_completed-append at.now s.left more)),
+      rest-append [] s.given more ∙ ap (λ r. rest_behind r more) at.rests ∙ sym (rest-append at.now s.left more),
+    )
+
+-- what the client's end has heard, `h`, as the course has it once the bytes `more` came: its rest is the course's, and its bytes
+-- are those that weren't looked at, and then `more`
 abbrev pub heard_after : {done : List Command} {s : RunState} → Course done s → (more : List ℕ) → ClientHeard → ClientHeard
 heard_after {s = s} at more h = record h { rest = at.now; bytes = s.left ++ more }
 
 -- where a run is once the bytes `more` came, the client's end has heard h, and `new` is seen of both ends and of the sink
-abbrev pub later_on : RunState → (more : List ℕ) → ClientHeard → (new : SeenAtBoth) → RunState
-later_on s more h new =
+abbrev pub run_state_after : RunState → (more : List ℕ) → ClientHeard → (new : SeenAtBoth) → RunState
+run_state_after s more h new =
     record { given = s.given ++ more; left = h.left; kept = h.kept; client = h.client; first = s.first; latest = new }
 
--- where the assembler keeps nothing, and the client is the one before request 0, `Course` is true with no commands asked and no
+-- where the assembler keeps nothing, and the client is ready for request 0, `Course` is true with no commands asked and no
 -- bytes given
-pub course_start : (kept : Kept) (client : ById Call) (seen : SeenAtBoth) → StandsFor kept [] → client ≡ idle 0
+pub course_start : (kept : Kept) (client : ById Call) (seen : SeenAtBoth) → StandsFor kept [] → client ≡ ready_for 0
     → Course [] (record { given = []; left = []; kept = kept; client = client; first = seen; latest = seen })
 course_start kept client seen s is = record {
   now = [];
@@ -136,7 +136,7 @@ course_start kept client seen s is = record {
 pub asked_as_in_course : (done : List Command) (s : RunState) (more : List ℕ) (at : Course done s) → asked done (s.given ++ more) ≡ at.settled
 asked_as_in_course done s more at =
     let came = lines_completed at.now (s.left ++ more) in
-    ap (λ xs. asked_from 0 xs (lines (s.given ++ more))) (sym (append-nil done)) ∙ ap (asked_from 0 (done ++ [])) (more_came s.given s.left more at.now at.looked at.seen at.rests).0
+    ap (λ xs. asked_from 0 xs (lines (s.given ++ more))) (sym (append-nil done)) ∙ ap (asked_from 0 (done ++ [])) (lines_and_rest_with_more done s more at).0
     ∙ at.asks [] came ∙ append-nil at.settled
 
 -- where `r` is the first reply to one more command, the bytes that came settle what the course says, then that command by
@@ -146,7 +146,7 @@ asked_past_course : (done : List Command) (s : RunState) (more : List ℕ) (at :
     → asked (done ++ command ∷ later) (s.given ++ more) ≡ at.settled ++ settled_by (waiting_for (length done) command) (asked_from (length done + 1) later) r
 asked_past_course done s more at command later r is =
     let came = lines_completed at.now (s.left ++ more) in
-    ap (asked_from 0 (done ++ command ∷ later)) (more_came s.given s.left more at.now at.looked at.seen at.rests).0
+    ap (asked_from 0 (done ++ command ∷ later)) (lines_and_rest_with_more done s more at).0
     ∙ at.asks (command ∷ later) came ∙ ap (λ x. at.settled ++ settled_by (waiting_for (length done) command) (asked_from (length done + 1) later) x) is
 
 -- a line that settles a request of the client `from` (`Settles`) is the first reply among the lines that were completed, and the lines
@@ -156,9 +156,9 @@ first_reply_is : (from : ById Call) (h : ClientHeard) (s : Settles from h)
 first_reply_is from h s = ap (first_reply from) s.seen ∙ first_reply-at from s.front s.line (lines_completed [] h.left) s.none s.fits
 
 -- where a line settles the request of a client that waits for request k alone (`Settles`), what was settled is that one request,
--- by that line, and the client is then the one before request k + 1
+-- by that line, and the client is then ready for request k + 1
 pub settled_is : (k : ℕ) (command : Command) (h : ClientHeard) (s : Settles (waiting_for k command) h)
-    → (map settlement_seen h.settled ≡ settled_by_line (awaited command) s.line ∷ []) × (h.client ≡ idle (k + 1))
+    → (map settlement_seen h.settled ≡ settled_by_line (awaited command) s.line ∷ []) × (h.client ≡ ready_for (k + 1))
 settled_is k command h s =
     let one = hears_one k command s.line s.fits in
     (s.settles.seen ∙ one.0, s.client ∙ one.1)
@@ -178,14 +178,14 @@ asked_with_reply done s more at command h by =
 pub course_more : (done : List Command) (command : Command) (s : RunState) (more : List ℕ) (h : ClientHeard) (new : SeenAtBoth) (at : Course done s)
     → Settles (waiting_for (length done) command) (heard_after at more h)
     → Appends s.latest.client.taken new.client.taken (written_request (length done) command)
-    → Appends s.latest.sink.bytes new.sink.bytes (lines_from (length done) (map settlement_seen h.settled))
-    → Course (done ++ command ∷ []) (later_on s more h new)
+    → Appends s.latest.sink.bytes new.sink.bytes (settlement_lines_from (length done) (map settlement_seen h.settled))
+    → Course (done ++ command ∷ []) (run_state_after s more h new)
 course_more done command s more h new at by sent told =
     let k = length done in
     let is = settled_is k command (heard_after at more h) by in
     let next = settled_by_line (awaited command) by.line in
     let front : List (List ℕ) = by.front ++ by.line ∷ [] in
-    let came = more_came s.given s.left more at.now at.looked at.seen at.rests in
+    let came = lines_and_rest_with_more done s more at in
     let place : k + 1 ≡ length (done ++ command ∷ []) = sym (length_push done command) in
     record {
       now = [];
@@ -206,9 +206,9 @@ course_more done command s more h new at by sent told =
           ∙ ap (λ zs. at.settled ++ (zs ++ asked_from (k + 1) others later)) (hears_one k command by.line by.fits).0
           ∙ ap (λ n. at.settled ++ next ∷ asked_from n others later) place
           ∙ sym (append_assoc at.settled (next ∷ []) (asked_from (length (done ++ command ∷ [])) others later));
-      client_is = is.1 ∙ ap idle place;
+      client_is = is.1 ∙ ap ready_for place;
       link = Appends-is _ _ _ _ (sym (all_requests_last done command)) (Appends-trans _ _ _ _ _ at.link sent);
-      sink = Appends-is _ _ _ _ (ap (λ zs. settlement_lines at.settled ++ lines_from k zs) is.0 ∙ sym (lines_last at.settled k next at.count)) (Appends-trans _ _ _ _ _ at.sink told);
+      sink = Appends-is _ _ _ _ (ap (λ zs. settlement_lines at.settled ++ settlement_lines_from k zs) is.0 ∙ sym (lines_last at.settled k next at.count)) (Appends-trans _ _ _ _ _ at.sink told);
     }
 
 -- Ends.
@@ -231,9 +231,13 @@ pub record AtNext (commands : List Command) (s : RunState) : Type 0 where
   pub order : commands ≡ done ++ command ∷ later
   pub course : Course done s
 
--- by all bytes that came, also those that come next, asking came to the next command
-abbrev course_comes : (commands : List Command) (s : RunState) (n : AtNext commands s) (more : List ℕ) → ReachesCommand commands (s.given ++ more)
-course_comes commands s n more = record {
+-- the sink took the line that says the next command is lost, as is seen by `new`
+abbrev TookLost : {commands : List Command} {s : RunState} → AtNext commands s → (new : SeenAtBoth) → Type 0
+TookLost {s = s} n new = Appends s.latest.sink.bytes new.sink.bytes (settlement_lines_from (length n.done) (lost_of n.command ∷ []))
+
+-- by all bytes that came, also those that come next, asking reached the next command (`ReachesCommand`)
+abbrev course_reaches : (commands : List Command) (s : RunState) (n : AtNext commands s) (more : List ℕ) → ReachesCommand commands (s.given ++ more)
+course_reaches commands s n more = record {
   earlier = n.done;
   command = n.command;
   later = n.later;
@@ -241,24 +245,24 @@ course_comes commands s n more = record {
   settled = ap length (asked_as_in_course n.done s more n.course) ∙ n.course.count;
 }
 
--- where the line was written that says the next command is lost, that command is lost (`LosesOne`)
+-- where the line was written that says the next command is lost (`TookLost`), that command is lost (`LosesOne`)
 abbrev course_loses : (commands : List Command) (s : RunState) (n : AtNext commands s) (more : List ℕ) (new : SeenAtBoth)
-    → Appends s.latest.sink.bytes new.sink.bytes (lines_from (length n.done) (lost_of n.command ∷ [])) → LosesOne commands (s.given ++ more) (written_at_both s.first new)
+    → TookLost n new → LosesOne commands (s.given ++ more) (written_at_both s.first new)
 course_loses commands s n more new told =
     let course = n.course in
     let so : asked n.done (s.given ++ more) ≡ course.settled = asked_as_in_course n.done s more course in
     record {
-      at = course_comes commands s n more;
+      at = course_reaches commands s n more;
       sink_took = Appends-is _ _ _ _ (sym (lines_last course.settled (length n.done) (lost_of n.command) course.count)
           ∙ ap (λ zs. settlement_lines (zs ++ lost_of n.command ∷ [])) (sym so)) (Appends-trans _ _ _ _ _ course.sink told);
     }
 
--- where the next command was sent, what came doesn't settle it if the link is remote, and the line was written that says it is lost,
--- asking stopped there (`StopsAt`)
+-- where the next command was sent, what came doesn't settle it if the link is remote, and the line was written that says it is lost
+-- (`TookLost`), asking stopped there (`StopsAt`)
 pub course_stops : (is_remote : Bool) (commands : List Command) (s : RunState) (n : AtNext commands s) (more : List ℕ) (new : SeenAtBoth)
     → (is_remote ≡ true → first_reply (waiting_for (length n.done) n.command) (lines_completed n.course.now (s.left ++ more)) ≡ None)
     → Appends s.latest.client.taken new.client.taken (written_request (length n.done) n.command)
-    → Appends s.latest.sink.bytes new.sink.bytes (lines_from (length n.done) (lost_of n.command ∷ []))
+    → TookLost n new
     → StopsAt is_remote commands (s.given ++ more) (written_at_both s.first new)
 course_stops is_remote commands s n more new none sent told = record {
   loses = course_loses commands s n more new told;
@@ -268,11 +272,11 @@ course_stops is_remote commands s n more new none sent told = record {
 }
 
 -- where the link took the first `bytes` bytes of the next command's request (if the link is remote, `part` bytes, and not all), and the
--- line was written that says the command is lost, asking was cut there (`IsCutAt`), after `count` commands
+-- line was written that says the command is lost (`TookLost`), asking was cut there (`IsCutAt`), after `count` commands
 pub course_cut : (is_remote : Bool) (commands : List Command) (s : RunState) (n : AtNext commands s) (more : List ℕ) (new : SeenAtBoth)
     (count part bytes : ℕ) → count ≡ length n.done → (is_remote ≡ true → (bytes ≡ part) × (part < length (written_request (length n.done) n.command)))
     → Appends s.latest.client.taken new.client.taken (take bytes (written_request (length n.done) n.command))
-    → Appends s.latest.sink.bytes new.sink.bytes (lines_from (length n.done) (lost_of n.command ∷ []))
+    → TookLost n new
     → IsCutAt is_remote commands (s.given ++ more) (written_at_both s.first new) count part
 course_cut is_remote commands s n more new count part bytes is cut sent told = record {
   loses = course_loses commands s n more new told;
@@ -297,7 +301,7 @@ course_sink_failed commands s n more new bytes next over link ends is sent told 
     let alone = alone_in told.earlier told.later told.next next told.order in
     let same : length done + length told.earlier ≡ length done = ap (λ (xs : List (Settlement Call)). length done + length xs) alone.0 ∙ omega arith in
     record {
-      at = course_comes commands s n more;
+      at = course_reaches commands s n more;
       bytes = bytes;
       sent = Appends-trans _ _ _ _ _ course.link sent;
       link = link;
@@ -307,7 +311,7 @@ course_sink_failed commands s n more new bytes next over link ends is sent told 
       part = told.part;
       not_all = subst (λ (t : List ℕ). told.part < length t) (the_line same alone.1) told.not_all;
       sink_took = Appends-is _ _ _ _ (ap (λ zs. settlement_lines zs ++ take told.part (settlement_line (length done) next)) (sym so))
-          (Appends-trans _ _ _ _ _ course.sink (Appends-is _ _ _ _ (ap (λ (xs : List (Settlement Call)). lines_from (length done) xs ++ take told.part
+          (Appends-trans _ _ _ _ _ course.sink (Appends-is _ _ _ _ (ap (λ (xs : List (Settlement Call)). settlement_lines_from (length done) xs ++ take told.part
           (settlement_line (length done + length told.earlier) told.next)) alone.0 ∙ ap (take told.part) (the_line same alone.1)) told.took));
     } where
       -- a list of one element that is split round an element has that one, with nothing before it

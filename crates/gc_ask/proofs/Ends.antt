@@ -6,7 +6,7 @@ use Rattle.std.proofs.lemmas.Bool.{cases_lt}
 use Rattle.std.proofs.KnownBytes.{Consumes-nil}
 use Rattle.gc_lines.specs.Answering.{Ports, Taken}
 use Rattle.gc_ask.specs.AskRuns.{SeenAtClient}
-use Rattle.gc_ask.specs.Asking.{EndsWith, LinkResult, UseEnds}
+use Rattle.gc_ask.specs.Asking.{EndsWith, LinkResult, NoneEnded, UseEnds}
 use Rattle.gc_ask.specs.Links.{BothStep, CountsReplies, ReadEnds, SeenStep, Sends, StaysOpen, StepEnds, no_ports}
 use Rattle.gc_ask.specs.Looping.{BothEnd, SeenAtBoth, seen_at_both}
 use Rattle.gc_texts.specs.declared.fault.RunFault.{RunFault}
@@ -51,9 +51,9 @@ step_hears old new after (Err (Write count part)) h grows sink = absurd h
 step_hears old new after (Err other) h grows sink = absurd h
 
 -- a step of both ends that went well went well at each
-both_ok : (a b c d : Ports) → BothStep a b c d (Ok tt) → StepEnds a b (Ok tt) × StepEnds c d (Ok tt)
-both_ok a b c d (inl s) = s
-both_ok a b c d (inr s) = s
+both_went_well : (a b c d : Ports) → BothStep a b c d (Ok tt) → StepEnds a b (Ok tt) × StepEnds c d (Ok tt)
+both_went_well a b c d (inl s) = s
+both_went_well a b c d (inr s) = s
 
 -- the sending of a request that went well, and the reading at the client's end after it, are together one step, with the result of the
 -- reading, if the sending read nothing of the client's end, and the reading left its sink and the instrument's end as they were. Before,
@@ -62,7 +62,7 @@ pub step_both : (c c' c'' i i' i'' : Ports) (after : ℕ) (r : LinkResult) → (
     → (sink : c''.sink_failed ≡ c'.sink_failed) → (same : i'' ≡ i') → (grows : c'.reads ≤ c''.reads) → (ends : ReadEnds (source_of c') (source_of c'') after r)
     → BothStep c c'' i i'' r
 step_both c c' c'' i i' i'' after r sent unread sink same grows ends =
-    let both = both_ok c c' i i' sent in
+    let both = both_went_well c c' i i' sent in
     let reads : c'.reads ≡ c.reads = ap (λ (s : Input). s.reads) unread in
     inl (
       step_hears c c'' after r (subst (λ (s : Input). ReadEnds s (source_of c'') after r) unread ends) (omega (arith, reads, grows)) (sink ∙ both.0.ends.2),
@@ -78,24 +78,22 @@ pub reads_then : (old mid new : Ports) (given : List ℕ) → source_of mid ≡ 
     → Consumes old.remaining new.remaining given
 reads_then old mid new given same gave = subst (λ (r : Option (List ℕ)). Consumes r new.remaining given) (ap (λ (s : Input). s.remaining) same) gave
 
--- where no read of a first step was the end, and none of a second, none of both together was. `old`, `mid` and `new` are the
--- numbers of reads before the first, between the two and after the second; `mid_end` and `new_end` say whether the last read by
--- then was the end
-none_in_both : (old mid new : ℕ) (mid_end new_end : Bool) → (more : mid ≤ new) → (going : old < mid → mid_end ≡ false)
-    → (on : mid < new → new_end ≡ false) → (same : new ≡ mid → new_end ≡ mid_end) → (below : old < new) → new_end ≡ false
-none_in_both old mid new mid_end new_end more going on same below = elim (cases_lt mid new) [
-  | inl further ↦ on further
-  | inr still ↦ let stays : new ≡ mid = omega (arith, still, more) in same stays ∙ going (omega (arith, stays, below))
+-- where from `old` to `mid` no read was the end of the input (`NoneEnded`), and from `mid` to `new` the source stays open, no
+-- read from `old` to `new` was the end
+none_ended_then : (old mid new : Input) → mid.reads ≤ new.reads → NoneEnded old mid → StaysOpen mid new → NoneEnded old new
+none_ended_then old mid new more going on below = elim (cases_lt mid.reads new.reads) [
+  | inl further ↦ on.0 further
+  | inr still ↦ let stays : new.reads ≡ mid.reads = omega (arith, still, more) in on.1 stays ∙ going (omega (arith, stays, below))
 ]
 
 -- a source that stays open from `old` to `mid`, and from `mid` to `new`, stays open from `old` to `new`
 open_then : (old mid new : Input) → old.reads ≤ mid.reads → mid.reads ≤ new.reads → StaysOpen old mid → StaysOpen mid new → StaysOpen old new
 open_then old mid new more on e f = (
-  none_in_both old.reads mid.reads new.reads mid.ended new.ended on e.0 f.0 f.1,
+  none_ended_then old mid new on e.0 f,
   λ same. f.1 (omega (arith, same, more, on)) ∙ e.1 (omega (arith, same, more, on)),
 )
 
--- where reading went on well from `old` to `mid`, and then ended so by `new`, that is how it ended from `old` on
+-- where reading ended well from `old` to `mid`, and with the result r from `mid` to `new`, it ended with r from `old` to `new`
 pub ends_then : (old mid new : Input) (between after : ℕ) (r : LinkResult) → (more : old.reads ≤ mid.reads) → (on : mid.reads ≤ new.reads)
     → ReadEnds old mid between (Ok tt) → ReadEnds mid new after r → ReadEnds old new after r
 ends_then old mid new between after (Ok u) more on e f = (open_then old mid new more on e.0 f.0, f.1 ∙ e.1)
@@ -109,13 +107,13 @@ ends_then old mid new between after (Err other) more on e f = absurd f
 pub ends_too_many : (old new : Input) (after : ℕ) (r : LinkResult) → ReadEnds old new after r → r ≡ Err TooManyReads → after ≡ 0
 ends_too_many old new after r e is = (subst (λ (x : LinkResult). ReadEnds old new after x) is e).1
 
--- reading never ends with `Write`
-pub ends_uncut : (place : ℕ) (old new : Input) (after : ℕ) (fault : RunFault) → ReadEnds old new after (Err fault) → CountsReplies place (Err fault)
-ends_uncut place old new after Read e = tt
-ends_uncut place old new after TooManyReads e = tt
-ends_uncut place old new after LinkClosed e = tt
-ends_uncut place old new after (Write count part) e = absurd e
-ends_uncut place old new after other e = absurd e
+-- `CountsReplies` is true of a fault with which reading ended, whatever the place: reading never ends with `Write`
+pub fault_counts_replies : (place : ℕ) (old new : Input) (after : ℕ) (fault : RunFault) → ReadEnds old new after (Err fault) → CountsReplies place (Err fault)
+fault_counts_replies place old new after Read e = tt
+fault_counts_replies place old new after TooManyReads e = tt
+fault_counts_replies place old new after LinkClosed e = tt
+fault_counts_replies place old new after (Write count part) e = absurd e
+fault_counts_replies place old new after other e = absurd e
 
 -- an end that is sound so far: since `old` no read was the end of its input, and neither of its ports failed
 pub record Sound (old new : Ports) : Type 0 where
@@ -126,23 +124,23 @@ pub record Sound (old new : Ports) : Type 0 where
 pub sound_start : (old : Ports) → Sound old old
 sound_start old = record { ends = ((λ some. absurd (omega (arith, some))), refl, refl); grows = omega arith }
 
--- where an end was sound, and no read of a step after that was the end of its input, no read at all was
-none_ended : (old mid new : Ports) (r : LinkResult) → Sound old mid → StepEnds mid new r → (mid.reads < new.reads → new.ended ≡ false)
-    → old.reads < new.reads → new.ended ≡ false
-none_ended old mid new r g s more = none_in_both old.reads mid.reads new.reads mid.ended new.ended s.grows g.ends.0 more s.same
+-- where an end was sound, and no read of the step after that was the end of its input, no read from `old` on was
+none_ended : (old mid new : Ports) (r : LinkResult) → Sound old mid → StepEnds mid new r → NoneEnded (source_of mid) (source_of new)
+    → NoneEnded (source_of old) (source_of new)
+none_ended old mid new r g s more = none_ended_then (source_of old) (source_of mid) (source_of new) s.grows g.ends.0 (more, s.same)
 
 -- where an end was sound, and then made a step with this result, its whole use ended with this result
-link_step : (old mid new : Ports) (r : LinkResult) → Sound old mid → StepEnds mid new r → UseEnds old new r
-link_step old mid new (Ok u) g s = (none_ended old mid new (Ok u) g s s.ends.0, s.ends.1 ∙ g.ends.1, s.ends.2 ∙ g.ends.2)
-link_step old mid new (Err Read) g s = (none_ended old mid new (Err Read) g s s.ends.0, s.ends.1, s.ends.2 ∙ g.ends.2)
-link_step old mid new (Err (Write count part)) g s = (none_ended old mid new (Err (Write count part)) g s s.ends.0, s.ends.1 ∙ g.ends.1, s.ends.2)
-link_step old mid new (Err TooManyReads) g s = (none_ended old mid new (Err TooManyReads) g s s.ends.0, s.ends.1 ∙ g.ends.1, s.ends.2 ∙ g.ends.2)
-link_step old mid new (Err LinkClosed) g s = (omega (arith, g.grows, s.ends.0), s.ends.1, s.ends.2 ∙ g.ends.1, s.ends.3 ∙ g.ends.2)
-link_step old mid new (Err other) g s = absurd s.ends
+use_ends : (old mid new : Ports) (r : LinkResult) → Sound old mid → StepEnds mid new r → UseEnds old new r
+use_ends old mid new (Ok u) g s = (none_ended old mid new (Ok u) g s s.ends.0, s.ends.1 ∙ g.ends.1, s.ends.2 ∙ g.ends.2)
+use_ends old mid new (Err Read) g s = (none_ended old mid new (Err Read) g s s.ends.0, s.ends.1, s.ends.2 ∙ g.ends.2)
+use_ends old mid new (Err (Write count part)) g s = (none_ended old mid new (Err (Write count part)) g s s.ends.0, s.ends.1 ∙ g.ends.1, s.ends.2)
+use_ends old mid new (Err TooManyReads) g s = (none_ended old mid new (Err TooManyReads) g s s.ends.0, s.ends.1 ∙ g.ends.1, s.ends.2 ∙ g.ends.2)
+use_ends old mid new (Err LinkClosed) g s = (omega (arith, g.grows, s.ends.0), s.ends.1, s.ends.2 ∙ g.ends.1, s.ends.3 ∙ g.ends.2)
+use_ends old mid new (Err other) g s = absurd s.ends
 
 -- a sound end stays so by a step that went well
 sound_step : (old mid new : Ports) → Sound old mid → StepEnds mid new (Ok tt) → Sound old new
-sound_step old mid new g s = record { ends = link_step old mid new (Ok tt) g s; grows = omega (arith, g.grows, s.grows) }
+sound_step old mid new g s = record { ends = use_ends old mid new (Ok tt) g s; grows = omega (arith, g.grows, s.grows) }
 
 -- both ends of a link are sound so far (`Sound`)
 pub record BothSound (first latest : SeenAtBoth) : Type 0 where
@@ -150,9 +148,9 @@ pub record BothSound (first latest : SeenAtBoth) : Type 0 where
   pub instrument : Sound first.instrument latest.instrument
 
 -- two ends that were sound before a step that went well are sound after it
-pub sound_on : (first old new : SeenAtBoth) → BothSound first old → EndsWith (SeenStep old new) old.sink.failed new.sink.failed (Ok tt) → BothSound first new
-sound_on first old new sound ends =
-    let both = both_ok old.client new.client old.instrument new.instrument ends.0 in
+pub both_sound_step : (first old new : SeenAtBoth) → BothSound first old → EndsWith (SeenStep old new) old.sink.failed new.sink.failed (Ok tt) → BothSound first new
+both_sound_step first old new sound ends =
+    let both = both_went_well old.client new.client old.instrument new.instrument ends.0 in
     record {
       client = sound_step first.client old.client new.client sound.client both.0;
       instrument = sound_step first.instrument old.instrument new.instrument sound.instrument both.1;
@@ -161,18 +159,18 @@ sound_on first old new sound ends =
 -- where two ends were sound, and then made a step with this result, their whole use ended with this result
 pub both_end : (first old new : SeenAtBoth) (r : LinkResult) → BothSound first old → SeenStep old new r → BothEnd first new r
 both_end first old new r sound (inl s) =
-    inl (link_step first.client old.client new.client r sound.client s.0, link_step first.instrument old.instrument new.instrument (Ok tt) sound.instrument s.1)
+    inl (use_ends first.client old.client new.client r sound.client s.0, use_ends first.instrument old.instrument new.instrument (Ok tt) sound.instrument s.1)
 both_end first old new r sound (inr s) =
-    inr (link_step first.client old.client new.client (Ok tt) sound.client s.0, link_step first.instrument old.instrument new.instrument r sound.instrument s.1)
+    inr (use_ends first.client old.client new.client (Ok tt) sound.client s.0, use_ends first.instrument old.instrument new.instrument r sound.instrument s.1)
 
 -- where both ends are sound, their whole use ended well, as `BothEnd` has it
-pub both_well : (first new : SeenAtBoth) → BothSound first new → BothEnd first new (Ok tt)
-both_well first new sound = inl (sound.client.ends, sound.instrument.ends)
+pub both_end_well : (first new : SeenAtBoth) → BothSound first new → BothEnd first new (Ok tt)
+both_end_well first new sound = inl (sound.client.ends, sound.instrument.ends)
 
 -- a step of the link's ends never ends with `Output`, the fault of the sink of the settlements
-pub no_output : (old new : SeenAtBoth) → SeenStep old new (Err Output) → ⊥
-no_output old new (inl s) = s.0.ends
-no_output old new (inr s) = s.1.ends
+pub seen_step_not_output : (old new : SeenAtBoth) → SeenStep old new (Err Output) → ⊥
+seen_step_not_output old new (inl s) = s.0.ends
+seen_step_not_output old new (inr s) = s.1.ends
 
 -- A remote link: all that ends it comes at the client's end.
 
@@ -190,8 +188,9 @@ remote_end old new (Err TooManyReads) (inr s) = s.0
 remote_end old new (Err LinkClosed) (inr s) = absurd (omega (arith, s.1.0))
 remote_end old new (Err other) (inr s) = absurd s.1
 
--- `EndsWith over` implies `EndsWith other`, if `over` implies `other`, and if whether the sink had failed is the same at the moment from
--- which on `over` speaks (`mid`) as at an earlier one, from which on `other` does (`first`)
+-- `EndsWith over` implies `EndsWith other`, if `over` implies `other`, and the sink had failed at the beginnings of both or of
+-- neither. `mid` says whether it had at the beginning of what `over` speaks of, `first` whether at that of `other`, and `now`
+-- whether it has at their common end
 pub ends_with_weaker : (over other : LinkResult → Type 0) → ((r : LinkResult) → over r → other r) → (first mid now : Bool) → mid ≡ first → (r : LinkResult)
     → EndsWith over mid now r → EndsWith other first now r
 ends_with_weaker over other so first mid now same (Ok u) ends = (so (Ok u) ends.0, ends.1 ∙ same)

@@ -18,12 +18,12 @@ use Rattle.gc_ask.specs.Asking.{Asks, awaited, waiting_for, written_request, los
 use Rattle.gc_ask.specs.Links.{CountsReplies, ReadEnds, SeenStep, Sends, TakesRequest}
 use Rattle.gc_ask.specs.Listening.{AsksOne, Exchanges, ClientHeard, HearsReply, Settles}
 use Rattle.gc_ask.specs.Looping.{BothEnd, SeenAtBoth, written_at_both}
-use Rattle.gc_ask.proofs.Asked.{AtNext, Course, RunState, heard_after, later_on, course_more, course_stops, course_cut, course_sink_failed, settled_is, asked_with_reply}
-use Rattle.gc_ask.proofs.Ends.{BothSound, both_end, no_output}
+use Rattle.gc_ask.proofs.Asked.{AtNext, Course, RunState, heard_after, run_state_after, course_more, course_stops, course_cut, course_sink_failed, settled_is, asked_with_reply}
+use Rattle.gc_ask.proofs.Ends.{BothSound, both_end, seen_step_not_output}
 use Rattle.gc_texts.specs.declared.commands.Command.{Command}
 use Rattle.gc_texts.specs.declared.fault.RunFault.{RunFault}
 use Rattle.gc_texts.specs.declared.fault.RunFault.TheVariants.{Read, Write, TooManyReads, LinkClosed, Output}
-use Rattle.gc_texts.specs.Settlements.{lines_from, WroteSettlements, WrotePartOfSettlements}
+use Rattle.gc_texts.specs.Settlements.{settlement_lines_from, WroteSettlements, WrotePartOfSettlements}
 use Rattle.gc_texts.specs.WholeTexts.{Input}
 
 -- What a link took of a request.
@@ -101,14 +101,14 @@ module _
     (ends : SeenStep old new (Err e)) (exchanged : Exchanges is_remote place command h old.client.taken new.client.taken (Err e))
     (alone : map settlement_seen now ≡ lost_of command ∷ []) where
   -- where that line was written, asking this command ended with the fault e (`AsksOne`)
-  pub asks_lost : Appends old.sink.bytes new.sink.bytes (lines_from place (map settlement_seen now))
+  pub asks_lost : Appends old.sink.bytes new.sink.bytes (settlement_lines_from place (map settlement_seen now))
       → AsksOne is_remote place command (record h { client = to }) (written_at_both old new) (SeenStep old new) (Err e)
-  asks_lost wrote = by_fault e ends exchanged (Appends-is _ _ _ _ (ap (lines_from place) alone) wrote) where
+  asks_lost wrote = by_fault e ends exchanged (Appends-is _ _ _ _ (ap (settlement_lines_from place) alone) wrote) where
     -- by the fault of the exchange: asking ended with it
     by_fault : (g : RunFault) → SeenStep old new (Err g) → Exchanges is_remote place command h old.client.taken new.client.taken (Err g)
-        → Appends old.sink.bytes new.sink.bytes (lines_from place (lost_of command ∷ []))
+        → Appends old.sink.bytes new.sink.bytes (settlement_lines_from place (lost_of command ∷ []))
         → AsksOne is_remote place command (record h { client = to }) (written_at_both old new) (SeenStep old new) (Err g)
-    by_fault Output with_output x wrote = absurd (no_output old new with_output)
+    by_fault Output with_output x wrote = absurd (seen_step_not_output old new with_output)
     by_fault other with_other x wrote = (x.0, wrote)
 
   -- where the sink failed as it took that line, asking this command ended with the fault of the sink (f)
@@ -130,7 +130,7 @@ pub asks_written : (is_remote : Bool) (place : ℕ) (command : Command) (h : Cli
     → now ≡ h.settled → WroteInto place (map settlement_seen now) old.sink new.sink r
     → AsksOne is_remote place command h (written_at_both old new) (SeenStep old new) r
 asks_written is_remote place command h now old new (Ok u) link sent s is wrote =
-    ((sent, s), subst (λ (zs : List (Settlement Call)). Appends old.sink.bytes new.sink.bytes (lines_from place (map settlement_seen zs))) is wrote.0)
+    ((sent, s), subst (λ (zs : List (Settlement Call)). Appends old.sink.bytes new.sink.bytes (settlement_lines_from place (map settlement_seen zs))) is wrote.0)
 asks_written is_remote place command h now old new (Err Output) link sent s is wrote =
     inl (link, sent, s, subst (λ (zs : List (Settlement Call)). WrotePartOfSettlements place (map settlement_seen zs) old.sink.bytes new.sink.bytes) is wrote.0)
 asks_written is_remote place command h now old new (Err other) link sent s is wrote = absurd wrote.0
@@ -146,7 +146,7 @@ ends_written old new place settled (Err other) ends wrote = absurd wrote.0
 -- says of e
 pub ends_lost : (old new : SeenAtBoth) (e : RunFault) → SeenStep old new (Err e) → new.sink.failed ≡ old.sink.failed
     → EndsWith (SeenStep old new) old.sink.failed new.sink.failed (Err e)
-ends_lost old new Output ends same = absurd (no_output old new ends)
+ends_lost old new Output ends same = absurd (seen_step_not_output old new ends)
 ends_lost old new other ends same = (ends, same)
 
 -- where the use of the link ended with the fault e, and then the writing of settlements with the fault f, the ports are as
@@ -210,7 +210,7 @@ run_fault is_remote commands place s n more h new e sound is one ends =
 pub course_next : (is_remote : Bool) (done : List Command) (command : Command) (place : ℕ) (s : RunState) (more : List ℕ) (h : ClientHeard) (new : SeenAtBoth)
     → (at : Course done s) → length done ≡ place
     → AsksOne is_remote place command (heard_after at more h) (written_at_both s.latest new) (SeenStep s.latest new) (Ok tt)
-    → Course (done ++ command ∷ []) (later_on s more h new)
+    → Course (done ++ command ∷ []) (run_state_after s more h new)
 course_next is_remote done command place s more h new at is one =
     let one' = subst (λ n. AsksOne is_remote n command (heard_after at more h) (written_at_both s.latest new) (SeenStep s.latest new) (Ok tt)) (sym is) one in
     course_more done command s more h new at one'.0.1 one'.0.0 one'.1

@@ -14,7 +14,7 @@ use Rattle.gc_lines.proofs.Cutting.{cut_some, pieces-append, rest-append}
 use Rattle.gc_lines.proofs.Passing.{Takes}
 use Rattle.gc_catalogue.specs.declared.call.Call.{Call}
 use Rattle.gc_client.specs.declared.settlement.Settlement.{Settlement}
-use Rattle.gc_client.specs.Rule.{ById, heard, fits, hears}
+use Rattle.gc_client.specs.Rule.{ById, heard, fits, hears_line}
 use Rattle.gc_client.specs.Settlements.{AreSettlements}
 use Rattle.gc_ask.specs.Asking.{first_reply}
 use Rattle.gc_ask.specs.Listening.{SettlesNothing, TakesFrame, IsQuiet, ClientHeard, Settles}
@@ -92,8 +92,8 @@ pub record Passed (from : ById Call) (h : ClientHeard) : Type 0 where
 
 -- what was heard, once `used` more bytes than in h were looked at. The rest and the bytes are those of h; what the assembler
 -- keeps, the client and the settlements are those of `next`
-abbrev pub used_up : (h next : ClientHeard) → (used : ℕ) → ClientHeard
-used_up h next used = record next { rest = h.rest; bytes = h.bytes; left = drop used h.left }
+abbrev pub heard_once_used : (h next : ClientHeard) → (used : ℕ) → ClientHeard
+heard_once_used h next used = record next { rest = h.rest; bytes = h.bytes; left = drop used h.left }
 
 -- where all bytes were passed, so that nothing of them is left, they settled nothing
 pub passed_end : (from : ById Call) (h : ClientHeard) → Passed from (record h { left = [] }) → IsQuiet h.rest h.bytes h.kept from h.client
@@ -118,7 +118,7 @@ no_reply c (Some line) q = rw q refl
 -- where the bytes before `h.left` were passed (`Passed`), and the line of the next frame, if it has one, settles nothing, the
 -- bytes were passed as far as that frame's end
 pub passed_on : (from : ById Call) (h next : ClientHeard) (used : ℕ) (frame : Frame) → (p : Passed from h) → Takes p.now h.left used frame next.kept
-    → TakesFrame h.client next.client (line_in frame) next.settled false → Passed from (used_up h next used)
+    → TakesFrame h.client next.client (line_in frame) next.settled false → Passed from (heard_once_used h next used)
 passed_on from h next used frame p t taken =
     let later : List (List ℕ) = lines_completed t.now (drop used h.left) in
     let lines_now : lines_completed p.now h.left ≡ option_to_list (line_in frame) ++ later =
@@ -179,7 +179,7 @@ takes_line rest left used frame line kept is gives = elim (position is_line_feed
 -- a frame that settled a request has a line, which fits; what was settled, and the client then, are by the client's rule for that
 -- line
 settling_line : (a b : ById Call) (o : Option (List ℕ)) (settled : List (Settlement Call)) → TakesFrame a b o settled true
-    → (line : List ℕ) × (o ≡ Some line) × (fits a (heard line) ≡ true) × AreSettlements settled (hears a line (heard line)).settlements × (b ≡ (hears a line (heard line)).client)
+    → (line : List ℕ) × (o ≡ Some line) × (fits a (heard line) ≡ true) × AreSettlements settled (hears_line a line).settlements × (b ≡ (hears_line a line).client)
 settling_line a b None settled t = absurd t
 settling_line a b (Some line) settled t = (line, refl, t.0, t.1, t.2)
 
@@ -187,7 +187,7 @@ settling_line a b (Some line) settled t = (line, refl, t.0, t.1, t.2)
 -- the bytes settle that request (`Settles`)
 pub passed_settles : (from : ById Call) (h next : ClientHeard) (used : ℕ) (frame : Frame) → (p : Passed from h)
     → TakesFrame h.client next.client (line_in frame) next.settled true → GivesFrame p.now h.left used frame next.kept
-    → Settles from (used_up h next used)
+    → Settles from (heard_once_used h next used)
 passed_settles from h next used frame p taken gives =
     let (line, is, fit, settles, client) = settling_line h.client next.client (line_in frame) next.settled taken in
     let t = takes_line p.now h.left used frame line next.kept is gives in
@@ -199,8 +199,8 @@ passed_settles from h next used frame p taken gives =
       none = p.none;
       fits = subst (λ (x : ById Call). fits x (heard line) ≡ true) p.same fit;
       stands = t.stands;
-      settles = subst (λ (x : ById Call). AreSettlements next.settled (hears x line (heard line)).settlements) p.same settles;
-      client = subst (λ (x : ById Call). next.client ≡ (hears x line (heard line)).client) p.same client;
+      settles = subst (λ (x : ById Call). AreSettlements next.settled (hears_line x line).settlements) p.same settles;
+      client = subst (λ (x : ById Call). next.client ≡ (hears_line x line).client) p.same client;
     }
 
 -- Reading on.

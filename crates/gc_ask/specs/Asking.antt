@@ -9,9 +9,9 @@ use Rattle.gc_catalogue.specs.Texts.{request_line}
 use Rattle.gc_catalogue.specs.declared.call.Call.{Call}
 use Rattle.gc_client.specs.declared.window.TheConstants.{IDS}
 use Rattle.gc_client.specs.declared.pending.Pending.{Pending}
-use Rattle.gc_client.specs.Rule.{ById, Settlement, pending_of, lost, heard, fits, hears}
+use Rattle.gc_client.specs.Rule.{ById, Settlement, pending_of, lost, heard, fits, hears_line}
 use Rattle.gc_texts.specs.Settlements.{settlement_line, settlement_lines}
-use Rattle.gc_texts.specs.WholeTexts.{Input, source_of, Gave, GivesCommands, RefusesCommands}
+use Rattle.gc_texts.specs.WholeTexts.{Input, source_of, GaveBytes, GivesCommands, RefusesCommands}
 use Rattle.gc_texts.specs.declared.commands.Command.{Command}
 use Rattle.gc_texts.specs.declared.fault.RunFault.{RunFault}
 use Rattle.gc_texts.specs.declared.fault.RunFault.TheVariants.{Read, Write, TooManyReads, LinkClosed, Output}
@@ -20,12 +20,12 @@ use Rattle.gc_texts.specs.declared.fault.RunFault.TheVariants.{Read, Write, TooM
 abbrev pub awaited : Command → Pending Call
 awaited command = pending_of command.target command.call 18446744073709551615
 
--- the client before request k, whose id is k modulo 8, is sent
-abbrev pub idle : ℕ → ById Call
-idle k = record { next = k % IDS; waiting = [] }
+-- the client that sends request k next: its next id is k modulo 8, and none of its requests waits
+abbrev pub ready_for : (k : ℕ) → ById Call
+ready_for k = record { next = k % IDS; waiting = [] }
 
--- the client while request k waits
-abbrev pub waiting_for : ℕ → Command → ById Call
+-- the client once it has sent request k, of this command, which waits
+abbrev pub waiting_for : (k : ℕ) → Command → ById Call
 waiting_for k command = record { next = (k + 1) % IDS; waiting = awaited command ∷ [] }
 
 -- a line that settles a request, and the lines after it
@@ -42,7 +42,7 @@ first_reply client (line ∷ later) = if fits client (heard line) then Some (rec
 -- the lines after it; none where there is no reply
 abbrev pub settled_by : ById Call → (rest : (later : List (List ℕ)) → List (Settlement Call)) → Option FirstReply → List (Settlement Call)
 settled_by client rest None = []
-settled_by client rest (Some reply) = (hears client reply.line (heard reply.line)).settlements ++ rest reply.later
+settled_by client rest (Some reply) = (hears_line client reply.line).settlements ++ rest reply.later
 
 -- the settlements of these commands, the first of which is request k, by the client's rule over the lines that come
 abbrev pub asked_from : (k : ℕ) → List Command → (came : List (List ℕ)) → List (Settlement Call)
@@ -104,8 +104,9 @@ pub record StopsAt (is_remote : Bool) (commands : List Command) (given : List �
   pub sent : Appends w.link_old w.link_new (all_of (written_requests 0 (loses.at.earlier ++ loses.at.command ∷ [])))
   pub no_more : is_remote ≡ true → asked commands given ≡ asked loses.at.earlier given
 
--- a write was cut, that of a command's request or of the reply to it: the command is lost (`LosesOne`) after `count` others, and of its
--- request the first `bytes` bytes were sent, or all. Where the link is remote, it was the request, of which `part` bytes were sent, and not all
+-- a write was cut, that of a command's request or of the reply to it. The command is lost (`LosesOne`), after `count` others, and
+-- of its request the first `bytes` bytes were sent, or all. Where the link is remote, the request was cut: its first `part` bytes
+-- were sent, not all
 pub record IsCutAt (is_remote : Bool) (commands : List Command) (given : List ℕ) (w : Written) (count part : ℕ) : Type 0 where
   pub loses : LosesOne commands given w
   pub count_is : count ≡ length loses.at.earlier
@@ -173,7 +174,7 @@ EndsWith over sink_old sink_new (Err e) = over (Err e) × (sink_new ≡ sink_old
 -- a run over a source of commands, with this result: the text was refused, and `unused` holds; or it gave commands, of which
 -- `claim` holds
 abbrev pub RunsText : (text_old text_new : Input) → LinkResult → (unused : Type 0) → (claim : List Command → Type 0) → Type 0
-RunsText text_old text_new result unused claim = Gave text_old text_new (λ given.
+RunsText text_old text_new result unused claim = GaveBytes text_old text_new (λ given.
     ((fault : RunFault) × (result ≡ Err fault) × RefusesCommands given text_old text_new fault × unused)
     ⊎ ((commands : List Command) × GivesCommands given text_old text_new commands × claim commands))
 

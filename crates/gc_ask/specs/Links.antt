@@ -101,6 +101,6 @@ abbrev pub CountsReplies : (place : ℕ) → LinkResult → Type 0
 CountsReplies place (Err (Write count _)) = count ≡ place
 CountsReplies place _ = Unit {0}
 
--- a read of the client's end left its sink as it was: what that took, and whether it failed
-abbrev pub OnlyReads : (old new : Ports) → Type 0
-OnlyReads old new = (new.taken ≡ old.taken) × (new.sink_failed ≡ old.sink_failed)
+-- what took an end's ports from `old` to `new` left its sink as it was: what that has taken, and whether it has failed
+abbrev pub LeavesSink : (old new : Ports) → Type 0
+LeavesSink old new = (new.taken ≡ old.taken) × (new.sink_failed ≡ old.sink_failed)

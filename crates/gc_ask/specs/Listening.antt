@@ -11,15 +11,15 @@ use Rattle.gc_lines.specs.Passing.{lines_completed}
 use Rattle.gc_lines.specs.declared.ports.Sink.{Ghosts as Sink}
 use Rattle.gc_catalogue.specs.declared.call.Call.{Call}
 use Rattle.gc_client.specs.declared.settlement.Settlement.{Settlement}
-use Rattle.gc_client.specs.Rule.{ById, heard, fits, hears}
+use Rattle.gc_client.specs.Rule.{ById, heard, fits, hears_line}
 use Rattle.gc_client.specs.Settlements.{AreSettlements, settlement_seen}
-use Rattle.gc_texts.specs.Settlements.{lines_from, WrotePartOfSettlements}
+use Rattle.gc_texts.specs.Settlements.{settlement_lines_from, WrotePartOfSettlements}
 use Rattle.gc_ask.specs.declared.ask.AskState.{AskState}
 use Rattle.gc_ask.specs.declared.client_end.ClientEnd.{ClientEnd}
 use Rattle.gc_ask.specs.declared.link.AskedLink.{Ghosts as AskedLink}
 use Rattle.gc_ask.specs.declared.unused.TheConstants.{ROOM}
 use Rattle.gc_ask.specs.Asking.{Written, LinkResult, first_reply, waiting_for, written_request, lost_of}
-use Rattle.gc_ask.specs.Links.{BothStep, OnlyReads, SeenStep, TakesRequest}
+use Rattle.gc_ask.specs.Links.{BothStep, LeavesSink, SeenStep, TakesRequest}
 use Rattle.gc_ask.specs.Looping.{SeenAtBoth, seen_at_both, written_at_both}
 use Rattle.gc_texts.specs.declared.commands.Command.{Command}
 use Rattle.gc_texts.specs.declared.fault.RunFault.{RunFault}
@@ -49,7 +49,7 @@ LinkSteps of_link old new result = BothStep (of_link.client old) (of_link.client
 -- they were
 abbrev pub LinkOnlyReads : {L : Type 0} → AskedLink L → (old new : L) → Type 0
 LinkOnlyReads of_link old new =
-    OnlyReads (of_link.client old) (of_link.client new) × (of_link.instrument new ≡ of_link.instrument old) × (of_link.held new ≡ of_link.held old)
+    LeavesSink (of_link.client old) (of_link.client new) × (of_link.instrument new ≡ of_link.instrument old) × (of_link.held new ≡ of_link.held old)
 
 -- from `old` to `new` nothing was read: what the assembler keeps, the bytes that aren't used yet and the number of reads left are the same
 abbrev pub HasReadNothing : (old new : AskState) → Type 0
@@ -66,7 +66,7 @@ abbrev pub TakesFrame : (from to : ById Call) → (line : Option (List ℕ)) →
 TakesFrame from to line settled false = (to ≡ from) × SettlesNothing from line
 TakesFrame from to None settled true = ⊥
 TakesFrame from to (Some line) settled true = (fits from (heard line) ≡ true)
-    × AreSettlements settled (hears from line (heard line)).settlements × (to ≡ (hears from line (heard line)).client)
+    × AreSettlements settled (hears_line from line).settlements × (to ≡ (hears_line from line).client)
 
 -- no line that the bytes complete, with the rest before them, settles a request; the assembler stands for what follows the last line
 -- feed, and the client is as before
@@ -101,8 +101,8 @@ pub record Settles (from : ById Call) (hearing : ClientHeard) : Type 0 where
   pub none : first_reply from front ≡ None
   pub fits : fits from (heard line) ≡ true
   pub stands : StandsFor hearing.kept []
-  pub settles : AreSettlements hearing.settled (hears from line (heard line)).settlements
-  pub client : hearing.client ≡ (hears from line (heard line)).client
+  pub settles : AreSettlements hearing.settled (hears_line from line).settlements
+  pub client : hearing.client ≡ (hears_line from line).client
 
 -- what is left of a piece of which this many bytes were used; nothing where no number is given
 abbrev pub left_of_piece : (used : Option ℕ) → (piece : List ℕ) → List ℕ
@@ -177,16 +177,17 @@ WritesPartOfLoss place command w over =
 abbrev pub WritesOnePart : (place : ℕ) → Command → ClientHeard → Written → (over : LinkResult → Type 0) → Type 0
 WritesOnePart place command hearing w over = WritesPartOfReply place command hearing w over ⊎ WritesPartOfLoss place command w over
 
--- a request was sent, its reply waited for (`SendsAndHears`), and its settlement written, by how that ended; `over`: as in `WritesOnePart`. `Ok`: the sink took the
--- settlement by the reply. `Output`: the sink failed. Another fault: the sink took the line that says the command is lost
+-- a request was sent, its reply waited for (`SendsAndHears`), and its settlement written, by how that ended. `Ok`: the sink took
+-- the settlement by the reply. `Output`: the sink failed (`WritesOnePart`). Another fault: the sink took the line that says the
+-- command is lost
 abbrev pub AsksOne : (is_remote : Bool) → (place : ℕ) → Command → ClientHeard → Written → (over : LinkResult → Type 0) → LinkResult → Type 0
 AsksOne is_remote place command hearing w over (Ok x) =
     SendsAndHears is_remote place command hearing w.link_old w.link_new (Ok x)
-    × Appends w.sink_old w.sink_new (lines_from place (map settlement_seen hearing.settled))
+    × Appends w.sink_old w.sink_new (settlement_lines_from place (map settlement_seen hearing.settled))
 AsksOne is_remote place command hearing w over (Err Output) = WritesOnePart place command hearing w over
 AsksOne is_remote place command hearing w over (Err fault) =
     SendsAndHears is_remote place command hearing w.link_old w.link_new (Err fault)
-    × Appends w.sink_old w.sink_new (lines_from place (lost_of command ∷ []))
+    × Appends w.sink_old w.sink_new (settlement_lines_from place (lost_of command ∷ []))
 
 -- one command was asked, by how that ended (`AsksOne`), over a link and a sink of which `old` was seen before it, and `new`
 -- after it

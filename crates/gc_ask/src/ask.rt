@@ -5,7 +5,7 @@ ghost use Rattle.std.specs.Prelude.{◌≡◌, ◌+◌, ◌≤◌, [], ℕ, List
 ghost use Rattle.gc_lines.specs.Assembler.{StandsFor};
 ghost use Rattle.gc_lines.specs.Lines.{with_end};
 ghost use Rattle.gc_ask.specs.AskRuns.{AskRuns, seen_of_link};
-ghost use Rattle.gc_ask.specs.Asking.{EndsWith, idle, written_request, waiting_for};
+ghost use Rattle.gc_ask.specs.Asking.{EndsWith, ready_for, written_request, waiting_for};
 ghost use Rattle.gc_ask.specs.Listening.{AsksOneOver, ExchangesOver, HasReadNothing, LinkSteps, SpendsReads};
 ghost use Rattle.gc_ask.specs.Listening.{seen_through};
 ghost use Rattle.gc_ask.specs.Looping.{AsksAtBoth, RunsAtBoth};
@@ -34,7 +34,7 @@ pub(crate) struct AskState {
 impl AskState {
     // The state before the first command: no request waits, nothing was read, and all `max_reads` reads are left.
     pub(crate) fn new(max_reads: u32) -> AskState
-        ensures client { result.end.client.ids ≡ idle 0 }
+        ensures client { result.end.client.ids ≡ ready_for 0 }
         ensures assembler { StandsFor result.end.assembler [] }
         ensures ahead { result.ahead ≡ [] }
         ensures reads { result.reads ≡ max_reads }
@@ -49,7 +49,7 @@ impl AskState {
     // Returns the request line of the command at this place, without its CR LF. The client then waits for its reply, without a deadline.
     // No other request waits, so the client doesn't refuse this one.
     fn request(&mut self, place: usize, command: &Command) -> Line
-        requires { self.old.end.client.ids ≡ idle place }
+        requires { self.old.end.client.ids ≡ ready_for place }
         ensures text { with_end result.items ≡ written_request place command.now }
         ensures client { self.new.end.client.ids ≡ waiting_for place command.now }
         ensures same { HasReadNothing self.old self.new }
@@ -73,7 +73,7 @@ impl AskState {
         command: &Command,
         link: &mut L,
     ) -> Result<(), RunFault>
-        requires { self.old.end.client.ids ≡ idle place }
+        requires { self.old.end.client.ids ≡ ready_for place }
         ensures exchanges { ExchangesOver L.AskedLink place command.now self.old self.new link.old link.new result }
         ensures ends { LinkSteps L.AskedLink link.old link.new result }
         ensures spends { SpendsReads L.AskedLink link.old link.new self.old.reads self.new.reads }
@@ -95,7 +95,7 @@ impl AskState {
         link: &mut L,
         sink: &mut K,
     ) -> Result<(), RunFault>
-        requires idle { self.old.end.client.ids ≡ idle place }
+        requires ready { self.old.end.client.ids ≡ ready_for place }
         requires stands { (rest : List ℕ) × StandsFor self.old.end.assembler rest }
         ensures asks { AsksOneOver L.is_remote place command.now self.old self.new
             (seen_through L.AskedLink link.old K.Sink sink.old)

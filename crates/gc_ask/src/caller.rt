@@ -141,11 +141,12 @@ struct ReplyWriter<'a, R> {
 
 // Each write is sent at once, so there is nothing to flush.
 impl<'a, R: Clock> Write for ReplyWriter<'a, R> {
-    // Waits until the instrument is free, if it is busy, and writes. What came during the wait is moved into the clock if it is to
-    // be dropped.
+    // Waits until the instrument is free, if it is busy, and writes. If the instrument drops what comes while it is busy, what came
+    // during the wait is moved into the clock.
     fn write(&mut self, buf: &[u8]) -> io::Result<usize> {
         if let Some(clock) = self.clock {
-            if clock.wait(self.rt) && clock.drops() {
+            let waited = clock.wait(self.rt);
+            if waited && clock.drops() {
                 self.connection.take_in(clock);
             }
         }

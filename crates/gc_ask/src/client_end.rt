@@ -4,7 +4,7 @@ ghost use Rattle.std.specs.Prelude.{◌≡◌, ◌+◌, ◌≤◌, ℕ, [], List
 ghost use Rattle.gc_lines.specs.Assembler.{StandsFor};
 ghost use Rattle.gc_lines.specs.Frames.{line_in};
 ghost use Rattle.gc_lines.specs.Lent.{lent_seen, IsLineWithin};
-ghost use Rattle.gc_ask.specs.Asking.{idle};
+ghost use Rattle.gc_ask.specs.Asking.{ready_for};
 ghost use Rattle.gc_ask.specs.Links.{ReadEnds};
 ghost use Rattle.gc_ask.specs.Listening.{TakesFrame, Listens, left_of_piece, HearsMore, HearsReply, LinkOnlyReads, heard_by};
 ghost use Rattle.gc_texts.specs.WholeTexts.{source_of};
@@ -29,7 +29,7 @@ pub(crate) struct ClientEnd {
 impl ClientEnd {
     // A client that waits for nothing, on a link of which nothing was read.
     pub(crate) fn new() -> ClientEnd
-        ensures client { result.client.ids ≡ idle 0 }
+        ensures client { result.client.ids ≡ ready_for 0 }
         ensures assembler { StandsFor result.assembler [] }
     {
         ClientEnd {

@@ -4,7 +4,7 @@
 ghost use Rattle.std.specs.Prelude.{◌≡◌, ◌+◌, true, Err};
 ghost use Rattle.gc_lines.specs.Lines.{with_end};
 ghost use Rattle.gc_lines.specs.Answering.{taken_by};
-ghost use Rattle.gc_ask.specs.Links.{BothStep, OnlyReads, ReadsMore, Sends, TakesRequest};
+ghost use Rattle.gc_ask.specs.Links.{BothStep, LeavesSink, ReadsMore, Sends, TakesRequest};
 ghost use Rattle.gc_texts.specs.WholeTexts.{source_of};
 ghost use Rattle.gc_texts.specs.declared.fault.RunFault.{RunFault};
 
@@ -32,7 +32,7 @@ pub(crate) trait AskedLink {
 
     /// Sends the request at this place (its number, counted from 0). Where this program answers at the other end, too, it has
     /// the request answered there, in at most `reads` reads, and subtracts from `reads` those that were answered. `Err`: `Write`, or a
-    /// fault of the other end, which are those of `InstrumentEnd::answer_line`.
+    /// fault of the other end, one of those of `InstrumentEnd::answer_line`.
     fn send(&mut self, place: usize, request: &Line, reads: &mut u32) -> Result<(), RunFault>
         ensures takes { TakesRequest is_remote place (with_end request.now.items) (client self.old).taken (client self.new).taken result }
         ensures ends { BothStep (client self.old) (client self.new) (instrument self.old) (instrument self.new) result }
@@ -45,7 +45,7 @@ pub(crate) trait AskedLink {
     fn read(&mut self, ahead: &mut Unused, reads: &mut u32) -> Result<(), RunFault>
         ensures more { ReadsMore (source_of (client self.old)) (source_of (client self.new)) ahead.new reads.old reads.new
             result }
-        ensures only { OnlyReads (client self.old) (client self.new) }
+        ensures only { LeavesSink (client self.old) (client self.new) }
         ensures instrument { instrument self.new ≡ instrument self.old }
         ensures held { held self.new ≡ held self.old };
 }

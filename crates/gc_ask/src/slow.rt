@@ -1,9 +1,8 @@
 //! An instrument whose replies take time, served to callers. The reading end of their connection records when bytes came, and
 //! the writing end waits until a reply is to be sent (`caller.rt`).
 
-ghost use Rattle.std.specs.Prelude.{◌≡◌, ◌+◌, ◌≤◌, length};
-ghost use Rattle.arrayvec.specs.ArrayVec.{array_vec_len};
-ghost use Rattle.gc_lines.specs.Answering.{AppendsAnswer};
+ghost use Rattle.std.specs.Prelude.{◌≡◌};
+ghost use Rattle.gc_lines.specs.Answering.{AppendsAnswer, GrowsByAnswer, HasRoomForAnswer};
 ghost use Rattle.gc_lines.specs.declared.frame.Frame.{Frame};
 ghost use Rattle.gc_scenes.specs.Slow.{HearsSometime};
 
@@ -39,9 +38,9 @@ impl<'a> Slow<'a> {
     // Appends the reply to a line that came at this moment of the clock (`at`, in milliseconds), with CR LF, if there is one, and returns
     // whether there is.
     fn hear(&mut self, line: &[u8], at: u64, text: &mut Outgoing) -> bool
-        requires { array_vec_len text.old + 514 ≤ 8192 }
+        requires { HasRoomForAnswer text.old }
         ensures heard { AppendsAnswer (HearsSometime self.old (Frame.Line (record { items = line.now })) self.new) text.old.items text.new.items result }
-        ensures bound { length text.new.items ≤ length text.old.items + 514 }
+        ensures bound { GrowsByAnswer text.old.items text.new.items }
     {
         if !self.slow.hear(line, at, text) {
             return false;

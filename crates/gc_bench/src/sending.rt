@@ -31,8 +31,8 @@ pub fn send<W: Window<Asked = Call>>(window: W, count: u32) -> u64 {
     sum
 }
 
-// Sends a request, and returns the length of its line, or 0 where the window is full. `bench/parts.sh` counts the instructions of this
-// function by its name.
+// Sends a request, and returns the length of its line, or 0 where the window is full. `bench/parts.sh` counts the instructions of
+// this function by its name.
 #[inline(never)]
 fn send_one<W: Window<Asked = Call>>(client: &mut Client<W>, target: u32, line: &mut Line) -> u64 {
     let call = Call::SimpleMea {

@@ -50,8 +50,8 @@ fn value_of<'a>(line: &'a str, key: &str) -> Option<&'a str> {
     rest.strip_prefix(' ')
 }
 
-/// The first case of a text, which the first `== ` begins, and the text after it: from the LF before the next case's `== ` on, or an
-/// empty one if there is no further case. `None`: the text has no case.
+/// The first case of a text, which the first `== ` begins, and the text after it: from the LF before the next case's `== ` on, or
+/// an empty one if there is no further case. `None`: the text has no case.
 pub fn cut_case(text: &str) -> Option<(Case<'_>, &str)> {
     let (_, cases) = text.split_once("== ")?;
     let case = cases.split_once("\n== ").map_or(cases, |cut| cut.0);

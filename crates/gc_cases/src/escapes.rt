@@ -44,9 +44,9 @@ fn next_byte(value: &[u8]) -> Option<(u8, &[u8])> {
     Some((*byte, behind))
 }
 
-// The byte that a backslash and the text `rest` after it stand for, and the text after that: `n`, `r` and `t` stand for LF, CR and
-// a tab, `x` and two hexadecimal digits for the byte that these write, any other byte, also an `x` without two such digits after
-// it, for itself, and a backslash at the end of the text for itself.
+// The byte that a backslash and the text `rest` after it stand for, and the text after that: `n`, `r` and `t` stand for LF, CR
+// and a tab, `x` and two hexadecimal digits for the byte that these write, any other byte, also an `x` without two such digits
+// after it, for itself, and a backslash at the end of the text for itself.
 fn escape_of(rest: &[u8]) -> (u8, &[u8]) {
     if let Some(written) = hex_escape_of(rest) {
         return written;

@@ -36,8 +36,8 @@ pub fn play_folder<P: Player>(
     play_files(rt, folder, names.as_slice(), player)
 }
 
-/// The names in a folder that have an ending, in order, of files and of folders in it; all of them if the ending is empty. `Err`: the
-/// folder can't be read, or memory ran out.
+/// The names in a folder that have an ending, in order, of files and of folders in it; all of them if the ending is empty. `Err`:
+/// the folder can't be read, or memory ran out.
 pub fn names_of(rt: &HostRuntime, folder: &str, ending: &str) -> io::Result<Vec<String>> {
     let mut names = Vec::new(rt.alloc());
     add_names(rt, folder, ending, &mut names)?;
@@ -117,7 +117,8 @@ fn tell_file(rt: &HostRuntime, name: &str, counts: Counts, wrong: &str) -> io::R
     Ok(otherwise == 0)
 }
 
-// Plays the cases of a text, and returns how many there are, and how many came to what they expect. A text has no more cases than bytes.
+// Plays the cases of a text, and returns how many there are, and how many came to what they expect. A text has no more cases than
+// bytes.
 fn play_text<P: Player>(rt: &HostRuntime, text: &str, player: &P, wrong: &mut Told) -> Counts {
     let mut cases = 0u64;
     let mut right = 0u64;

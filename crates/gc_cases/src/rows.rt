@@ -75,8 +75,8 @@ fn play_given<R: Rows>(given: &str, rows: &mut R, came: &mut Told) {
     }
 }
 
-// Appends a line to `wrong` for a row of which something else came than the case expects: what is before the row's arrow (`given`), and
-// what came.
+// Appends a line to `wrong` for a row of which something else came than the case expects: what is before the row's arrow
+// (`given`), and what came.
 fn tell_row(case: &Case<'_>, given: &str, came: &Told, wrong: &mut Told) {
     case.begin_wrong("do", wrong);
     wrong.text(given);

@@ -5,7 +5,8 @@ use crate::escapes::spells;
 use crate::told::Told;
 
 impl<'a> Case<'a> {
-    /// Whether the value under a key is this text, as it is written there, with its backslashes. Without such a line the value is empty.
+    /// Whether the value under a key is this text, as it is written there, with its backslashes. Without such a line the value is
+    /// empty.
     pub fn is(&self, key: &str, value: &str) -> bool {
         self.value(key) == value
     }

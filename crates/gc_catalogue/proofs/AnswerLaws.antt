@@ -20,12 +20,12 @@ one_answer call params a b x y =
     let shape = x.of_call ∙ sym y.of_call in
     same_answer a b shape (one_values _ _ params (same_answer_kinds a b shape) x.values y.values)
 
--- parameters of an answer of the call are not unreadable for it
+-- parameters that are read as an answer of the call aren't unreadable for it
 pub no_unreadable : (call : Call) (params : List ℕ) (a : Answer) (e : ValueFault) → IsAnswer call params a → IsUnreadable call params e → ⊥
 no_unreadable call params a e x y =
     no_list_fault (answer_fields a).values params e (few_answer_values a) x.values (rw (same_answer_kinds a y.0 (x.of_call ∙ sym y.1)) y.2)
 
--- parameters are unreadable for a call because of at most one fault
+-- parameters are unreadable for a call by at most one fault
 pub one_unreadable : (call : Call) (params : List ℕ) (e f : ValueFault) → IsUnreadable call params e → IsUnreadable call params f → e ≡ f
 one_unreadable call params e f x y =
     one_list_fault (answer_kinds x.0) params e f x.2 (rw (same_answer_kinds x.0 y.0 (x.1 ∙ sym y.1)) y.2)
@@ -36,7 +36,7 @@ one_reading call r x y =
     one_reading_by (IsAnswer call r.params) (IsUnreadable call r.params) r x y
     (record { answer = one_answer call r.params; fault = one_unreadable call r.params; never_both = no_unreadable call r.params })
 
--- `AreShown` holds between values and the same values with each double rounded
+-- `AreShown` is true of values and the same values with each double rounded
 all_shown : (places : ℕ) (vs : List Value) → AreShown places vs (shown_values places vs)
 all_shown places [] = tt
 all_shown places (value.Double d ∷ vs) = (rounded_rounds d places, all_shown places vs)

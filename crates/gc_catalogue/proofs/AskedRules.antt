@@ -29,17 +29,17 @@ use Rattle.gc_catalogue.proofs.RawRules.{each_raw_reply, one_raw_reading}
 abbrev raw_call_of : (rpc : ℕ) (params : RawText) → IsRawCall rpc (raw_bytes params) → RawCall
 raw_call_of rpc params is = record { rpc = rpc; params = params; is = is }
 
--- requests with the same number and the same parameters are equal whatever the proofs are that they may be asked for
-same_fields : (rpc : ℕ) (params : RawText) (is : IsRawCall rpc (raw_bytes params)) (other : ℕ) (text : RawText) → rpc ≡ other → params ≡ text
+-- requests with the same number and the same parameters are equal, whatever the proofs are that they may be asked for
+same_raw_call : (rpc : ℕ) (params : RawText) (is : IsRawCall rpc (raw_bytes params)) (other : ℕ) (text : RawText) → rpc ≡ other → params ≡ text
     → (so : IsRawCall other (raw_bytes text)) → raw_call_of rpc params is ≡ raw_call_of other text so
-same_fields rpc params is other text e f =
+same_raw_call rpc params is other text e f =
     let P : ℕ → Type 0 = λ n. (so : IsRawCall n (raw_bytes text)) → raw_call_of rpc params is ≡ raw_call_of n text so in
     let Q : RawText → Type 0 = λ t. (so : IsRawCall rpc (raw_bytes t)) → raw_call_of rpc params is ≡ raw_call_of rpc t so in
     subst P e (subst Q f (λ so. ap (raw_call_of rpc params) (IsRawCall-prop rpc (raw_bytes params) is so)))
 
 -- requests with the same number and the same parameters' bytes are equal
 pub same_raw : (a b : RawCall) → a.rpc ≡ b.rpc → raw_params a ≡ raw_params b → a ≡ b
-same_raw a b e f = same_fields a.rpc a.params a.is b.rpc b.params e (same_text a.params b.params f) b.is
+same_raw a b e f = same_raw_call a.rpc a.params a.is b.rpc b.params e (same_text a.params b.params f) b.is
 
 -- a request for a call doesn't have the number of a procedure that isn't in the table
 pub no_call_is_raw : (rpc : ℕ) (params : List ℕ) (call : Call) (raw : RawCall) → IsCall rpc params call → raw.rpc ≡ rpc → ⊥
@@ -63,9 +63,9 @@ pub asked_id : (id : Option ℕ) (asked : Asked) → (asked_request id asked).id
 asked_id id (Table call) = refl
 asked_id id (Raw raw) = refl
 
--- where a result is `Ok p` and is `Ok q`, p and q are equal
-read_once : (r : Result RequestFields LineFault) (p q : RequestFields) → r ≡ Ok p → r ≡ Ok q → p ≡ q
-read_once r p q e f = cc
+-- a result is `Ok` of at most one request
+one_request_read : (r : Result RequestFields LineFault) (p q : RequestFields) → r ≡ Ok p → r ≡ Ok q → p ≡ q
+one_request_read r p q e f = cc
 
 -- requests with the same line, for what is allowed, each with an id below 8 or without one, ask for the same thing, and have the
 -- same id
@@ -73,7 +73,7 @@ pub one_asked_for_a_line : OneAskedForALine
 one_asked_for_a_line i j a b x y f g e =
     let one = asked_again i a x f in
     let two = asked_again j b y g in
-    let same : asked_request i a ≡ asked_request j b = read_once _ (asked_request i a) (asked_request j b) one.line (ap request_at e ∙ two.line) in (
+    let same : asked_request i a ≡ asked_request j b = one_request_read _ (asked_request i a) (asked_request j b) one.line (ap request_at e ∙ two.line) in (
       sym (asked_id i a) ∙ ap (λ (q : RequestFields). q.id) same ∙ asked_id j b,
       one_asked (asked_request j b).rpc (asked_request j b).params a b (subst (λ (q : RequestFields). IsAsked q.rpc q.params a) same one.is_asked) two.is_asked,
     )

@@ -29,26 +29,25 @@ one_refusal n params (Parameters e) Unknown x y = absurd (y x.0 x.1)
 one_refusal n params (Parameters e) (Parameters f) x y =
     ap (λ z. Parameters z) (one_list_fault (call_kinds x.0) params e f x.2 (rw (same_number_alike x.0 y.0 (x.1 ∙ sym y.1)).kinds y.2))
 
--- a reading `r` of a number and parameters made their call `d`, or gave a refusal of them. Where they are those of a call `c`,
+-- if a reading `r` of a number and parameters made their call `d`, or gave a refusal of them, and they are those of a call `c`,
 -- `r` is no refusal, and d is c
 pub only_call : (n : ℕ) (params : List ℕ) (r : Result ⊤ CallFault) (d : Call) → OnOk r (IsCall n params d)
     → IfErr r (λ e. IsRefusal n params e) → (c : Call) → IsCall n params c → IsOk r × (d ≡ c)
 only_call n params (Ok u) d x f c y = (refl, one_call n params d c x y)
 only_call n params (Err e) d x f c y = absurd (no_refusal n params c e y f)
 
--- a reading `r` of a number and parameters made their call `d`, or gave a refusal of them. Where they have a refusal, `r` is that
--- one
+-- if a reading `r` of a number and parameters made their call `d`, or gave a refusal of them, and they have a refusal, `r` is
+-- that one
 pub only_refusal : (n : ℕ) (params : List ℕ) (r : Result ⊤ CallFault) (d : Call) → OnOk r (IsCall n params d)
     → IfErr r (λ e. IsRefusal n params e) → (e : CallFault) → IsRefusal n params e → r ≡ Err e
 only_refusal n params (Ok u) d x f e y = absurd (no_refusal n params d e x y)
 only_refusal n params (Err g) d x f e y = ap (λ z. Err z) (one_refusal n params g e f y)
 
--- the texts of a call's values, if these are in range, joined by commas, are parameters of that call
+-- the texts of a call's values, joined by commas, are parameters of that call if the values are in range
 pub written_is_call : (c : Call) → IsFitting c → IsCall (call_fields c).number (params_of (call_fields c).values) c
 written_is_call c h = record { number = refl; values = written_reads (call_fields c).values h }
 
--- where a reading `r` of a number and parameters made their call `d` or gave a fault, and r is no fault, d's values are in their
--- ranges
+-- the values of the call `d` that a reading `r` made of a number and parameters are in their ranges, unless `r` is a fault
 pub fits_where_found : (n : ℕ) (params : List ℕ) (r : Result ⊤ CallFault) (d : Call) → OnOk r (IsCall n params d) → OnOk r (IsFitting d)
 fits_where_found n params (Ok u) d x = params_fit (call_fields d).values params x.values
 fits_where_found n params (Err e) d x = tt

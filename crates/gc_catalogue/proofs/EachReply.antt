@@ -1,4 +1,4 @@
--- Each reply has a reading for each call: where both codes are 0, the parameters are read as an answer of the call, or there is a
+-- Each reply has a reading for each call: if both codes are 0, the parameters are read as an answer of the call, or there is a
 -- fault for which they can't be.
 use Rattle.std.proofs.Common.{◌≡◌, ℕ, List, [], ◌∷◌, refl, sym, ap, ◌∙◌, subst, ◌⊎◌, inl, inr}
 use Rattle.std.specs.Prelude.{Bool, ℤ, pos}
@@ -48,17 +48,17 @@ record FirstValue (k : Kind) (ks : List Kind) (vs : List Value) : Type 0 where
   made : IsOfKind k first
   kinds : kinds_of behind ≡ ks
 
--- a list of values whose kinds are k and then ks has a first value of the kind k, and behind it values of the kinds ks
+-- values whose kinds are k and then ks are a first value of the kind k, and behind it values of the kinds ks
 first_value : (k : Kind) (ks : List Kind) (vs : List Value) → kinds_of vs ≡ k ∷ ks → FirstValue k ks vs
 first_value k ks [] e = absurd (cc)
 first_value k ks (v ∷ vs) e =
     let same : kind_of v ≡ k = cc in
     record { first = v; behind = vs; is = refl; made = subst (λ (j : Kind). IsOfKind j v) same (is_of_kind v); kinds = cc }
 
--- a list of values whose list of kinds is empty is empty
-none_left : (vs : List Value) → kinds_of vs ≡ [] → [] ≡ vs
-none_left [] e = refl
-none_left (v ∷ vs) e = absurd (cc)
+-- values whose list of kinds is empty are none
+no_kinds_no_values : (vs : List Value) → kinds_of vs ≡ [] → [] ≡ vs
+no_kinds_no_values [] e = refl
+no_kinds_no_values (v ∷ vs) e = absurd (cc)
 
 -- there is an answer of this shape with these values
 abbrev HasAnswer : Shape → List Value → Type 0
@@ -71,19 +71,19 @@ record ShapeIsAnswered (s : Shape) : Type 0 where
   shape : (answer_fields some).shape ≡ s
   each : (vs : List Value) → kinds_of vs ≡ kinds_of (answer_fields some).values → HasAnswer s vs
 
--- for a shape of one value: if `make` gives every value of the kind k, and each of its values alone makes an answer of the shape
--- s, there is such an answer for each list of one value of that kind
+-- a list of one value of the kind k has an answer of the shape s, if `make` gives every value of that kind, and each value that
+-- `make` gives alone makes such an answer
 one_value_answer : {X : Type 0} (k : Kind) (make : X → Value) (s : Shape) → ((v : Value) → IsOfKind k v → (x : X) × (make x ≡ v))
     → ((x : X) → HasAnswer s (make x ∷ [])) → (vs : List Value) → kinds_of vs ≡ k ∷ [] → HasAnswer s vs
 one_value_answer k make s is says vs e =
     let p = first_value k [] vs e in
     let x = is p.first p.made in
     let a = says x.0 in
-    (a.0, a.1, a.2 ∙ ap (λ v. v ∷ []) x.1 ∙ ap (λ ws. p.first ∷ ws) (none_left p.behind p.kinds) ∙ p.is)
+    (a.0, a.1, a.2 ∙ ap (λ v. v ∷ []) x.1 ∙ ap (λ ws. p.first ∷ ws) (no_kinds_no_values p.behind p.kinds) ∙ p.is)
 
 -- `ShapeIsAnswered` holds of every shape
 shape_is_answered : (s : Shape) → ShapeIsAnswered s
-shape_is_answered shape.Nothing = record { some = answer.Nothing; shape = refl; each = λ vs e. (answer.Nothing, refl, none_left vs e) }
+shape_is_answered shape.Nothing = record { some = answer.Nothing; shape = refl; each = λ vs e. (answer.Nothing, refl, no_kinds_no_values vs e) }
 shape_is_answered shape.Short = record {
   some = answer.Short (pos 0);
   shape = refl;
@@ -119,7 +119,7 @@ shape_is_answered shape.Version = record { some = answer.Version (pos 0) (pos 0)
       let a = p.made in
       let b = q.made in
       let c = r.made in
-      (answer.Version a.0 b.0 c.0, refl, cc (a.1, b.1, c.1, none_left r.behind r.kinds, r.is, q.is, p.is))
+      (answer.Version a.0 b.0 c.0, refl, cc (a.1, b.1, c.1, no_kinds_no_values r.behind r.kinds, r.is, q.is, p.is))
 shape_is_answered shape.Date = record { some = answer.Date (record { year = pos 0; month = 0; day = 0; hour = 0; minute = 0; second = 0 }); shape = refl; each = date } where
   -- each list of a Short and five Bytes is the values of an answer of the shape `Date`
   date : (vs : List Value) → kinds_of vs ≡ kind.Short ∷ kind.Byte ∷ kind.Byte ∷ kind.Byte ∷ kind.Byte ∷ kind.Byte ∷ [] → HasAnswer shape.Date vs
@@ -138,7 +138,7 @@ shape_is_answered shape.Date = record { some = answer.Date (record { year = pos 
       let n = u.made in (
         answer.Date (record { year = a.0; month = b.0; day = c.0; hour = d.0; minute = m.0; second = n.0 }),
         refl,
-        cc (a.1, b.1, c.1, d.1, m.1, n.1, none_left u.behind u.kinds, u.is, t.is, s.is, r.is, q.is, p.is),
+        cc (a.1, b.1, c.1, d.1, m.1, n.1, no_kinds_no_values u.behind u.kinds, u.is, t.is, s.is, r.is, q.is, p.is),
       )
 shape_is_answered shape.Place = record { some = answer.Place (record { e0 = zero; n0 = zero; h0 = zero; hi = zero }); shape = refl; each = place } where
   -- each list of four Doubles is the values of an answer of the shape `Place`
@@ -154,7 +154,7 @@ shape_is_answered shape.Place = record { some = answer.Place (record { e0 = zero
       let d = s.made in (
         answer.Place (record { e0 = a.0; n0 = b.0; h0 = c.0; hi = d.0 }),
         refl,
-        cc (a.1, b.1, c.1, d.1, none_left s.behind s.kinds, s.is, r.is, q.is, p.is),
+        cc (a.1, b.1, c.1, d.1, no_kinds_no_values s.behind s.kinds, s.is, r.is, q.is, p.is),
       )
 shape_is_answered shape.Angles = record { some = answer.Angles zero zero; shape = refl; each = angles } where
   -- each list of two Doubles is the values of an answer of the shape `Angles`
@@ -164,7 +164,7 @@ shape_is_answered shape.Angles = record { some = answer.Angles zero zero; shape 
       let q = first_value kind.Double [] p.behind p.kinds in
       let a = p.made in
       let b = q.made in
-      (answer.Angles a.0 b.0, refl, cc (a.1, b.1, none_left q.behind q.kinds, q.is, p.is))
+      (answer.Angles a.0 b.0, refl, cc (a.1, b.1, no_kinds_no_values q.behind q.kinds, q.is, p.is))
 shape_is_answered shape.Measured = record { some = answer.Measured zero zero zero; shape = refl; each = measured } where
   -- each list of three Doubles is the values of an answer of the shape `Measured`
   measured : (vs : List Value) → kinds_of vs ≡ kind.Double ∷ kind.Double ∷ kind.Double ∷ [] → HasAnswer shape.Measured vs
@@ -175,7 +175,7 @@ shape_is_answered shape.Measured = record { some = answer.Measured zero zero zer
       let a = p.made in
       let b = q.made in
       let c = r.made in
-      (answer.Measured a.0 b.0 c.0, refl, cc (a.1, b.1, c.1, none_left r.behind r.kinds, r.is, q.is, p.is))
+      (answer.Measured a.0 b.0 c.0, refl, cc (a.1, b.1, c.1, no_kinds_no_values r.behind r.kinds, r.is, q.is, p.is))
 shape_is_answered shape.MeasuredMode = record { some = answer.MeasuredMode zero zero zero (pos 0); shape = refl; each = with_mode } where
   -- each list of three Doubles and a Long is the values of an answer of the shape `MeasuredMode`
   with_mode : (vs : List Value) → kinds_of vs ≡ kind.Double ∷ kind.Double ∷ kind.Double ∷ kind.Long ∷ [] → HasAnswer shape.MeasuredMode vs
@@ -188,9 +188,9 @@ shape_is_answered shape.MeasuredMode = record { some = answer.MeasuredMode zero 
       let b = q.made in
       let c = r.made in
       let m = s.made in
-      (answer.MeasuredMode a.0 b.0 c.0 m.0, refl, cc (a.1, b.1, c.1, m.1, none_left s.behind s.kinds, s.is, r.is, q.is, p.is))
+      (answer.MeasuredMode a.0 b.0 c.0 m.0, refl, cc (a.1, b.1, c.1, m.1, no_kinds_no_values s.behind s.kinds, s.is, r.is, q.is, p.is))
 
--- parameters are read as an answer of the call, or are unreadable for some reason
+-- parameters are read as an answer of the call, or are unreadable for it by some fault
 answer_or_unreadable : (call : Call) (params : List ℕ) → ((a : Answer) × IsAnswer call params a) ⊎ ((e : ValueFault) × IsUnreadable call params e)
 answer_or_unreadable call params =
     let m = shape_is_answered (call_fields call).answer in

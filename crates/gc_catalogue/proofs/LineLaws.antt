@@ -22,7 +22,7 @@ use Rattle.gc_catalogue.proofs.Table.{number_fits, shape-rounded, values-rounded
 pub call_again : CallsReadBack
 call_again id call i fits = record { line = request_back (request_of id call) (record { rpc = number_fits call; id = i }); is_asked = written_is_call call fits }
 
--- values in their ranges stay there when doubles are rounded
+-- values in their ranges stay in them when doubles are rounded
 shown_fit : (places : ℕ) (vs : List Value) → AreValues vs → AreValues (shown_values places vs)
 shown_fit places [] h = tt
 shown_fit places (value.Double d ∷ vs) h = (tt, shown_fit places vs h.1)

@@ -15,7 +15,8 @@ pub record IsDecisive (IsRead : Answer → Type 0) (IsFaulty : ValueFault → Ty
   pub fault : (e f : ValueFault) → IsFaulty e → IsFaulty f → e ≡ f
   pub never_both : (a : Answer) (e : ValueFault) → IsRead a → IsFaulty e → ⊥
 
--- where parameters are read as one answer at most, or have one fault, a reply has at most one reading
+-- if parameters are read as at most one answer or have at most one fault, and never both (`IsDecisive`), a reply has at most one
+-- reading
 pub one_reading_by : (IsRead : Answer → Type 0) (IsFaulty : ValueFault → Type 0) (r : ReplyFields) (x y : Reading) → IsDecisive IsRead IsFaulty
     → IsReadingBy IsRead IsFaulty r x → IsReadingBy IsRead IsFaulty r y → x ≡ y
 one_reading_by IsRead IsFaulty r (reading.ComFault a) (reading.ComFault b) one x y = ap (λ n. reading.ComFault n) (x.1 ∙ sym y.1)
@@ -35,7 +36,7 @@ one_reading_by IsRead IsFaulty r (reading.Unreadable a) (reading.Refused b) one 
 one_reading_by IsRead IsFaulty r (reading.Unreadable a) (reading.Value b) one x y = absurd (one.never_both b a y.2 x.2)
 one_reading_by IsRead IsFaulty r (reading.Unreadable a) (reading.Unreadable b) one x y = ap (λ z. reading.Unreadable z) (one.fault a b x.2 y.2)
 
--- where a reply's parameters are read as an answer or have a fault, the reply has a reading
+-- if a reply's parameters are read as an answer or have a fault, the reply has a reading
 pub each_reading_by : (IsRead : Answer → Type 0) (IsFaulty : ValueFault → Type 0) (r : ReplyFields)
     → ((a : Answer) × IsRead a) ⊎ ((e : ValueFault) × IsFaulty e) → (reading : Reading) × IsReadingBy IsRead IsFaulty r reading
 each_reading_by IsRead IsFaulty r read = elim (cases_eq r.rc_com 0) [

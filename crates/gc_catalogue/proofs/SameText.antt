@@ -21,7 +21,7 @@ facts_of t = record { few = t.few; long = t.long; zeros = t.zeros }
 abbrev text_of : (bytes : List ℕ) (len : ℕ) → Facts bytes len → RawText
 text_of bytes len facts = record { bytes = bytes; len = len; few = facts.few; long = facts.long; zeros = facts.zeros }
 
--- any two proofs of the facts are equal
+-- the facts of a text (`Facts`) have at most one proof
 one_proof : (bytes : List ℕ) (len : ℕ) → IsProp (Facts bytes len)
 one_proof bytes len x y =
     let few_prop : IsProp (len ≤ 503) = hlevel props in
@@ -37,16 +37,16 @@ same_parts a b places count =
     subst P places (subst Q count (λ facts. ap (text_of a.bytes a.len) (one_proof a.bytes a.len (facts_of a) facts))) (facts_of b)
 
 -- a text's count is how many bytes it has
-count_is : (t : RawText) → length (raw_bytes t) ≡ t.len
-count_is t = length-take-le t.len t.bytes (let few = t.few in let long = t.long in omega (arith, few, long))
+count_is_length : (t : RawText) → length (raw_bytes t) ≡ t.len
+count_is_length t = length-take-le t.len t.bytes (let few = t.few in let long = t.long in omega (arith, few, long))
 
 -- a text's places are its bytes, and zeros after them, up to 503
-places_are : (t : RawText) → t.bytes ≡ raw_bytes t ++ replicate (503 - length (raw_bytes t)) 0
-places_are t = sym (take-append-drop t.len t.bytes) ∙ ap (λ zs. raw_bytes t ++ zs) t.zeros ∙ ap (λ n. raw_bytes t ++ replicate (503 - n) 0) (sym (count_is t))
+places_are_filled : (t : RawText) → t.bytes ≡ raw_bytes t ++ replicate (503 - length (raw_bytes t)) 0
+places_are_filled t = sym (take-append-drop t.len t.bytes) ∙ ap (λ zs. raw_bytes t ++ zs) t.zeros ∙ ap (λ n. raw_bytes t ++ replicate (503 - n) 0) (sym (count_is_length t))
 
 -- texts of the same bytes are equal
 pub same_text : (a b : RawText) → raw_bytes a ≡ raw_bytes b → a ≡ b
 same_text a b e =
-    let places : a.bytes ≡ b.bytes = places_are a ∙ ap (λ bs. bs ++ replicate (503 - length bs) 0) e ∙ sym (places_are b) in
-    let count : a.len ≡ b.len = sym (count_is a) ∙ ap length e ∙ count_is b in
+    let places : a.bytes ≡ b.bytes = places_are_filled a ∙ ap (λ bs. bs ++ replicate (503 - length bs) 0) e ∙ sym (places_are_filled b) in
+    let count : a.len ≡ b.len = sym (count_is_length a) ∙ ap length e ∙ count_is_length b in
     same_parts a b places count

@@ -1,6 +1,6 @@
 -- Calls: the table of procedures, and which parameters are a call's. Numbers and names are those of the manual's procedure
 -- tables; which parameters a procedure has, and of which kinds, is this project's own after them.
-use Rattle.std.specs.Prelude.{◌≡◌, ◌≢◌, ℕ, List, [], ◌∷◌, length, Result, Ok, Err, IsOk}
+use Rattle.std.specs.Prelude.{◌≡◌, ◌≢◌, ℕ, List, [], ◌∷◌, length}
 use Rattle.gc_lines.specs.declared.request.Request.{Request}
 use Rattle.gc_values.specs.declared.value.Value.{Value}
 use Rattle.gc_values.specs.declared.value.Value.TheVariants.{Double, Long, Short, Bool}
@@ -120,15 +120,3 @@ IsCallOf request call = IsCall request.rpc request.params.now call
 -- the fault for which the request is for no call, by its number and its parameters
 abbrev pub IsRefusalOf : Request → CallFault → Type 0
 IsRefusalOf request e = IsRefusal request.rpc request.params.now e
-
--- if the request is for a call, the result is that call
-abbrev pub GivesCallOf : Request → Result Call CallFault → Type 0
-GivesCallOf request result = (call : Call) → IsCallOf request call → result ≡ Ok call
-
--- if the request is for a call, the result is a success, and `written` is that call
-abbrev pub WritesCallOf : {A : Type 0} → Request → Result A CallFault → (written : Call) → Type 0
-WritesCallOf request result written = (call : Call) → IsCallOf request call → IsOk result × (written ≡ call)
-
--- if the request is for no call because of a fault, the result is that fault
-abbrev pub GivesRefusalOf : {A : Type 0} → Request → Result A CallFault → Type 0
-GivesRefusalOf request result = (e : CallFault) → IsRefusalOf request e → result ≡ Err e

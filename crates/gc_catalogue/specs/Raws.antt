@@ -1,6 +1,6 @@
 -- Procedures that aren't in the table: which numbers and parameters may be asked for, why others may not, and what a reply says.
 -- The lines' form is the manual's; these rules are this project's own.
-use Rattle.std.specs.Prelude.{◌≡◌, ◌⊎◌, ◌<◌, ◌≤◌, ◌%◌, ℕ, List, length, Some, Result, Err}
+use Rattle.std.specs.Prelude.{◌≡◌, ◌⊎◌, ◌<◌, ◌≤◌, ◌%◌, ℕ, List, length, Some}
 use Rattle.gc_lines.specs.Lines.{IsPlain}
 use Rattle.gc_lines.specs.Replies.{ReplyFields}
 use Rattle.gc_lines.specs.Requests.{request_text}
@@ -46,10 +46,6 @@ IsRawRefusal rpc params NotPlain = IsNoProcedure rpc × (¬ IsPlain params)
 IsRawRefusal rpc params TooLong = IsNoProcedure rpc × IsPlain params × (512 < line_length rpc params)
 IsRawRefusal rpc params OpenQuote = IsNoProcedure rpc × IsPlain params × (line_length rpc params ≤ 512) × HasOpenQuote params
 IsRawRefusal rpc params TooMany = IsNoProcedure rpc × IsPlain params × (line_length rpc params ≤ 512) × AreTooMany params
-
--- if the number may not be asked for with these parameters because of a fault, the result is that fault
-abbrev pub GivesRawRefusal : {A : Type 0} → ℕ → List ℕ → Result A RawFault → Type 0
-GivesRawRefusal rpc params result = (e : RawFault) → IsRawRefusal rpc params e → result ≡ Err e
 
 -- the parameters of a reply of a procedure that isn't in the table are read as this answer: they are at most 16 items, and the
 -- answer is `Nothing`, whatever they are

@@ -12,8 +12,9 @@ use Rattle.gc_catalogue.specs.declared.answer.Answer.{Answer}
 use Rattle.gc_catalogue.specs.declared.answer.Shape.{Shape}
 use Rattle.gc_catalogue.specs.declared.call.Call.{Call}
 
--- these values were asked for one by one: where `vs` are left in `new`, `old` reads as these values and then `vs`; and a fault of
--- `new` where the kinds `ks` are asked for next is a fault of `old` where those of these values and then `ks` are
+-- these values were asked for one by one: if what is left in `new` reads as `vs`, what was left in `old` reads as these values
+-- and then `vs`; and if `e` is the fault of `new` where the kinds `ks` are asked for, it is that of `old` where the kinds of
+-- these values and then `ks` are
 abbrev pub ReadsRow : {P : Type 0} → Parameters P → (old new : P) → (values : List Value) → Type 0
 ReadsRow of old new values =
     ((vs : List Value) → of.reads new vs → of.reads old (values ++ vs))

@@ -4,7 +4,7 @@ ghost use Rattle.std.specs.Prelude.{◌≡◌, IsOk, IfOk, IfErr, IfSome, IfNone
 ghost use Rattle.gc_values.specs.declared.fault.ValueFault.{ValueFault};
 ghost use Rattle.gc_catalogue.specs.RawProps.{IsRawCall-prop};
 ghost use Rattle.gc_catalogue.specs.RawTexts.{raw_bytes};
-ghost use Rattle.gc_catalogue.specs.Raws.{AreFewItems, GivesRawRefusal, IsItemsRefusal, IsRawCall, IsRawRefusal};
+ghost use Rattle.gc_catalogue.specs.Raws.{AreFewItems, IsItemsRefusal, IsRawCall, IsRawRefusal};
 
 use crate::names::procedure_name;
 use crate::raw_text::RawText;
@@ -81,7 +81,7 @@ pub fn raw_call(rpc: u16, params: &[u8]) -> Result<RawCall, RawFault>
     ensures allowed { IsRawCall rpc params.now → IsOk result }
     ensures only { (raw : RawCall) → raw.rpc ≡ rpc → raw_bytes raw.params ≡ params.now → result ≡ Ok raw }
     ensures fault { IfErr result (λ e. IsRawRefusal rpc params.now e) }
-    ensures exactly { GivesRawRefusal rpc params.now result }
+    ensures exactly { (e : RawFault) → IsRawRefusal rpc params.now e → result ≡ Err e }
 {
     match raw_fault(rpc, params) {
         Some(fault) => Err(fault),

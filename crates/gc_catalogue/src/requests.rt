@@ -1,10 +1,10 @@
 //! Calls and their request lines.
 
-ghost use Rattle.std.specs.Prelude.{◌≡◌, ◌+◌, ◌≤◌, ◌++◌, IsTrue, IfOk, IfErr, OnOk};
+ghost use Rattle.std.specs.Prelude.{◌≡◌, ◌+◌, ◌≤◌, ◌++◌, IsTrue, IsOk, IfOk, IfErr, OnOk};
 ghost use Rattle.arrayvec.specs.ArrayVec.{array_vec_len};
 ghost use Rattle.gc_lines.specs.Headers.{MayBeId};
 ghost use Rattle.gc_lines.specs.Lines.{IsPlain};
-ghost use Rattle.gc_catalogue.specs.Calls.{GivesCallOf, GivesRefusalOf, IsCall, IsCallOf, IsFitting, IsRefusal, IsRefusalOf, WritesCallOf};
+ghost use Rattle.gc_catalogue.specs.Calls.{IsCall, IsCallOf, IsFitting, IsRefusal, IsRefusalOf};
 ghost use Rattle.gc_catalogue.specs.Laws.{ReadsBackCall};
 ghost use Rattle.gc_catalogue.specs.Lists.{IsWithoutComma};
 ghost use Rattle.gc_catalogue.specs.Texts.{request_line};
@@ -95,9 +95,9 @@ fn read_call(rpc: u16, params: &[u8], call: &mut Call) -> Result<(), CallFault>
 pub fn decode_call_into(request: &Request<'_>, call: &mut Call) -> Result<(), CallFault>
     ensures found { OnOk result (IsCallOf request.now call.new) }
     ensures fitting { OnOk result (IsFitting call.new) }
-    ensures only { WritesCallOf request.now result call.new }
+    ensures only { (named : Call) → IsCallOf request.now named → IsOk result × (call.new ≡ named) }
     ensures fault { IfErr result (λ e. IsRefusalOf request.now e) }
-    ensures exactly { GivesRefusalOf request.now result }
+    ensures exactly { (e : CallFault) → IsRefusalOf request.now e → result ≡ Err e }
 {
     read_call(request.rpc, request.params, call)
 }
@@ -109,9 +109,9 @@ pub fn decode_call_into(request: &Request<'_>, call: &mut Call) -> Result<(), Ca
 pub fn decode_call(request: &Request<'_>) -> Result<Call, CallFault>
     ensures found { IfOk result (λ call. IsCallOf request.now call) }
     ensures fitting { IfOk result (λ call. IsFitting call) }
-    ensures only { GivesCallOf request.now result }
+    ensures only { (call : Call) → IsCallOf request.now call → result ≡ Ok call }
     ensures fault { IfErr result (λ e. IsRefusalOf request.now e) }
-    ensures exactly { GivesRefusalOf request.now result }
+    ensures exactly { (e : CallFault) → IsRefusalOf request.now e → result ≡ Err e }
 {
     let mut call = Call::NullProc;
     decode_call_into(request, &mut call)?;

@@ -11,16 +11,16 @@ use Rattle.gc_client.specs.Ids.{id_at_place, FitsWaiting, IdsDiffer, IdsHavePlac
 
 -- where the next id is below 8 and fewer than seven requests wait, a request that is sent has the next id, and the others keep
 -- theirs
-pub sending : (next waiting : ℕ) → next < 8 → waiting < 7 → SendKeepsIds next waiting
-sending next waiting digit room =
+pub send_keeps_ids : (next waiting : ℕ) → next < 8 → waiting < 7 → SendKeepsIds next waiting
+send_keeps_ids next waiting digit room =
     record {
       own = omega arith;
       others = λ k below. omega arith;
     }
 
 -- where at most seven requests wait, and the first of them are settled, however many, those that are left keep their ids
-pub settling : (next waiting : ℕ) → waiting ≤ 7 → SettlingKeepsIds next waiting
-settling next waiting few count k below = omega arith
+pub settling_keeps_ids : (next waiting : ℕ) → waiting ≤ 7 → SettlingKeepsIds next waiting
+settling_keeps_ids next waiting few count k below = omega arith
 
 -- where the next id is below 8, and at most seven requests wait, `place` gives k for the id of the request at place k, where one
 -- waits

@@ -7,21 +7,22 @@ use Rattle.std.proofs.lemmas.Bool.{le-leb, lt-leb, and_right}
 use Rattle.std.proofs.lemmas.List.{append-nil}
 use Rattle.gc_client.specs.declared.pending.Pending.{Pending}
 use Rattle.gc_client.specs.Rule.{expired, is_expiring, expiring, given_up_at}
-use Rattle.gc_client.proofs.Lists.{next_chosen, drop_turn}
+use Rattle.gc_client.proofs.Lists.{next_chosen, drop_next}
+use Rattle.gc_client.proofs.Marks.{marked_timed_out}
 
 -- the requests that wait once the loop has looked at the first k of them: these have timed out if their deadlines were reached
 abbrev pub expired_up_to : {Q : Type 0} → (now k : ℕ) → (ws : List (Pending Q)) → List (Pending Q)
 expired_up_to now k ws = map (expired now) (take k ws) ++ drop k ws
 
 -- once the loop has looked at the first k requests, the one at place k is still the one that was there at the start
-pub same_at : {Q : Type 0} (now k : ℕ) (ws : List (Pending Q)) (p : Pending Q) → slice_get (expired_up_to now k ws) k ≡ Some p
+pub unchanged_at_next : {Q : Type 0} (now k : ℕ) (ws : List (Pending Q)) (p : Pending Q) → slice_get (expired_up_to now k ws) k ≡ Some p
     → slice_get ws k ≡ Some p
-same_at now zero ws p e = e
-same_at now (suc k) [] p e = e
-same_at now (suc k) (w ∷ ws) p e = same_at now k ws p e
+unchanged_at_next now zero ws p e = e
+unchanged_at_next now (suc k) [] p e = e
+unchanged_at_next now (suc k) (w ∷ ws) p e = unchanged_at_next now k ws p e
 
 -- what `expired` makes of a request that times out at this moment is the same request, marked as timed out
-expired_is : {Q : Type 0} (now : ℕ) (p : Pending Q) → is_expiring now p ≡ true → expired now p ≡ record p { given_up = true }
+expired_is : {Q : Type 0} (now : ℕ) (p : Pending Q) → is_expiring now p ≡ true → expired now p ≡ marked_timed_out p
 expired_is now p e = ap (λ b. record p { given_up = b }) (flag (nat_le p.deadline now) p.given_up e) where
   -- of a request that is due and hasn't timed out yet, the new mark is true
   flag : (due given : Bool) → (due && not given) ≡ true → (given || due) ≡ true
@@ -40,11 +41,11 @@ expired_unchanged now p e = ap (λ b. record p { given_up = b }) (flag (nat_le p
 
 -- marking the request at place k as timed out, once the loop has looked at the first k, leaves the first k as the loop made them,
 -- then the one at place k, marked, and then those after it as they were at the start
-given_up_in : {Q : Type 0} (now k : ℕ) (ws : List (Pending Q)) (p : Pending Q) → slice_get ws k ≡ Some p
-    → given_up_at k (expired_up_to now k ws) ≡ map (expired now) (take k ws) ++ record p { given_up = true } ∷ drop (suc k) ws
-given_up_in now k [] p e = cc
-given_up_in {Q} now zero (w ∷ ws) p e = let same : w ≡ p = cc in ap (λ (x : Pending Q). record x { given_up = true } ∷ ws) same
-given_up_in now (suc k) (w ∷ ws) p e = ap (λ qs. expired now w ∷ qs) (given_up_in now k ws p e)
+marking_next : {Q : Type 0} (now k : ℕ) (ws : List (Pending Q)) (p : Pending Q) → slice_get ws k ≡ Some p
+    → given_up_at k (expired_up_to now k ws) ≡ map (expired now) (take k ws) ++ marked_timed_out p ∷ drop (suc k) ws
+marking_next now k [] p e = cc
+marking_next {Q} now zero (w ∷ ws) p e = let same : w ≡ p = cc in ap (λ (x : Pending Q). marked_timed_out x ∷ ws) same
+marking_next now (suc k) (w ∷ ws) p e = ap (λ qs. expired now w ∷ qs) (marking_next now k ws p e)
 
 -- once the loop has looked at the first k + 1 requests, there are the first k as the loop made them, then the one at place k as
 -- the loop made it, and then those after it as they were at the start
@@ -64,7 +65,7 @@ next_expiring {Q} now k ws p e = next_chosen (λ (q : Pending Q). q.target) (is_
 module _ {Q : Type 0} (now k : ℕ) (ws qs : List (Pending Q)) (p : Pending Q) (done : qs ≡ expired_up_to now k ws) (here : slice_get qs k ≡ Some p) where
   -- the request at place k of those that waited at the start is p
   at_k : slice_get ws k ≡ Some p
-  at_k = same_at now k ws p (subst (λ l. slice_get l k ≡ Some p) done here)
+  at_k = unchanged_at_next now k ws p (subst (λ l. slice_get l k ≡ Some p) done here)
 
   -- the place after k is k + 1
   suc_k : suc k ≡ k + 1
@@ -74,14 +75,14 @@ module _ {Q : Type 0} (now k : ℕ) (ws qs : List (Pending Q)) (p : Pending Q) (
   -- wait once the loop has looked at the first k + 1
   pub due_done : (qs' : List (Pending Q)) → is_expiring now p ≡ true → qs' ≡ given_up_at k qs → qs' ≡ expired_up_to now (k + 1) ws
   due_done qs' b e =
-      e ∙ ap (given_up_at k) done ∙ given_up_in now k ws p at_k
+      e ∙ ap (given_up_at k) done ∙ marking_next now k ws p at_k
       ∙ ap (λ x. map (expired now) (take k ws) ++ x ∷ drop (suc k) ws) (sym (expired_is now p b))
       ∙ sym (expired_one_more now k ws p at_k) ∙ ap (λ m. expired_up_to now m ws) suc_k
 
   -- where p doesn't time out at the moment, qs are the requests that wait once the loop has looked at the first k + 1
   pub not_due_done : is_expiring now p ≡ false → qs ≡ expired_up_to now (k + 1) ws
   not_due_done b =
-      done ∙ ap (λ l. map (expired now) (take k ws) ++ l) (drop_turn ws k p at_k)
+      done ∙ ap (λ l. map (expired now) (take k ws) ++ l) (drop_next ws k p at_k)
       ∙ ap (λ x. map (expired now) (take k ws) ++ x ∷ drop (suc k) ws) (sym (expired_unchanged now p b))
       ∙ sym (expired_one_more now k ws p at_k) ∙ ap (λ m. expired_up_to now m ws) suc_k
 
@@ -107,17 +108,17 @@ module _ {Q : Type 0} (now k : ℕ) (ws qs : List (Pending Q)) (p : Pending Q) (
       none b = rw b refl
 
 -- a request whose deadline is reached, and that hadn't timed out, times out at this moment
-pub is_due : {Q : Type 0} (now : ℕ) (p : Pending Q) → p.deadline ≤ now → not p.given_up ≡ true → is_expiring now p ≡ true
-is_due now p due waits =
+pub expires_when_due : {Q : Type 0} (now : ℕ) (p : Pending Q) → p.deadline ≤ now → not p.given_up ≡ true → is_expiring now p ≡ true
+expires_when_due now p due waits =
     let b : leb p.deadline now ≡ true = le-leb _ _ due in
     rw (b, waits) refl
 
 -- a request whose deadline isn't reached doesn't time out at this moment
-pub is_not_due : {Q : Type 0} (now : ℕ) (p : Pending Q) → now < p.deadline → is_expiring now p ≡ false
-is_not_due now p early =
+pub not_expiring_early : {Q : Type 0} (now : ℕ) (p : Pending Q) → now < p.deadline → is_expiring now p ≡ false
+not_expiring_early now p early =
     let b : leb p.deadline now ≡ false = lt-leb _ _ early in
     rw b refl
 
 -- a request that had timed out before doesn't time out at this moment
-pub is_given_up : {Q : Type 0} (now : ℕ) (p : Pending Q) → not p.given_up ≡ false → is_expiring now p ≡ false
-is_given_up now p given_up = and_right (leb p.deadline now) (not p.given_up) given_up
+pub not_expiring_again : {Q : Type 0} (now : ℕ) (p : Pending Q) → not p.given_up ≡ false → is_expiring now p ≡ false
+not_expiring_again now p given_up = and_right (leb p.deadline now) (not p.given_up) given_up

@@ -30,17 +30,17 @@ pub expired_parts : {Q : Type 0} (now : ℕ) (ps : List (Pending Q)) → map of_
 expired_parts now [] = refl
 expired_parts now (p ∷ ps) = ap (λ qs. of_pending p ∷ qs) (expired_parts now ps)
 
--- the requests that a reply to place k settles, if it settles any (b is true), and after them those that then wait, are those
--- that waited before
-reply_parts : {Q : Type 0} (c : ById Q) (line : List ℕ) (k : ℕ) (b : Bool)
-    → map of_settled (settles_at c line k b).settlements ++ map of_pending (settles_at c line k b).client.waiting ≡ map of_pending c.waiting
+-- `x` accounts for the requests `waiting`, in order: they are those that it settles, and after them those that then wait
+abbrev pub AccountsForWaiting : {Q : Type 0} → Settled Q (ById Q) → (waiting : List (Pending Q)) → Type 0
+AccountsForWaiting x waiting = map of_settled x.settlements ++ map of_pending x.client.waiting ≡ map of_pending waiting
+
+-- what a reply to place k settles accounts for the requests that waited, whether one waits at that place (b true) or none
+reply_parts : {Q : Type 0} (c : ById Q) (line : List ℕ) (k : ℕ) (b : Bool) → AccountsForWaiting (settles_at c line k b) c.waiting
 reply_parts c line k false = refl
 reply_parts c line k true = ap (λ n. map of_settled (settle k line c.waiting) ++ map of_pending (drop n c.waiting)) (let e : k + 1 ≡ suc k = omega arith in e) ∙ settle_parts k line c.waiting
 
--- the requests that a line with this id, or without one, settles, and after them those that then wait, are those that waited
--- before
-pub heard_parts : {Q : Type 0} (c : ById Q) (line : List ℕ) (o : Option ℕ)
-    → map of_settled (hears c line o).settlements ++ map of_pending (hears c line o).client.waiting ≡ map of_pending c.waiting
+-- what a line with this id, or without one, settles accounts for the requests that waited
+pub heard_parts : {Q : Type 0} (c : ById Q) (line : List ℕ) (o : Option ℕ) → AccountsForWaiting (hears c line o) c.waiting
 heard_parts c line None = refl
 heard_parts c line (Some id) = reply_parts c line (place c.next (length c.waiting) id) (ltb (place c.next (length c.waiting) id) (length c.waiting))
 
@@ -51,10 +51,8 @@ sent_keeps x target call deadline true h = h
 sent_keeps x target call deadline false h =
     simp map-append (sym (append_assoc (map of_settled x.settlements) (map of_pending x.client.waiting) _) ∙ ap (λ l. l ++ record { target = target; call = call } ∷ []) h)
 
--- a course that accounts for its sends still does after a settling, where the requests settled, and after them those that then
--- wait, are those that waited before
-settled_keeps : {Q : Type 0} (x : Course Q) (s : Settled Q (ById Q))
-    → map of_settled s.settlements ++ map of_pending s.client.waiting ≡ map of_pending x.client.waiting → AccountsForSends x
+-- a course that accounts for its sends still does after a settling that accounts for the requests that waited
+settled_keeps : {Q : Type 0} (x : Course Q) (s : Settled Q (ById Q)) → AccountsForWaiting s x.client.waiting → AccountsForSends x
     → AccountsForSends (settled_on x s)
 settled_keeps x s parts h = pieces ∙ ap (λ l. map of_settled x.settlements ++ l) parts ∙ h where
   -- all settled requests and those that wait are those settled before, and then those settled now with those that wait

@@ -34,14 +34,14 @@ is_answered (asked ∷ rest) None = false
 is_answered (asked ∷ rest) (Some id) = nat_eq id asked
 
 -- the ids that aren't answered yet, of `asked` and `rest`: `rest` alone if `asked` was answered (true), else both
-abbrev pub left_by_one : (answered : Bool) → (asked : ℕ) → (rest : List ℕ) → List ℕ
-left_by_one true asked rest = rest
-left_by_one false asked rest = asked ∷ rest
+abbrev pub left_when : (answered : Bool) → (asked : ℕ) → (rest : List ℕ) → List ℕ
+left_when true asked rest = rest
+left_when false asked rest = asked ∷ rest
 
 -- the ids that aren't answered yet after a reply with this id, or a line without one: a line that doesn't answer changes nothing
 abbrev pub left_by : (left : List ℕ) → (id : Option ℕ) → List ℕ
 left_by [] id = []
-left_by (asked ∷ rest) id = left_by_one (is_answered (asked ∷ rest) id) asked rest
+left_by (asked ∷ rest) id = left_when (is_answered (asked ∷ rest) id) asked rest
 
 -- which of the ids `word` aren't answered yet after these lines came, one after the other: a line answers the first id that is
 -- left then, if the line has that id, and otherwise none

@@ -36,7 +36,7 @@ hearing_of (Settled settlements) = kind.Settled
 hearing_of Stray = kind.Stray
 hearing_of (Unread fault) = kind.Unread fault
 
--- `HearsInto`, of a report that contains the settlements
+-- what a client reports of a line, with the settlements in it, is right as `HearsInto` says
 abbrev pub HearsAs : {Q : Type 0} → (old : ById Q) → (line : List ℕ) → Heard Q → (new : ById Q) → Type 0
 HearsAs old line report new = HearsInto old line (hearing_of report) (settlements_in report) new
 

@@ -1,8 +1,9 @@
 //! The subcommands that ask over a connection. None of them begins if a standard stream is closed.
 
-ghost use Rattle.std.specs.Prelude.{◌≡◌, ◌≤◌, false, IfOk};
+ghost use Rattle.std.specs.Prelude.{◌≡◌, false, IfOk};
 ghost use Rattle.std.specs.Process.{exit_status};
 ghost use Rattle.gc_messages.specs.Streams.{are_open, ReportsClosed};
+ghost use Rattle.gc_messages.specs.Statuses.{IsStatusUpTo};
 
 use crate::system::System;
 use gc_lines::{Durable, Source};
@@ -37,7 +38,7 @@ impl<
         // weren't used.
         ensures closed { are_open self.entry.now.standard ≡ false → IfOk result.1 (λ status. ReportsClosed self.entry.now.standard (exit_status status) (E.contents streams.messages) (E.contents result.0.messages)) }
         ensures untouched { are_open self.entry.now.standard ≡ false → (result.0.input ≡ streams.input) × (result.0.output ≡ streams.output) }
-        ensures bound { IfOk result.1 (λ status. exit_status status ≤ 2) }
+        ensures bound { IsStatusUpTo 2 result.1 }
     {
         if !self.standard.are_open() {
             let ended = self.standard.report_closed(&mut streams.messages);
@@ -52,7 +53,7 @@ impl<
         job: ClientJob<'_>,
         streams: Streams<S, K, E>,
     ) -> (Streams<S, K, E>, io::Result<ExitCode>)
-        ensures { IfOk result.1 (λ status. exit_status status ≤ 1) }
+        ensures { IsStatusUpTo 1 result.1 }
     {
         match job {
             ClientJob::Loop { scene } => loop_scene(self.rt, self.alloc, scene, streams),
@@ -69,8 +70,8 @@ impl<
         }
     }
 
-    // Measures at a site, and reports how that ended. A message that can't be written is lost, which doesn't change the status. If
-    // the system's last error doesn't explain the fault, `rt` forgets it. The streams are handed back.
+    // Measures at a site, and reports how that ended. A message that can't be written is lost, which doesn't change the status.
+    // If the system's last error doesn't explain the fault, `rt` forgets it. The streams are handed back.
     fn measure_site<S: Source, K: Durable + Drop, E: Write>(
         &self,
         site: Site<'_>,
@@ -78,7 +79,7 @@ impl<
         recording: Option<Recording<'_>>,
         streams: Streams<S, K, E>,
     ) -> (Streams<S, K, E>, io::Result<ExitCode>)
-        ensures { IfOk result.1 (λ status. exit_status status ≤ 1) }
+        ensures { IsStatusUpTo 1 result.1 }
     {
         let noticed = Cell::new(Noticed::nothing());
         let spot = Spot {
@@ -95,15 +96,15 @@ impl<
         (lossless_of(lossy), ended)
     }
 
-    // Measures at a site, with the records in a file if one is named, and otherwise on the output; and reports how that ended. The streams are
-    // handed back.
+    // Measures at a site, with the records in a file if one is named, and otherwise on the output; and reports how that ended.
+    // The streams are handed back.
     fn measure_recorded<S: Source, K: Durable + Drop, E: Write>(
         &self,
         spot: Spot<'_>,
         recording: Option<Recording<'_>>,
         streams: Streams<S, K, E>,
     ) -> (Streams<S, K, E>, io::Result<ExitCode>)
-        ensures { IfOk result.1 (λ status. exit_status status ≤ 1) }
+        ensures { IsStatusUpTo 1 result.1 }
     {
         // What is seen at each act, for proofs alone.
         let mut kept = Kept::new();

@@ -5,6 +5,7 @@ ghost use Rattle.std.specs.Io.KnownBytes.{Appends};
 ghost use Rattle.std.specs.Process.{exit_status};
 ghost use Rattle.gc_texts.specs.declared.fault.RunFault.{RunFault};
 ghost use Rattle.gc_texts.specs.Faults.{run_fault_text, fault_line};
+ghost use Rattle.gc_messages.specs.Statuses.{IsStatusUpTo};
 
 use crate::system::System;
 use clap::Error;
@@ -52,7 +53,7 @@ pub fn run_program<
     words: io::Result<Args>,
     mut streams: Streams<I, O, E>,
 ) -> io::Result<ExitCode>
-    ensures { IfOk result (λ status. exit_status status ≤ 2) }
+    ensures { IsStatusUpTo 2 result }
 {
     let system = System {
         rt,
@@ -75,7 +76,7 @@ impl<'a, R: Net<Listener = TcpListener, Stream = TcpStream> + Clock + Files<File
         words: Vec<String>,
         mut streams: Streams<I, O, E>,
     ) -> io::Result<ExitCode>
-        ensures { IfOk result (λ status. exit_status status ≤ 2) }
+        ensures { IsStatusUpTo 2 result }
     {
         match job_of(self.alloc, words.as_slice()) {
             Ok(job) => self.run_job(job, streams),
@@ -86,13 +87,14 @@ impl<'a, R: Net<Listener = TcpListener, Stream = TcpStream> + Clock + Files<File
         }
     }
 
-    // Runs the job over the streams, and reports how that ended; or reports, with status 2, why the words name no job that can be run.
+    // Runs the job over the streams, and reports how that ended; or reports, with status 2, why the words name no job that can be
+    // run.
     fn run_job<I: Read + Drop, O: Write + Drop, E: Write + Drop>(
         &self,
         job: Job<'_>,
         mut streams: Streams<I, O, E>,
     ) -> io::Result<ExitCode>
-        ensures { IfOk result (λ status. exit_status status ≤ 2) }
+        ensures { IsStatusUpTo 2 result }
     {
         match job {
             Job::Exec { scene } => self.run_exec_job(scene, streams),
@@ -113,7 +115,7 @@ impl<'a, R: Net<Listener = TcpListener, Stream = TcpStream> + Clock + Files<File
         scene: Option<&str>,
         streams: Streams<I, O, E>,
     ) -> io::Result<ExitCode>
-        ensures { IfOk result (λ status. exit_status status ≤ 1) }
+        ensures { IsStatusUpTo 1 result }
     {
         let mut ports = as_ports_ahead(streams);
         exec_scene(
@@ -132,7 +134,7 @@ impl<'a, R: Net<Listener = TcpListener, Stream = TcpStream> + Clock + Files<File
         drilling: Drilling<'_>,
         streams: Streams<I, O, E>,
     ) -> io::Result<ExitCode>
-        ensures { IfOk result (λ status. exit_status status ≤ 2) }
+        ensures { IsStatusUpTo 2 result }
     {
         let mut ports = as_ports(streams);
         drill_scene(
@@ -145,14 +147,14 @@ impl<'a, R: Net<Listener = TcpListener, Stream = TcpStream> + Clock + Files<File
         )
     }
 
-    // Rehearses the station whose text is on the input, and reports how that ended; after a fault also what the system refused last,
-    // and why, if that is noted.
+    // Rehearses the station whose text is on the input, and reports how that ended; after a fault also what the system refused
+    // last, and why, if that is noted.
     fn run_rehearse_job<I: Read + Drop, O: Write + Drop, E: Write + Drop>(
         &self,
         rehearsal: Rehearsal<'_>,
         streams: Streams<I, O, E>,
     ) -> io::Result<ExitCode>
-        ensures { IfOk result (λ status. exit_status status ≤ 1) }
+        ensures { IsStatusUpTo 1 result }
     {
         let noting = Noting::new(self.rt);
         let (mut ports, ended) = rehearse(&noting, self.alloc, rehearsal, as_ports(streams));
@@ -165,7 +167,7 @@ impl<'a, R: Net<Listener = TcpListener, Stream = TcpStream> + Clock + Files<File
         serving: Serving<'_>,
         mut streams: Streams<I, O, E>,
     ) -> io::Result<ExitCode>
-        ensures { IfOk result (λ status. exit_status status ≤ 2) }
+        ensures { IsStatusUpTo 2 result }
     {
         let noting = Noting::new(self.rt);
         let ended = serve_with_places_filled(
@@ -178,14 +180,14 @@ impl<'a, R: Net<Listener = TcpListener, Stream = TcpStream> + Clock + Files<File
         noting.report(self.standard, ended, &mut streams.messages)
     }
 
-    // Runs `loop`, `ask` or `station`, and reports how that ended; after a fault also what the system refused last, and why, if that
-    // is noted.
+    // Runs `loop`, `ask` or `station`, and reports how that ended; after a fault also what the system refused last, and why, if
+    // that is noted.
     fn run_client_job<I: Read + Drop, O: Write + Drop, E: Write + Drop>(
         &self,
         job: ClientJob<'_>,
         streams: Streams<I, O, E>,
     ) -> io::Result<ExitCode>
-        ensures { IfOk result (λ status. exit_status status ≤ 2) }
+        ensures { IsStatusUpTo 2 result }
     {
         let noting = Noting::new(self.rt);
         let system = System {
@@ -235,7 +237,7 @@ fn run_check_job<I: Read + Drop, O: Write + Drop, E: Write + Drop>(
     log: bool,
     streams: Streams<I, O, E>,
 ) -> io::Result<ExitCode>
-    ensures { IfOk result (λ status. exit_status status ≤ 1) }
+    ensures { IsStatusUpTo 1 result }
 {
     let mut ports = as_ports_ahead(streams);
     check(
@@ -255,7 +257,7 @@ fn answer_words<O: Write, E: Write>(
     output: &mut O,
     messages: &mut E,
 ) -> io::Result<ExitCode>
-    ensures { IfOk result (λ status. exit_status status ≤ 2) }
+    ensures { IsStatusUpTo 2 result }
 {
     if error.kind() == ErrorKind::OutOfMemory {
         return report_out_of_memory(messages);
@@ -266,7 +268,8 @@ fn answer_words<O: Write, E: Write>(
     show(error, output, messages)
 }
 
-// Writes the help or the version (`text`) on the output, with status 0. If that fails, the fault `Output` is reported, with status 1.
+// Writes the help or the version (`text`) on the output, with status 0. If that fails, the fault `Output` is reported, with
+// status 1.
 fn show<O: Write, E: Write>(text: &Error, output: &mut O, messages: &mut E) -> io::Result<ExitCode>
     ensures { IfOk result (λ status. ((exit_status status ≡ 0) × (E.contents messages.new ≡ E.contents messages.old))
         ⊎ ((exit_status status ≡ 1) × Appends (E.contents messages.old) (E.contents messages.new) (fault_line (run_fault_text RunFault.Output)))) }
@@ -311,7 +314,7 @@ fn all_words(alloc: Global, words: io::Result<Args>) -> io::Result<Vec<String>> 
 // Reports that the words couldn't be read: with status 2 if one isn't UTF-8, and with status 1 if memory ran out.
 fn refuse_unreadable<E: Write>(error: &io::Error, messages: &mut E) -> io::Result<ExitCode>
     ensures refused { IfOk result (λ status. 1 ≤ exit_status status) }
-    ensures bound { IfOk result (λ status. exit_status status ≤ 2) }
+    ensures bound { IsStatusUpTo 2 result }
 {
     if error.kind() == io::ErrorKind::OutOfMemory {
         return report_out_of_memory(messages);

@@ -3,8 +3,8 @@
 use gc_messages::Standard;
 use std::alloc::Global;
 
-/// What the program runs over besides its streams: the net, the clock and the files of `rt`, its memory, and which of the standard
-/// streams are open.
+/// What the program runs over besides its streams: the net, the clock and the files of `rt`, its memory, and which of the
+/// standard streams are open.
 #[derive(Drop)]
 pub(crate) struct System<'a, R> {
     pub(crate) rt: &'a R,

@@ -3,6 +3,7 @@
 -- before and has taken after.
 use Rattle.std.proofs.Common.{◌≡◌, ℕ, ◌+◌, ◌-◌, ◌<◌, ◌≤◌, ◌^◌, min, true, false, cond, List, [], ◌∷◌, ◌++◌, length, take, map, Option, Some, Result, Ok, Err, refl, sym, ap, ◌∙◌, subst, arith, append_assoc, length-append}
 use Rattle.std.specs.Prelude.{nat_lt}
+use Rattle.std.specs.Fmt.{decimal}
 use Rattle.std.proofs.lemmas.Bool.{cond_both}
 use Rattle.std.proofs.lemmas.List.{length-map}
 use Rattle.std.specs.Option.{option_to_list}
@@ -14,7 +15,7 @@ use Rattle.gc_lines.specs.declared.served.Served.{Served}
 use Rattle.gc_lines.specs.declared.served.ServeFault.{ServeFault}
 use Rattle.gc_lines.specs.declared.served.ServeFault.TheVariants.{Read, Write, TooManyReads}
 use Rattle.gc_lines.proofs.InOrder.{in_order_then, in_order_one}
-use Rattle.gc_engines.specs.Verdicts.{IsVerdict, AreVerdicts, verdict_line, verdict_lines_from, AreFrameVerdicts}
+use Rattle.gc_engines.specs.Verdicts.{IsVerdict, AreVerdicts, verdict_text, verdict_line, verdict_lines_from, AreFrameVerdicts}
 use Rattle.gc_engines.specs.Checking.{WritesVerdictOn, JudgesFrame, WritesAll, WritesPart, Checks}
 use Rattle.gc_engines.specs.declared.check.Judge.{Judge}
 use Rattle.gc_engines.specs.declared.verdict.Verdict.{Verdict}
@@ -81,23 +82,23 @@ judged_next s u frame later text rest n at few (v, is, counts, told) next =
     }
 
 -- ended frames that were judged in order, from the count n on, got the lines of their verdicts, as long as 64 bits can count them
-judged : (s t : Judge) (seen : List Frame) (texts : List (List ℕ)) (n : ℕ) → s.frames ≡ n → n + length seen < 2 ^ 64 → AreEnded seen
+judged_in_order : (s t : Judge) (seen : List Frame) (texts : List (List ℕ)) (n : ℕ) → s.frames ≡ n → n + length seen < 2 ^ 64 → AreEnded seen
     → AnswersInOrder Judge Frame JudgesFrame s seen t texts → Judged n seen texts
 unfolding AreEnded
-judged s t [] texts n at few ended h = record { verdicts = []; are = tt; numbered = h.1 }
-judged s t (Line line ∷ later) texts n at few ended h = subst (Judged n (Line line ∷ later)) (sym h.5)
-    (judged_next s h.0 (Line line) later h.1 h.2 n at (omega (arith, few)) h.3 (λ more. judged h.0 t later h.2 (n + 1) more (omega (arith, few)) ended h.4))
-judged s t (Cleared ∷ later) texts n at few ended h = subst (Judged n (Cleared ∷ later)) (sym h.5)
-    (judged_next s h.0 Cleared later h.1 h.2 n at (omega (arith, few)) h.3 (λ more. judged h.0 t later h.2 (n + 1) more (omega (arith, few)) ended h.4))
-judged s t (Overlong ∷ later) texts n at few ended h = subst (Judged n (Overlong ∷ later)) (sym h.5)
-    (judged_next s h.0 Overlong later h.1 h.2 n at (omega (arith, few)) h.3 (λ more. judged h.0 t later h.2 (n + 1) more (omega (arith, few)) ended h.4))
-judged s t (More ∷ later) texts n at few ended h = absurd ended
+judged_in_order s t [] texts n at few ended h = record { verdicts = []; are = tt; numbered = h.1 }
+judged_in_order s t (Line line ∷ later) texts n at few ended h = subst (Judged n (Line line ∷ later)) (sym h.5)
+    (judged_next s h.0 (Line line) later h.1 h.2 n at (omega (arith, few)) h.3 (λ more. judged_in_order h.0 t later h.2 (n + 1) more (omega (arith, few)) ended h.4))
+judged_in_order s t (Cleared ∷ later) texts n at few ended h = subst (Judged n (Cleared ∷ later)) (sym h.5)
+    (judged_next s h.0 Cleared later h.1 h.2 n at (omega (arith, few)) h.3 (λ more. judged_in_order h.0 t later h.2 (n + 1) more (omega (arith, few)) ended h.4))
+judged_in_order s t (Overlong ∷ later) texts n at few ended h = subst (Judged n (Overlong ∷ later)) (sym h.5)
+    (judged_next s h.0 Overlong later h.1 h.2 n at (omega (arith, few)) h.3 (λ more. judged_in_order h.0 t later h.2 (n + 1) more (omega (arith, few)) ended h.4))
+judged_in_order s t (More ∷ later) texts n at few ended h = absurd ended
 
 -- ended frames that were judged from the first on got the lines of their verdicts, if they are fewer than 2 ^ 64
 verdicts_of : (s t : Judge) (seen : List Frame) (texts : List (List ℕ)) → s.frames ≡ 0 → length seen < 2 ^ 64 → AreEnded seen
     → AnswersInOrder Judge Frame JudgesFrame s seen t texts → AreFrameVerdicts seen texts
 verdicts_of s t seen texts at few ended h =
-    let k = judged s t seen texts 0 at (omega (arith, few)) ended h in
+    let k = judged_in_order s t seen texts 0 at (omega (arith, few)) ended h in
     record { verdicts = k.verdicts; are = k.are; numbered = k.numbered }
 
 -- a judge that has counted no frame gets fewer than 2 ^ 64 bytes. a and b are what the sink had taken before and after, and
@@ -138,14 +139,14 @@ module _
 
 -- where the frames of fewer than 2 ^ 64 bytes were judged from the first on, what went out of their verdicts' lines, by the
 -- result, is what `Checks` says
-pub checked : (s t : Judge) (given : List ℕ) (a b : Option (List ℕ)) (r : Result Served ServeFault) → s.frames ≡ 0 → length given < 2 ^ 64
+pub frames_are_checked : (s t : Judge) (given : List ℕ) (a b : Option (List ℕ)) (r : Result Served ServeFault) → s.frames ≡ 0 → length given < 2 ^ 64
     → AnswersFrames JudgesFrame s t (frames given) a b r → Checks given a b r
-checked s t given a b (Ok served) at few h = all_checked s t given a b served.replies at few h
-checked s t given a b (Err (Read n)) at few h = all_checked s t given a b n at few h
-checked s t given a b (Err (Write n bytes)) at few h = part_checked s t given a b n at few bytes h
-checked s t given a b (Err (TooManyReads n)) at few h = all_checked s t given a b n at few h
+frames_are_checked s t given a b (Ok served) at few h = all_checked s t given a b served.replies at few h
+frames_are_checked s t given a b (Err (Read n)) at few h = all_checked s t given a b n at few h
+frames_are_checked s t given a b (Err (Write n bytes)) at few h = part_checked s t given a b n at few bytes h
+frames_are_checked s t given a b (Err (TooManyReads n)) at few h = all_checked s t given a b n at few h
 
--- no more reads were answered than are allowed
+-- if a stream ended for the reason that the result gives (`EndsBecause`), no more reads were answered than are allowed
 pub few_reads : (old new : Ports) (most : ℕ) (r : Result Served ServeFault) → EndsBecause old new most r → new.reads ≤ old.reads + most
 few_reads old new most (Ok served) h = h.1
 few_reads old new most (Err (Read n)) h = omega (arith, h.0)
@@ -160,11 +161,14 @@ judged_frame s u Cleared v is counts = (v, is, counts, refl)
 judged_frame s u Overlong v is counts = (v, is, counts, refl)
 judged_frame s u More v is counts = absurd is
 
--- where digits, a space, a verdict and a line feed were appended to `old`, one after the other, the line of the verdict was
--- appended to it
-pub line_of_parts : (old a b c d digits verdict : List ℕ) → a ≡ old ++ digits → b ≡ a ++ 32 ∷ [] → c ≡ b ++ verdict → d ≡ c ++ 10 ∷ []
-    → d ≡ old ++ (digits ++ 32 ∷ [] ++ verdict ++ 10 ∷ [])
-line_of_parts old a b c d digits verdict first second third last =
+-- where the number n, a space (byte 32), the text of the verdict v and a line feed (10) were appended to `old`, one after the
+-- other, the line of the verdict was appended to it
+pub line_of_parts : (n : ℕ) (v : Verdict) (old a b c d : List ℕ)
+    → a ≡ old ++ decimal n → b ≡ a ++ 32 ∷ [] → c ≡ b ++ verdict_text v → d ≡ c ++ 10 ∷ [] → d ≡ old ++ verdict_line n v
+line_of_parts n v old a b c d first second third last =
+    let digits = decimal n in
+    let verdict = verdict_text v in
     let whole : d ≡ old ++ digits ++ 32 ∷ [] ++ verdict ++ 10 ∷ [] = last
     ∙ ap (λ (xs : List ℕ). xs ++ 10 ∷ []) (third ∙ ap (λ (xs : List ℕ). xs ++ verdict) (second ∙ ap (λ (xs : List ℕ). xs ++ 32 ∷ []) first)) in
-    whole ∙ simp append_assoc
+    let line : d ≡ old ++ (digits ++ 32 ∷ [] ++ verdict ++ 10 ∷ []) = whole ∙ simp append_assoc in
+    line

@@ -5,9 +5,9 @@ use Rattle.gc_texts.specs.Cuts.{Cuts}
 use Rattle.gc_texts.proofs.Cutting.{cut_found, one_front}
 use Rattle.gc_engines.specs.Schedule.{InThree}
 
--- a text that is cut at its first space, and what follows that at its own, is three parts
-abbrev pub in_three : (text first rest second third : List ℕ) → Cuts 32 text first (Some rest) → Cuts 32 rest second (Some third) → InThree text
-in_three text first rest second third cut next = record {
+-- the three parts of a text that is cut at its first space, and again at the first space of what follows that
+abbrev pub parts_at_two_spaces : (text first rest second third : List ℕ) → Cuts 32 text first (Some rest) → Cuts 32 rest second (Some third) → InThree text
+parts_at_two_spaces text first rest second third cut next = record {
   first = first;
   second = second;
   third = third;

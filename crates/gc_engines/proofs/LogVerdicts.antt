@@ -66,8 +66,8 @@ verdicts_part_before rest p q a b n k bytes one = record {
 module _
     (rest : List ℕ) (b : ℕ) (a c : Option (List ℕ)) (n : ℕ) (text : List ℕ) (feeds : is_line_feed b ≡ true) (verdict : IsLogVerdict rest text) where
   -- the byte ends the line that came so far
-  ends : pieces_behind rest (b ∷ []) ≡ rest ∷ []
-  ends = cond-true (is_line_feed b) (rest ∷ []) [] feeds
+  byte_ends_line : pieces_behind rest (b ∷ []) ≡ rest ∷ []
+  byte_ends_line = cond-true (is_line_feed b) (rest ∷ []) [] feeds
 
   -- where the verdict went out and was counted, and nothing is kept of the next line, the check is done with this byte
   pub byte_verdict : (check : LogCheck) → KeepsLine check.kept [] → Appends a c text → check.replies ≡ n + 1 → HasChecked check rest (b ∷ []) a c n
@@ -75,7 +75,7 @@ module _
     subst (KeepsLine check.kept) (sym (cond-true (is_line_feed b) [] (rest ++ b ∷ []) feeds)) keeps,
     record {
       texts = text ∷ [];
-      are = subst (λ ls. AreLogVerdicts ls (text ∷ [])) (sym ends) (verdict, tt);
+      are = subst (λ ls. AreLogVerdicts ls (text ∷ [])) (sym byte_ends_line) (verdict, tt);
       took = Appends-is a c text _ (sym (append-nil text)) took;
       counts = omega (arith, more);
     },
@@ -86,7 +86,7 @@ module _
   byte_part bytes took = record {
     seen = rest ∷ [];
     later = [];
-    order = ends;
+    order = byte_ends_line;
     whole = [];
     line = text;
     are = (verdict, tt);
@@ -94,13 +94,6 @@ module _
     not_all = took.0;
     took = took.1;
   }
-
--- the first i + 1 bytes of a piece are the first i and the next, and a piece is these and then the rest
-pub piece_more : (bs : List ℕ) (i : ℕ) → i < length bs
-    → (take (i + 1) bs ≡ take i bs ++ get_or bs i 0 ∷ []) × (bs ≡ (take i bs ++ get_or bs i 0 ∷ []) ++ drop (i + 1) bs)
-piece_more bs i within =
-    let more = take_more bs i 0 within in
-    (more, sym (take-append-drop (i + 1) bs) ∙ ap (λ l. l ++ drop (i + 1) bs) more)
 
 -- the check is done with p, and q, which comes after it, takes it from `check` to `next`
 module _ (check next : LogCheck) (rest p q : List ℕ) (a b c : Option (List ℕ)) (n : ℕ) (so : HasChecked check rest p a b n) where
@@ -120,13 +113,15 @@ module _ (check next : LogCheck) (rest p q : List ℕ) (a b c : Option (List ℕ
 module _ (check next : LogCheck) (rest bs : List ℕ) (i : ℕ) (within : i < length bs) (a b c : Option (List ℕ)) (n : ℕ) where
   -- where the check is done with the first i bytes of a piece, and then takes the next byte, it is done with the first i + 1
   pub loop_on : HasChecked check rest (take i bs) a b n → TakesPiece check next (get_or bs i 0 ∷ []) b c → HasChecked next rest (take (i + 1) bs) a c n
-  loop_on so byte = subst (λ l. HasChecked next rest l a c n) (sym (piece_more bs i within).0) (checked_more check next rest (take i bs) (get_or bs i 0 ∷ []) a b c n so byte)
+  loop_on so byte = subst (λ l. HasChecked next rest l a c n) (sym (take_more bs i 0 within)) (checked_more check next rest (take i bs) (get_or bs i 0 ∷ []) a b c n so byte)
 
   -- where the check is done with the first i bytes of a piece, and the sink failed at the next byte, `WritesVerdictsInPart` is true of
   -- the piece
   pub loop_fails : (bytes : ℕ) → HasChecked check rest (take i bs) a b n
       → TakesPieceInPart check next (get_or bs i 0 ∷ []) b c bytes → WritesVerdictsInPart rest bs a c n next.replies bytes
   loop_fails bytes so byte =
-      subst (λ l. WritesVerdictsInPart rest l a c n next.replies bytes) (sym (piece_more bs i within).1)
+      let whole : (take i bs ++ get_or bs i 0 ∷ []) ++ drop (i + 1) bs ≡ bs =
+      ap (λ l. l ++ drop (i + 1) bs) (sym (take_more bs i 0 within)) ∙ take-append-drop (i + 1) bs in
+      subst (λ l. WritesVerdictsInPart rest l a c n next.replies bytes) whole
       (verdicts_part_before rest (take i bs ++ get_or bs i 0 ∷ []) (drop (i + 1) bs) a c n next.replies bytes
       (checked_part check next rest (take i bs) (get_or bs i 0 ∷ []) a b c n so bytes byte))

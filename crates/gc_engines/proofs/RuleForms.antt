@@ -13,21 +13,21 @@ use Rattle.gc_engines.specs.RuleScenes.{BeginsAnswer, rc_in_answer, params_in_an
 
 -- where a request of this procedure has these parameters, and r is the reply made of it with this return code, or `None` if its
 -- parameters have more than 490 bytes, too many for a reply, r is read as `Scripts` says
-pub scripts : (rpc rc : ℕ) (params : List ℕ) (call : RawCall) (r : Option Scripted) → call.rpc ≡ rpc → raw_bytes call.params ≡ params
+pub made_reply_is_scripted : (rpc rc : ℕ) (params : List ℕ) (call : RawCall) (r : Option Scripted) → call.rpc ≡ rpc → raw_bytes call.params ≡ params
     → IfSome r (λ s. (s.rpc ≡ call.rpc) × (s.with ≡ Some call) × (s.rc ≡ rc)) → IfNone r (490 < length (raw_bytes call.params))
     → IsReadAs (Scripts rpc rc params) r
-scripts rpc rc params call None number bytes made long = λ a is.
+made_reply_is_scripted rpc rc params call None number bytes made long = λ a is.
     let short : length (raw_bytes is.call.params) ≤ 490 = subst (λ (w : Option RawCall). length (scripted_params w) ≤ 490) is.with_is a.short in
     let one : raw_bytes is.call.params ≡ raw_bytes call.params = is.params_are ∙ sym bytes in
     omega (arith, subst (λ (x : List ℕ). length x ≤ 490) one short, long)
-scripts rpc rc params call (Some s) number bytes made long =
+made_reply_is_scripted rpc rc params call (Some s) number bytes made long =
     record { rpc_is = made.0 ∙ number; rc_is = made.2; call = call; with_is = made.1; number = number; params_are = bytes }
 
 -- where a line is `answer` with this procedure and this return code, and r is the reply made of these and of the line's parameters, r is
 -- what the line is read as
-pub answer_is : (line : List ℕ) (rpc rc : ℕ) (r : Option Scripted) → BeginsAnswer line rpc rc → IsReadAs (Scripts rpc rc (params_in_answer line)) r
+pub read_as_answer_line : (line : List ℕ) (rpc rc : ℕ) (r : Option Scripted) → BeginsAnswer line rpc rc → IsReadAs (Scripts rpc rc (params_in_answer line)) r
     → IsReadAs (IsAnswerLine line) r
-answer_is line rpc rc None begins none = λ a is.
+read_as_answer_line line rpc rc None begins none = λ a is.
     let rpc_is : a.rpc ≡ rpc = one_number (second_word line) a.rpc rpc 65535 is.begins.rpc_is begins.rpc_is in
     none a (record {
       rpc_is = rpc_is;
@@ -37,7 +37,7 @@ answer_is line rpc rc None begins none = λ a is.
       number = is.reply.number ∙ rpc_is;
       params_are = is.reply.params_are;
     })
-answer_is line rpc rc (Some a) begins made = record {
+read_as_answer_line line rpc rc (Some a) begins made = record {
   begins = record {
     word = begins.word;
     rpc_is = subst (λ (n : ℕ). IsRpc (second_word line) n) (sym made.rpc_is) begins.rpc_is;

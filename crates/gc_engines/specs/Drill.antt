@@ -12,10 +12,11 @@ use Rattle.gc_texts.specs.LineForms.{FirstFaulty, MemoryOnlyIf}
 use Rattle.gc_engines.specs.Reports.{run_text}
 use Rattle.gc_engines.specs.Schedule.{IsEvent, IsSchedule}
 use Rattle.gc_engines.specs.declared.report_text.Totals.{Totals}
-use Rattle.gc_texts.specs.WholeTexts.{Gave, IsReadToEnd, source_of}
+use Rattle.gc_texts.specs.Texts.{FailsAtRead, IsReadFault}
+use Rattle.gc_texts.specs.WholeTexts.{GaveBytes, IsReadToEnd, source_of}
 use Rattle.gc_texts.specs.declared.text.TheConstants.{TEXT_LIMIT}
 use Rattle.gc_texts.specs.declared.fault.RunFault.{RunFault}
-use Rattle.gc_texts.specs.declared.fault.RunFault.TheVariants.{Read, Schedule, Memory, InputTooLong, Output}
+use Rattle.gc_texts.specs.declared.fault.RunFault.TheVariants.{Schedule, Output}
 
 -- the counts of a run, by the wire with which it ends
 abbrev pub totals_of : {S : Type 0} → Wire S → Totals
@@ -41,21 +42,17 @@ abbrev pub PlaysAll : (text_of : List Event → (totals : Bool) → List ℕ) �
 PlaysAll text_of text totals old new = (events : List Event) × IsSchedule text events × Appends old new (text_of events totals)
 
 -- the bytes `given` were read as a schedule, to be played, and by the result a sink took this. `Ok`: they are a schedule, and
--- the sink took all that is written of its events. `Output`: they are a schedule, and the sink took a part of that. `Read`,
--- `InputTooLong`, `Schedule` with the number of their first faulty line, and `Memory`: the sink took nothing. `InputTooLong`
--- comes after one byte more than a text may have, and all other results after no more than it may have. `text_of` gives what is
--- written of events that are played, with the line of totals if its second argument is true; `totals` says whether that line is
--- asked for; `old` and `new` are what the sink had taken before and has taken after
+-- the sink took all that is written of its events. `Output`: they are a schedule, and the sink took a part of that. `Schedule`
+-- with the number of their first faulty line, and a fault that reading has (`IsReadFault`; memory may run out after it, too): the
+-- sink took nothing. `text_of` gives what is written of events that are played, with the line of totals if its second argument is
+-- true; `totals` says whether that line is asked for; `old` and `new` are what the sink had taken before and has taken after
 abbrev pub DrillsAs : (text_of : List Event → (totals : Bool) → List ℕ) → (given : List ℕ) → (totals : Bool) → (old new : Option (List ℕ))
     → Result (Unit {0}) RunFault → Type 0
 DrillsAs text_of given totals old new (Ok _) = (length given ≤ TEXT_LIMIT) × PlaysAll text_of given totals old new
-DrillsAs text_of given totals old new (Err Read) = (length given ≤ TEXT_LIMIT) × (new ≡ old)
-DrillsAs text_of given totals old new (Err InputTooLong) = (length given ≡ TEXT_LIMIT + 1) × (new ≡ old)
 DrillsAs text_of given totals old new (Err (Schedule n)) = (length given ≤ TEXT_LIMIT) × FirstFaulty IsEvent given n × (new ≡ old)
-DrillsAs text_of given totals old new (Err Memory) = (length given ≤ TEXT_LIMIT) × (new ≡ old)
 DrillsAs text_of given totals old new (Err Output) = (length given ≤ TEXT_LIMIT)
     × ((events : List Event) × IsSchedule given events × TakesPart old new (text_of events totals))
-DrillsAs text_of given totals old new (Err _) = ⊥
+DrillsAs text_of given totals old new (Err fault) = IsReadFault given fault × (new ≡ old)
 
 -- whether this result shows that a drill has read its source to the end: it has where the schedule was played, or has a faulty line. With
 -- `Memory` it may have, too, but the result doesn't show it
@@ -65,22 +62,17 @@ is_read_whole (Err (Schedule n)) = true
 is_read_whole (Err Output) = true
 is_read_whole (Err _) = false
 
--- whether the source has failed after a drill with this result; `failed` says whether it had before
-abbrev pub source_failed : Result (Unit {0}) RunFault → (failed : Bool) → Bool
-source_failed (Err Read) failed = true
-source_failed _ failed = failed
-
 -- whether the sink has failed after a drill with this result; `failed` says whether it had before
-abbrev pub sink_failed : Result (Unit {0}) RunFault → (failed : Bool) → Bool
-sink_failed (Err Output) failed = true
-sink_failed _ failed = failed
+abbrev pub output_failed : Result (Unit {0}) RunFault → (failed : Bool) → Bool
+output_failed (Err Output) failed = true
+output_failed _ failed = failed
 
 -- a drill took source and sink from `old` to `new`, with this result. `text_of` gives what is written of events that are played
 -- on its instrument, as for `DrillsAs`, and `totals` says whether the line of totals is asked for
 pub record IsDrill (text_of : List Event → (totals : Bool) → List ℕ) (totals : Bool) (old new : Ports) (result : Result (Unit {0}) RunFault) : Type 0 where
   -- which bytes the source gave, and how much of their schedule's output the sink took. Each answered read gave at least one
   -- byte, except a last one that was the end. After the end nothing was read
-  pub writes : Gave (source_of old) (source_of new) (λ given. DrillsAs text_of given totals old.taken new.taken result)
+  pub writes : GaveBytes (source_of old) (source_of new) (λ given. DrillsAs text_of given totals old.taken new.taken result)
   -- at most 65,537 reads were answered
   pub bounded : new.reads ≤ old.reads + (TEXT_LIMIT + 1)
   -- a schedule is played, or found faulty, only if the last read was the end, and the source has no byte left
@@ -88,5 +80,5 @@ pub record IsDrill (text_of : List Event → (totals : Bool) → List ℕ) (tota
   -- `Memory` comes only after a read that was answered
   pub memory : MemoryOnlyIf (old.reads < new.reads) result
   -- `Read` exactly if the source failed, and `Output` exactly if the sink did
-  pub source : new.source_failed ≡ source_failed result old.source_failed
-  pub sink : new.sink_failed ≡ sink_failed result old.sink_failed
+  pub source : FailsAtRead old.source_failed new.source_failed result
+  pub sink : new.sink_failed ≡ output_failed result old.sink_failed

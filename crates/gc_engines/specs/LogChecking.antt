@@ -1,13 +1,13 @@
 -- What a check of a log writes of each of its lines: this project's own. `given` are the bytes that the source gave, `rest` those
 -- of a line that no line feed has ended, and `old` and `new` what the sink had taken before and has taken after, where that is
 -- known.
-use Rattle.std.specs.Prelude.{◌≡◌, ℕ, ◌-◌, ◌<◌, ◌≤◌, ◌==◌, ◌&&◌, Bool, true, false, not, nat_lt, List, [], ◌∷◌, ◌++◌, length, take, get_or, Option, Result, if◌then◌else◌, codes}
+use Rattle.std.specs.Prelude.{◌≡◌, ℕ, ◌-◌, ◌<◌, ◌≤◌, ◌==◌, ◌&&◌, Bool, true, false, not, nat_lt, List, [], ◌++◌, length, take, get_or, Option, Result, if◌then◌else◌, codes}
 use Rattle.gc_lines.specs.Answering.{IsRunOverPorts, Ports}
 use Rattle.gc_lines.specs.Frames.{ends_in_return, pieces_behind, rest_behind}
 use Rattle.gc_lines.specs.declared.served.Served.{Served}
 use Rattle.gc_lines.specs.declared.served.ServeFault.{ServeFault}
 use Rattle.gc_texts.specs.LineForms.{AreLinesOf}
-use Rattle.gc_texts.specs.Logs.{mark_text, escaped, IsLogLine}
+use Rattle.gc_texts.specs.Logs.{marked_text, escaped, IsLogLine}
 use Rattle.gc_texts.specs.declared.log_line.LogMark.{LogMark}
 use Rattle.gc_texts.specs.declared.log_line.LogMark.TheVariants as mark
 use Rattle.gc_engines.specs.Checking.{WritesAll, WritesBy, WritesPart}
@@ -41,19 +41,20 @@ IsMarkedVerdict mark.Link bytes text = text ≡ escaped bytes
 
 -- the text is what is written of a log line with this moment, mark and bytes: the moment and the mark as they are, and the verdict on
 -- the bytes
-abbrev pub IsVerdictLine : (moment : List ℕ) → LogMark → (bytes text : List ℕ) → Type 0
-IsVerdictLine moment mark bytes text =
-    (words : List ℕ) × IsMarkedVerdict mark bytes words × (text ≡ moment ++ 32 ∷ (mark_text mark ++ 32 ∷ (words ++ 10 ∷ [])))
+abbrev pub IsMarkedVerdictLine : (moment : List ℕ) → LogMark → (bytes text : List ℕ) → Type 0
+IsMarkedVerdictLine moment mark bytes text =
+    (words : List ℕ) × IsMarkedVerdict mark bytes words × (text ≡ marked_text moment mark (words ++ codes "\n"))
 
 -- the most bytes of a line of a log that is read: this project's own
 abbrev pub log_line_most : ℕ
 log_line_most = 2100
 
--- the text is what is written of a line of the checked log. If the line reads as a log line, that is `IsVerdictLine`; if it doesn't, that
--- it is no log line. A line of more than `log_line_most` bytes, or of more than 514 bytes of the connection, doesn't read
+-- the text is what is written of a line of the checked log. If the line reads as a log line, that is as `IsMarkedVerdictLine`
+-- says; if not, that it is no log line. A line of more than `log_line_most` bytes, or of more than 514 bytes of the connection,
+-- doesn't read
 pub data IsLogVerdict (line text : List ℕ) : Type 0 where
   reads : (moment bytes : List ℕ) (mark : LogMark) → length line ≤ log_line_most → length bytes ≤ 514 → IsLogLine line moment mark bytes
-      → IsVerdictLine moment mark bytes text → IsLogVerdict line text
+      → IsMarkedVerdictLine moment mark bytes text → IsLogVerdict line text
   unread : (length line ≤ log_line_most → (moment : List ℕ) (mark : LogMark) (bytes : List ℕ) → length bytes ≤ 514 → IsLogLine line moment mark bytes → ⊥)
       → text ≡ codes "no log line\n" → IsLogVerdict line text
 

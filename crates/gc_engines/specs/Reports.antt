@@ -10,15 +10,15 @@ use Rattle.gc_texts.specs.Settlements.{settlement_lines}
 use Rattle.gc_engines.specs.declared.report_text.Totals.{Totals}
 
 -- the line of totals, for these counts
-abbrev pub totals_text : Totals → List ℕ
-totals_text t =
+abbrev pub totals_line : Totals → List ℕ
+totals_line t =
     codes "sent " ++ decimal t.sent ++ codes " executed " ++ decimal t.executed ++ codes " made " ++ decimal t.made
     ++ codes " settled " ++ decimal t.settled ++ codes " refused " ++ decimal t.refused ++ codes " idle " ++ decimal t.idle ++ codes "\n"
 
 -- what is written of a run with these settlements and these counts: the settlements, and after them the line of totals if it is
 -- asked for
 abbrev pub run_text : List (Settlement Call) → Totals → (totals : Bool) → List ℕ
-run_text settled counts totals = settlement_lines settled ++ (if totals then totals_text counts else [])
+run_text settled counts totals = settlement_lines settled ++ (if totals then totals_line counts else [])
 
 -- what is written of a report
 abbrev pub report_text : Report → (totals : Bool) → List ℕ

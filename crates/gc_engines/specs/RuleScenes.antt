@@ -2,7 +2,6 @@
 use Rattle.std.specs.Prelude.{◌≡◌, ◌⊎◌, ℕ, suc, ◌==◌, ◌<◌, ◌≤◌, Bool, true, false, List, [], ◌∷◌, length, Option, Some, None, fold, filter_map, if◌then◌else◌, codes}
 use Rattle.gc_catalogue.specs.RawTexts.{raw_bytes}
 use Rattle.gc_catalogue.specs.declared.raw.RawCall.{RawCall}
-use Rattle.gc_instrument.specs.State.{opening, simulator_opening}
 use Rattle.gc_instrument.specs.declared.target.Target.{Target}
 use Rattle.gc_scenes.specs.Laws.{still}
 use Rattle.gc_scenes.specs.SceneState.{SceneState}
@@ -20,7 +19,7 @@ use Rattle.gc_texts.specs.LineForms.{ItemForm}
 use Rattle.gc_texts.specs.Procedures.{IsNumber, IsRpc}
 use Rattle.gc_texts.specs.Words.{first_word, second_word, third_word, fourth_word, after_two_words, after_three_words, after_four_words}
 use Rattle.gc_texts.specs.declared.fault.RunFault.{RunFault}
-use Rattle.gc_engines.specs.Scenes.{AreOffsetWords, HaveFewTargets, HaveManyTargets, IsOffset, SceneFaultBy, IsSceneLine, SaysTooMuch, SetsUp, last_value, name_of, serial_of, targets_of}
+use Rattle.gc_engines.specs.Scenes.{AreOffsetWords, HaveFewTargets, HaveManyTargets, IsOffset, SceneFaultBy, IsSceneLine, SaysTooMuch, SetsUp, last_value, opening_by, targets_of}
 use Rattle.gc_engines.specs.declared.scene_line.SceneLine.{SceneLine}
 use Rattle.gc_engines.specs.declared.rule_line.RuleLine.{RuleLine}
 use Rattle.gc_engines.specs.declared.rule_line.RuleLine.TheVariants as says
@@ -29,8 +28,8 @@ use Rattle.gc_engines.specs.declared.rule_line.Drift.{Drift}
 use Rattle.gc_engines.specs.declared.rule_line.Span.{Span}
 use Rattle.gc_engines.specs.declared.rule_scene.TheConstants.{MOST_FAULTS, MOST_ANSWERS}
 
--- how many requests a fault meets whose line has no `for`: the greatest number of 32 bits, which stands for "without end". Only a
--- fault whose `after` is 0 ends after so many. This project's own
+-- the count of requests that a line `fault` without `for` stands for: the greatest number of 32 bits, for "without end". (Where
+-- `after` is 0, such a fault does end, after so many.) This project's own
 abbrev pub no_end : ℕ
 no_end = 4294967295
 
@@ -42,9 +41,9 @@ scene_target_max = 32
 abbrev pub code_max : ℕ
 code_max = 65535
 
--- the first word of `words`, up to its first space, is `word`
-abbrev pub Begins : (word words : List ℕ) → Type 0
-Begins word words = first_word words ≡ word
+-- the first word of the text is `word`
+abbrev pub Begins : (word text : List ℕ) → Type 0
+Begins word text = first_word text ≡ word
 
 -- the text is a number of 32 bits
 abbrev pub IsCount : (text : List ℕ) → (n : ℕ) → Type 0
@@ -67,7 +66,7 @@ IsSpan words span =
 
 -- the line is `fault RPC RC [after COUNT] [for COUNT]`: a procedure is answered with a return code. Where the
 -- line has no `for`, it may end in a space. No request has met the fault yet
-pub record IsFault (line : List ℕ) (f : Fault) : Type 0 where
+pub record IsFaultLine (line : List ℕ) (f : Fault) : Type 0 where
   pub word : Begins (codes "fault") line
   pub rpc : IsRpc (second_word line) f.rpc
   pub rc : IsNumber (third_word line) f.rc code_max
@@ -103,20 +102,20 @@ pub record IsAnswerLine (line : List ℕ) (a : Scripted) : Type 0 where
   pub reply : Scripts a.rpc a.rc (params_in_answer line) a
 
 -- the line is `blocked TARGET FROM TO`: a target is hidden from look FROM through look TO, where looks are counted from 1
-pub record IsBlocked (line : List ℕ) (b : Blocked) : Type 0 where
+pub record IsBlockedLine (line : List ℕ) (b : Blocked) : Type 0 where
   pub word : Begins (codes "blocked") line
   pub target : IsNumber (second_word line) b.target scene_target_max
   pub from : IsCount (third_word line) b.from
   pub to : IsCount (after_three_words line) b.to
 
 -- the line is `drift TARGET HZ V D`: a target moves by an offset with each measurement of it
-pub record IsDrift (line : List ℕ) (d : Drift) : Type 0 where
+pub record IsDriftLine (line : List ℕ) (d : Drift) : Type 0 where
   pub word : Begins (codes "drift") line
   pub target : IsNumber (second_word line) d.target scene_target_max
   pub by : IsOffset (after_two_words line) d.by
 
 -- the line is `noise HZ V D SEED`: the most by which measurements deviate, in radians and metres, and the seed of the deviations
-pub record IsNoise (line : List ℕ) (n : Noise) : Type 0 where
+pub record IsNoiseLine (line : List ℕ) (n : Noise) : Type 0 where
   pub word : Begins (codes "noise") line
   pub most : AreOffsetWords (second_word line) (third_word line) (fourth_word line)
       (record { hz = n.hz; v = n.v; distance = n.distance })
@@ -134,11 +133,11 @@ way_line way.Real = codes "behave real"
 -- the line is written in the form of this item of a scene with rules
 abbrev pub IsRuleLine : List ℕ → RuleLine → Type 0
 IsRuleLine line (says.Plain plain) = IsSceneLine line plain
-IsRuleLine line (says.Fault f) = IsFault line f
+IsRuleLine line (says.Fault f) = IsFaultLine line f
 IsRuleLine line (says.Answer a) = IsAnswerLine line a
-IsRuleLine line (says.Blocked b) = IsBlocked line b
-IsRuleLine line (says.Drift d) = IsDrift line d
-IsRuleLine line (says.Noise n) = IsNoise line n
+IsRuleLine line (says.Blocked b) = IsBlockedLine line b
+IsRuleLine line (says.Drift d) = IsDriftLine line d
+IsRuleLine line (says.Noise n) = IsNoiseLine line n
 IsRuleLine line (says.Behave w) = line ≡ way_line w
 IsRuleLine line says.NoRepeats = line ≡ codes "repeats no"
 
@@ -232,11 +231,11 @@ pub record AreRulesOf (lines : List RuleLine) (targets : List Prism) (rules : Sc
   pub repeats : rules.repeats ≡ rules_repeat true lines
   pub ways : rules.ways ≡ rules_ways no_ways lines
 
--- the opening state of the instrument that these lines set up. A serial number or a name that they don't say is the simulator's;
+-- the opening state of the instrument that these lines set up: its serial number and its name are as `opening_by` has them, and
 -- targets, faults, replies and all else are those of the lines alone
 abbrev pub rules_opening : List RuleLine → SceneState
 rules_opening lines = record {
-  base = opening (serial_of simulator_opening.serial (plain_lines lines)) (name_of simulator_opening.name (plain_lines lines)) [];
+  base = opening_by (plain_lines lines) [];
   prisms = rules_prisms lines 1 (targets_of (plain_lines lines));
   faults = faults_of lines;
   answers = answers_of lines;

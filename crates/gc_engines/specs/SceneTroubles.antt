@@ -9,8 +9,7 @@ use Rattle.gc_catalogue.specs.declared.raw.RawFault.{RawFault}
 use Rattle.gc_catalogue.specs.declared.raw.RawFault.TheVariants.{InTable}
 use Rattle.gc_texts.specs.Cuts.{behind}
 use Rattle.gc_values.specs.Decimals.{SpellsDecimal}
-use Rattle.gc_texts.specs.Procedures.{IsRpc}
-use Rattle.gc_texts.specs.Troubles.{NoNumber}
+use Rattle.gc_texts.specs.Procedures.{IsNumber, IsRpc}
 use Rattle.gc_texts.specs.Words.{second_word, third_word, fourth_word, after_two_words, after_three_words, after_four_words}
 use Rattle.gc_engines.specs.RuleScenes.{Begins, GivesClock, code_max, rc_in_answer, params_in_answer, scene_target_max}
 use Rattle.gc_engines.specs.TimedScenes.{delay_max}
@@ -57,9 +56,9 @@ BeginsWith w line = Begins (word_text w) line
 abbrev pub NeedsClock : List ℕ → Type 0
 NeedsClock line = GivesClock line ⊎ (BeginsWith word.Delay line ⊎ BeginsWith word.Busy line)
 
--- the text is no number up to this maximum (`NoNumber`); opaque to proofs that don't unfold it
-unfoldable pub IsNoNumber : (text : List ℕ) → (max : ℕ) → Type 0
-IsNoNumber text max = NoNumber text max
+-- the text is no number up to this maximum; opaque to proofs that don't unfold it
+unfoldable pub NoNumber : (text : List ℕ) → (max : ℕ) → Type 0
+NoNumber text max = (n : ℕ) → IsNumber text n max → ⊥
 
 -- the text is no decimal as a scene writes angles and distances (`SpellsDecimal`); opaque to proofs that don't unfold it
 unfoldable pub NoDecimal : List ℕ → Type 0
@@ -88,20 +87,20 @@ IsSceneTrouble line trouble.Clock = NeedsClock line
 IsSceneTrouble line (trouble.Form w) = BeginsWith w line
 IsSceneTrouble line trouble.Serial = BeginsWith word.Serial line × ((n : ℤ) → NamesWhole (behind 32 line) n → FitsLong n → ⊥)
 IsSceneTrouble line trouble.Name = BeginsWith word.Name line × (text.IsText (behind 32 line) → ⊥)
-IsSceneTrouble line trouble.Rpc = (BeginsWith word.Fault line ⊎ (BeginsWith word.Answer line ⊎ BeginsWith word.Delay line)) × IsNoNumber (second_word line) code_max
-IsSceneTrouble line trouble.Rc = (BeginsWith word.Fault line × IsNoNumber (third_word line) code_max)
-    ⊎ (BeginsWith word.Answer line × IsNoNumber (rc_in_answer line) code_max)
-IsSceneTrouble line trouble.Target = (BeginsWith word.Blocked line ⊎ BeginsWith word.Drift line) × IsNoNumber (second_word line) scene_target_max
-IsSceneTrouble line trouble.From = BeginsWith word.Blocked line × IsNoNumber (third_word line) 4294967295
-IsSceneTrouble line trouble.To = BeginsWith word.Blocked line × IsNoNumber (after_three_words line) 4294967295
+IsSceneTrouble line trouble.Rpc = (BeginsWith word.Fault line ⊎ (BeginsWith word.Answer line ⊎ BeginsWith word.Delay line)) × NoNumber (second_word line) code_max
+IsSceneTrouble line trouble.Rc = (BeginsWith word.Fault line × NoNumber (third_word line) code_max)
+    ⊎ (BeginsWith word.Answer line × NoNumber (rc_in_answer line) code_max)
+IsSceneTrouble line trouble.Target = (BeginsWith word.Blocked line ⊎ BeginsWith word.Drift line) × NoNumber (second_word line) scene_target_max
+IsSceneTrouble line trouble.From = BeginsWith word.Blocked line × NoNumber (third_word line) 4294967295
+IsSceneTrouble line trouble.To = BeginsWith word.Blocked line × NoNumber (after_three_words line) 4294967295
 IsSceneTrouble line trouble.Hz = ((BeginsWith word.Target line ⊎ BeginsWith word.Noise line) × NoDecimal (second_word line))
     ⊎ (BeginsWith word.Drift line × NoDecimal (third_word line))
 IsSceneTrouble line trouble.V = ((BeginsWith word.Target line ⊎ BeginsWith word.Noise line) × NoDecimal (third_word line))
     ⊎ (BeginsWith word.Drift line × NoDecimal (fourth_word line))
 IsSceneTrouble line trouble.Distance = (BeginsWith word.Target line × NoDecimal (after_three_words line))
     ⊎ ((BeginsWith word.Noise line × NoDecimal (fourth_word line)) ⊎ (BeginsWith word.Drift line × NoDecimal (after_four_words line)))
-IsSceneTrouble line trouble.Seed = BeginsWith word.Noise line × IsNoNumber (after_four_words line) 4294967295
-IsSceneTrouble line trouble.Ms = BeginsWith word.Delay line × IsNoNumber (after_two_words line) delay_max
+IsSceneTrouble line trouble.Seed = BeginsWith word.Noise line × NoNumber (after_four_words line) 4294967295
+IsSceneTrouble line trouble.Ms = BeginsWith word.Delay line × NoNumber (after_two_words line) delay_max
 IsSceneTrouble line (trouble.InTable n) = IsAnswerTrouble line (trouble.InTable n)
 IsSceneTrouble line trouble.Params = IsAnswerTrouble line trouble.Params
 

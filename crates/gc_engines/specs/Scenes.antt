@@ -18,11 +18,11 @@ use Rattle.gc_engines.specs.declared.scene_line.SceneLine.{SceneLine}
 use Rattle.gc_engines.specs.declared.scene_line.SceneLine.TheVariants as says
 
 -- the line is `serial N`: a whole number in the range of a Long
-abbrev pub IsSerial : List ℕ → ℤ → Type 0
-IsSerial line n = IsWordAnd (codes "serial ") (λ digits. NamesWhole digits n × FitsLong n) line
+abbrev pub IsSerialLine : List ℕ → ℤ → Type 0
+IsSerialLine line n = IsWordAnd (codes "serial ") (λ digits. NamesWhole digits n × FitsLong n) line
 
 -- the line is `name TEXT`: at most 64 bytes, none of them a double quote, CR or LF
-pub record IsName (line bytes : List ℕ) : Type 0 where
+pub record IsNameLine (line bytes : List ℕ) : Type 0 where
   pub line_is : line ≡ codes "name " ++ bytes
   pub text : text.IsText bytes
 
@@ -43,8 +43,8 @@ IsTargetLine line target =
 
 -- the line is written in the form of this item of a scene: a serial number, a name or a target
 abbrev pub IsSceneLine : List ℕ → SceneLine → Type 0
-IsSceneLine line (says.Serial n) = IsSerial line n
-IsSceneLine line (says.Name bytes) = IsName line bytes
+IsSceneLine line (says.Serial n) = IsSerialLine line n
+IsSceneLine line (says.Name bytes) = IsNameLine line bytes
 IsSceneLine line (says.Target target) = IsTargetLine line target
 
 -- What lines say together.
@@ -87,10 +87,14 @@ pub record IsBaseOf (lines : List SceneLine) (base : Base) : Type 0 where
   pub name : base.name ≡ name_of simulator_opening.name lines
   pub targets : base.targets.items ≡ targets_of lines
 
--- the opening state of the instrument that these lines set up: a serial number or a name that they don't say is the
--- simulator's, and the targets are theirs alone
+-- the opening state of an instrument with these targets, and with the serial number and the name that the lines say: the
+-- simulator's where they say none
+abbrev pub opening_by : List SceneLine → (targets : List Target) → State
+opening_by lines targets = opening (serial_of simulator_opening.serial lines) (name_of simulator_opening.name lines) targets
+
+-- the opening state of the instrument that these lines set up (`opening_by`): the targets are theirs alone
 abbrev pub scene_opening : List SceneLine → State
-scene_opening lines = opening (serial_of simulator_opening.serial lines) (name_of simulator_opening.name lines) (targets_of lines)
+scene_opening lines = opening_by lines (targets_of lines)
 
 -- the text is lines in this form, of which `Fits` is true, and this is the opening state of the instrument that they set up
 pub record SetsUp {Line Opened : Type 0} (form : ItemForm Line) (Fits : List Line → Type 0) (opens_as : List Line → Opened) (text : List ℕ)

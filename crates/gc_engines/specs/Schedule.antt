@@ -33,8 +33,8 @@ pub record Requested : Type 0 where
   pub deadline : ℕ
 
 -- the request with this target, this call and this deadline
-abbrev pub request_of : (target : ℕ) → Call → (deadline : ℕ) → Requested
-request_of target call deadline = record { target = target; call = call; deadline = deadline }
+abbrev pub request_with : (target : ℕ) → Call → (deadline : ℕ) → Requested
+request_with target call deadline = record { target = target; call = call; deadline = deadline }
 
 -- `T D RPC` or `T D RPC PARAMS`: the target T, the deadline D and the procedure of a request. T is a number of 32 bits, and D one of 64
 pub record IsRequested (text : List ℕ) (q : Requested) : Type 0 where
@@ -45,7 +45,7 @@ pub record IsRequested (text : List ℕ) (q : Requested) : Type 0 where
 
 -- the event is the send of the request that the text writes (`IsRequested`)
 abbrev pub SendsRequested : List ℕ → Event → Type 0
-SendsRequested text (Send target call deadline) = IsRequested text (request_of target call deadline)
+SendsRequested text (Send target call deadline) = IsRequested text (request_with target call deadline)
 SendsRequested text _ = ⊥
 
 -- `send T D RPC` or `send T D RPC PARAMS`: the word, and after it a request as `IsRequested` has it
@@ -54,7 +54,7 @@ IsSend line q = IsWordAnd (codes "send ") (λ rest. IsRequested rest q) line
 
 -- the line is how a schedule writes this event: its words, and after them its number or its request, if it has one
 abbrev pub IsEvent : List ℕ → Event → Type 0
-IsEvent line (Send target call deadline) = IsSend line (request_of target call deadline)
+IsEvent line (Send target call deadline) = IsSend line (request_with target call deadline)
 IsEvent line UpDeliver = line ≡ codes "up deliver"
 IsEvent line (UpBytes n) = IsNumbered (codes "up bytes ") line n count_max
 IsEvent line (UpLose k) = IsNumbered (codes "up lose ") line k count_max

@@ -3,7 +3,7 @@
 ghost use Rattle.std.specs.Prelude.{◌≡◌, ◌+◌, ◌<◌, ◌≤◌, ◌++◌, ℕ, List, [], ◌∷◌, length, codes, ◌^◌, OnOk, IfErr};
 ghost use Rattle.arrayvec.specs.ArrayVec.{array_vec_len};
 ghost use Rattle.gc_lines.specs.Ports.{FailsWith};
-ghost use Rattle.gc_engines.specs.LogChecking.{IsWholeVerdict, IsVerdictLine, part_verdict, ends_cleared, IsMarkedVerdict, IsLogVerdict, KeepsLine, TakesPiece, TakesPieceInPart, IsCheckingLog};
+ghost use Rattle.gc_engines.specs.LogChecking.{IsWholeVerdict, IsMarkedVerdictLine, part_verdict, ends_cleared, IsMarkedVerdict, IsLogVerdict, KeepsLine, TakesPiece, TakesPieceInPart, IsCheckingLog};
 ghost use Rattle.gc_lines.specs.Answering.{AppendsText, ports_of};
 
 use crate::verdict::{Verdict, line_verdict, push_verdict};
@@ -177,7 +177,7 @@ fn no_log_line() -> Outgoing
 fn log_line_verdict(line: &LogLine<'_>) -> Outgoing
     requires { length line.now.moment.now ≤ 2100 }
     ensures room { length line.now.bytes.items ≤ 514 }
-    ensures verdict { IsVerdictLine line.now.moment.now line.now.mark line.now.bytes.items result.items }
+    ensures verdict { IsMarkedVerdictLine line.now.moment.now line.now.mark line.now.bytes.items result.items }
 {
     let mut text = Outgoing::new();
     append(&mut text, line.moment);

@@ -3,7 +3,7 @@
 ghost use Rattle.std.specs.Prelude.{◌≡◌, ◌++◌, length, map, OnOk, IfOk};
 ghost use Rattle.std.specs.Fmt.{decimal};
 ghost use Rattle.gc_client.specs.Settlements.{settlement_seen};
-ghost use Rattle.gc_engines.specs.Reports.{totals_text, run_text, report_text, scene_report_text};
+ghost use Rattle.gc_engines.specs.Reports.{totals_line, run_text, report_text, scene_report_text};
 
 use gc_catalogue::Call;
 use gc_client::Settlement;
@@ -78,7 +78,7 @@ fn run_text(
 
 // Appends the line of totals: six counts, each after its word. `Err`: memory was refused.
 fn append_totals(text: &mut Vec<u8>, counts: Totals) -> Result<(), AllocError>
-    ensures { OnOk result (text.new.items ≡ text.old.items ++ totals_text counts) }
+    ensures { OnOk result (text.new.items ≡ text.old.items ++ totals_line counts) }
 {
     append_number(text, b"sent ", counts.sent)?;
     append_number(text, b" executed ", counts.executed)?;

@@ -3,10 +3,10 @@
 ghost use Rattle.std.specs.Prelude.{◌≡◌, ◌↔◌, IsTrue, MatchOption};
 ghost use Rattle.gc_texts.specs.Cuts.{behind};
 ghost use Rattle.gc_texts.specs.LineForms.{IsReadAs};
-ghost use Rattle.gc_engines.specs.RuleScenes.{Begins, IsRuleLine, IsFault, IsAfter, IsAnswerLine, IsBlocked, IsDrift, IsNoise, IsSpan, IsTimes, IsStillLine, Scripts, GivesClock, way_line};
+ghost use Rattle.gc_engines.specs.RuleScenes.{Begins, IsRuleLine, IsFaultLine, IsAfter, IsAnswerLine, IsBlockedLine, IsDriftLine, IsNoiseLine, IsSpan, IsTimes, IsStillLine, Scripts, GivesClock, way_line};
 
 use crate::scene_line::{
-    AnySceneLine, SceneLine, offset_of, put_found, read_offset, read_scene_line,
+    AnySceneLine, SceneLine, offset_of, put_read, read_offset, read_scene_line,
 };
 use gc_catalogue::raw_call;
 use gc_scenes::{Fault, Noise, Offset, Scripted, Way};
@@ -91,7 +91,7 @@ impl LineForm for RuleForm {
     }
 
     fn read(line: &[u8], says: &mut RuleLine) -> bool {
-        put_found(read_rule_line(line), says)
+        put_read(read_rule_line(line), says)
     }
 }
 
@@ -198,7 +198,7 @@ fn read_span(words: &[u8]) -> Option<Span>
 // Reads `fault RPC RC [after COUNT] [for COUNT]`: a procedure, the return code that it is answered with, and which of its
 // requests get this code. Without `for` the line may end in a space. `None`: the line has no such form.
 fn read_fault(line: &[u8]) -> Option<Fault>
-    ensures { IsReadAs (IsFault line.now) result }
+    ensures { IsReadAs (IsFaultLine line.now) result }
 {
     let from_rpc = behind_word(b"fault", line)?;
     let from_rc = behind(b' ', from_rpc);
@@ -233,7 +233,7 @@ fn read_answer(line: &[u8]) -> Option<Scripted>
 
 // Reads `blocked TARGET FROM TO`: a target, and the first and the last look in which it is hidden. `None`: the line has no such form.
 fn read_blocked(line: &[u8]) -> Option<Blocked>
-    ensures { IsReadAs (IsBlocked line.now) result }
+    ensures { IsReadAs (IsBlockedLine line.now) result }
 {
     let from_target = behind_word(b"blocked", line)?;
     let from_looks = behind(b' ', from_target);
@@ -246,7 +246,7 @@ fn read_blocked(line: &[u8]) -> Option<Blocked>
 // Reads `drift TARGET HZ V D`: a target, and the offset by which it moves with each measurement of it, in radians and metres.
 // `None`: the line has no such form, or `read_offset` refuses the offset.
 fn read_drift(line: &[u8]) -> Option<Drift>
-    ensures { IsReadAs (IsDrift line.now) result }
+    ensures { IsReadAs (IsDriftLine line.now) result }
 {
     let from_target = behind_word(b"drift", line)?;
     let target = u32_of(before(b' ', from_target), SCENE_TARGET_MAX)?;
@@ -257,7 +257,7 @@ fn read_drift(line: &[u8]) -> Option<Drift>
 // Reads `noise HZ V D SEED`: the most by which measurements deviate, in radians and metres, and the seed. `None`: the line has no
 // such form, or `offset_of` refuses a number.
 fn read_noise(line: &[u8]) -> Option<Noise>
-    ensures { IsReadAs (IsNoise line.now) result }
+    ensures { IsReadAs (IsNoiseLine line.now) result }
 {
     let from_hz = behind_word(b"noise", line)?;
     let from_v = behind(b' ', from_hz);

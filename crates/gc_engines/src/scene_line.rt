@@ -4,7 +4,7 @@ ghost use Rattle.std.specs.Prelude.{◌≡◌, MatchOption, IsTrue, IsFalse};
 ghost use Rattle.gc_values.specs.Text.{IsText};
 ghost use Rattle.gc_values.specs.Whole.{NamesWhole, FitsLong};
 ghost use Rattle.gc_texts.specs.LineForms.{IsReadAs};
-ghost use Rattle.gc_engines.specs.Scenes.{AreOffsetWords, IsOffset, IsSerial, IsName, IsTargetLine, IsSceneLine};
+ghost use Rattle.gc_engines.specs.Scenes.{AreOffsetWords, IsOffset, IsSerialLine, IsNameLine, IsTargetLine, IsSceneLine};
 ghost use Rattle.gc_engines.specs.declared.scene_line.SceneLine.{SceneLine};
 
 use gc_instrument::Target;
@@ -59,15 +59,15 @@ impl LineForm for SceneForm {
     }
 
     fn read(line: &[u8], says: &mut SceneLine) -> bool {
-        put_found(read_scene_line(line), says)
+        put_read(read_scene_line(line), says)
     }
 }
 
-// Writes what was found over `item`, and returns whether anything was found. If nothing was, `item` stays.
-pub(crate) fn put_found<T: Copy>(found: Option<T>, item: &mut T) -> bool
-    ensures { MatchOption found (IsFalse result × (item.new ≡ item.old)) (λ said. IsTrue result × (item.new ≡ said)) }
+// Writes what was read over `item`, and returns whether anything was. If nothing was, `item` stays.
+pub(crate) fn put_read<T: Copy>(read: Option<T>, item: &mut T) -> bool
+    ensures { MatchOption read (IsFalse result × (item.new ≡ item.old)) (λ said. IsTrue result × (item.new ≡ said)) }
 {
-    match found {
+    match read {
         Some(said) => {
             *item = said;
             true
@@ -94,7 +94,7 @@ pub(crate) fn read_scene_line(line: &[u8]) -> Option<SceneLine>
 
 // Reads `serial N`: a serial number, a whole number of 32 bits that may have a sign. `None`: the line has no such form.
 fn read_serial(line: &[u8]) -> Option<i32>
-    ensures { IsReadAs (IsSerial line.now) result }
+    ensures { IsReadAs (IsSerialLine line.now) result }
 {
     let digits = after_prefix(b"serial ", line)?;
     long_of(digits)
@@ -109,7 +109,7 @@ fn long_of(digits: &[u8]) -> Option<i32>
 
 // Reads `name TEXT`: an instrument's name, as `name_from` takes it. `None`: the line has no such form.
 fn read_name(line: &[u8]) -> Option<Text>
-    ensures { IsReadAs (IsName line.now) result }
+    ensures { IsReadAs (IsNameLine line.now) result }
 {
     let bytes = after_prefix(b"name ", line)?;
     name_from(bytes)

@@ -5,7 +5,7 @@ ghost use Rattle.gc_lines.specs.Ports.{WritesIfOk};
 ghost use Rattle.gc_texts.specs.Faults.{run_fault_text, fault_line};
 ghost use Rattle.gc_texts.specs.LineForms.{IsReadAs};
 ghost use Rattle.gc_texts.specs.declared.fault.RunFault.{RunFault};
-ghost use Rattle.gc_engines.specs.SceneTroubles.{BeginsWith, IsReplyTrouble, IsSceneTrouble, NeedsClock, NoDecimal, IsNoNumber, form_text, scene_trouble_text, scene_trouble_line, word_text};
+ghost use Rattle.gc_engines.specs.SceneTroubles.{BeginsWith, IsReplyTrouble, IsSceneTrouble, NeedsClock, NoDecimal, NoNumber, form_text, scene_trouble_text, scene_trouble_line, word_text};
 ghost use Rattle.gc_engines.specs.declared.scene_trouble.SceneWord.{SceneWord};
 
 use crate::rule_line::{SCENE_TARGET_MAX, gives_clock};
@@ -167,11 +167,15 @@ fn tell_form<E: Write>(form: &str, messages: &mut E) -> io::Result<()>
 /// What is at fault in a faulty line of a scene. `has_clock`: the scene is read for `serve`, which has a clock. Of a line that isn't faulty
 /// the result says nothing.
 ///
-/// It is the first of these that holds: the line needs a clock, and `has_clock` isn't set; no line of a scene begins with the
-/// line's first word; the line has too few fields, or too many (`Form`); a field doesn't read, of which the first is named; in a
-/// line `answer`, the procedure is in the table, or no request can have the parameters; and else `Form` again. It isn't asked
-/// whether `fault` has too many fields, nor whether `name` or `answer` has too few or too many. The clause says only that the
-/// result holds of the line, and not that it is the first.
+/// It is the first of these that holds:
+/// - `Clock`: the line needs a clock, and `has_clock` isn't set;
+/// - `NoWord`: no line of a scene begins with the line's first word;
+/// - `Form`: the line has too few fields, or too many. This isn't asked of `name` and `answer`, nor of `fault` whether it has too many;
+/// - a field doesn't read: the result names the first such field;
+/// - `InTable`, `Params`: in a line `answer`, the procedure is in the table, or no request can have the parameters;
+/// - `Form`: none of the others.
+///
+/// The clause says only that the result holds of the line, and not that it is the first.
 pub fn scene_trouble_of(line: &[u8], has_clock: bool) -> SceneTrouble
     ensures { IsSceneTrouble line.now result }
 {
@@ -264,9 +268,9 @@ fn is_no_double(text: &[u8]) -> bool
 }
 
 // Whether these bytes are no whole number of at most `max`, written in digits alone.
-#[tactic(auto, unfolding(crate::specs::SceneTroubles::IsNoNumber))]
+#[tactic(auto, unfolding(crate::specs::SceneTroubles::NoNumber))]
 fn is_no_number(text: &[u8], max: u32) -> bool
-    ensures { IsTrue result → IsNoNumber text.now max }
+    ensures { IsTrue result → NoNumber text.now max }
 {
     u32_of(text, max).is_none()
 }
@@ -339,7 +343,7 @@ fn fault_trouble(line: &[u8]) -> SceneTrouble
 }
 
 // What is at fault in a line that begins with `answer`: the first of `Rpc` and `Rc` that doesn't read, or else what `reply_trouble` gives.
-#[tactic(auto, unfolding(crate::specs::SceneTroubles::IsNoNumber))]
+#[tactic(auto, unfolding(crate::specs::SceneTroubles::NoNumber))]
 fn answer_trouble(line: &[u8]) -> SceneTrouble
     requires { BeginsWith SceneWord.Answer line.now }
     ensures { IsSceneTrouble line.now result }

@@ -5,7 +5,7 @@ ghost use Rattle.gc_texts.specs.LineForms.{IsReadAs};
 ghost use Rattle.gc_engines.specs.TimedScenes.{IsTimedLine, IsDelayLine};
 
 use crate::rule_line::{RuleLine, behind_word, read_rule_line};
-use crate::scene_line::put_found;
+use crate::scene_line::put_read;
 use gc_scenes::Delay;
 use gc_texts::{LineForm, before, behind, is_word, u16_of, u32_of};
 
@@ -38,7 +38,7 @@ impl LineForm for TimedForm {
     }
 
     fn read(line: &[u8], says: &mut TimedLine) -> bool {
-        put_found(read_timed_line(line), says)
+        put_read(read_timed_line(line), says)
     }
 }
 

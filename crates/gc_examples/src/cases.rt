@@ -21,8 +21,8 @@ use std::io;
 use texts::Texts;
 use world::World;
 
-/// Plays the cases of a folder, as `play_folder` does for each of the five endings, and returns whether all came to what they expect.
-/// Files with other endings are ignored. `Err`: as `play_folder`, and no further file is played.
+/// Plays the cases of a folder, as `play_folder` does for each of the five endings, and returns whether all came to what they
+/// expect. Files with other endings are ignored. `Err`: as `play_folder`, and no further file is played.
 pub fn play_cases(rt: &HostRuntime, folder: &str) -> io::Result<bool> {
     let mut are_right = play_folder(rt, folder, ".engines", &Engines)?;
     are_right &= play_folder(rt, folder, ".failing", &Failing)?;

@@ -15,8 +15,8 @@ pub fn make_ring(alloc: Global) -> OnceOutcome {
     }
 }
 
-/// Has a client with `Slots`, which takes no memory, send two requests, of which the first times out and gets its reply late, and the
-/// second is lost with a restart. Returns `Exact` if each call gave what it should, and else `Other`.
+/// Has a client with `Slots`, which takes no memory, send two requests, of which the first times out and gets its reply late, and
+/// the second is lost with a restart. Returns `Exact` if each call gave what it should, and else `Other`.
 pub fn call_client() -> OnceOutcome {
     let mut client = Client::new(Slots::new());
     OnceOutcome::of_answer(
@@ -39,8 +39,8 @@ fn send_two(client: &mut Client<Slots>) -> bool {
         && client.expire(10).as_slice() == [1].as_slice()
 }
 
-// Hears the first request's reply, which is late, its repeat, which is a stray, and a line that is no reply. Returns whether each call
-// gave what it should.
+// Hears the first request's reply, which is late, its repeat, which is a stray, and a line that is no reply. Returns whether each
+// call gave what it should.
 fn hear_lines(client: &mut Client<Slots>) -> bool {
     let mut reply = Line::new();
     append(&mut reply, b"%R1P,0,0:0");

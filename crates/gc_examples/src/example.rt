@@ -13,8 +13,8 @@ pub struct Example {
 }
 
 impl Example {
-    /// Reads the example whose input is the file of this name. `None`: no input has such a name. `Err`: one of its files can't be read, or
-    /// memory ran out.
+    /// Reads the example whose input is the file of this name. `None`: no input has such a name. `Err`: one of its files can't be
+    /// read, or memory ran out.
     pub fn find(rt: &HostRuntime, name: &str) -> io::Result<Option<Example>> {
         match parts_of(name) {
             Some(parts) => Ok(Some(read_example(rt, name, parts)?)),
@@ -22,8 +22,8 @@ impl Example {
         }
     }
 
-    /// Gives the input whole, in single bytes, and cut in two at each place, and returns the first of these ways in which the run goes
-    /// wrong, in words that begin with a comma; empty if there is none. Given whole, it has to come to a good end and the
+    /// Gives the input whole, in single bytes, and cut in two at each place, and returns the first of these ways in which the run
+    /// goes wrong, in words that begin with a comma; empty if there is none. Given whole, it has to come to a good end and the
     /// expected output; given otherwise, to the same as whole. A run for which memory runs out goes wrong.
     pub fn fault(&self) -> &'static str {
         let whole = self.setup.run(&[]);
@@ -43,7 +43,7 @@ struct Parts<'a> {
     engine: Engine,
     // The name up to its first `.`; the names of the example's other files begin with it.
     stem: &'a str,
-    // What follows the stem in the name of the file of the expected output.
+    // The ending of the name of the file of the expected output, which follows the stem and a `.`.
     ending: &'static str,
 }
 
@@ -61,11 +61,11 @@ fn parts_of(name: &str) -> Option<Parts<'_>> {
 // The engine of an input whose name has this ending, and the ending of its output's name. `None`: no input has it.
 fn engine_and_output(ending: &str) -> Option<(Engine, &'static str)> {
     match ending {
-        "requests" => Some((Engine::Exec, ".replies")),
-        "recording" => Some((Engine::Check, ".verdicts")),
-        "schedule" => Some((Engine::Drill, ".expected")),
-        "scene-requests" => Some((Engine::Rules, ".scene-replies")),
-        "scene-schedule" => Some((Engine::DrillRules, ".scene-expected")),
+        "requests" => Some((Engine::Exec, "replies")),
+        "recording" => Some((Engine::Check, "verdicts")),
+        "schedule" => Some((Engine::Drill, "expected")),
+        "scene-requests" => Some((Engine::Rules, "scene-replies")),
+        "scene-schedule" => Some((Engine::DrillRules, "scene-expected")),
         _ => None,
     }
 }
@@ -79,7 +79,7 @@ fn read_example(rt: &HostRuntime, name: &str, parts: Parts<'_>) -> io::Result<Ex
         stem,
         ending,
     } = parts;
-    let output = format!(in rt.alloc(); "{stem}{ending}")?;
+    let output = format!(in rt.alloc(); "{stem}.{ending}")?;
     let input = fs::read(rt, name)?;
     let mut setup = Setup::new(rt.alloc(), engine, input);
     if engine == Engine::Rules || engine == Engine::DrillRules {

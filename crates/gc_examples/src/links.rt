@@ -16,9 +16,9 @@ const ASK_READS: u32 = 9;
 // How many reads `loop` may make.
 const LOOP_READS: u32 = 100;
 
-/// Asks two commands over a link that gives a stray and then the two answers. The outcome is that of `OnceOutcome::of`, with these
-/// exceptions: `PortLacksMemory` if memory ran out for what was sent, and `Other` if a run that ended well sent anything but the
-/// two requests, or one for which memory ran out sent anything.
+/// Asks two commands over a link that gives a stray and then the two answers. The outcome is that of `OnceOutcome::of`, with
+/// these exceptions: `PortLacksMemory` if memory ran out for what was sent, and `Other` if a run that ended well sent anything
+/// but the two requests, or one for which memory ran out sent anything.
 pub fn ask(alloc: Global) -> OnceOutcome {
     let sent = b"%R1Q,5003,0:\r\n%R1Q,0,1:\r\n";
     let told = b"0 7 answered %R1P,0,0:0,123456\n1 8 answered %R1P,0,1:0\n";

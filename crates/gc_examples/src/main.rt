@@ -1,8 +1,8 @@
 //! The examples, played: no part of the product. Each stream of requests goes through `exec`, that of a scene through the scene's
-//! instrument, each recording through `check` and each schedule through `drill --totals`, on the scene's instrument if there is one:
-//! whole, in single bytes, and cut in two at every place. What is written must be the file of the expected output each time. The
-//! folder in which it runs is read whole, so that no example is forgotten. Then each is played once more, with some that have no
-//! files, and at last the cases of the folder `cases` are played. With the word `once` the examples are only played once more,
+//! instrument, each recording through `check` and each schedule through `drill --totals`, on the scene's instrument if there is
+//! one: whole, in single bytes, and cut in two at every place. What is written must be the file of the expected output each time.
+//! The folder in which it runs is read whole, so that no example is forgotten. Then each is played once more, with some that have
+//! no files, and at last the cases of the folder `cases` are played. With the word `once` the examples are only played once more,
 //! and nothing else is done: that run can be refused memory.
 #![tactic(auto)]
 
@@ -33,8 +33,8 @@ fn play_cuts(rt: &HostRuntime, names: &[String]) -> io::Result<bool> {
     Ok(is_right)
 }
 
-// Prints the line of an example. `fault` is what `Example::fault` says of it: empty if the example gave what was expected in all cuts.
-// Returns whether `fault` is empty.
+// Prints the line of an example. `fault` is what `Example::fault` says of it: empty if the example gave what was expected in all
+// cuts. Returns whether `fault` is empty.
 fn print_cuts(rt: &HostRuntime, name: &str, fault: &str) -> io::Result<bool> {
     if fault.is_empty() {
         println!(rt; "{name}: as expected, whole and in all cuts")?;

@@ -20,9 +20,9 @@ use std::alloc::{AllocError, Global};
 use std::io;
 
 /// Plays each example once, those without files first, and prints a line for each, and two for a schedule without a scene.
-/// Returns whether none gave a wrong answer (`OnceOutcome::Other`): one that gave no answer, because memory ran out for its run or a
-/// port (`NoMemory`, `PortLacksMemory`), counts as right. `Err`: a line can't be printed, a file can't be read, or memory ran out
-/// for a file or its name. Then no further example is played.
+/// Returns whether none gave a wrong answer (`OnceOutcome::Other`): one that gave no answer, because memory ran out for its run
+/// or a port (`NoMemory`, `PortLacksMemory`), counts as right. `Err`: a line can't be printed, a file can't be read, or memory
+/// ran out for a file or its name. Then no further example is played.
 pub fn play_once(rt: &HostRuntime, names: &[String]) -> io::Result<bool> {
     let mut is_right = play_without_files(rt)?;
     for name in names {
@@ -96,7 +96,7 @@ fn answer_input(example: &Example, scene: Option<SceneInstrument>) -> OnceOutcom
         }
         None => run_exec(&mut source, &mut sink, u32::MAX),
     };
-    OnceOutcome::of_answer(end.is_ok() && holds(&taken, example.expected.as_slice()))
+    OnceOutcome::of_answer(end.is_ok() && took_exactly(&taken, example.expected.as_slice()))
 }
 
 // Answers the example's input on the instrument of its scene: `NoMemory` if memory ran out for the scene, `Other` if the scene
@@ -108,9 +108,9 @@ fn answer_on_scene(example: &Example) -> OnceOutcome {
     }
 }
 
-// Whether `expected`, which has no zero, is all that was written into `taken`, an array of zeros before: `taken` begins with it and has a
-// zero after it. `false`, too, if `expected` has `ROOM` bytes or more.
-fn holds(taken: &[u8; ROOM], expected: &[u8]) -> bool {
+// Whether `expected`, which has no zero, is all that was written into `taken`, an array of zeros before: `taken` begins with it
+// and has a zero after it. `false`, too, if `expected` has `ROOM` bytes or more.
+fn took_exactly(taken: &[u8; ROOM], expected: &[u8]) -> bool {
     taken.starts_with(expected) && taken.get(expected.len()) == Some(&0)
 }
 

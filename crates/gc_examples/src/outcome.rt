@@ -30,9 +30,9 @@ impl fmt::Display for OnceOutcome {
 }
 
 impl OnceOutcome {
-    /// The outcome of a run that should have written `expected`, by how it ended and what the sink took: `Exact` if it ended well with
-    /// `expected`; `NoMemory` if memory ran out for the run and the sink took nothing; `PortLacksMemory` if memory ran out for the sink,
-    /// which took a first part of `expected`, or nothing; and else `Other`.
+    /// The outcome of a run that should have written `expected`, by how it ended and what the sink took: `Exact` if it ended well
+    /// with `expected`; `NoMemory` if memory ran out for the run and the sink took nothing; `PortLacksMemory` if memory ran out
+    /// for the sink, which took a first part of `expected`, or nothing; and else `Other`.
     pub fn of(end: Result<(), RunFault>, sink: &PieceSink, expected: &[u8]) -> OnceOutcome {
         match end {
             Ok(()) if sink.taken() == expected => OnceOutcome::Exact,
@@ -44,8 +44,8 @@ impl OnceOutcome {
         }
     }
 
-    /// The outcome of an example whose scene or schedule was refused with this fault: `NoMemory` if memory ran out for it, and else
-    /// `Other`.
+    /// The outcome of an example whose scene or schedule was refused with this fault: `NoMemory` if memory ran out for it, and
+    /// else `Other`.
     pub fn of_unread(fault: RunFault) -> OnceOutcome {
         match fault {
             RunFault::Memory => OnceOutcome::NoMemory,

@@ -32,8 +32,8 @@ start_of_downs seed = output_at ((seed + golden) % 2 ^ 64)
 abbrev pub start_of_kills : ℕ → ℕ
 start_of_kills seed = output_at (steps_on seed 2)
 
--- how many draws are before draw k of line n, both counted from 1: `draws_of_line` for each earlier line, and the earlier ones of the same
--- line, modulo 2^64
+-- how many draws are before draw k of line n, both counted from 1: `draws_of_line` for each earlier line, and the earlier ones of
+-- the same line, modulo 2^64
 abbrev pub draws_before : (n k : ℕ) → ℕ
 draws_before n k = (draws_of_line * (n - 1) % 2 ^ 64 + (k - 1)) % 2 ^ 64
 

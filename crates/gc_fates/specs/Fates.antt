@@ -6,6 +6,7 @@ use Rattle.gc_fates.specs.Rules.{chance_of}
 use Rattle.gc_fates.specs.declared.chance.Chance.{Chance}
 use Rattle.gc_fates.specs.declared.fate.LineFate.{LineFate}
 use Rattle.gc_fates.specs.declared.rules.Rules.{Rules}
+use Rattle.gc_fates.specs.declared.rule.Word.{Word}
 use Rattle.gc_fates.specs.declared.rule.Word.TheVariants.{Delay, Lose, Repeat, Hold, Close, Refuse, Restart}
 
 -- Which of a line's draws, counted from 1, is whose: this project's own. The word `kill` is about no line, and has none.
@@ -38,7 +39,7 @@ refuse_draw = 6
 abbrev pub restart_draw : ℕ
 restart_draw = 8
 
--- the end is a reset if the lower 32 bits of the draw of `close` are at least this, which is half of their range: this project's own
+-- the end is a reset if the lower 32 bits of the draw of `close` are at least this, half of their range: this project's own
 abbrev pub least_of_reset : ℕ
 least_of_reset = 2147483648
 
@@ -58,26 +59,30 @@ drawn (Some chance) draw = among draw chance.least chance.most
 abbrev pub drawn_if : (hit : Bool) → Option Chance → (draw : ℕ) → ℕ
 drawn_if hit chance draw = if hit then drawn chance draw else 0
 
--- whether a line is lost, by its draw for that
-abbrev pub loses : Rules → (start line : ℕ) → Bool
-loses rules start line = hits (chance_of rules Lose) (draw_at start line lose_draw)
+module _ (rules : Rules) (start line : ℕ) where
+  -- whether what a word names happens to the line, by draw k of the line
+  abbrev pub hits_line : Word → (k : ℕ) → Bool
+  hits_line word k = hits (chance_of rules word) (draw_at start line k)
 
--- whether the connection ends in place of a line, by the line's draw for that; never in place of a lost line
-abbrev pub ends : Rules → (start line : ℕ) → Bool
-ends rules start line = not (loses rules start line) && hits (chance_of rules Close) (draw_at start line close_draw)
+  -- whether the line is lost
+  abbrev pub loses : Bool
+  loses = hits_line Lose lose_draw
 
--- what happens to a line: each word has its own draw. A line that is lost, or in whose place the connection ends, isn't repeated,
--- and only after such an end are connections refused. The end is a reset if the lower 32 bits of its draw are in the upper half
--- of their range
-abbrev pub fate_of : Rules → (start line : ℕ) → LineFate
-fate_of rules start line = record {
-  wait = drawn (chance_of rules Delay) (draw_at start line delay_draw);
-  is_lost = loses rules start line;
-  is_repeated = (not (loses rules start line) && not (ends rules start line)) && hits (chance_of rules Repeat) (draw_at start line repeat_draw);
-  hold = drawn_if (hits (chance_of rules Hold) (draw_at start line hold_draw)) (chance_of rules Hold) (draw_at start line hold_draw);
-  closes = ends rules start line;
-  is_reset = ends rules start line && nat_le least_of_reset (draw_at start line close_draw % 4294967296);
-  refuse = drawn_if (ends rules start line && hits (chance_of rules Refuse) (draw_at start line refuse_draw)) (chance_of rules Refuse)
-      (draw_at start line refuse_draw);
-  restarts = hits (chance_of rules Restart) (draw_at start line restart_draw);
-}
+  -- whether the connection ends in place of the line; never in place of a lost line
+  abbrev pub ends : Bool
+  ends = not loses && hits_line Close close_draw
+
+  -- what happens to the line: each word has its own draw. A line that is lost, or in whose place the connection ends, isn't
+  -- repeated, and only after such an end are connections refused. The end is a reset if the lower 32 bits of its draw are in the
+  -- upper half of their range
+  abbrev pub fate_of : LineFate
+  fate_of = record {
+    wait = drawn (chance_of rules Delay) (draw_at start line delay_draw);
+    is_lost = loses;
+    is_repeated = (not loses && not ends) && hits_line Repeat repeat_draw;
+    hold = drawn_if (hits_line Hold hold_draw) (chance_of rules Hold) (draw_at start line hold_draw);
+    closes = ends;
+    is_reset = ends && nat_le least_of_reset (draw_at start line close_draw % 4294967296);
+    refuse = drawn_if (ends && hits_line Refuse refuse_draw) (chance_of rules Refuse) (draw_at start line refuse_draw);
+    restarts = hits_line Restart restart_draw;
+  }

@@ -2,7 +2,8 @@
 use Rattle.std.specs.Prelude.{◌≡◌, [], ◌∷◌, map}
 use Rattle.gc_fates.specs.Draws.{start_of_ups, start_of_downs, draw_at, among}
 
--- with seed 7: the first three draws of line 1 up, the first draw of line 2 down, and the delay that `delay 400 600` draws for line 1 up
+-- with seed 7: the first three draws of line 1 up, the first draw of line 2 down, and the delay that `delay 400 600` draws for
+-- line 1 up
 pub record DrawsAsWritten : Type 0 where
   pub up : map (draw_at (start_of_ups 7) 1) (1 ∷ 2 ∷ 3 ∷ []) ≡ 0xb8b4c2977eabce45 ∷ 0xa65305fd338ec8fe ∷ 0x8ca3cbb6ca63129b ∷ []
   pub down : draw_at (start_of_downs 7) 2 1 ≡ 0xc6cc8bd107a5183f

@@ -27,8 +27,8 @@ with_rule rules rule = record { chances = slice_set rules.chances (place_of rule
 abbrev pub without_comment : List ℕ → List ℕ
 without_comment line = before 35 line
 
--- a line leads from the rules `old` of the lines before it to the rules `new`: without its comment it is blank, and `new` are `old`, or it
--- is a rule whose word no earlier line has, and `new` are `old` with this rule
+-- a line leads from the rules `old` of the lines before it to the rules `new`: without its comment it is blank, and `new` are
+-- `old`, or it is a rule whose word no earlier line has, and `new` are `old` with this rule
 abbrev pub Leads : (old : Rules) → List ℕ → (new : Rules) → Type 0
 Leads old line new = (IsBlank (without_comment line) × (new ≡ old))
     ⊎ ((rule : Rule) × IsRule (without_comment line) rule × (chance_of old rule.word ≡ None) × (new ≡ with_rule old rule))

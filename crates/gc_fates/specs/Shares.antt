@@ -16,8 +16,8 @@ AreThousandths count number n = ((count ≡ 1) × (n ≡ number * 100)) ⊎ (((c
 abbrev pub IsPlaces : List ℕ → ℕ → Type 0
 IsPlaces digits n = (number : ℕ) × IsNumber digits number 999 × AreThousandths (length digits) number n
 
--- the digits `whole` before a point, and `places` after it, if there is one, are a percentage of at most 100, which is `n` thousandths of a
--- percent
+-- the digits `whole` before a point, and `places` after it, if there is one, are a percentage of at most 100, which is `n`
+-- thousandths of a percent
 abbrev pub IsParts : (whole : List ℕ) → (places : Option (List ℕ)) → (n : ℕ) → Type 0
 IsParts whole None n = (number : ℕ) × IsNumber whole number 100 × (n ≡ number * 1000)
 IsParts whole (Some places) n =

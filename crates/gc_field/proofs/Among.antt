@@ -35,6 +35,6 @@ pub each_at : {A : Type 0} (P : A → Type 0) (xs : List A) → ((i : ℕ) (x : 
 each_at P [] f = tt
 each_at P (x ∷ xs) f = (f 0 x refl, each_at P xs (λ i y got. f (suc i) y got))
 
--- an element that is at place n after the first k is at place k + n
+-- the element at place n of a list without its first k elements is at place k + n of the whole list
 pub get_drop : {A : Type 0} (k n : ℕ) (xs : List A) (x : A) → slice_get (drop k xs) n ≡ Some x → slice_get xs (k + n) ≡ Some x
 get_drop k n xs x got = let same : k + n - k ≡ n = omega arith in sym (slice_drop k xs (k + n) (omega arith)) ∙ ap (slice_get (drop k xs)) same ∙ got

@@ -89,13 +89,13 @@ moved [] s = s
 moved (m ∷ ms) s = moved ms (moves s m)
 
 -- each element and each one after it have the relation: `AllPairs` of std, by recursion
-abbrev pub Pairs : {A : Type 0} → (A → A → Type 0) → List A → Type 0
-Pairs R [] = Unit {0}
-Pairs R (x ∷ xs) = AllByRecursion (R x) xs × Pairs R xs
+abbrev pub AllPairsByRecursion : {A : Type 0} → (A → A → Type 0) → List A → Type 0
+AllPairsByRecursion R [] = Unit {0}
+AllPairsByRecursion R (x ∷ xs) = AllByRecursion (R x) xs × AllPairsByRecursion R xs
 
 -- no id is in the list twice
 abbrev pub AllDiffer : List ℕ → Type 0
-AllDiffer ids = Pairs (λ i j. i ≡ j → ⊥) ids
+AllDiffer ids = AllPairsByRecursion (λ i j. i ≡ j → ⊥) ids
 
 -- the ids of these requests or replies
 abbrev pub ids_of : List IdSent → List ℕ

@@ -7,18 +7,18 @@ use Rattle.std.specs.List.{AllByRecursion}
 use mathlib.Core.List.{map-map}
 use Rattle.std.proofs.lemmas.Bool.{eqb-true, false≢true}
 use Rattle.std.proofs.lemmas.List.{append_cancel_left, map-append}
-use Rattle.gc_client.specs.Beginning.{left_by, left_by_one, IsSubsequence, the_word}
-use Rattle.gc_field.proofs.BeginIds.{IdSent, IdModel, IdMove, moved, aged, begun_anew, Pairs, AllDiffer, Begins, ids_in_flight, ids_of}
+use Rattle.gc_client.specs.Beginning.{left_by, left_when, IsSubsequence, the_word}
+use Rattle.gc_field.proofs.BeginIds.{IdSent, IdModel, IdMove, moved, aged, begun_anew, AllPairsByRecursion, AllDiffer, Begins, ids_in_flight, ids_of}
 use Rattle.gc_field.specs.World.{without, doubled}
 use Rattle.gc_lines.proofs.Lists.{all_append}
 use Rattle.gc_values.proofs.Every.{every_behind as all_behind, every_weaker as all_on}
 use Rattle.gc_field.proofs.BeginLists.{each_all, each_both, each_map, each_to_map, pairs_front, pairs_back}
-use Rattle.gc_field.proofs.BeginWords.{HasNoMoreWords, subword_front, subword_each, word_differs}
+use Rattle.gc_field.proofs.BeginWords.{HasNoMoreWords, subword_front, subword_each, word_ids_differ}
 use Rattle.gc_field.proofs.BeginMoves.{Lasts, holds_moved}
-use Rattle.gc_field.proofs.BeginLines.{FrontAnswers, IsLine, IsOld, IsOwn, KeepsOwn, HasNone, KeepsTheId, OwnIdsFit, old_if, olds, olds_all, olds_push, has_without, has_doubled, line_without, line_doubled, line_asked, line_came}
+use Rattle.gc_field.proofs.BeginLines.{FrontAnswers, IsLine, IsOld, IsOwn, KeepsOwn, HasNoneIfOwn, KeepsTheId, OwnIdsFit, old_if, olds, olds_all, olds_push, no_more_words_without, no_more_words_doubled, line_without, line_doubled, line_asked, line_came}
 use Rattle.gc_field.proofs.BeginSound.{sound_at_start}
 use Rattle.gc_world.proofs.Rows.{each_without, each_doubled}
-use Rattle.gc_station.proofs.Lists.{fronts}
+use Rattle.gc_station.proofs.Lists.{one_front_begins_other}
 
 -- The invariant of one synchronization.
 
@@ -29,17 +29,21 @@ pub record IsHearing (first done : List ℕ) (line : List IdSent) : Type 0 where
   pub heard : (word : List ℕ) → AllDiffer (done ++ word) → IsSubsequence word (olds line) → IsSubsequence (done ++ word) first
 
 -- this is the first id that is left
-abbrev pub IsAsked : ℕ → List ℕ → Type 0
-IsAsked i [] = ⊥
-IsAsked i (asked ∷ later) = i ≡ asked
+abbrev pub IsFirstLeft : ℕ → List ℕ → Type 0
+IsFirstLeft i [] = ⊥
+IsFirstLeft i (asked ∷ later) = i ≡ asked
 
 -- this id is `p`, or the first that is left
 abbrev pub IsOneOfTwo : (p : ℕ) (left : List ℕ) (i : ℕ) → Type 0
-IsOneOfTwo p left i = (i ≡ p) ⊎ IsAsked i left
+IsOneOfTwo p left i = (i ≡ p) ⊎ IsFirstLeft i left
+
+-- this line is of the synchronization, and its id is `p`, or the first that is left
+abbrev pub IsOwnOfTwo : (p : ℕ) (left : List ℕ) (x : IdSent) → Type 0
+IsOwnOfTwo p left x = IsOwn x × IsOneOfTwo p left x.id
 
 -- once an own reply answered: all that is in flight is of this synchronization, and has two ids at most
-abbrev pub IsOver : List ℕ → List IdSent → Type 0
-IsOver left line = (p : ℕ) × AllByRecursion (λ x. IsOwn x × IsOneOfTwo p left x.id) line
+abbrev pub AreOwnOfTwo : List ℕ → List IdSent → Type 0
+AreOwnOfTwo left line = (p : ℕ) × AllByRecursion (IsOwnOfTwo p left) line
 
 -- the invariant of a synchronization that may be killed: `IsLine` holds; the ids `done` of the word are answered; and either only
 -- old replies have answered yet, or an own one has, and no old line is in flight any more
@@ -47,13 +51,13 @@ pub record IsTrying (z : ℕ) (word first left : List ℕ) (line : List IdSent) 
   pub sound : IsLine z left line
   pub done : List ℕ
   pub split : word ≡ done ++ left
-  pub phase : IsHearing first done line ⊎ IsOver left line
+  pub phase : IsHearing first done line ⊎ AreOwnOfTwo left line
 
 -- Old lines are lost or repeated.
 
--- `IsHearing` is preserved if the old lines change, and their ids contain no more words
-hearing_has : (first done : List ℕ) (line other : List IdSent) → HasNoMoreWords (olds other) (olds line) → IsHearing first done line → IsHearing first done other
-hearing_has first done line other has h =
+-- `IsHearing` is preserved if the old lines change so that their ids contain no more words than before (`HasNoMoreWords`)
+hearing_no_more_words : (first done : List ℕ) (line other : List IdSent) → HasNoMoreWords (olds other) (olds line) → IsHearing first done line → IsHearing first done other
+hearing_no_more_words first done line other has h =
     record {
       from = λ word d s. h.from word d (has word d s);
       heard = λ word d s. h.heard word d (has word (pairs_back (λ i j. i ≡ j → ⊥) done word d) s);
@@ -61,9 +65,9 @@ hearing_has first done line other has h =
 
 module _ (z : ℕ) (word first : List ℕ) where
   -- `IsTrying` is preserved if the line becomes `other`, where `IsLine` holds of `other`, the old ids contain no more words then
-  -- (`HasNoMoreWords`), and each line is own and `IsOneOfTwo` then, if each was before
+  -- (`HasNoMoreWords`), and each line is `IsOwnOfTwo` then, if each was before
   trying_line : (left : List ℕ) (line other : List IdSent) → IsLine z left other → HasNoMoreWords (olds other) (olds line)
-      → ((p : ℕ) → AllByRecursion (λ x. IsOwn x × IsOneOfTwo p left x.id) line → AllByRecursion (λ x. IsOwn x × IsOneOfTwo p left x.id) other)
+      → ((p : ℕ) → AllByRecursion (IsOwnOfTwo p left) line → AllByRecursion (IsOwnOfTwo p left) other)
       → IsTrying z word first left line → IsTrying z word first left other
   trying_line left line other sound has each h =
       record {
@@ -72,7 +76,7 @@ module _ (z : ℕ) (word first : List ℕ) where
         split = h.split;
         phase =
             elim h.phase [
-              | inl g ↦ inl (hearing_has first h.done line other has g)
+              | inl g ↦ inl (hearing_no_more_words first h.done line other has g)
               | inr g ↦ inr (g.0, each g.0 g.1)
             ];
       }
@@ -80,19 +84,19 @@ module _ (z : ℕ) (word first : List ℕ) where
   -- `IsTrying` is preserved if a line is lost
   trying_lost : (left : List ℕ) (k : ℕ) (line : List IdSent) → IsTrying z word first left line → IsTrying z word first left (without k line)
   trying_lost left k line h =
-      trying_line left line (without k line) (line_without z left k line h.sound) (has_without k line) (λ p g. each_without (λ x. IsOwn x × IsOneOfTwo p left x.id) k line g) h
+      trying_line left line (without k line) (line_without z left k line h.sound) (no_more_words_without k line) (λ p g. each_without (IsOwnOfTwo p left) k line g) h
 
   -- `IsTrying` is preserved if a line comes twice
   trying_twice : (left : List ℕ) (k : ℕ) (line : List IdSent) → IsTrying z word first left line → IsTrying z word first left (doubled k line)
   trying_twice left k line h =
-      trying_line left line (doubled k line) (line_doubled z left k line h.sound) (has_doubled k line) (λ p g. each_doubled (λ x. IsOwn x × IsOneOfTwo p left x.id) k line g) h
+      trying_line left line (doubled k line) (line_doubled z left k line h.sound) (no_more_words_doubled k line) (λ p g. each_doubled (IsOwnOfTwo p left) k line g) h
 
   -- `IsTrying` is preserved if the client asks
   trying_asked : (id : ℕ) (later : List ℕ) (line : List IdSent) → IsTrying z word first (id ∷ later) line → IsTrying z word first (id ∷ later) (line ++ record { id = id; old = false } ∷ [])
   trying_asked id later line h =
       let new : IdSent = record { id = id; old = false } in
       trying_line (id ∷ later) line (line ++ new ∷ []) (line_asked z id later line h.sound) (λ v d s. subst (λ ids. IsSubsequence v ids) (olds_push id line) s)
-      (λ p g. all_append (λ x. IsOwn x × IsOneOfTwo p (id ∷ later) x.id) line (new ∷ []) g ((refl, inr refl), tt)) h
+      (λ p g. all_append (IsOwnOfTwo p (id ∷ later)) line (new ∷ []) g ((refl, inr refl), tt)) h
 
   -- a reply comes, and is the answer
 
@@ -107,20 +111,20 @@ module _ (z : ℕ) (word first : List ℕ) where
   old_answers : (id : ℕ) (done : List ℕ) (x : IdSent) (rest : List IdSent) → IsOld x → x.id ≡ id → IsHearing first done (x ∷ rest) → IsHearing first (done ++ id ∷ []) rest
   old_answers id done x rest o e h =
       record {
-        from = λ v d s. h.from v d (has_without zero (x ∷ rest) v d s);
+        from = λ v d s. h.from v d (no_more_words_without zero (x ∷ rest) v d s);
         heard = λ v d s. subst (λ l. IsSubsequence l first) (sym (append_assoc done (id ∷ []) v))
             (h.heard (id ∷ v) (subst AllDiffer (append_assoc done (id ∷ []) v) d) (old_contains x.old x.id id (olds rest) v o e s));
       }
 
-  -- where the front line, x, is own and answers (`FrontAnswers`), `IsOver` holds of the ids that are left after that one, and the
-  -- lines after x
-  own_answers : (id : ℕ) (later : List ℕ) (x : IdSent) (rest : List IdSent) → FrontAnswers z id later x rest → IsOwn x → IsOver later rest
+  -- where the front line, x, is own and answers (`FrontAnswers`), `AreOwnOfTwo` holds of the ids that are left after that one,
+  -- and the lines after x
+  own_answers : (id : ℕ) (later : List ℕ) (x : IdSent) (rest : List IdSent) → FrontAnswers z id later x rest → IsOwn x → AreOwnOfTwo later rest
   own_answers id later x rest h o =
-      (id, each_both (KeepsOwn x) (KeepsTheId id x) (λ y. IsOwn y × IsOneOfTwo id later y.id) (λ y f g. (f o, inl (g o h.same))) rest h.line.ordered.0 h.line.own.1.0)
+      (id, each_both (KeepsOwn x) (KeepsTheId id x) (IsOwnOfTwo id later) (λ y f g. (f o, inl (g o h.same))) rest h.line.ordered.0 h.line.own.1.0)
 
-  -- where the front line, x, answers, `IsHearing` or `IsOver` still holds once x was heard, be x old (`b` is true) or own
+  -- where the front line, x, answers, `IsHearing` or `AreOwnOfTwo` still holds once x was heard, be x old (`b` is true) or own
   phase_answered : (id : ℕ) (later done : List ℕ) (x : IdSent) (rest : List IdSent) (b : Bool) → x.old ≡ b → FrontAnswers z id later x rest
-      → IsHearing first done (x ∷ rest) ⊎ IsOver (id ∷ later) (x ∷ rest) → IsHearing first (done ++ id ∷ []) rest ⊎ IsOver later rest
+      → IsHearing first done (x ∷ rest) ⊎ AreOwnOfTwo (id ∷ later) (x ∷ rest) → IsHearing first (done ++ id ∷ []) rest ⊎ AreOwnOfTwo later rest
   phase_answered id later done x rest false o h p = inr (own_answers id later x rest h o)
   phase_answered id later done x rest true o h (inl g) = inl (old_answers id done x rest o h.same g)
   phase_answered id later done x rest true o h (inr g) = absurd (false≢true (sym g.1.0.0 ∙ o))
@@ -130,10 +134,10 @@ module _ (z : ℕ) (word first : List ℕ) where
   trying_came [] x rest h = trying_lost [] zero (x ∷ rest) h
   trying_came (id ∷ later) x rest h = chosen (nat_eq x.id id) refl (line_came z (id ∷ later) x rest h.sound) where
     -- the lemma above, by whether the reply has the id that is asked for (`b`)
-    chosen : (b : Bool) → nat_eq x.id id ≡ b → IsLine z (left_by_one (nat_eq x.id id) id later) rest → IsTrying z word first (left_by_one b id later) rest
+    chosen : (b : Bool) → nat_eq x.id id ≡ b → IsLine z (left_when (nat_eq x.id id) id later) rest → IsTrying z word first (left_when b id later) rest
     chosen true e line =
         record {
-          sound = subst (λ b. IsLine z (left_by_one b id later) rest) e line;
+          sound = subst (λ b. IsLine z (left_when b id later) rest) e line;
           done = h.done ++ id ∷ [];
           split = h.split ∙ sym (append_assoc h.done (id ∷ []) later);
           phase = phase_answered id later h.done x rest x.old refl (record { line = h.sound; same = eqb-true x.id id e }) h.phase;
@@ -169,7 +173,7 @@ ids_upto w = w.a ∷ w.b ∷ (w.more ++ w.c ∷ [])
 front_or_left : (done left front : List ℕ) (c : ℕ) (tail : List ℕ) → done ++ left ≡ front ++ c ∷ tail
     → ((more : List ℕ) × (done ≡ front ++ more)) ⊎ ((asked : ℕ) × (more : List ℕ) × (left ≡ asked ∷ (more ++ c ∷ tail)))
 front_or_left done left front c tail e =
-    elim (fronts done left front (c ∷ tail) e) [
+    elim (one_front_begins_other done left front (c ∷ tail) e) [
       | inl h ↦ by_more h.0 h.1
       | inr h ↦ inl h
     ]
@@ -181,16 +185,16 @@ front_or_left done left front c tail e =
     by_more (asked ∷ more) is =
         inr (asked, more, append_cancel_left done left (asked ∷ (more ++ c ∷ tail)) (e ∙ ap (λ l. l ++ c ∷ tail) is ∙ append_assoc done (asked ∷ more) (c ∷ tail)))
 
--- ids that don't have the last id c of a word don't contain the word
-own_has_no : (front : List ℕ) (c : ℕ) (ids : List ℕ) → AllByRecursion (λ i. c ≡ i → ⊥) ids → IsSubsequence (front ++ c ∷ []) ids → ⊥
-own_has_no front c ids h s = (all_behind (λ i. c ≡ i → ⊥) front (c ∷ []) (subword_each (λ i. c ≡ i → ⊥) (front ++ c ∷ []) ids h s)).0 refl
+-- ids among which c, the last id of a word, isn't don't contain the word
+lacks_without_last : (front : List ℕ) (c : ℕ) (ids : List ℕ) → AllByRecursion (λ i. c ≡ i → ⊥) ids → IsSubsequence (front ++ c ∷ []) ids → ⊥
+lacks_without_last front c ids h s = (all_behind (λ i. c ≡ i → ⊥) front (c ∷ []) (subword_each (λ i. c ≡ i → ⊥) (front ++ c ∷ []) ids h s)).0 refl
 
 -- where no old line is after an own one, a word that is in the ids of lines, and whose last id, c, no own line has, is in the ids
 -- of the old lines
-in_old : (xs : List IdSent) (front : List ℕ) (c : ℕ) → Pairs KeepsOwn xs → AllByRecursion (λ x. IsOwn x → c ≡ x.id → ⊥) xs
+word_in_olds : (xs : List IdSent) (front : List ℕ) (c : ℕ) → AllPairsByRecursion KeepsOwn xs → AllByRecursion (λ x. IsOwn x → c ≡ x.id → ⊥) xs
     → IsSubsequence (front ++ c ∷ []) (ids_of xs) → IsSubsequence (front ++ c ∷ []) (olds xs)
-in_old [] front c before none s = s
-in_old (x ∷ xs) front c before none s = chosen x.old refl (λ f. in_old xs f c before.1 none.1) front s where
+word_in_olds [] front c before none s = s
+word_in_olds (x ∷ xs) front c before none s = chosen x.old refl (λ f. word_in_olds xs f c before.1 none.1) front s where
   -- the lemma above, by whether the first line is old (`b`)
   chosen : (b : Bool) → x.old ≡ b → ((f : List ℕ) → IsSubsequence (f ++ c ∷ []) (ids_of xs) → IsSubsequence (f ++ c ∷ []) (olds xs)) → (front : List ℕ)
       → IsSubsequence (front ++ c ∷ []) (x.id ∷ ids_of xs) → IsSubsequence (front ++ c ∷ []) (old_if b x.id (olds xs))
@@ -199,46 +203,46 @@ in_old (x ∷ xs) front c before none s = chosen x.old refl (λ f. in_old xs f c
   chosen true o f (a ∷ front) (inl s) = inl (s.0, f front s.1)
   chosen true o f (a ∷ front) (inr s) = inr (f (a ∷ front) s)
   chosen false o f front s =
-      absurd (own_has_no front c (x.id ∷ ids_of xs) (
+      absurd (lacks_without_last front c (x.id ∷ ids_of xs) (
         none.0 o,
         each_to_map
             (λ i. c ≡ i → ⊥) (λ (y : IdSent). y.id) xs (each_both (KeepsOwn x) (λ y. IsOwn y → c ≡ y.id → ⊥) (λ y. c ≡ y.id → ⊥) (λ y g n. n (g o)) xs before.0 none.1),
       ) s)
 
 -- only one id is the first that is left
-same_asked : (left : List ℕ) (i j : ℕ) → IsAsked i left → IsAsked j left → i ≡ j
-same_asked [] i j a b = absurd a
-same_asked (asked ∷ later) i j a b = a ∙ sym b
+same_first_left : (left : List ℕ) (i j : ℕ) → IsFirstLeft i left → IsFirstLeft j left → i ≡ j
+same_first_left [] i j a b = absurd a
+same_first_left (asked ∷ later) i j a b = a ∙ sym b
 
 -- three ids that differ aren't all `IsOneOfTwo`
-not_three : (p : ℕ) (left : List ℕ) (a b c : ℕ) → (a ≡ b → ⊥) → (a ≡ c → ⊥) → (b ≡ c → ⊥) → IsOneOfTwo p left a → IsOneOfTwo p left b → IsOneOfTwo p left c → ⊥
-not_three p left a b c ab ac bc (inl x) (inl y) z = ab (x ∙ sym y)
-not_three p left a b c ab ac bc (inr x) (inr y) z = ab (same_asked left a b x y)
-not_three p left a b c ab ac bc (inl x) (inr y) (inl z) = ac (x ∙ sym z)
-not_three p left a b c ab ac bc (inl x) (inr y) (inr z) = bc (same_asked left b c y z)
-not_three p left a b c ab ac bc (inr x) (inl y) (inl z) = bc (y ∙ sym z)
-not_three p left a b c ab ac bc (inr x) (inl y) (inr z) = ac (same_asked left a c x z)
+three_not_one_of_two : (p : ℕ) (left : List ℕ) (a b c : ℕ) → (a ≡ b → ⊥) → (a ≡ c → ⊥) → (b ≡ c → ⊥) → IsOneOfTwo p left a → IsOneOfTwo p left b → IsOneOfTwo p left c → ⊥
+three_not_one_of_two p left a b c ab ac bc (inl x) (inl y) z = ab (x ∙ sym y)
+three_not_one_of_two p left a b c ab ac bc (inr x) (inr y) z = ab (same_first_left left a b x y)
+three_not_one_of_two p left a b c ab ac bc (inl x) (inr y) (inl z) = ac (x ∙ sym z)
+three_not_one_of_two p left a b c ab ac bc (inl x) (inr y) (inr z) = bc (same_first_left left b c y z)
+three_not_one_of_two p left a b c ab ac bc (inr x) (inl y) (inl z) = bc (y ∙ sym z)
+three_not_one_of_two p left a b c ab ac bc (inr x) (inl y) (inr z) = ac (same_first_left left a c x z)
 
--- where each line in flight is own and has an id that is `IsOneOfTwo`, the ids in flight don't contain a word of three or more
+-- where each line in flight is own and has one of two ids (`IsOwnOfTwo`), the ids in flight don't contain a word of three or more
 -- ids that differ
-over_short : (p : ℕ) (left word : List ℕ) (line : List IdSent) (a b c : ℕ) → AllDiffer (a ∷ b ∷ c ∷ word)
-    → AllByRecursion (λ x. IsOwn x × IsOneOfTwo p left x.id) line → IsSubsequence (a ∷ b ∷ c ∷ word) (ids_of line) → ⊥
-over_short p left word line a b c d h s =
+own_of_two_lack_three : (p : ℕ) (left word : List ℕ) (line : List IdSent) (a b c : ℕ) → AllDiffer (a ∷ b ∷ c ∷ word)
+    → AllByRecursion (IsOwnOfTwo p left) line → IsSubsequence (a ∷ b ∷ c ∷ word) (ids_of line) → ⊥
+own_of_two_lack_three p left word line a b c d h s =
     let near = subword_each (IsOneOfTwo p left) (a ∷ b ∷ c ∷ word) (ids_of line)
-    (each_map (λ (x : IdSent). IsOwn x × IsOneOfTwo p left x.id) (IsOneOfTwo p left) (λ (x : IdSent). x.id) (λ x g. g.1) line h) s in
-    not_three p left a b c d.0.0 d.0.1.0 d.1.0.0 near.0 near.1.0 near.1.1.0
+    (each_map (IsOwnOfTwo p left) (IsOneOfTwo p left) (λ (x : IdSent). x.id) (λ x g. g.1) line h) s in
+    three_not_one_of_two p left a b c d.0.0 d.0.1.0 d.1.0.0 near.0 near.1.0 near.1.1.0
 
 -- where `IsTrying` holds of what is in flight, and no id is in the word twice: if the ids at the start (`first`) didn't contain
 -- those of the word before its id c (`ids_before`), the ids in flight don't contain them with c after them (`ids_upto`)
-next_absent : (z : ℕ) (word first left : List ℕ) (line : List IdSent) (w : SplitWord word) → AllDiffer word → (IsSubsequence (ids_before w) first → ⊥)
+upto_absent_if_trying : (z : ℕ) (word first left : List ℕ) (line : List IdSent) (w : SplitWord word) → AllDiffer word → (IsSubsequence (ids_before w) first → ⊥)
     → IsTrying z word first left line → IsSubsequence (ids_upto w) (ids_of line) → ⊥
-next_absent z word first left line w d none h s =
+upto_absent_if_trying z word first left line w d none h s =
     elim h.phase [
       | inl g ↦ (
           elim (front_or_left h.done left (ids_before w) w.c w.tail (sym h.split ∙ w.is)) [
             | inl f ↦ none (subword_front (ids_before w) f.0 first (subst
                 (λ l. IsSubsequence l first) (append-nil h.done ∙ f.1) (g.heard [] (subst AllDiffer (sym (append-nil h.done)) done_differs) tt)))
-            | inr f ↦ none (subword_front (ids_before w) (w.c ∷ []) first (g.from (ids_upto w) upto_differs (in_old line (ids_before w) w.c h.sound.ordered (own_none f.0 f.1 f.2) s)))
+            | inr f ↦ none (subword_front (ids_before w) (w.c ∷ []) first (g.from (ids_upto w) upto_differs (word_in_olds line (ids_before w) w.c h.sound.ordered (own_none f.0 f.1 f.2) s)))
           ])
       | inr g ↦ third w.more upto_differs s g.0 g.1
     ]
@@ -254,14 +258,14 @@ next_absent z word first left line w d none h s =
     -- where c isn't answered yet, and isn't the first id left, no own line has it
     own_none : (asked : ℕ) (between : List ℕ) → left ≡ asked ∷ (between ++ w.c ∷ w.tail) → AllByRecursion (λ x. IsOwn x → w.c ≡ x.id → ⊥) line
     own_none asked between f =
-        all_on (HasNone (between ++ w.c ∷ w.tail)) (λ x. IsOwn x → w.c ≡ x.id → ⊥) line (λ x g o. (all_behind (λ i. i ≡ x.id → ⊥) between (w.c ∷ w.tail) (g o)).0)
+        all_on (HasNoneIfOwn (between ++ w.c ∷ w.tail)) (λ x. IsOwn x → w.c ≡ x.id → ⊥) line (λ x g o. (all_behind (λ i. i ≡ x.id → ⊥) between (w.c ∷ w.tail) (g o)).0)
         (subst (λ l. OwnIdsFit z l line) f h.sound.own).0
 
     -- the ids up to c are three at least, so they aren't in the ids of lines that have two ids at most
     third : (more : List ℕ) → AllDiffer (w.a ∷ w.b ∷ (more ++ w.c ∷ [])) → IsSubsequence (w.a ∷ w.b ∷ (more ++ w.c ∷ [])) (ids_of line) → (p : ℕ)
-        → AllByRecursion (λ x. IsOwn x × IsOneOfTwo p left x.id) line → ⊥
-    third [] d s p g = over_short p left [] line w.a w.b w.c d g s
-    third (m ∷ more) d s p g = over_short p left (more ++ w.c ∷ []) line w.a w.b m d g s
+        → AllByRecursion (IsOwnOfTwo p left) line → ⊥
+    third [] d s p g = own_of_two_lack_three p left [] line w.a w.b w.c d g s
+    third (m ∷ more) d s p g = own_of_two_lack_three p left (more ++ w.c ∷ []) line w.a w.b m d g s
 
 -- One synchronization after the other.
 
@@ -286,7 +290,7 @@ trying_at_start : (s : IdModel) → Begins the_word s → IsTrying 7 the_word (i
 trying_at_start s h =
     let same = olds_all s.down s.up h.down h.up in
     record {
-      sound = (sound_at_start the_word s word_differs h).line;
+      sound = (sound_at_start the_word s word_ids_differ h).line;
       done = [];
       split = sym h.left;
       phase = inl (record { from = λ v d g. subst (λ ids. IsSubsequence v ids) same g; heard = λ v d g. subst (λ ids. IsSubsequence v ids) same g });
@@ -294,13 +298,13 @@ trying_at_start s h =
 
 -- where the word is split at its id c, and the ids in flight don't contain those of the word before c (`ids_before`): the ids in
 -- flight after any moves of a synchronization, wherever it is killed, don't contain them with c after them (`ids_upto`)
-pub absent_behind : (s : IdModel) (ms : List IdMove) (w : SplitWord the_word) → (IsSubsequence (ids_before w) (ids_in_flight s) → ⊥)
+pub upto_absent_after_moves : (s : IdModel) (ms : List IdMove) (w : SplitWord the_word) → (IsSubsequence (ids_before w) (ids_in_flight s) → ⊥)
     → IsSubsequence (ids_upto w) (ids_in_flight (moved ms (begun_anew the_word s))) → ⊥
-absent_behind s ms w none h =
+upto_absent_after_moves s ms w none h =
     let anew : IdModel = begun_anew the_word s in
     let end : IdModel = moved ms anew in
     let begins : Begins the_word anew = begins_anew s (λ g. none (subword_front (ids_before w) (w.c ∷ w.tail) (ids_in_flight s) (subst (λ l. IsSubsequence l (ids_in_flight s)) w.is g))) in
     let trying = holds_moved (IsTrying 7 the_word (ids_in_flight anew)) (trying_lasts 7 the_word (ids_in_flight anew)) ms anew (trying_at_start anew begins) in
-    next_absent 7 the_word (ids_in_flight anew) end.left (end.down ++ end.up) w word_differs
+    upto_absent_if_trying 7 the_word (ids_in_flight anew) end.left (end.down ++ end.up) w word_ids_differ
     (λ g. none (subst (λ ids. IsSubsequence (ids_before w) ids) (ids_anew s) g)) trying
     (subst (λ ids. IsSubsequence (ids_upto w) ids) (sym (map-append (λ (x : IdSent). x.id) end.down end.up)) h)

@@ -1,11 +1,11 @@
 -- What holds of each element, and of each two, when one is lost, comes twice, or comes at the end; and that what is lost or
--- comes twice in one of two queues is so in the whole line, the one queue and then the other. `Pairs R` says R of each element
--- and each one after it; `without k` is the loss of element k, and `doubled k` its repeat.
+-- comes twice in one of two queues is so in the whole line, the one queue and then the other. `AllPairsByRecursion R` says R of
+-- each element and each one after it; `without k` is the loss of element k, and `doubled k` its repeat.
 use Rattle.std.proofs.Common.{◌≡◌, ℕ, zero, suc, ◌⊎◌, inl, inr, List, [], ◌∷◌, ◌++◌, map, refl, ap}
 use Rattle.std.specs.List.{AllByRecursion}
 use Rattle.gc_lines.proofs.Lists.{all_append}
 use Rattle.gc_values.proofs.Every.{every_front as all_front, every_behind as all_behind}
-use Rattle.gc_field.proofs.BeginIds.{Pairs}
+use Rattle.gc_field.proofs.BeginIds.{AllPairsByRecursion}
 use Rattle.gc_field.specs.World.{without, doubled}
 use Rattle.gc_world.proofs.Rows.{each_without, each_doubled}
 
@@ -29,40 +29,40 @@ module _ {A : Type 0} where
   each_both P Q R f [] h g = tt
   each_both P Q R f (x ∷ xs) h g = (f x h.0 g.0, each_both P Q R f xs h.1 g.1)
 
-  -- `Pairs` is preserved if an element is lost
-  pub pairs_without : (R : A → A → Type 0) (k : ℕ) (xs : List A) → Pairs R xs → Pairs R (without k xs)
+  -- `AllPairsByRecursion` is preserved if an element is lost
+  pub pairs_without : (R : A → A → Type 0) (k : ℕ) (xs : List A) → AllPairsByRecursion R xs → AllPairsByRecursion R (without k xs)
   pairs_without R k [] h = tt
   pairs_without R zero (x ∷ xs) h = h.1
   pairs_without R (suc k) (x ∷ xs) h = (each_without (R x) k xs h.0, pairs_without R k xs h.1)
 
-  -- `Pairs` is preserved if an element is repeated, if R holds of each element and itself
-  pub pairs_doubled : (R : A → A → Type 0) → ((x : A) → R x x) → (k : ℕ) (xs : List A) → Pairs R xs → Pairs R (doubled k xs)
+  -- `AllPairsByRecursion` is preserved if an element is repeated, if R holds of each element and itself
+  pub pairs_doubled : (R : A → A → Type 0) → ((x : A) → R x x) → (k : ℕ) (xs : List A) → AllPairsByRecursion R xs → AllPairsByRecursion R (doubled k xs)
   pairs_doubled R same k [] h = tt
   pairs_doubled R same zero (x ∷ xs) h = ((same x, h.0), (h.0, h.1))
   pairs_doubled R same (suc k) (x ∷ xs) h = (each_doubled (R x) k xs h.0, pairs_doubled R same k xs h.1)
 
-  -- `Pairs` is preserved if an element is added at the end to which every one has the relation
-  pub pairs_push : (R : A → A → Type 0) (y : A) → ((x : A) → R x y) → (xs : List A) → Pairs R xs → Pairs R (xs ++ y ∷ [])
+  -- `AllPairsByRecursion` is preserved if an element is added at the end to which every one has the relation
+  pub pairs_push : (R : A → A → Type 0) (y : A) → ((x : A) → R x y) → (xs : List A) → AllPairsByRecursion R xs → AllPairsByRecursion R (xs ++ y ∷ [])
   pairs_push R y f [] h = (tt, tt)
   pairs_push R y f (x ∷ xs) h = (all_append (R x) xs (y ∷ []) h.0 (f x, tt), pairs_push R y f xs h.1)
 
-  -- `Pairs` of a joined list holds of its front
-  pub pairs_front : (R : A → A → Type 0) (xs ys : List A) → Pairs R (xs ++ ys) → Pairs R xs
+  -- `AllPairsByRecursion` of a joined list holds of its front
+  pub pairs_front : (R : A → A → Type 0) (xs ys : List A) → AllPairsByRecursion R (xs ++ ys) → AllPairsByRecursion R xs
   pairs_front R [] ys h = tt
   pairs_front R (x ∷ xs) ys h = (all_front (R x) xs ys h.0, pairs_front R xs ys h.1)
 
-  -- `Pairs` of a joined list holds of its back
-  pub pairs_back : (R : A → A → Type 0) (xs ys : List A) → Pairs R (xs ++ ys) → Pairs R ys
+  -- `AllPairsByRecursion` of a joined list holds of its back
+  pub pairs_back : (R : A → A → Type 0) (xs ys : List A) → AllPairsByRecursion R (xs ++ ys) → AllPairsByRecursion R ys
   pairs_back R [] ys h = h
   pairs_back R (x ∷ xs) ys h = pairs_back R xs ys h.1
 
-  -- where `Pairs` holds, each element before y has the relation to y
-  pub pairs_before : (R : A → A → Type 0) (xs : List A) (y : A) (ys : List A) → Pairs R (xs ++ y ∷ ys) → AllByRecursion (λ x. R x y) xs
+  -- where `AllPairsByRecursion` holds, each element before y has the relation to y
+  pub pairs_before : (R : A → A → Type 0) (xs : List A) (y : A) (ys : List A) → AllPairsByRecursion R (xs ++ y ∷ ys) → AllByRecursion (λ x. R x y) xs
   pairs_before R [] y ys h = tt
   pairs_before R (x ∷ xs) y ys h = ((all_behind (R x) xs (y ∷ ys) h.0).0, pairs_before R xs y ys h.1)
 
-  -- if all elements satisfy P, and whatever satisfies P has the relation to everything, `Pairs` holds
-  pub pairs_of_each : (P : A → Type 0) (R : A → A → Type 0) → ((x y : A) → P x → R x y) → (xs : List A) → AllByRecursion P xs → Pairs R xs
+  -- if all elements satisfy P, and whatever satisfies P has the relation to everything, `AllPairsByRecursion` holds
+  pub pairs_of_each : (P : A → Type 0) (R : A → A → Type 0) → ((x y : A) → P x → R x y) → (xs : List A) → AllByRecursion P xs → AllPairsByRecursion R xs
   pairs_of_each P R f [] h = tt
   pairs_of_each P R f (x ∷ xs) h = (each_all (R x) (λ y. f x y h.0) xs, pairs_of_each P R f xs h.1)
 

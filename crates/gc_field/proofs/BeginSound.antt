@@ -3,29 +3,29 @@
 use Rattle.std.proofs.Common.{◌≡◌, ℕ, Bool, true, false, List, [], ◌∷◌, ◌++◌, Option, Some, None, IfSome, nat_eq, refl, sym, ◌∙◌, subst}
 use Rattle.std.specs.List.{AllByRecursion}
 use Rattle.std.proofs.lemmas.Bool.{eqb-true, false≢true}
-use Rattle.gc_client.specs.Beginning.{left_by, left_by_one, IsSubsequence, the_word}
+use Rattle.gc_client.specs.Beginning.{left_by, left_when, IsSubsequence, the_word}
 use Rattle.gc_field.proofs.BeginIds.{IdSent, IdModel, IdMove, Ask, Reach, Pass, Come, Up_lose, Up_repeat, Down_lose, Down_repeat, Anew, asks, reaches, kept_past, passes, comes, moves, moved, AllDiffer, ids_of, last, Begins, IsCleanByIds}
 use Rattle.gc_field.specs.World.{without, doubled}
 use Rattle.gc_field.proofs.BeginLists.{each_all, each_both, pairs_before, pairs_of_each}
 use Rattle.gc_lines.proofs.Lists.{all_append}
 use Rattle.gc_values.proofs.Every.{every_front as all_front, every_behind as all_behind, every_weaker as all_on}
 use Rattle.gc_field.proofs.BeginMoves.{Lasts, holds_moves}
-use Rattle.gc_field.proofs.BeginWords.{word_differs}
-use Rattle.gc_field.proofs.BeginLines.{FrontAnswers, IsLine, IsOld, IsOwn, KeepsOwn, HasNone, KeepsTheId, OwnIdsFit, olds_all, each_own, line_without, line_doubled, line_asked, line_came, is_own}
+use Rattle.gc_field.proofs.BeginWords.{word_ids_differ}
+use Rattle.gc_field.proofs.BeginLines.{FrontAnswers, IsLine, IsOld, IsOwn, KeepsOwn, HasNoneIfOwn, KeepsTheId, OwnIdsFit, olds_all, each_own, line_without, line_doubled, line_asked, line_came, front_is_own}
 use Rattle.gc_world.proofs.Rows.{each_without, each_doubled}
 
 -- The invariant.
 
--- if this is an own reply with this id, what is kept has that id
-abbrev pub KeepsIf : ℕ → Option ℕ → IdSent → Type 0
-KeepsIf asked kept x = IsOwn x → x.id ≡ asked → IfSome kept (λ i. i ≡ asked)
+-- if this is an own reply with the id `asked`, the reply that the instrument keeps, if it keeps one, has that id, too
+abbrev pub IsKeptIfOwn : ℕ → Option ℕ → IdSent → Type 0
+IsKeptIfOwn asked kept x = IsOwn x → x.id ≡ asked → IfSome kept (λ i. i ≡ asked)
 
 -- what is known of the id `kept` of the reply that the instrument keeps, if it keeps one. If no id of the word is left, that
 -- id is z, the word's last. Else, as soon as a reply of this synchronization with the first id that is left, `asked`, is in
 -- flight (`down`), that id is `asked`
 abbrev pub KeptIdFits : ℕ → List ℕ → List IdSent → Option ℕ → Type 0
 KeptIdFits z [] down kept = IfSome kept (λ i. i ≡ z)
-KeptIdFits z (asked ∷ later) down kept = AllByRecursion (KeepsIf asked kept) down
+KeptIdFits z (asked ∷ later) down kept = AllByRecursion (IsKeptIfOwn asked kept) down
 
 -- in this state `KeptIdFits` holds of what the instrument keeps
 abbrev pub KeptFits : ℕ → IdModel → Type 0
@@ -41,17 +41,17 @@ pub record IsSound (z : ℕ) (s : IdModel) : Type 0 where
 -- `KeptIdFits` is preserved if a reply is lost
 keeps_without : (z : ℕ) (left : List ℕ) (k : ℕ) (down : List IdSent) (kept : Option ℕ) → KeptIdFits z left down kept → KeptIdFits z left (without k down) kept
 keeps_without z [] k down kept h = h
-keeps_without z (asked ∷ later) k down kept h = each_without (KeepsIf asked kept) k down h
+keeps_without z (asked ∷ later) k down kept h = each_without (IsKeptIfOwn asked kept) k down h
 
 -- `KeptIdFits` is preserved if a reply comes twice
 keeps_doubled : (z : ℕ) (left : List ℕ) (k : ℕ) (down : List IdSent) (kept : Option ℕ) → KeptIdFits z left down kept → KeptIdFits z left (doubled k down) kept
 keeps_doubled z [] k down kept h = h
-keeps_doubled z (asked ∷ later) k down kept h = each_doubled (KeepsIf asked kept) k down h
+keeps_doubled z (asked ∷ later) k down kept h = each_doubled (IsKeptIfOwn asked kept) k down h
 
 -- `KeptIdFits` holds if nothing is kept
 keeps_nothing : (z : ℕ) (left : List ℕ) (down : List IdSent) → KeptIdFits z left down None
 keeps_nothing z [] down = tt
-keeps_nothing z (asked ∷ later) down = each_all (KeepsIf asked None) (λ x o e. tt) down
+keeps_nothing z (asked ∷ later) down = each_all (IsKeptIfOwn asked None) (λ x o e. tt) down
 
 -- where `IsLine` holds, `KeptIdFits` holds with the id of the front request, x, as the one that is kept: if an own reply has
 -- the first id that is left, so has x; and if no id is left, x has the word's last id
@@ -64,14 +64,14 @@ keeps_reached z (asked ∷ later) down x rest h = pairs_before (KeepsTheId asked
 -- `KeptIdFits` is preserved if the reply to a request, x, is sent, whose id is the one that is kept
 keeps_replied : (z : ℕ) (left : List ℕ) (down : List IdSent) (x : IdSent) → KeptIdFits z left down (Some x.id) → KeptIdFits z left (down ++ x ∷ []) (Some x.id)
 keeps_replied z [] down x h = h
-keeps_replied z (asked ∷ later) down x h = all_append (KeepsIf asked (Some x.id)) down (x ∷ []) h ((λ o e. e), tt)
+keeps_replied z (asked ∷ later) down x h = all_append (IsKeptIfOwn asked (Some x.id)) down (x ∷ []) h ((λ o e. e), tt)
 
 -- `KeptIdFits` is preserved if the front reply, x, comes and answers (`FrontAnswers`)
 keeps_answered : (z asked : ℕ) (later : List ℕ) (x : IdSent) (rest up : List IdSent) (kept : Option ℕ) → FrontAnswers z asked later x (rest ++ up)
     → KeptIdFits z (asked ∷ later) (x ∷ rest) kept → KeptIdFits z later rest kept
-keeps_answered z asked [] x rest up kept h k = subst (λ id. IfSome kept (λ i. i ≡ id)) h.line.ends (k.0 (is_own z asked x (rest ++ up) h) h.same)
+keeps_answered z asked [] x rest up kept h k = subst (λ id. IfSome kept (λ i. i ≡ id)) h.line.ends (k.0 (front_is_own z asked x (rest ++ up) h) h.same)
 keeps_answered z asked (i ∷ later) x rest up kept h k =
-    all_on (HasNone (i ∷ later)) (KeepsIf i kept) rest (λ y f o g. absurd ((f o).0 (sym g))) (all_front (HasNone (i ∷ later)) rest up h.line.own.0.1)
+    all_on (HasNoneIfOwn (i ∷ later)) (IsKeptIfOwn i kept) rest (λ y f o g. absurd ((f o).0 (sym g))) (all_front (HasNoneIfOwn (i ∷ later)) rest up h.line.own.0.1)
 
 -- where `IsLine` holds, `KeptIdFits` is preserved if the front reply, x, is heard: it holds of the ids that are left then, and of
 -- the replies after x
@@ -80,7 +80,7 @@ keeps_heard : (z : ℕ) (left : List ℕ) (x : IdSent) (rest up : List IdSent) (
 keeps_heard z [] x rest up kept h k = k
 keeps_heard z (asked ∷ later) x rest up kept h k = chosen (nat_eq x.id asked) refl where
   -- the lemma above, by whether the reply has the id that is asked for (`b`)
-  chosen : (b : Bool) → nat_eq x.id asked ≡ b → KeptIdFits z (left_by_one b asked later) rest kept
+  chosen : (b : Bool) → nat_eq x.id asked ≡ b → KeptIdFits z (left_when b asked later) rest kept
   chosen true e = keeps_answered z asked later x rest up kept (record { line = h; same = eqb-true x.id asked e }) k
   chosen false e = k.1
 
@@ -101,13 +101,13 @@ keeps_reaches z s [] e h = h.keeps
 keeps_reaches z s (x ∷ rest) e h = keeps_replied z s.left s.down x (keeps_reached z s.left s.down x rest (subst (λ q. IsLine z s.left (s.down ++ q)) e h.line))
 
 -- nothing is both old and own
-not_both : (x : IdSent) → IsOld x → IsOwn x → ⊥
-not_both x old own = false≢true (sym own ∙ old)
+old_not_own : (x : IdSent) → IsOld x → IsOwn x → ⊥
+old_not_own x old own = false≢true (sym own ∙ old)
 
 -- `KeptIdFits` is preserved if the reply to an old request is sent, and what is kept stays
 keeps_old : (z : ℕ) (left : List ℕ) (down : List IdSent) (x : IdSent) (kept : Option ℕ) → IsOld x → KeptIdFits z left down kept → KeptIdFits z left (down ++ x ∷ []) kept
 keeps_old z [] down x kept old h = h
-keeps_old z (asked ∷ later) down x kept old h = all_append (KeepsIf asked kept) down (x ∷ []) h ((λ own e. absurd (not_both x old own)), tt)
+keeps_old z (asked ∷ later) down x kept old h = all_append (IsKeptIfOwn asked kept) down (x ∷ []) h ((λ own e. absurd (old_not_own x old own)), tt)
 
 -- where `IsSound` holds of a state, `KeptFits` holds after `Pass`
 keeps_passes : (z : ℕ) (s : IdModel) (up : List IdSent) → s.up ≡ up → IsSound z s → KeptFits z (passes s up)
@@ -154,16 +154,16 @@ last_of_last z (i ∷ word) = refl
 
 -- `OwnIdsFit` holds at the start, if all lines in flight are old
 own_at_start : (z : ℕ) (word : List ℕ) (line : List IdSent) → AllByRecursion IsOld line → OwnIdsFit z word line
-own_at_start z [] line h = all_on IsOld (λ x. IsOwn x → x.id ≡ z) line (λ x old own. absurd (not_both x old own)) h
+own_at_start z [] line h = all_on IsOld (λ x. IsOwn x → x.id ≡ z) line (λ x old own. absurd (old_not_own x old own)) h
 own_at_start z (asked ∷ later) line h = (
-  all_on IsOld (HasNone later) line (λ x old own. absurd (not_both x old own)) h,
-  pairs_of_each IsOld (KeepsTheId asked) (λ x y old own e. absurd (not_both x old own)) line h,
+  all_on IsOld (HasNoneIfOwn later) line (λ x old own. absurd (old_not_own x old own)) h,
+  pairs_of_each IsOld (KeepsTheId asked) (λ x y old own e. absurd (old_not_own x old own)) line h,
 )
 
 -- `KeptIdFits` holds at the start, if the word isn't empty and all replies in flight are old
 keeps_at_start : (z : ℕ) (word : List ℕ) (down : List IdSent) (kept : Option ℕ) → (word ≡ [] → ⊥) → AllByRecursion IsOld down → KeptIdFits z word down kept
 keeps_at_start z [] down kept some h = absurd (some refl)
-keeps_at_start z (asked ∷ later) down kept some h = all_on IsOld (KeepsIf asked kept) down (λ x old own e. absurd (not_both x old own)) h
+keeps_at_start z (asked ∷ later) down kept some h = all_on IsOld (IsKeptIfOwn asked kept) down (λ x old own e. absurd (old_not_own x old own)) h
 
 -- `IsSound` holds at the start of a synchronization (`Begins`), if no id is in the word twice
 pub sound_at_start : (word : List ℕ) (s : IdModel) → AllDiffer word → Begins word s → IsSound (last 0 word) s
@@ -175,7 +175,7 @@ sound_at_start word s differ h =
     record {
       differ = differ;
       ends = last_of_last 0 word;
-      ordered = pairs_of_each IsOld KeepsOwn (λ x y old own. absurd (not_both x old own)) line old;
+      ordered = pairs_of_each IsOld KeepsOwn (λ x y old own. absurd (old_not_own x old own)) line old;
       clear = λ stands. absurd (h.absent (subst (λ ids. IsSubsequence word ids) (olds_all s.down s.up h.down h.up) stands));
       own = own_at_start z word line old;
     } in
@@ -203,4 +203,4 @@ clean_if_done z s done h =
 -- if the ids in flight at the start of a synchronization don't contain the word that a station uses (`Begins`), and no id of it
 -- is left after these moves, it has ended cleanly
 pub the_word_begins_cleanly : (s : IdModel) (ms : List IdMove) → Begins the_word s → (moved ms s).left ≡ [] → IsCleanByIds 7 (moved ms s)
-the_word_begins_cleanly s ms begins done = clean_if_done 7 (moved ms s) done (sound_moved 7 ms s (sound_at_start the_word s word_differs begins))
+the_word_begins_cleanly s ms begins done = clean_if_done 7 (moved ms s) done (sound_moved 7 ms s (sound_at_start the_word s word_ids_differ begins))

@@ -12,15 +12,15 @@ use Rattle.gc_field.specs.Simulator.{simulator_ends}
 use Rattle.gc_field.specs.World.{Numbered}
 use Rattle.gc_field.specs.Begun.{WasMadeOn}
 use Rattle.gc_field.specs.BeginWitness.{AreSomeRuns, IsBookedFromBefore, from, next_run}
-use Rattle.gc_field.proofs.Witness.{fits, units}
+use Rattle.gc_field.proofs.Witness.{opening_fits, units}
 
 -- the reply to the first command
-abbrev one_reply : Numbered (List ℕ)
-one_reply = record { number = 8; line = codes "%R1P,0,0:0,123456" }
+abbrev first_reply : Numbered (List ℕ)
+first_reply = record { number = 8; line = codes "%R1P,0,0:0,123456" }
 
 -- the reply to the second command
-abbrev other_reply : Numbered (List ℕ)
-other_reply = record { number = 9; line = codes "%R1P,0,1:0,123456" }
+abbrev second_reply : Numbered (List ℕ)
+second_reply = record { number = 9; line = codes "%R1P,0,1:0,123456" }
 
 -- the first command's answer was made on executing its request
 was_made : WasMadeOn WINDOW simulator_ends from next_run.moves 8 (Table InstrumentNo) (codes "%R1P,0,0:0,123456")
@@ -44,7 +44,7 @@ some_runs =
     let one : 1 ≤ 5 = omega arith in
     let none : 0 ≤ 5 = omega arith in
     record {
-      lines = record { ids = (lit< tt, (lit< tt, tt)); good = fits };
+      lines = record { ids = (lit< tt, (lit< tt, tt)); good = opening_fits };
       rising =
           record {
             low = 7;
@@ -59,7 +59,7 @@ some_runs =
         (
           (
             units 36,
-            (tt, (tt, (tt, (tt, (tt, ((7, one_reply ∷ other_reply ∷ [], refl), ((8, other_reply ∷ [], refl), ((9, [], refl), tt)))))))),
+            (tt, (tt, (tt, (tt, (tt, ((7, first_reply ∷ second_reply ∷ [], refl), ((8, second_reply ∷ [], refl), ((9, [], refl), tt)))))))),
           ),
           tt,
         ),
@@ -70,6 +70,6 @@ some_runs =
     }
 
 -- where replies with the ids of the word are in flight, and one with id 0 after them, the latter is booked for the first command
-pub from_before : IsBookedFromBefore
+pub booked_from_before : IsBookedFromBefore
 unfolding header_at reply_at handed exec digits
-from_before = record { begun = refl; possible = (tt, ((7, [], refl), tt)); settled = refl; executed = refl }
+booked_from_before = record { begun = refl; possible = (tt, ((7, [], refl), tt)); settled = refl; executed = refl }

@@ -4,7 +4,7 @@ use Rattle.std.proofs.Common.{◌≡◌, ℕ, zero, suc, ◌+◌, ◌-◌, ◌%�
 use Rattle.std.specs.List.{AllByRecursion}
 use mathlib.Core.Path.{ap₂}
 use Rattle.std.proofs.lemmas.Bool.{eq-eqb, eqb-true, eqb-false, false≢true, and_parts, not-true}
-use Rattle.gc_client.specs.Beginning.{left_by, left_by_one, IsSubsequence, the_word}
+use Rattle.gc_client.specs.Beginning.{left_by, left_when, IsSubsequence, the_word}
 use Rattle.gc_field.proofs.BeginIds.{AllDiffer, upward}
 use Rattle.gc_world.specs.Order.{Rising}
 use Rattle.gc_world.proofs.Rows.{rising_lower}
@@ -45,21 +45,21 @@ abbrev pub HasNoMoreWords : (ids others : List ℕ) → Type 0
 HasNoMoreWords ids others = (word : List ℕ) → AllDiffer word → IsSubsequence word ids → IsSubsequence word others
 
 -- `HasNoMoreWords` is preserved if the same id is put before both lists
-pub has_behind : (i : ℕ) (ids others : List ℕ) → HasNoMoreWords ids others → HasNoMoreWords (i ∷ ids) (i ∷ others)
-has_behind i ids others f [] d h = tt
-has_behind i ids others f (w ∷ word) d (inl h) = inl (h.0, f word d.1 h.1)
-has_behind i ids others f (w ∷ word) d (inr h) = inr (f (w ∷ word) d h)
+pub no_more_words_behind : (i : ℕ) (ids others : List ℕ) → HasNoMoreWords ids others → HasNoMoreWords (i ∷ ids) (i ∷ others)
+no_more_words_behind i ids others f [] d h = tt
+no_more_words_behind i ids others f (w ∷ word) d (inl h) = inl (h.0, f word d.1 h.1)
+no_more_words_behind i ids others f (w ∷ word) d (inr h) = inr (f (w ∷ word) d h)
 
 -- ids that begin with i twice contain no more words (`HasNoMoreWords`) than those that begin with i once
-pub has_twice : (i : ℕ) (ids : List ℕ) → HasNoMoreWords (i ∷ i ∷ ids) (i ∷ ids)
-has_twice i ids [] d h = tt
-has_twice i ids (w ∷ []) d (inl h) = inl (h.0, tt)
-has_twice i ids (w ∷ v ∷ word) d (inl h) =
+pub no_more_words_twice : (i : ℕ) (ids : List ℕ) → HasNoMoreWords (i ∷ i ∷ ids) (i ∷ ids)
+no_more_words_twice i ids [] d h = tt
+no_more_words_twice i ids (w ∷ []) d (inl h) = inl (h.0, tt)
+no_more_words_twice i ids (w ∷ v ∷ word) d (inl h) =
     elim h.1 [
       | inl g ↦ absurd (d.0.0 (h.0 ∙ sym g.0))
       | inr g ↦ inl (h.0, g)
     ]
-has_twice i ids (w ∷ word) d (inr h) = h
+no_more_words_twice i ids (w ∷ word) d (inr h) = h
 
 -- A test that no id occurs twice.
 
@@ -69,9 +69,9 @@ is_new i [] = true
 is_new i (j ∷ ids) = not (nat_eq i j) && is_new i ids
 
 -- whether no id is among these twice
-abbrev pub are_new : List ℕ → Bool
-are_new [] = true
-are_new (i ∷ ids) = is_new i ids && are_new ids
+abbrev pub none_twice : List ℕ → Bool
+none_twice [] = true
+none_twice (i ∷ ids) = is_new i ids && none_twice ids
 
 -- an id that isn't among these ids by `is_new` differs from each of them
 new_differs : (i : ℕ) (ids : List ℕ) → is_new i ids ≡ true → AllByRecursion (λ j. i ≡ j → ⊥) ids
@@ -80,14 +80,14 @@ new_differs i (j ∷ ids) e =
     let h = and_parts (not (nat_eq i j)) (is_new i ids) e in
     (eqb-false i j (not-true (nat_eq i j) h.0), new_differs i ids h.1)
 
--- ids among which `are_new` finds none twice all differ
-pub all_differ : (ids : List ℕ) → are_new ids ≡ true → AllDiffer ids
+-- ids among which `none_twice` finds none twice all differ
+pub all_differ : (ids : List ℕ) → none_twice ids ≡ true → AllDiffer ids
 all_differ [] e = tt
-all_differ (i ∷ ids) e = let h = and_parts (is_new i ids) (are_new ids) e in (new_differs i ids h.0, all_differ ids h.1)
+all_differ (i ∷ ids) e = let h = and_parts (is_new i ids) (none_twice ids) e in (new_differs i ids h.0, all_differ ids h.1)
 
 -- no id is in the word twice
-pub word_differs : AllDiffer the_word
-word_differs = all_differ the_word refl
+pub word_ids_differ : AllDiffer the_word
+word_ids_differ = all_differ the_word refl
 
 -- The greedy way: replies with these ids, heard one after the other, answer the whole word, if it is in them.
 
@@ -96,45 +96,45 @@ abbrev pub left_by_replies : (word ids : List ℕ) → List ℕ
 left_by_replies word [] = word
 left_by_replies word (i ∷ ids) = left_by_replies (left_by word (Some i)) ids
 
--- the step of the next lemma: where replies with these ids answer each word that the ids contain, a reply with id i before
--- them, followed by them, answers the word `w ∷ word` if `i ∷ ids` contain it, whether i is w (`b`) or not
-hears_next : (i w : ℕ) (ids word : List ℕ) (b : Bool) → nat_eq i w ≡ b → ((v : List ℕ) → IsSubsequence v ids → left_by_replies v ids ≡ [])
-    → IsSubsequence (w ∷ word) (i ∷ ids) → left_by_replies (left_by_one b w word) ids ≡ []
-hears_next i w ids word true e f (inl h) = f word h.1
-hears_next i w ids word true e f (inr h) = f word (subword_tail w word ids h)
-hears_next i w ids word false e f (inl h) = absurd (false≢true (sym e ∙ eq-eqb i w (sym h.0)))
-hears_next i w ids word false e f (inr h) = f (w ∷ word) h
+-- if replies with these ids answer all of each word that the ids contain, these replies after one with the id i answer all of
+-- `w ∷ word`, if `i ∷ ids` contain it, whether i is w (`b`) or not
+answers_contained_word_next : (i w : ℕ) (ids word : List ℕ) (b : Bool) → nat_eq i w ≡ b → ((v : List ℕ) → IsSubsequence v ids → left_by_replies v ids ≡ [])
+    → IsSubsequence (w ∷ word) (i ∷ ids) → left_by_replies (left_when b w word) ids ≡ []
+answers_contained_word_next i w ids word true e f (inl h) = f word h.1
+answers_contained_word_next i w ids word true e f (inr h) = f word (subword_tail w word ids h)
+answers_contained_word_next i w ids word false e f (inl h) = absurd (false≢true (sym e ∙ eq-eqb i w (sym h.0)))
+answers_contained_word_next i w ids word false e f (inr h) = f (w ∷ word) h
 
--- replies with these ids answer all of a word that the ids contain
-pub comes_to_end : (ids word : List ℕ) → IsSubsequence word ids → left_by_replies word ids ≡ []
-comes_to_end [] [] h = refl
-comes_to_end [] (w ∷ word) h = absurd h
-comes_to_end (i ∷ ids) [] h = comes_to_end ids [] tt
-comes_to_end (i ∷ ids) (w ∷ word) h = hears_next i w ids word (nat_eq i w) refl (comes_to_end ids) h
+-- replies with these ids answer all of each word that the ids contain
+pub answers_contained_word : (ids word : List ℕ) → IsSubsequence word ids → left_by_replies word ids ≡ []
+answers_contained_word [] [] h = refl
+answers_contained_word [] (w ∷ word) h = absurd h
+answers_contained_word (i ∷ ids) [] h = answers_contained_word ids [] tt
+answers_contained_word (i ∷ ids) (w ∷ word) h = answers_contained_word_next i w ids word (nat_eq i w) refl (answers_contained_word ids) h
 
--- eight ids upward, from any id on, don't contain 6 5 4, as computing the eight cases shows
-three_upward : (i : ℕ) → i < 8 → IsSubsequence (6 ∷ 5 ∷ 4 ∷ []) (upward i 8) → ⊥
-three_upward zero low h = cons_not_nil _ _ (comes_to_end (upward 0 8) (6 ∷ 5 ∷ 4 ∷ []) h)
-three_upward (suc zero) low h = cons_not_nil _ _ (comes_to_end (upward 1 8) (6 ∷ 5 ∷ 4 ∷ []) h)
-three_upward (suc (suc zero)) low h = cons_not_nil _ _ (comes_to_end (upward 2 8) (6 ∷ 5 ∷ 4 ∷ []) h)
-three_upward (suc (suc (suc zero))) low h = cons_not_nil _ _ (comes_to_end (upward 3 8) (6 ∷ 5 ∷ 4 ∷ []) h)
-three_upward (suc (suc (suc (suc zero)))) low h = cons_not_nil _ _ (comes_to_end (upward 4 8) (6 ∷ 5 ∷ 4 ∷ []) h)
-three_upward (suc (suc (suc (suc (suc zero))))) low h = cons_not_nil _ _ (comes_to_end (upward 5 8) (6 ∷ 5 ∷ 4 ∷ []) h)
-three_upward (suc (suc (suc (suc (suc (suc zero)))))) low h = cons_not_nil _ _ (comes_to_end (upward 6 8) (6 ∷ 5 ∷ 4 ∷ []) h)
-three_upward (suc (suc (suc (suc (suc (suc (suc zero))))))) low h = cons_not_nil _ _ (comes_to_end (upward 7 8) (6 ∷ 5 ∷ 4 ∷ []) h)
-three_upward (suc (suc (suc (suc (suc (suc (suc (suc i)))))))) low h = absurd (omega (arith, low))
+-- the eight ids upward from any id on don't contain 6, 5 and 4 in this order
+upward_lack_three : (i : ℕ) → i < 8 → IsSubsequence (6 ∷ 5 ∷ 4 ∷ []) (upward i 8) → ⊥
+upward_lack_three zero low h = cons_not_nil _ _ (answers_contained_word (upward 0 8) (6 ∷ 5 ∷ 4 ∷ []) h)
+upward_lack_three (suc zero) low h = cons_not_nil _ _ (answers_contained_word (upward 1 8) (6 ∷ 5 ∷ 4 ∷ []) h)
+upward_lack_three (suc (suc zero)) low h = cons_not_nil _ _ (answers_contained_word (upward 2 8) (6 ∷ 5 ∷ 4 ∷ []) h)
+upward_lack_three (suc (suc (suc zero))) low h = cons_not_nil _ _ (answers_contained_word (upward 3 8) (6 ∷ 5 ∷ 4 ∷ []) h)
+upward_lack_three (suc (suc (suc (suc zero)))) low h = cons_not_nil _ _ (answers_contained_word (upward 4 8) (6 ∷ 5 ∷ 4 ∷ []) h)
+upward_lack_three (suc (suc (suc (suc (suc zero))))) low h = cons_not_nil _ _ (answers_contained_word (upward 5 8) (6 ∷ 5 ∷ 4 ∷ []) h)
+upward_lack_three (suc (suc (suc (suc (suc (suc zero)))))) low h = cons_not_nil _ _ (answers_contained_word (upward 6 8) (6 ∷ 5 ∷ 4 ∷ []) h)
+upward_lack_three (suc (suc (suc (suc (suc (suc (suc zero))))))) low h = cons_not_nil _ _ (answers_contained_word (upward 7 8) (6 ∷ 5 ∷ 4 ∷ []) h)
+upward_lack_three (suc (suc (suc (suc (suc (suc (suc (suc i)))))))) low h = absurd (omega (arith, low))
 
 -- Numbers that never fall, within eight consecutive ones: modulo 8 they contain no word, in which no id is twice, but those
 -- that the eight ids from the least one up contain.
 
 -- the ids of requests with these numbers
-abbrev pub ids_at : List ℕ → List ℕ
-ids_at ns = map (λ n. n % 8) ns
+abbrev pub ids_of_numbers : List ℕ → List ℕ
+ids_of_numbers ns = map (λ n. n % 8) ns
 
 -- the empty list contains no more words than any ids: only the empty word, which all ids contain
-has_nothing : (others : List ℕ) → HasNoMoreWords [] others
-has_nothing others [] d h = tt
-has_nothing others (w ∷ word) d h = absurd h
+nil_no_more_words : (others : List ℕ) → HasNoMoreWords [] others
+nil_no_more_words others [] d h = tt
+nil_no_more_words others (w ∷ word) d h = absurd h
 
 -- if a equals b, numbers below a are below b
 each_below : (a b : ℕ) (ns : List ℕ) → a ≡ b → AllByRecursion (λ m. m < a) ns → AllByRecursion (λ m. m < b) ns
@@ -143,7 +143,7 @@ each_below a b ns e h = subst (λ c. AllByRecursion (λ m. m < c) ns) e h
 -- each word without an id twice that is in the ids of the numbers `ns`, which never fall from a on and are below a + k, is in
 -- the k ids upward from a
 abbrev AreUpward : (a k : ℕ) (ns : List ℕ) → Type 0
-AreUpward a k ns = Rising (a + 1) ns → AllByRecursion (λ m. m < a + k) ns → HasNoMoreWords (ids_at ns) (upward a k)
+AreUpward a k ns = Rising (a + 1) ns → AllByRecursion (λ m. m < a + k) ns → HasNoMoreWords (ids_of_numbers ns) (upward a k)
 
 -- where `AreUpward` of a + 1 and k holds of m and `ns`, `AreUpward` of a and k + 1 is preserved if m is put before `ns`, whether
 -- m is a (`b`) or above it
@@ -151,9 +151,9 @@ upward_first : (a k m : ℕ) (ns : List ℕ) (b : Bool) → nat_eq m a ≡ b →
 upward_first a k m ns true e above more h low = λ word d s.
     let same : m ≡ a = eqb-true m a e in
     let rest = more (rising_lower (a + 1) (m + 1) ns (omega (arith, same)) h.1) low.1 in
-    has_twice (a % 8) (upward (a + 1) k) word d
-    (has_behind (a % 8) (ids_at ns) (upward a (suc k)) rest word d
-    (subst (λ i. IsSubsequence word (i % 8 ∷ ids_at ns)) same s))
+    no_more_words_twice (a % 8) (upward (a + 1) k) word d
+    (no_more_words_behind (a % 8) (ids_of_numbers ns) (upward a (suc k)) rest word d
+    (subst (λ i. IsSubsequence word (i % 8 ∷ ids_of_numbers ns)) same s))
 upward_first a k m ns false e above more h low = λ word d s.
     let other : m ≡ a → ⊥ = eqb-false m a e in
     let over : a + 1 + 1 ≤ m + 1 = omega (arith, h.0, other) in
@@ -161,12 +161,12 @@ upward_first a k m ns false e above more h low = λ word d s.
 
 -- if `AreUpward` holds of any numbers with a + 1 and k, it holds of any with a and k + 1
 upward_more : (a k : ℕ) → ((ns : List ℕ) → AreUpward (a + 1) k ns) → (ns : List ℕ) → AreUpward a (suc k) ns
-upward_more a k above [] h low = has_nothing (upward a (suc k))
+upward_more a k above [] h low = nil_no_more_words (upward a (suc k))
 upward_more a k above (m ∷ ns) h low = upward_first a k m ns (nat_eq m a) refl (above (m ∷ ns)) (upward_more a k above ns) h low
 
 -- `AreUpward` holds of any numbers
 are_upward : (k a : ℕ) (ns : List ℕ) → AreUpward a k ns
-are_upward zero a [] h low = has_nothing []
+are_upward zero a [] h low = nil_no_more_words []
 are_upward zero a (m ∷ ns) h low = absurd (omega (arith, h.0, low.0))
 are_upward (suc k) a ns h low = upward_more a k (are_upward k (a + 1)) ns h low
 
@@ -175,11 +175,11 @@ upward_round : (n a b : ℕ) → a % 8 ≡ b % 8 → upward a n ≡ upward b n
 upward_round zero a b e = refl
 upward_round (suc n) a b e = ap₂ (λ i ids. i ∷ ids) e (upward_round n (a + 1) (b + 1) (omega (arith, e)))
 
--- where `low` is above 0: numbers that never fall, of the eight consecutive ones from `low` - 1 on, as a run that has
--- synchronized has in flight, don't contain 6 5 4 modulo 8
-pub three_within : (low : ℕ) (ns : List ℕ) → 0 < low → Rising low ns → AllByRecursion (λ n. n < low + 7) ns → IsSubsequence (6 ∷ 5 ∷ 4 ∷ []) (ids_at ns) → ⊥
-three_within low ns some h below s =
+-- where `low` is above 0, and numbers never fall and are among the eight from `low` - 1 on, as those in flight in a run that has
+-- synchronized: their ids don't contain 6 5 4
+pub eight_rising_lack_three : (low : ℕ) (ns : List ℕ) → 0 < low → Rising low ns → AllByRecursion (λ n. n < low + 7) ns → IsSubsequence (6 ∷ 5 ∷ 4 ∷ []) (ids_of_numbers ns) → ⊥
+eight_rising_lack_three low ns some h below s =
     let a : ℕ = low - 1 in
     let first : low ≡ a + 1 = omega (arith, some) in
     let within = are_upward 8 a ns (subst (λ l. Rising l ns) first h) (each_below (low + 7) (a + 8) ns (omega (arith, first)) below) (6 ∷ 5 ∷ 4 ∷ []) (all_differ (6 ∷ 5 ∷ 4 ∷ []) refl) s in
-    three_upward (a % 8) (omega arith) (subst (λ ids. IsSubsequence (6 ∷ 5 ∷ 4 ∷ []) ids) (upward_round 8 a (a % 8) (omega arith)) within)
+    upward_lack_three (a % 8) (omega arith) (subst (λ ids. IsSubsequence (6 ∷ 5 ∷ 4 ∷ []) ids) (upward_round 8 a (a % 8) (omega arith)) within)

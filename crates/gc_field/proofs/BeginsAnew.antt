@@ -9,19 +9,22 @@ use Rattle.gc_client.specs.declared.window.TheConstants.{WINDOW}
 use Rattle.gc_texts.specs.Nears.{is_elsewhere}
 use Rattle.gc_station.specs.Beginnings.{IsResynchronizing}
 use Rattle.gc_station.specs.Parts as part
-use Rattle.gc_station.specs.Parts.{Part, parts_of}
+use Rattle.gc_station.specs.Parts.{Part}
 use Rattle.gc_station.proofs.Going.{runs-append}
-use Rattle.gc_station.specs.Model.{Runs, after_all, opening}
+use Rattle.gc_station.specs.Model.{Runs, opening}
 use Rattle.gc_links.specs.Acts.{Told}
 use Rattle.gc_field.specs.Begin.{begins}
-use Rattle.gc_field.specs.BeginsAnew.{IsAnsweredAnew, acts, acts_anew, answer, commands, from, given_up, left_by_first, moves, moves_anew, plan, later_replies, program, scope, seven_unanswered, seventh_reply, turns}
+use Rattle.gc_field.specs.BeginsAnew.{IsAnsweredAnew, acts, acts_anew, acts_until_anew, answer, commands, from, later_replies, left_by_first}
+use Rattle.gc_field.specs.BeginsAnew.{moves, moves_anew, plan, program, scope, seven_unanswered, seventh_reply, turns}
 use Rattle.gc_field.specs.Begun.{WasMadeOn}
 use Rattle.gc_field.specs.CountingChain.{at_start, null_replies, counting, first_reply}
 use Rattle.gc_field.specs.Field.{seen}
 use Rattle.gc_field.specs.Shown.{AreShownAs, shown}
 use Rattle.gc_field.specs.Witness.{at, begun_with}
-use Rattle.gc_field.proofs.CountingChain.{counted, opens_counting, shown_are}
+use Rattle.gc_field.proofs.CountingChain.{counted_in_field, opens_counting, shown_are}
 use Rattle.gc_field.proofs.Witness.{asked_each, one_part, part_of, units}
+use Rattle.gc_station.specs.Links.{parts}
+use Rattle.gc_station.specs.Runs.{state_after}
 
 -- what the turns of the second synchronization show to the station
 abbrev all_sync_steps : List part.SyncStep
@@ -29,38 +32,38 @@ all_sync_steps =
     part.Asks ∷ part.Hears first_reply ∷ part.Hears seventh_reply ∷ part.Asks ∷ part.Hears seventh_reply ∷ part.Hears (codes "%R1P,0,5:0,38") ∷ asked_each (drop 1 later_replies)
 
 -- the parts of the run: until the station resynchronizes, from there on, and the empty one after the end
-abbrev parts : List Part
-parts =
+abbrev all_parts : List Part
+all_parts =
     part_of (asked_each null_replies) (seen moves) (map (λ place. (place, 15)) (0 ∷ 1 ∷ 2 ∷ 3 ∷ 4 ∷ 5 ∷ 6 ∷ []))
     ∷ one_part all_sync_steps (seen moves_anew) ((7, 120) ∷ [])
 
--- the parts of the run are these
-parts_are : parts_of plan commands (opening plan scope) acts ≡ parts
+-- the parts of the run are `all_parts`
+parts_are : parts plan commands scope acts ≡ all_parts
 unfolding is_elsewhere header_at reply_at digits
 parts_are = refl
 
--- the turns of the second synchronization show this
+-- the turns of the second synchronization show the station the steps `all_sync_steps`
 shown_anew : shown counting turns (begins left_by_first) ≡ all_sync_steps
 unfolding is_elsewhere header_at reply_at digits
 shown_anew = refl
 
 -- the acts until the station resynchronizes are a run
-runs_until_given_up : Runs plan commands (opening plan scope) given_up
+runs_until_anew : Runs plan commands (opening plan scope) acts_until_anew
 unfolding is_elsewhere header_at reply_at digits
-runs_until_given_up =
+runs_until_anew =
     runs-append plan commands (opening plan scope) (begun_with null_replies []) seven_unanswered (opens_counting 7 commands scope.reads)
     (tt, (refl, (tt, (refl, (tt, (refl, (tt, (refl, (tt, (refl, (tt, (refl, (tt, (refl, (tt, (tt, tt))))))))))))))))
 
 -- the acts from there on, in which the station resynchronizes, are a run from the model that the acts before them leave
-runs_anew : Runs plan commands (after_all plan commands (opening plan scope) given_up) acts_anew
+runs_anew : Runs plan commands (state_after plan commands scope acts_until_anew) acts_anew
 unfolding is_elsewhere header_at reply_at digits
 runs_anew =
-    runs-append plan commands (after_all plan commands (opening plan scope) given_up) (take 9 acts_anew) (drop 9 acts_anew)
+    runs-append plan commands (state_after plan commands scope acts_until_anew) (take 9 acts_anew) (drop 9 acts_anew)
     (tt, (refl, (tt, (tt, (tt, (refl, (tt, (tt, (tt, tt)))))))))
     (refl, (tt, (tt, (refl, (tt, (tt, (refl, (tt, (tt, (refl, (tt, (tt, (refl, (tt, (tt, (refl, (tt, (tt, (refl, (tt, (tt, (refl, tt))))))))))))))))))))))
 
--- after the acts `given_up`, by the end of which seven requests have timed out, the station resynchronizes at the next act
-resynchronizes_next : IsResynchronizing plan commands scope given_up (Told (at 115))
+-- after the acts `acts_until_anew`, by the end of which seven requests have timed out, the station resynchronizes at the next act
+resynchronizes_next : IsResynchronizing plan commands scope acts_until_anew (Told (at 115))
 unfolding is_elsewhere header_at reply_at digits
 resynchronizes_next = record { resynchronizes = record { renews = refl; moment = at 115; told = refl; seven = refl; given_up = refl }; word = refl; client = refl }
 
@@ -74,10 +77,10 @@ pub answered_anew : IsAnsweredAnew
 unfolding is_elsewhere header_at reply_at digits
 answered_anew =
     record {
-      instrument = counted.instrument;
+      instrument = counted_in_field.instrument;
       field =
           record {
-            runs = runs-append plan commands (opening plan scope) given_up acts_anew runs_until_given_up runs_anew;
+            runs = runs-append plan commands (opening plan scope) acts_until_anew acts_anew runs_until_anew runs_anew;
             lines = record { ids = tt; good = tt };
             none = λ h. h;
             shown = subst (AreShownAs counting at_start program.runs) (sym parts_are) (shown_are, refl, (shown_anew, refl, (refl, refl, tt)));

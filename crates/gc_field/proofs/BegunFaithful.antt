@@ -9,10 +9,10 @@ use Rattle.gc_catalogue.specs.declared.asked.Asked.TheVariants.{Table}
 use Rattle.gc_catalogue.specs.declared.call.Call.TheVariants.{NullProc}
 use Rattle.gc_catalogue.specs.Asked.{asked_line, is_of_table}
 use Rattle.gc_client.specs.OneForOne.{Wanted, Course, Step, Send, Hear, Expire, Restart, begun, course, course_after, of_settled, of_pending, sent_on, settled_on}
-use Rattle.gc_client.specs.Rule.{ById, Sending, Settled, Settlement, expires, fresh, heard, hears, restarts, sends}
+use Rattle.gc_client.specs.Rule.{ById, Sending, Settled, Settlement, expires, fresh, heard, restarts, sends, hears_line}
 use Rattle.gc_client.proofs.OneForOne.{accounts_for_sends}
 use Rattle.gc_instrument.specs.State.{KeptReply}
-use Rattle.gc_world.specs.Clients.{ByNumber, by_ids, by_numbers}
+use Rattle.gc_world.specs.Clients.{ByNumber, by_numbers}
 use Rattle.gc_world.specs.Exchange.{IsExchange}
 use Rattle.gc_world.specs.Order.{Rising, numbers}
 use Rattle.gc_world.specs.Record.{IsReplyTo}
@@ -23,19 +23,21 @@ use Rattle.gc_world.specs.Worlds.{of_sent}
 use Rattle.gc_world.proofs.Settled as settled
 use Rattle.gc_world.proofs.Sound.{IsGoing, IsComing, Sound}
 use Rattle.gc_field.specs.Begin.{UnderWay}
-use Rattle.gc_field.specs.Begun.{IsBehindTheTable, IsClean, IsFaithful, IsSafe, WasMadeOn, WentOutBehindTheTable, behind, eighth, ids_begun, numbers_begun, nulls, nulls_settled, ArePossibleOnceBegun}
+use Rattle.gc_field.specs.Begun.{ArePossibleOnceBegun, IsBehindTheTable, IsClean, IsFaithful, IsSafe, WasMadeOn, WentOutBehindTheTable}
+use Rattle.gc_field.specs.Begun.{eighth, ids_begun, numbers_begun, nulls, nulls_settled, world_once_begun}
 use Rattle.gc_field.specs.Field.{Move, Sends, AsksOnly, moved, seen}
 use Rattle.gc_field.specs.Instrument.{IsAnInstrument, IsAnInstrumentFor, all_known}
 use Rattle.gc_field.specs.Once.{ExecutesOnce, IsInOrder}
 use Rattle.gc_field.proofs.BeginLists.{each_map}
-use Rattle.gc_field.proofs.Fresh.{AllBut, AnyLine, EachOne, AllExcepted, asks_all, near_the_table, renewed}
-use Rattle.gc_field.proofs.Instruments.{alike_is, exchange_of}
+use Rattle.gc_field.proofs.Fresh.{AllBut, AnyLine, AnyRequest, AllExcepted, asks_all, near_the_table, renewed}
+use Rattle.gc_field.proofs.Instruments.{alike_knows_all, exchange_of}
 use Rattle.gc_field.proofs.Moving.{Both, both_all, first_reply, IsOwnSettlement, IsVouchedFor, RepliesHave, replies_have_later, vouched_for, trusted_all, made_here}
 use Rattle.gc_field.proofs.Possible.{front_possible, later_possible, moved_append}
 use Rattle.gc_field.proofs.Seen.{same_all}
 use Rattle.gc_field.proofs.KeptReplies.{KeptIs}
 use Rattle.gc_field.proofs.NearTable.{IsNear}
 use Rattle.gc_field.proofs.Vouched.{AllVouched, Vouched}
+use Rattle.gc_world.proofs.Settled.{AccountForSent}
 
 -- The course of a client, after what was sent and settled before.
 
@@ -64,8 +66,8 @@ prefixed_step width before old x y (Send target call deadline) h =
     subst (λ c. IsPrefixed before old (sent_on x target call (sends width c target call deadline)) (sent_on y target call (sends width y.client target call deadline))) (sym h.client)
     (prefixed_send before old x y target call (sends width y.client target call deadline) h)
 prefixed_step width before old x y (Hear line) h =
-    subst (λ c. IsPrefixed before old (settled_on x (hears c line (heard line))) (settled_on y (hears y.client line (heard line)))) (sym h.client)
-    (prefixed_settled before old x y (hears y.client line (heard line)) h)
+    subst (λ c. IsPrefixed before old (settled_on x (hears_line c line)) (settled_on y (hears_line y.client line))) (sym h.client)
+    (prefixed_settled before old x y (hears_line y.client line) h)
 prefixed_step width before old x y (Expire now) h = record { sent = h.sent; settled = h.settled; client = ap (λ c. expires c now) h.client }
 prefixed_step width before old x y Restart h =
     subst (λ c. IsPrefixed before old (settled_on x (restarts c)) (settled_on y (restarts y.client))) (sym h.client) (prefixed_settled before old x y (restarts y.client) h)
@@ -113,7 +115,7 @@ module _ {State : Type 0} (ends : Ends State) (Good : State → Type 0) (kept : 
 
   -- what was sent: the null procedures, and then what the client sent
   pub sent_is : (u : UnderWay State) (ms : List (Move State)) → ArePossibleOnceBegun width ends u Good kept ms
-      → map of_sent (behind width ends u ms).wire.sent ≡ map of_sent nulls ++ (course width begun (seen ms)).sent
+      → map of_sent (world_once_begun width ends u ms).wire.sent ≡ map of_sent nulls ++ (course width begun (seen ms)).sent
   sent_is u ms p =
       let one = same_all width ends keeper.hears Good kept ms course_after_nulls (ids_begun u) p (record { sent = refl; settled = refl; client = refl }) in
       sym one.sent ∙ (prefixed_all width (map of_sent nulls) nulls_settled (seen ms) course_after_nulls begun begun_prefixed).sent
@@ -213,8 +215,8 @@ module _ {State : Type 0} (ends : Ends State) (Good : State → Type 0) (kept : 
     all_excepted : (ms : List (Move State)) → ArePossibleOnceBegun width ends u Good kept ms
         → AllExcepted width narrow ends Good kept keeper 8 (moved ends (by_numbers width) ms (numbers_begun u))
     all_excepted ms p =
-        trusted_all width narrow is_of_table ends Good exchange kept keeper 8 EachOne ⊥ AnyLine ms (ids_begun u) (numbers_begun u) both_begun p (λ never. absurd never)
-        (replies_have_any ms (numbers_begun u)) (vouched_begun is_of_table keeper EachOne (λ n l. tt) ⊥ AnyLine (inr (λ n. inl tt)))
+        trusted_all width narrow is_of_table ends Good exchange kept keeper 8 AnyRequest ⊥ AnyLine ms (ids_begun u) (numbers_begun u) both_begun p (λ never. absurd never)
+        (replies_have_any ms (numbers_begun u)) (vouched_begun is_of_table keeper AnyRequest (λ n l. tt) ⊥ AnyLine (inr (λ n. inl tt)))
 
     -- `IsVouchedFor` holds after possible moves with all requests excepted but one, m, that was sent after the table
     -- (`WentOutBehindTheTable`)
@@ -224,7 +226,7 @@ module _ {State : Type 0} (ends : Ends State) (Good : State → Type 0) (kept : 
         let M : ℕ → Asked → List ℕ → Type 0 = λ n call line. WasMadeOn width ends u ms n call line in
         let rest = Sends h.target h.call h.deadline ∷ h.later in
         let before = front_possible width ends Good kept ms h.front rest (ids_begun u) h.split p in
-        let a = moved ends (by_ids width ends) h.front (ids_begun u) in
+        let a = world_once_begun width ends u h.front in
         let b = moved ends (by_numbers width) h.front (numbers_begun u) in
         let both = both_all width narrow ends Good exchange kept h.front (ids_begun u) (numbers_begun u) before both_begun in
         let same : a.wire ≡ b.wire = both.agree.wire in
@@ -246,13 +248,13 @@ module _ {State : Type 0} (ends : Ends State) (Good : State → Type 0) (kept : 
         → slice_get (moved ends (by_numbers width) ms (numbers_begun u)).wire.settled m ≡ Some s
         → IsOwnSettlement ends Good (λ n call line. WasMadeOn width ends u ms n call line) (moved ends (by_numbers width) ms (numbers_begun u)).wire m s
     safe_own ms p m s ge (inl table) e = (own_if_all_known is_of_table keeper refl ms p table).own m s (λ l. omega (arith, l, ge)) e
-    safe_own ms p m s ge (inr (inl alike)) e = (own_if_all_known all_known (alike_is ends Good kept keeper alike) refl ms p (asks_all ms)).own m s (λ l. omega (arith, l, ge)) e
+    safe_own ms p m s ge (inr (inl alike)) e = (own_if_all_known all_known (alike_knows_all ends Good kept keeper alike) refl ms p (asks_all ms)).own m s (λ l. omega (arith, l, ge)) e
     safe_own ms p m s ge (inr (inr went)) e = (behind_own ms p m went).own m s (λ other. other refl) e
 
     -- possible moves after a clean synchronization are faithful (`IsFaithful`)
     pub faithful : (ms : List (Move State)) → ArePossibleOnceBegun width ends u Good kept ms → IsFaithful width ends u ms Good kept
     faithful ms p =
-        let a = moved ends (by_ids width ends) ms (ids_begun u) in
+        let a = world_once_begun width ends u ms in
         let b = moved ends (by_numbers width) ms (numbers_begun u) in
         let both = both_all width narrow ends Good exchange kept ms (ids_begun u) (numbers_begun u) p both_begun in
         let same : a.wire ≡ b.wire = both.agree.wire in
@@ -262,13 +264,13 @@ module _ {State : Type 0} (ends : Ends State) (Good : State → Type 0) (kept : 
         let from = prefixed_all width (map of_sent nulls) nulls_settled (seen ms) course_after_nulls begun begun_prefixed in
         let settlements : a.wire.settled ≡ nulls_settled ++ y.settlements = sym one.settled ∙ from.settled in
         let stands : y.client ≡ a.client = sym from.client ∙ one.client in
-        let parts : map of_settled a.wire.settled ++ map of_pending a.client.waiting ≡ map of_sent a.wire.sent =
+        let parts : AccountForSent a.wire.settled a.client.waiting a.wire.sent =
         ap (λ l. map of_settled l ++ map of_pending a.client.waiting) settlements
         ∙ ap (λ (c : ById Asked). map of_settled (nulls_settled ++ y.settlements) ++ map of_pending c.waiting) (sym stands)
         ∙ ap (λ l. map of_sent nulls ++ l) (accounts_for_sends width (seen ms)) ∙ sym from.sent ∙ one.sent in
         let pairs = settled.one_for_one a.wire.settled a.client.waiting a.wire.sent parts in
         let M : ℕ → Asked → List ℕ → Type 0 = λ n call line. WasMadeOn width ends u ms n call line in
-        let all = vouched_for width narrow is_of_table ends Good exchange kept keeper 8 EachOne ⊥ AnyLine b (all_excepted ms p) in
+        let all = vouched_for width narrow is_of_table ends Good exchange kept keeper 8 AnyRequest ⊥ AnyLine b (all_excepted ms p) in
         let own : (m : ℕ) (s : Settlement Asked) → 8 ≤ m → IsSafe width ends u Good kept ms m → slice_get a.wire.settled m ≡ Some s → IsOwnSettlement ends Good M a.wire m s =
         λ m s ge safe e. subst (λ (w : Wire State). IsOwnSettlement ends Good M w m s) (sym same)
         (safe_own ms p m s ge safe (subst (λ (w : Wire State). slice_get w.settled m ≡ Some s) same e)) in

@@ -17,11 +17,11 @@ use Rattle.gc_world.specs.Order.{numbers}
 use Rattle.gc_field.specs.World.{Ends, Numbered, Request, Step, Wire, World, happens, down_delivered, requested}
 use Rattle.gc_world.proofs.Sound.{IsComing, IsGoing, Sound, all_sent}
 use Rattle.gc_field.specs.Begin.{LacksTheWord, UnderWay, ids_under_way}
-use Rattle.gc_field.specs.Beginnings.{HasRisingIds, on_line}
-use Rattle.gc_field.specs.Begun.{IsClean, behind, ids_begun, numbers_begun, ArePossibleOnceBegun}
+use Rattle.gc_field.specs.Beginnings.{HasRisingIds, under_way_on}
+use Rattle.gc_field.specs.Begun.{IsClean, world_once_begun, ids_begun, numbers_begun, ArePossibleOnceBegun}
 use Rattle.gc_field.specs.Field.{Move, Sends, Tells, Comes, Foreign, OnLine, Anew, Changes, Joins, IsLineStep, ArePossible, moved}
 use Rattle.gc_field.specs.Instrument.{IsAnInstrument}
-use Rattle.gc_field.proofs.BeginWords.{subword_front, three_within, ids_at}
+use Rattle.gc_field.proofs.BeginWords.{subword_front, eight_rising_lack_three, ids_of_numbers}
 use Rattle.gc_field.proofs.BeginLists.{each_map}
 use Rattle.gc_field.proofs.BegunFaithful.{both_begun, exchange}
 use Rattle.gc_field.proofs.LineSteps.{same_over_line}
@@ -29,11 +29,11 @@ use Rattle.gc_field.proofs.Moving.{both_all}
 
 -- Rising ids contain neither the word nor its first three ids.
 
--- where `HasRisingIds` holds, the ids in flight don't contain 6, 5, 4 as a subsequence
+-- where `HasRisingIds` holds, the ids in flight don't contain 6, 5 and 4 in this order
 pub rising_lack_three : {State : Type 0} (u : UnderWay State) → HasRisingIds u → IsSubsequence (6 ∷ 5 ∷ 4 ∷ []) (ids_under_way u) → ⊥
-rising_lack_three u h s = three_within h.low h.numbers h.some h.rising h.few (subst (IsSubsequence (6 ∷ 5 ∷ 4 ∷ [])) h.ids s)
+rising_lack_three u h s = eight_rising_lack_three h.low h.numbers h.some h.rising h.few (subst (IsSubsequence (6 ∷ 5 ∷ 4 ∷ [])) h.ids s)
 
--- where `HasRisingIds` holds, the word isn't in flight, because its first three ids, 6, 5 and 4, aren't
+-- where `HasRisingIds` holds, the ids in flight don't contain the word
 pub rising_lack_the_word : {State : Type 0} (u : UnderWay State) → HasRisingIds u → LacksTheWord u
 rising_lack_the_word u h s = rising_lack_three u h (subword_front (6 ∷ 5 ∷ 4 ∷ []) (3 ∷ 2 ∷ 1 ∷ 0 ∷ 7 ∷ []) (ids_under_way u) s)
 
@@ -85,7 +85,7 @@ module _ {State : Type 0} (width : ℕ) (ends : Ends State) where
 -- Its ids.
 
 -- where the client never restarted (`since` is 0), the ids of the requests in flight are their numbers modulo 8
-ids_of_requests : (since total : ℕ) (xs : List (Numbered Request)) → since ≡ 0 → AllByRecursion (IsGoing since total) xs → map (λ x. x.id) (map (λ x. x.line) xs) ≡ ids_at (numbers xs)
+ids_of_requests : (since total : ℕ) (xs : List (Numbered Request)) → since ≡ 0 → AllByRecursion (IsGoing since total) xs → map (λ x. x.id) (map (λ x. x.line) xs) ≡ ids_of_numbers (numbers xs)
 ids_of_requests since total [] e h = refl
 ids_of_requests since total (x ∷ xs) e h =
     let plain : x.number - since ≡ x.number = omega (arith, e) in
@@ -94,14 +94,14 @@ ids_of_requests since total (x ∷ xs) e h =
 module _ {State : Type 0} (width : ℕ) (ends : Ends State) (Good : State → Type 0) (same_heard : (line : List ℕ) → ends.heard line ≡ rule.heard line) where
   -- where the client never restarted (`since` is 0), the ids of the replies in flight are their numbers modulo 8
   ids_down : (since total : ℕ) (xs : List (Numbered (List ℕ))) → since ≡ 0 → AllByRecursion (IsComing width ends Good since total) xs
-      → filter_map rule.heard (map (λ x. x.line) xs) ≡ ids_at (numbers xs)
+      → filter_map rule.heard (map (λ x. x.line) xs) ≡ ids_of_numbers (numbers xs)
   ids_down since total [] e h = refl
   ids_down since total (x ∷ xs) e h =
       let plain : x.number - since ≡ x.number = omega (arith, e) in
       ap₂ (λ o ids. cons_option o ids) (sym (same_heard x.line) ∙ h.0.id ∙ ap (λ n. Some (n % 8)) plain) (ids_down since total xs e h.1)
 
   -- `HasRisingIds` holds of what is in flight in a sound world whose client is `IsBased`
-  are_rising : (c : ByNumber Asked) (w : Wire State) (narrow : width ≤ 7) → IsBased c → Sound width ends Good (record { wire = w; client = c }) → HasRisingIds (on_line w)
+  are_rising : (c : ByNumber Asked) (w : Wire State) (narrow : width ≤ 7) → IsBased c → Sound width ends Good (record { wire = w; client = c }) → HasRisingIds (under_way_on w)
   are_rising c w narrow base s =
       let total = length c.requests in
       record {
@@ -119,17 +119,17 @@ module _ {State : Type 0} (width : ℕ) (ends : Ends State) (Good : State → Ty
 module _ {State : Type 0} (ends : Ends State) (Good : State → Type 0) (kept : State → Option KeptReply) (is : IsAnInstrument ends Good kept) (width : ℕ) (narrow : width ≤ 7) where
   -- `HasRisingIds` holds of what is in flight after possible moves that follow a clean synchronization
   pub runs_leave_rising_ids : (u : UnderWay State) → IsClean Good kept u → (ms : List (Move State))
-      → ArePossibleOnceBegun width ends u Good kept ms → HasRisingIds (on_line (behind width ends u ms).wire)
+      → ArePossibleOnceBegun width ends u Good kept ms → HasRisingIds (under_way_on (world_once_begun width ends u ms).wire)
   runs_leave_rising_ids u clean ms p =
       let b = moved ends (by_numbers width) ms (numbers_begun u) in
       let both = both_all width narrow ends Good (exchange ends Good kept is width narrow) kept ms (ids_begun u) (numbers_begun u) p (both_begun ends Good kept is width narrow u clean) in
-      subst (λ (w : Wire State). HasRisingIds (on_line w)) (sym both.agree.wire)
+      subst (λ (w : Wire State). HasRisingIds (under_way_on w)) (sym both.agree.wire)
       (are_rising width ends Good is.hears b.client b.wire narrow (based_all width ends Good kept ms (ids_begun u) (numbers_begun u) p (record { since = refl; count = omega arith })) both.sound)
 
   -- possible moves that follow a clean synchronization leave a good state, and requests with ids below 8
   pub runs_leave_good : (u : UnderWay State) → IsClean Good kept u → (ms : List (Move State))
       → ArePossibleOnceBegun width ends u Good kept ms
-      → Good (behind width ends u ms).wire.state × AllByRecursion (λ x. x.id < 8) (map (λ x. x.line) (behind width ends u ms).wire.up)
+      → Good (world_once_begun width ends u ms).wire.state × AllByRecursion (λ x. x.id < 8) (map (λ x. x.line) (world_once_begun width ends u ms).wire.up)
   runs_leave_good u clean ms p =
       let both = both_all width narrow ends Good (exchange ends Good kept is width narrow) kept ms (ids_begun u) (numbers_begun u) p (both_begun ends Good kept is width narrow u clean) in
       subst (λ (w : Wire State). Good w.state × AllByRecursion (λ x. x.id < 8) (map (λ x. x.line) w.up)) (sym both.agree.wire)

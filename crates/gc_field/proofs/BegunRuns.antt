@@ -5,10 +5,10 @@ use Rattle.gc_client.specs.Beginning.{IsSubsequence, the_word}
 use Rattle.gc_instrument.specs.State.{KeptReply}
 use Rattle.gc_field.specs.World.{Ends}
 use Rattle.gc_field.specs.Begin.{IsWellFormed, LacksTheWord, AreTurns, UnderWay, begins, ids_under_way, leaves}
-use Rattle.gc_field.specs.Beginnings.{AreFewKilled, AreOwn, AreRuns, ArePossibleIf, IsOwnIf, HasRisingIds, Run, killed_if, left_by_run, left_if, on_line, after_turns}
-use Rattle.gc_field.specs.Begun.{behind}
+use Rattle.gc_field.specs.Beginnings.{AreFewKilled, AreOwn, AreRuns, ArePossibleIf, IsOwnIf, HasRisingIds, Run, killed_if, left_by_run, left_if, under_way_on, after_turns}
+use Rattle.gc_field.specs.Begun.{world_once_begun}
 use Rattle.gc_field.specs.Instrument.{IsAnInstrument}
-use Rattle.gc_field.proofs.BeginJoin.{begins_cleanly, left_absent, left_lines}
+use Rattle.gc_field.proofs.BeginJoin.{begins_cleanly, upto_absent_in_left, left_well_formed}
 use Rattle.gc_field.proofs.BeginWords.{subword_front}
 use Rattle.gc_field.proofs.BegunFaithful.{faithful}
 use Rattle.gc_field.proofs.BegunRising.{rising_lack_three, runs_leave_rising_ids, runs_leave_good}
@@ -24,12 +24,12 @@ pub record IsShortOfTheWord {State : Type 0} (Good : State → Type 0) (n : ℕ)
   pub none : IsSubsequence (6 ∷ 5 ∷ more) (ids_under_way u) → ⊥
 
 -- where what is in flight is well formed, and `HasRisingIds` holds of it, `IsShortOfTheWord` holds with no run killed before
-pub short_rising : {State : Type 0} (Good : State → Type 0) (u : UnderWay State) → IsWellFormed Good u → HasRisingIds u → IsShortOfTheWord Good 0 u
-short_rising Good u lines h = record { lines = lines; more = 4 ∷ []; tail = 3 ∷ 2 ∷ 1 ∷ 0 ∷ 7 ∷ []; split = refl; few = refl; none = rising_lack_three u h }
+pub short_if_rising : {State : Type 0} (Good : State → Type 0) (u : UnderWay State) → IsWellFormed Good u → HasRisingIds u → IsShortOfTheWord Good 0 u
+short_if_rising Good u lines h = record { lines = lines; more = 4 ∷ []; tail = 3 ∷ 2 ∷ 1 ∷ 0 ∷ 7 ∷ []; split = refl; few = refl; none = rising_lack_three u h }
 
 -- the ids of what is `IsShortOfTheWord` don't contain the word
-pub short_word : {State : Type 0} (Good : State → Type 0) (n : ℕ) (u : UnderWay State) → IsShortOfTheWord Good n u → LacksTheWord u
-short_word Good n u h s = h.none (subword_front (6 ∷ 5 ∷ h.more) h.tail (ids_under_way u) (subst (λ w. IsSubsequence w (ids_under_way u)) h.split s))
+pub short_lacks_the_word : {State : Type 0} (Good : State → Type 0) (n : ℕ) (u : UnderWay State) → IsShortOfTheWord Good n u → LacksTheWord u
+short_lacks_the_word Good n u h s = h.none (subword_front (6 ∷ 5 ∷ h.more) h.tail (ids_under_way u) (subst (λ w. IsSubsequence w (ids_under_way u)) h.split s))
 
 module _ {State : Type 0} (ends : Ends State) (Good : State → Type 0) (kept : State → Option KeptReply) (is : IsAnInstrument ends Good kept) (width : ℕ) (narrow : width ≤ 7) where
   -- where what is in flight is `IsShortOfTheWord` for n killed runs, fewer than five, and one more run is killed while it
@@ -40,12 +40,12 @@ module _ {State : Type 0} (ends : Ends State) (Good : State → Type 0) (kept : 
   short_killed n u r turns few (c ∷ tail) h e =
       let split : the_word ≡ 6 ∷ 5 ∷ (h.more ++ c ∷ tail) = h.split ∙ ap (λ l. 6 ∷ 5 ∷ (h.more ++ l)) e in
       record {
-        lines = left_lines ends Good kept is u r.turns h.lines turns;
+        lines = left_well_formed ends Good kept is u r.turns h.lines turns;
         more = h.more ++ c ∷ [];
         tail = tail;
         split = split ∙ sym (ap (λ l. 6 ∷ 5 ∷ l) (append_assoc h.more (c ∷ []) tail));
         few = (let size = h.few in let one : length h.tail ≡ suc (length tail) = ap length e in omega (arith, size, one));
-        none = left_absent ends Good kept is u r.turns (record { a = 6; b = 5; more = h.more; c = c; tail = tail; is = split }) h.lines turns h.none;
+        none = upto_absent_in_left ends Good kept is u r.turns (record { a = 6; b = 5; more = h.more; c = c; tail = tail; is = split }) h.lines turns h.none;
       }
 
   -- what a run comes to, by the ids that are left of its word. If no id is left, it has synchronized cleanly, is faithful, and
@@ -61,11 +61,11 @@ module _ {State : Type 0} (ends : Ends State) (Good : State → Type 0) (kept : 
       → ArePossibleIf width ends Good kept left (after_turns ends u r) r.moves → killed_if left n ≤ 5 → RunResult n u r left
   run_result n u r [] e short turns p few =
       let s = after_turns ends u r in
-      let ended = begins_cleanly ends Good kept is u r.turns short.lines turns (short_word Good n u short) e in
+      let ended = begins_cleanly ends Good kept is u r.turns short.lines turns (short_lacks_the_word Good n u short) e in
       let after = runs_leave_good ends Good kept is width narrow (leaves s) ended.clean r.moves p in
       record {
         own = (ended, faithful ends Good kept is width narrow (leaves s) ended.clean r.moves p);
-        short = short_rising Good (on_line (behind width ends (leaves s) r.moves).wire) (record { ids = after.1; good = after.0 })
+        short = short_if_rising Good (under_way_on (world_once_begun width ends (leaves s) r.moves).wire) (record { ids = after.1; good = after.0 })
             (runs_leave_rising_ids ends Good kept is width narrow (leaves s) ended.clean r.moves p);
       }
   run_result n u r (asked ∷ rest) e short turns p few = record { own = tt; short = short_killed n u r turns few short.tail short refl }
@@ -83,4 +83,4 @@ module _ {State : Type 0} (ends : Ends State) (Good : State → Type 0) (kept : 
   -- in a row are killed while they synchronize (`AreFewKilled`): the runs are their own (`AreOwn`)
   pub runs_are_their_own : (u : UnderWay State) → IsWellFormed Good u → HasRisingIds u → (rs : List (Run State)) → AreRuns width ends Good kept u rs
       → AreFewKilled width ends 0 u rs → AreOwn width ends Good kept u rs
-  runs_are_their_own u lines row rs runs few = all_own rs 0 u (short_rising Good u lines row) runs few
+  runs_are_their_own u lines row rs runs few = all_own rs 0 u (short_if_rising Good u lines row) runs few

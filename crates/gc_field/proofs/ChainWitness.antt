@@ -8,13 +8,12 @@ use Rattle.gc_instrument.specs.Execution.{exec}
 use Rattle.gc_instrument.specs.Replying.{handed}
 use Rattle.gc_texts.specs.Nears.{is_elsewhere}
 use Rattle.gc_texts.specs.declared.tasks.Task.{Task}
-use Rattle.gc_station.specs.Links.{AreChained}
+use Rattle.gc_station.specs.Links.{AreChained, parts}
 use Rattle.std.proofs.lemmas.Option.{same_Some}
 use Rattle.gc_field.specs.Plain.{plain_task}
 use Rattle.gc_field.specs.ChainWitness.{IsPointedInField, acts, at_start, commands, measures, moves, program, scope}
 use Rattle.gc_field.specs.Pointing.{AreStill, turns_telescope}
-use Rattle.gc_field.proofs.Witness.{asked_each, fits, one_part, opens, units}
-use Rattle.gc_station.specs.Parts.{parts_of}
+use Rattle.gc_field.proofs.Witness.{asked_each, opening_fits, one_part, opens_simulator, units}
 use Rattle.gc_station.proofs.Going.{runs-append}
 use Rattle.gc_station.specs.Model.{opening}
 use Rattle.gc_field.specs.Field.{seen}
@@ -34,13 +33,13 @@ all_chained (suc (suc (suc p))) above upto = absurd (omega (arith, upto))
 none_turns : AreStill commands 0 2
 none_turns zero task above under e = absurd (omega (arith, above))
 none_turns (suc zero) task above under e =
-    let one : Task = plain_task (record { target = 7; call = measures }) 100 true in
+    let one : Task = plain_task 7 measures 100 true in
     ap (λ (t : Task). turns_telescope t.command.call) (sym (same_Some one task e))
 none_turns (suc (suc p)) task above under e = absurd (omega (arith, under))
 
 -- the run's parts are these: one with these steps, and with the three requests by place and moment; and the empty one
 -- after the end
-parts_are : parts_of plan commands (opening plan scope) acts ≡ one_part (asked_each replies) (seen moves) ((0, 15) ∷ (1, 20) ∷ (2, 25) ∷ [])
+parts_are : parts plan commands scope acts ≡ one_part (asked_each replies) (seen moves) ((0, 15) ∷ (1, 20) ∷ (2, 25) ∷ [])
 unfolding is_elsewhere header_at reply_at digits rounded
 parts_are = refl
 
@@ -50,16 +49,16 @@ unfolding is_elsewhere header_at reply_at handed exec digits rounded
 shown_are = refl
 
 -- this run of a chain is in the field, and the telescope points where the first command pointed it
-pub chain : IsPointedInField
+pub pointed_in_field : IsPointedInField
 unfolding is_elsewhere header_at reply_at handed exec digits rounded
-chain =
+pointed_in_field =
     record {
       field =
           record {
             runs =
-                runs-append plan commands (opening plan scope) (take 27 acts) (drop 27 acts) (opens 1 commands scope.reads)
+                runs-append plan commands (opening plan scope) (take 27 acts) (drop 27 acts) (opens_simulator 1 commands scope.reads)
                 (tt, (refl, (tt, (tt, (refl, (tt, (tt, (refl, (tt, (tt, (refl, tt)))))))))));
-            lines = record { ids = tt; good = fits };
+            lines = record { ids = tt; good = opening_fits };
             none = λ h. h;
             shown = subst (AreShownAs simulator_ends at_start program.runs) (sym parts_are) (shown_are, refl, (refl, refl, tt));
             possible = ((units 24, (tt, (tt, (tt, (tt, (tt, ((8, [], refl), (tt, (tt, (tt, (tt, ((9, [], refl), (tt, (tt, (tt, (tt, ((10, [], refl), tt))))))))))))))))), ((tt, refl), tt));

@@ -30,7 +30,7 @@ use Rattle.std.proofs.lemmas.Option.{same_Some, slice_get_within}
 use Rattle.gc_field.specs.Begin.{AreTurns, UnderWay, begins, leaves, left_by_turns}
 use Rattle.gc_field.specs.Begin.{SyncModel}
 use Rattle.gc_field.specs.Beginnings.{ArePossibleIf, AreRuns, Run, after_turns, left_by_run}
-use Rattle.gc_field.specs.Begun.{IsSafe, WasMadeOn, behind, ids_begun}
+use Rattle.gc_field.specs.Begun.{IsSafe, WasMadeOn, world_once_begun, ids_begun}
 use Rattle.gc_field.specs.Chains.{AreExecutedInChain, IsChainedTo, IsExecutedInChain}
 use Rattle.gc_field.specs.Field.{Move, Sends, Tells, Comes, Foreign, OnLine, Anew, Changes, Joins, seen}
 use Rattle.gc_field.specs.Instrument.{IsAnInstrument}
@@ -44,7 +44,7 @@ use Rattle.gc_field.proofs.Among.{get_drop, zip_at}
 use Rattle.gc_field.proofs.Joining.{Fits, IsSafePart, all_fitting, run_faithful, safe_in}
 use Rattle.gc_field.proofs.Ordered.{executed_behind, in_front_at}
 use Rattle.gc_station.proofs.PartFronts.{IsFront, front_parts, front_last}
-use Rattle.gc_field.proofs.PartFronts.{AreWhole, LastIsMarked, last_marked, whole_parts}
+use Rattle.gc_field.proofs.PartFronts.{IsLastSyncWhole, LastIsMarked, last_marked, whole_parts}
 use Rattle.std.proofs.lemmas.Bool.{cases_order}
 
 -- The stretches of a front.
@@ -108,8 +108,8 @@ module _ {State : Type 0} (ends : Ends State) (Good : State → Type 0) (kept : 
 
   -- `CutRuns` of one part, p: its run is the first of possible runs, r, whose turns show those of p, cut after the moves that
   -- show the steps of p (`SplitSeen`)
-  cut_one : (p : Part) (u : UnderWay State) (r : Run State) (rs : List (Run State)) → shown ends r.turns (begins u) ≡ p.sync_steps → SplitSeen r.moves p.steps → AreTurns ends Good kept r.turns (begins u)
-      → ArePossibleIf 7 ends Good kept (after_turns ends u r).left (after_turns ends u r) r.moves → CutRuns (p ∷ []) u (r ∷ rs)
+  cut_one : (p : Part) (u : UnderWay State) (r : Run State) (rs : List (Run State)) → shown ends r.turns (begins u) ≡ p.sync_steps → SplitSeen r.moves p.steps
+      → AreTurns ends Good kept r.turns (begins u) → ArePossibleIf 7 ends Good kept (after_turns ends u r).left (after_turns ends u r) r.moves → CutRuns (p ∷ []) u (r ∷ rs)
   cut_one p u r rs e x turns possible = record {
     runs = record { turns = r.turns; moves = x.front } ∷ [];
     shown = (e, x.steps, tt);
@@ -134,10 +134,10 @@ module _ {State : Type 0} (ends : Ends State) (Good : State → Type 0) (kept : 
   later_cut p next ps u r rs c (suc i) t v size a b = c.last i t v (omega (arith, size)) a b
 
   -- the parts `ps` are the first ones of the parts `qs`, with the same steps of a synchronization in the last of them
-  -- (`AreWhole`); and these possible runs show the parts `qs`
+  -- (`IsLastSyncWhole`); and these possible runs show the parts `qs`
   record AreFirstShown (ps qs : List Part) (u : UnderWay State) (rs : List (Run State)) : Type 0 where
     front : IsFront ps qs
-    whole : AreWhole ps qs
+    whole : IsLastSyncWhole ps qs
     shown : AreShownAs ends u rs qs
     possible : AreRuns 7 ends Good kept u rs
 
@@ -146,8 +146,8 @@ module _ {State : Type 0} (ends : Ends State) (Good : State → Type 0) (kept : 
   cut_last p [] u rs h marked = absurd h.front
   cut_last p (q ∷ qs) u [] h marked = absurd h.shown
   cut_last p (q ∷ qs) u (r ∷ rs) h marked = by_whole h.whole where
-    -- the lemma above, by what `AreWhole` says of one part: that it has no request, or the steps of a synchronization of the
-    -- first one
+    -- the lemma above, by what `IsLastSyncWhole` says of one part: that it has no request, or the steps of a synchronization of
+    -- the first one
     by_whole : (p.marks ≡ []) ⊎ (q.sync_steps ≡ p.sync_steps) → CutRuns (p ∷ []) u (r ∷ rs)
     by_whole (inl none) = absurd (marked none)
     by_whole (inr same) =
@@ -184,9 +184,9 @@ module _ {State : Type 0} (ends : Ends State) (Good : State → Type 0) (kept : 
 -- Pairs of numbers: a cycle and a place in it, or a part of the run and a request in it.
 
 -- no place of a cycle comes before itself (`IsBefore c p d q`: place p of cycle c comes before place q of cycle d)
-not_itself : (c p : ℕ) → IsBefore c p c p → ⊥
-not_itself c p (inl l) = omega (arith, l)
-not_itself c p (inr l) = let less : p < p = l.1 in omega (arith, less)
+not_before_itself : (c p : ℕ) → IsBefore c p c p → ⊥
+not_before_itself c p (inl l) = omega (arith, l)
+not_before_itself c p (inr l) = let less : p < p = l.1 in omega (arith, less)
 
 -- if neither of the pairs i, m and j, n comes before the other, they are the same
 same_place : (i j m n : ℕ) → (IsBefore i m j n → ⊥) → (IsBefore j n i m → ⊥) → (i ≡ j) × (m ≡ n)
@@ -207,11 +207,11 @@ same_place i j m n f g =
 
 -- where place q of cycle d comes between place p of cycle c and place r of cycle e, and c equals e, d is that cycle, too, and q
 -- lies between p and r
-within : (c p d q e r : ℕ) → IsBefore c p d q → IsBefore d q e r → c ≡ e → (d ≡ e) × (p < q) × (q < r)
-within c p d q e r (inl a) (inl b) same = absurd (omega (arith, a, b, same))
-within c p d q e r (inl a) (inr b) same = let is : d ≡ e = b.0 in absurd (omega (arith, a, is, same))
-within c p d q e r (inr a) (inl b) same = let is : c ≡ d = a.0 in absurd (omega (arith, is, b, same))
-within c p d q e r (inr a) (inr b) same = (b.0, a.1, b.1)
+between_is_same_cycle : (c p d q e r : ℕ) → IsBefore c p d q → IsBefore d q e r → c ≡ e → (d ≡ e) × (p < q) × (q < r)
+between_is_same_cycle c p d q e r (inl a) (inl b) same = absurd (omega (arith, a, b, same))
+between_is_same_cycle c p d q e r (inl a) (inr b) same = let is : d ≡ e = b.0 in absurd (omega (arith, a, is, same))
+between_is_same_cycle c p d q e r (inr a) (inl b) same = let is : c ≡ d = a.0 in absurd (omega (arith, is, b, same))
+between_is_same_cycle c p d q e r (inr a) (inr b) same = (b.0, a.1, b.1)
 
 -- The theorem, from what is known of a station's runs.
 
@@ -230,8 +230,8 @@ module _ {State : Type 0} (ends : Ends State) (Good : State → Type 0) (kept : 
   own_place acts runs i m part expected r ss line of_parts mark many u =
       let q = u.of in
       same_place q.k i q.m m
-      (λ l. not_itself r.cycle r.place (go_on plan commands scope acts runs q.k i q.m m q.part part (mark_of q.expected r) (mark_of expected r) q.of_parts of_parts q.mark mark l many many))
-      (λ l. not_itself r.cycle r.place (go_on plan commands scope acts runs i q.k m q.m part q.part (mark_of expected r) (mark_of q.expected r) of_parts q.of_parts mark q.mark l many many))
+      (λ l. not_before_itself r.cycle r.place (go_on plan commands scope acts runs q.k i q.m m q.part part (mark_of q.expected r) (mark_of expected r) q.of_parts of_parts q.mark mark l many many))
+      (λ l. not_before_itself r.cycle r.place (go_on plan commands scope acts runs i q.k m q.m part q.part (mark_of expected r) (mark_of q.expected r) of_parts q.of_parts mark q.mark l many many))
 
   -- if the last part of the first acts (`before`) of a run in the field has a request, these acts are a run in the field, too,
   -- with its last stretch cut short (`CutRuns`)
@@ -242,8 +242,8 @@ module _ {State : Type 0} (ends : Ends State) (Good : State → Type 0) (kept : 
       let front : IsFront (parts plan commands scope before) (parts plan commands scope acts) =
       subst (λ l. IsFront (parts plan commands scope before) (parts plan commands scope l)) (sym e) (front_parts plan commands (opening plan scope) before rest) in
       let runs : Runs plan commands (opening plan scope) before = runs_front plan commands (opening plan scope) before rest (subst (λ l. Runs plan commands (opening plan scope) l) e h.runs) in
-      let whole : AreWhole (parts plan commands scope before) (parts plan commands scope acts) =
-      subst (λ l. AreWhole (parts plan commands scope before) (parts plan commands scope l)) (sym e) (whole_parts plan commands (opening plan scope) before rest) in
+      let whole : IsLastSyncWhole (parts plan commands scope before) (parts plan commands scope acts) =
+      subst (λ l. IsLastSyncWhole (parts plan commands scope before) (parts plan commands scope l)) (sym e) (whole_parts plan commands (opening plan scope) before rest) in
       let c = cut_field ends Good kept (parts plan commands scope before) (parts plan commands scope acts) u rs
       (record { front = front; whole = whole; shown = h.shown; possible = h.possible }) marked in
       (c, record { runs = runs; lines = h.lines; none = h.none; shown = c.shown; possible = c.possible })
@@ -298,7 +298,7 @@ module _ {State : Type 0} (ends : Ends State) (Good : State → Type 0) (kept : 
       let c = cut.0.last q.k there.0 q.stretch sent.last there.1 q.of_stretches in
       let fit = zip_at (Fits ends Good kept is) (parts plan commands scope acts) ss q.k q.part q.stretch (all_fitting ends Good kept is v (run_of acts rs) h).0 q.of_parts q.of_stretches in
       let x : Settlement Asked = record { target = back.its.answer.command.target; call = back.its.answer.command.call; outcome = Answered back.its.good.line } in
-      let w = (behind 7 ends q.stretch.from c.front).wire in
+      let w = (world_once_begun 7 ends q.stretch.from c.front).wire in
       let settled : slice_get (drop 8 w.settled) back.m ≡ Some x = subst (λ (t : Stretch State). slice_get (own_settled ends t) back.m ≡ Some x) c.is there.3 in
       let size : length (drop 8 w.sent) ≡ q.m = subst (λ (t : Stretch State). length (own_sent ends t) ≡ q.m) c.is there.2 in
       let dropped : length (drop 8 w.sent) ≡ length w.sent - 8 = length-drop 8 w.sent in
@@ -347,7 +347,7 @@ module _ {State : Type 0} (ends : Ends State) (Good : State → Type 0) (kept : 
             go_on plan commands scope acts h.runs q.k q.k back.m k q.part q.part (mark_of back.expected back.its.answer) mark q.of_parts q.of_parts mark_a at (inr (refl, above)) own its in
             let last =
             go_on plan commands scope acts h.runs q.k q.k k q.m q.part q.part mark (mark_of q.expected b) q.of_parts q.of_parts at q.mark (inr (refl, under)) its many in
-            let it = within back.its.answer.cycle back.its.answer.place mark.cycle mark.place b.cycle b.place first last same_cycle in
+            let it = between_is_same_cycle back.its.answer.cycle back.its.answer.place mark.cycle mark.place b.cycle b.place first last same_cycle in
             (it.0, subst (λ p. p < mark.place) back.its.own_place it.1, it.2);
         executed =
             executed_behind ends Good kept is q.stretch clean fit.sound.possible c.front c.later c.order (8 + back.m) (8 + q.m) x back.its.good.line beyond safe

@@ -16,8 +16,7 @@ use Rattle.gc_field.specs.Instrument.{IsAnInstrument, KeepsItsReply, AnyState, a
 use Rattle.gc_field.specs.Begun.{WasMadeOn}
 use Rattle.gc_field.specs.Needed.{Keeper, held, keeper_kept, giving}
 use Rattle.gc_field.proofs.ChainWitness.{all_chained}
-use Rattle.gc_field.proofs.Needed.{else_keeps, else_reads, else_repeats}
-use Rattle.gc_station.specs.Parts.{parts_of}
+use Rattle.gc_field.proofs.Needed.{repeats_or_executes_keeps, repeats_or_executes_reads, repeats_or_executes_repeats}
 use Rattle.gc_station.proofs.Going.{runs-append}
 use Rattle.gc_station.specs.Model.{opening}
 use Rattle.gc_field.specs.Field.{seen}
@@ -25,20 +24,22 @@ use Rattle.gc_field.specs.Shown.{AreShownAs, shown}
 use Rattle.gc_field.specs.Begin.{begins}
 use Rattle.gc_field.specs.Witness.{eight_answered, plan}
 use Rattle.gc_field.proofs.Witness.{OpensWith, asked_each, one_part, units}
+use Rattle.gc_station.specs.Links.{parts}
 
 -- the reply to a request is kept after it, with the request's id
 reply_is_kept : (s : Counter) (id : ℕ) (o : Option ℕ) → held s.keeps id ≡ o → kept_by (counter_handed s id o).state ≡ Some (own_reply id (counter_handed s id o))
-reply_is_kept s id o e = else_keeps (once_counted s id) (suc s.count) id (λ (c : Counter). c.keeps) s o e refl
+reply_is_kept s id o e = repeats_or_executes_keeps (once_counted s id) (suc s.count) id (λ (c : Counter). c.keeps) s o e refl
 
--- if a number is kept with this id, it can't be that none is held for the id
-none_held : (x : ℕ × ℕ) (id : ℕ) → x.0 ≡ id → held (Some x) id ≡ None → ⊥
-none_held x id same e = let e' : Some x.1 ≡ None = sym (ap (λ b. cond b (Some x.1) None) (eq-eqb x.0 id same)) ∙ e in cc
+-- if a number is kept with this id, one is held for the id
+kept_is_held : (x : ℕ × ℕ) (id : ℕ) → x.0 ≡ id → held (Some x) id ≡ None → ⊥
+kept_is_held x id same e = let e' : Some x.1 ≡ None = sym (ap (λ b. cond b (Some x.1) None) (eq-eqb x.0 id same)) ∙ e in cc
 
--- a request with the kept id isn't executed
-held_for : (k : Keeper) (id : ℕ) (o : Option ℕ) (line : List ℕ) → held k id ≡ o → keeper_kept k ≡ Some (record { id = id; line = line }) → (s : Counter) → (counter_handed s id o).executed ≡ false
-held_for k id (Some n) line h e s = refl
-held_for None id None line h e s = let never : ⊥ = cc in absurd never
-held_for (Some x) id None line h e s = absurd (none_held x id (ap (λ (r : KeptReply). r.id) (same_Some (record { id = x.0; line = giving x.0 x.1 }) (record { id = id; line = line }) e)) h)
+-- a request with the id of the kept reply isn't executed
+held_not_executed : (k : Keeper) (id : ℕ) (o : Option ℕ) (line : List ℕ) → held k id ≡ o → keeper_kept k ≡ Some (record { id = id; line = line }) → (s : Counter)
+    → (counter_handed s id o).executed ≡ false
+held_not_executed k id (Some n) line h e s = refl
+held_not_executed None id None line h e s = let never : ⊥ = cc in absurd never
+held_not_executed (Some x) id None line h e s = absurd (kept_is_held x id (ap (λ (r : KeptReply). r.id) (same_Some (record { id = x.0; line = giving x.0 x.1 }) (record { id = id; line = line }) e)) h)
 
 -- an execution makes the count one higher
 executes_by_count : (s : Counter) (id : ℕ) (call : Asked) (o : Option ℕ) → (counter_handed s id o).executed ≡ true → bare (counter_handed s id o).state ≡ bare (counts s call)
@@ -46,17 +47,17 @@ executes_by_count s id call (Some n) e = absurd (true≢false (sym e))
 executes_by_count s id call None e = refl
 
 -- a line that is sent again leaves the count as it was
-unchanged : (s : Counter) (id : ℕ) (o : Option ℕ) → (counter_handed s id o).executed ≡ false → bare (counter_handed s id o).state ≡ bare s
-unchanged s id (Some n) e = refl
-unchanged s id None e = absurd (true≢false e)
+resent_unchanged : (s : Counter) (id : ℕ) (o : Option ℕ) → (counter_handed s id o).executed ≡ false → bare (counter_handed s id o).state ≡ bare s
+resent_unchanged s id (Some n) e = refl
+resent_unchanged s id None e = absurd (true≢false e)
 
 -- `counting` is an instrument
 counting_is : IsAnInstrument counting AnyState kept_by
 counting_is =
     record {
       hears = λ line. refl;
-      replies = λ s id call good small. else_reads (once_counted s id) (suc s.count) id s (held s.keeps id) small;
-      repeats = λ s id call good small not. else_repeats (once_counted s id) (suc s.count) id (λ (c : Counter). c.keeps) s (held s.keeps id) refl not;
+      replies = λ s id call good small. repeats_or_executes_reads (once_counted s id) (suc s.count) id s (held s.keeps id) small;
+      repeats = λ s id call good small not. repeats_or_executes_repeats (once_counted s id) (suc s.count) id (λ (c : Counter). c.keeps) s (held s.keeps id) refl not;
       keeps = λ s id call good small. inl (inr (reply_is_kept s id (held s.keeps id) refl));
       starts = λ s good. inl refl;
       stays_good = λ s id call good small. tt;
@@ -64,19 +65,19 @@ counting_is =
     }
 
 -- `counting` keeps its reply to each request, and sends it again for a request with the id of that reply (`KeepsItsReply`)
-keeps_its : KeepsItsReply counting AnyState kept_by all_known
-keeps_its =
+counting_keeps_its_reply : KeepsItsReply counting AnyState kept_by all_known
+counting_keeps_its_reply =
     record {
-      again = λ s id call line good small known e. held_for s.keeps id (held s.keeps id) line refl e s;
+      again = λ s id call line good small known e. held_not_executed s.keeps id (held s.keeps id) line refl e s;
       always = λ s id call good small known. reply_is_kept s id (held s.keeps id) refl;
     }
 
 -- executing a call has the effect `counts`
-effect : HasEffect counting bare counts
-effect =
+counting_has_effect : HasEffect counting bare counts
+counting_has_effect =
     record {
       executes = λ s id call e. executes_by_count s id call (held s.keeps id) e;
-      repeats = λ s id call e. unchanged s id (held s.keeps id) e;
+      repeats = λ s id call e. resent_unchanged s id (held s.keeps id) e;
       alike = λ s t call e. ap (λ (c : Counter). record { count = suc c.count; keeps = None }) e;
     }
 
@@ -98,23 +99,23 @@ third_made = record { front = take 13 moves; later = drop 14 moves; split = refl
 
 -- the run's parts are these: one with these steps, and with the three requests by place and moment; and the empty one
 -- after the end
-parts_are : parts_of plan commands (opening plan scope) acts ≡ one_part (asked_each null_replies) (seen moves) ((0, 15) ∷ (1, 20) ∷ (2, 25) ∷ [])
+parts_are : parts plan commands scope acts ≡ one_part (asked_each null_replies) (seen moves) ((0, 15) ∷ (1, 20) ∷ (2, 25) ∷ [])
 unfolding is_elsewhere header_at reply_at digits
 parts_are = refl
 
--- what happens while the station synchronizes shows these steps
+-- what happens while the station synchronizes shows eight null procedures and these replies to them
 pub shown_are : shown counting eight_answered (begins at_start) ≡ asked_each null_replies
 unfolding is_elsewhere header_at reply_at digits
 shown_are = refl
 
--- this run meets the premises of the law of chains, and the counts are as that law says
-pub counted : IsCountedInField
+-- the run of `IsCountedInField` meets the premises of the law of chains, and the counts are as that law says
+pub counted_in_field : IsCountedInField
 unfolding is_elsewhere header_at reply_at digits
-counted =
+counted_in_field =
     record {
       instrument = counting_is;
-      keeps = keeps_its;
-      effect = effect;
+      keeps = counting_keeps_its_reply;
+      effect = counting_has_effect;
       field =
           record {
             runs =

@@ -12,14 +12,15 @@ use Rattle.gc_field.specs.Begin.{begins, left_by_turns, none_under_way}
 use Rattle.gc_field.specs.Begun.{WasMadeOn}
 use Rattle.gc_field.specs.Drifting.{IsAnsweredByDrifting, acts, answer, null_replies, commands, drifting, moves, plan, program, scope, turns}
 use Rattle.gc_texts.specs.Nears.{is_elsewhere}
-use Rattle.gc_station.specs.Parts.{parts_of}
 use Rattle.gc_station.proofs.Going.{runs-append}
-use Rattle.gc_station.specs.Model.{after_all, opening}
+use Rattle.gc_station.specs.Model.{opening}
 use Rattle.gc_field.specs.Field.{seen}
 use Rattle.gc_field.specs.Shown.{AreShownAs, shown}
 use Rattle.gc_station.specs.Parts as part
 use Rattle.gc_field.proofs.Witness.{asked_each, one_part, units}
 use Rattle.gc_field.proofs.Instruments.{keeps_none}
+use Rattle.gc_station.specs.Links.{parts}
+use Rattle.gc_station.specs.Runs.{state_after}
 
 -- `drifting` is an instrument
 drifting_is : IsAnInstrument drifting AnyState never_kept
@@ -33,11 +34,11 @@ module _ (raw : RawCall) where
 
   -- the run's parts are these: one with these steps, and with the two requests by place and moment; and the empty one
   -- after the end
-  parts_are : parts_of plan (commands raw) (opening plan scope) (acts raw) ≡ one_part (part.Asks ∷ part.Asks ∷ asked_each null_replies) (seen (moves raw)) ((0, 220) ∷ (1, 320) ∷ [])
+  parts_are : parts plan (commands raw) scope (acts raw) ≡ one_part (part.Asks ∷ part.Asks ∷ asked_each null_replies) (seen (moves raw)) ((0, 220) ∷ (1, 320) ∷ [])
   unfolding is_elsewhere header_at reply_at digits
   parts_are = refl
 
-  -- what happens while the station synchronizes shows these steps
+  -- what happens while the station synchronizes shows two null procedures without a reply, and then eight with these replies
   shown_are : shown drifting turns (begins (none_under_way 5)) ≡ part.Asks ∷ part.Asks ∷ asked_each null_replies
   unfolding is_elsewhere header_at reply_at digits
   shown_are = refl
@@ -53,7 +54,7 @@ module _ (raw : RawCall) where
               runs =
                   runs-append plan (commands raw) (opening plan scope) (take 15 (acts raw)) (drop 15 (acts raw))
                   (tt, (refl, (tt, (refl, (tt, (tt, (refl, (tt, (tt, (refl, (tt, (tt, (tt, (refl, (tt, tt)))))))))))))))
-                  (runs-append plan (commands raw) (after_all plan (commands raw) (opening plan scope) (take 15 (acts raw))) (take 24 (drop 15 (acts raw))) (drop 39 (acts raw))
+                  (runs-append plan (commands raw) (state_after plan (commands raw) scope (take 15 (acts raw))) (take 24 (drop 15 (acts raw))) (drop 39 (acts raw))
                   (refl, (tt, (tt, (refl, (tt, (tt, (refl, (tt, (tt, (refl, (tt, (tt, (refl, (tt, (tt, (refl, (tt, (tt, (refl, (tt, (tt, (refl, (tt, (tt, tt))))))))))))))))))))))))
                   (tt, (refl, (tt, (tt, (refl, (tt, (tt, (refl, (tt, (tt, (tt, (refl, (tt, (tt, (tt, (refl, tt)))))))))))))))));
               lines = record { ids = tt; good = tt };

@@ -11,7 +11,6 @@ use Rattle.gc_instrument.specs.State.{KeptReply}
 use Rattle.gc_world.specs.Record.{IsReplyTo}
 use Rattle.gc_field.specs.World.{Ends, Wire}
 use Rattle.gc_world.proofs.Booked.{has_at}
-use Rattle.gc_world.specs.Worlds.{of_sent}
 use Rattle.gc_world.proofs.Settled as settled
 use Rattle.gc_field.specs.Field.{Move, moved, ArePossible, AsksTheTable, IsFirstAlone, seen}
 use Rattle.gc_field.specs.Laws.{IsFaithfulUnsynchronized}
@@ -20,6 +19,7 @@ use Rattle.gc_field.specs.Instrument.{IsAnInstrument}
 use Rattle.gc_field.proofs.Moving.{both_all, both_open, first_reply, IsOwnSettlement, IsVouchedFor, vouched_at, made_here}
 use Rattle.gc_field.proofs.Instruments.{exchange_of}
 use Rattle.gc_field.proofs.Seen.{same_all, same_open}
+use Rattle.gc_world.proofs.Settled.{AccountForSent}
 
 module _ {State : Type 0} (ends : Ends State) (Good : State → Type 0) (kept : State → Option KeptReply) (keeper : IsAnInstrument ends Good kept) (width : ℕ) (narrow : width ≤ 7) where
   -- possible moves from a good state on are faithful, if their requests are calls of the table, and the first is sent alone
@@ -33,7 +33,7 @@ module _ {State : Type 0} (ends : Ends State) (Good : State → Type 0) (kept : 
       let same : a.wire ≡ b.wire = both.agree.wire in
       let one = same_all width ends keeper.hears Good kept ms begun (ids_open state) p (same_open width ends keeper.hears Good kept state) in
       let x = course width begun (seen ms) in
-      let parts : map of_settled a.wire.settled ++ map of_pending a.client.waiting ≡ map of_sent a.wire.sent =
+      let parts : AccountForSent a.wire.settled a.client.waiting a.wire.sent =
       ap (λ l. map of_settled l ++ map of_pending a.client.waiting) (sym one.settled)
       ∙ ap (λ (c : _). map of_settled x.settlements ++ map of_pending c.waiting) (sym one.client)
       ∙ accounts_for_sends width (seen ms)

@@ -14,8 +14,8 @@ use Rattle.gc_field.specs.Field.{Move, Sends, Tells, Comes, Foreign, OnLine, Ane
 use Rattle.gc_field.specs.Instrument.{IsAnInstrument, all_known}
 use Rattle.gc_field.proofs.Answered.{HoldsOfOutcome, holds_get, holds_below}
 use Rattle.gc_field.proofs.BeginLists.{each_both}
-use Rattle.gc_field.proofs.Once.{known_not}
-use Rattle.gc_field.proofs.KeptReplies.{IsDealt, kept_below}
+use Rattle.gc_field.proofs.Once.{known_not_unknown}
+use Rattle.gc_field.proofs.KeptReplies.{IsNoNewerKnown, kept_below}
 use Rattle.gc_field.proofs.Vouched.{AllVouched, Vouched}
 
 -- any moves ask only what is known, if each request is known (`all_known`)
@@ -30,13 +30,13 @@ asks_all (Anew ∷ ms) = asks_all ms
 asks_all (Changes state ∷ ms) = asks_all ms
 asks_all (Joins line ∷ ms) = asks_all ms
 
--- all requests but m: n is another one
+-- request n is another one than m
 abbrev pub AllBut : (m n : ℕ) → Type 0
 AllBut m n = n ≡ m → ⊥
 
--- this holds of each request
-abbrev pub EachOne : ℕ → Type 0
-EachOne n = Unit {0}
+-- this holds of each request, by its number
+abbrev pub AnyRequest : ℕ → Type 0
+AnyRequest n = Unit {0}
 
 -- this holds of each line, as the reply to any request
 abbrev pub AnyLine : ℕ → Asked → List ℕ → Type 0
@@ -45,7 +45,7 @@ AnyLine n call line = Unit {0}
 module _ {State : Type 0} (width : ℕ) (narrow : width ≤ 7) (ends : Ends State) (Good : State → Type 0) (kept : State → Option KeptReply) (keeper : IsAnInstrument ends Good kept) (low : ℕ) where
   -- `AllVouched`, with all requests excepted
   abbrev pub AllExcepted : World (ByNumber Asked) State → Type 0
-  AllExcepted w = AllVouched width narrow is_of_table ends Good kept keeper low EachOne ⊥ AnyLine w
+  AllExcepted w = AllVouched width narrow is_of_table ends Good kept keeper low AnyRequest ⊥ AnyLine w
 
   -- `AllVouched`, with all requests excepted but m
   abbrev pub AllExceptedBut : (ℕ → Asked → List ℕ → Type 0) → ℕ → World (ByNumber Asked) State → Type 0
@@ -57,7 +57,7 @@ module _ {State : Type 0} (width : ℕ) (narrow : width ≤ 7) (ends : Ends Stat
       → AllExceptedBut M m w
   renewed M m w s t size near =
       let v = w.wire in
-      let P : ℕ → List ℕ → Type 0 = λ n line. Vouched width narrow is_of_table ends Good kept keeper low EachOne ⊥ AnyLine v.sent v.executed v.made t.table n line in
+      let P : ℕ → List ℕ → Type 0 = λ n line. Vouched width narrow is_of_table ends Good kept keeper low AnyRequest ⊥ AnyLine v.sent v.executed v.made t.table n line in
       let Q : ℕ → List ℕ → Type 0 = λ n line. Vouched width narrow is_of_table ends Good kept keeper low (AllBut m) ⊥ M v.sent v.executed v.made t.table n line in
       let f : (n : ℕ) (line : List ℕ) → n < t.top → P n line → Q n line = λ n line l p. (p.0, inl (λ e. omega (arith, e, l, t.within, size))) in
       record {
@@ -102,12 +102,12 @@ module _ {State : Type 0} (width : ℕ) (narrow : width ≤ 7) (ends : Ends Stat
       elim is.3 [
         | inl seven ↦ omega (arith, seven, size, is.2, t.least, eight)
         | inr e ↦ (
-            let P : ℕ → List ℕ → Type 0 = λ n line. Vouched width narrow is_of_table ends Good kept keeper low EachOne ⊥ AnyLine w.wire.sent w.wire.executed w.wire.made t.table n line in
+            let P : ℕ → List ℕ → Type 0 = λ n line. Vouched width narrow is_of_table ends Good kept keeper low AnyRequest ⊥ AnyLine w.wire.sent w.wire.executed w.wire.made t.table n line in
             let i : 0 + is.0 ≡ is.0 = omega arith in
             let so : HoldsOfOutcome P is.0 e.1.outcome = subst (λ k. HoldsOfOutcome P k e.1.outcome) i (holds_get P 0 w.wire.settled is.0 e.1 t.answers e.4) in
-            let dealt : IsDealt is_of_table w.wire.sent t.table is.0 = given_by_reply P (IsDealt is_of_table w.wire.sent t.table is.0) is.0 e.1.outcome (λ line p. p.0) e.5 so in
-            elim dealt [
+            let no_newer : IsNoNewerKnown is_of_table w.wire.sent t.table is.0 = given_by_reply P (IsNoNewerKnown is_of_table w.wire.sent t.table is.0) is.0 e.1.outcome (λ line p. p.0) e.5 so in
+            elim no_newer [
               | inl le ↦ omega (arith, le, size, is.2)
-              | inr u ↦ absurd (known_not is_of_table w.wire.sent is.0 e.0 e.2 e.3 u)
+              | inr u ↦ absurd (known_not_unknown is_of_table w.wire.sent is.0 e.0 e.2 e.3 u)
             ])
       ]

@@ -25,7 +25,7 @@ use Rattle.gc_values.specs.Written.{minus_text, whole_text, behind_text, written
 use Rattle.gc_values.specs.declared.value.Value.{Value}
 use Rattle.gc_values.specs.declared.value.Value.TheVariants as value
 use Rattle.gc_values.proofs.Every.{every_drop, every_take, every_weaker as all_on}
-use Rattle.gc_values.proofs.TextShape.{digit_above}
+use Rattle.gc_values.proofs.TextShape.{hex_digit_above_comma}
 use Rattle.gc_values.proofs.WrittenSpells.{writes_whole, is_fraction_text}
 use Rattle.gc_catalogue.specs.Calls.{call_fields, IsFitting}
 use Rattle.gc_catalogue.specs.Lists.{behind_commas, params_of}
@@ -36,11 +36,13 @@ use Rattle.gc_catalogue.proofs.Joining.{params_of-cons}
 use Rattle.gc_catalogue.proofs.Table.{number_fits}
 use Rattle.gc_instrument.specs.Laws.{HasNoRequest}
 use Rattle.gc_instrument.proofs.HeardFrames.{lines_of}
-use Rattle.gc_field.specs.Fronts.{request_bytes, IsWholeOrNothing}
+use Rattle.gc_field.specs.Fronts.{request_bytes, CutRequestsAreWholeOrNothing}
 use Rattle.gc_lines.proofs.Lists.{all_append}
 use Rattle.std.proofs.Math.Bool.{and-false}
 use Rattle.std.proofs.lemmas.List.{take-append-le}
 use Rattle.std.proofs.Math.Seq.{take-append-add}
+use Rattle.gc_lines.specs.Passing.{frames_behind}
+use Rattle.gc_texts.specs.Cuts.{Lacks}
 
 -- Bytes above the sign that begins a request.
 
@@ -80,7 +82,7 @@ above_written m s =
 
 -- a hexadecimal digit is above the sign
 above_digit : (d : ℕ) → d < 16 → 37 < slice_index lower_digits d
-above_digit d h = let above = digit_above d h in omega (arith, above)
+above_digit d h = let above = hex_digit_above_comma d h in omega (arith, above)
 
 -- the text of a byte is above the sign
 above_byte : (n : ℕ) → n < 256 → AreAbove (byte_text n)
@@ -138,11 +140,11 @@ above_id (Some i) = (lit< tt, (omega arith, tt))
 
 -- the bytes of a request after the first, `%`, without CR LF: `R1Q,` (82 49 81 44), the number, the id, a colon (58), and the
 -- parameters
-abbrev pub body : ℕ → Call → List ℕ
-body id call = 82 ∷ 49 ∷ 81 ∷ 44 ∷ (decimal (call_fields call).number ++ (id_text (Some id) ++ 58 ∷ params_of (call_fields call).values))
+abbrev pub request_body : ℕ → Call → List ℕ
+request_body id call = 82 ∷ 49 ∷ 81 ∷ 44 ∷ (decimal (call_fields call).number ++ (id_text (Some id) ++ 58 ∷ params_of (call_fields call).values))
 
--- all bytes of `body` are above the sign with which each request begins
-pub above_body : (id : ℕ) (call : Call) → IsFitting call → AreAbove (body id call)
+-- all bytes of `request_body` are above the sign with which each request begins
+pub above_body : (id : ℕ) (call : Call) → IsFitting call → AreAbove (request_body id call)
 above_body id call h =
     let n = (call_fields call).number in (
       lit< tt,
@@ -171,66 +173,66 @@ frame_line bytes line e = chosen (ends_in_return bytes) (ltb 512 (length bytes -
   chosen true true e = let never : ⊥ = cc in absurd never
   chosen true false e = cc
 
--- if a frame's line, if it has one, has the property P, and so has each line of the later frames, all of these lines have P
-framed : (P : List ℕ → Type 0) (f : Frame) (fs : List Frame) → ((line : List ℕ) → line_in f ≡ Some line → P line) → AllByRecursion P (lines_of fs) → AllByRecursion P (lines_of (f ∷ fs))
-framed P (Line line) fs h g = (h line.items refl, g)
-framed P Cleared fs h g = g
-framed P Overlong fs h g = g
-framed P More fs h g = g
+-- where P holds of a frame's line, if there is one, and of each line of the frames after it, P holds of each line of all of them
+lines_of_framed : (P : List ℕ → Type 0) (f : Frame) (fs : List Frame) → ((line : List ℕ) → line_in f ≡ Some line → P line) → AllByRecursion P (lines_of fs) → AllByRecursion P (lines_of (f ∷ fs))
+lines_of_framed P (Line line) fs h g = (h line.items refl, g)
+lines_of_framed P Cleared fs h g = g
+lines_of_framed P Overlong fs h g = g
+lines_of_framed P More fs h g = g
 
 -- a line without the sign with which each request begins (37) is no request
-no_request_unsigned : (line : List ℕ) → AllByRecursion (λ b. b ≢ 37) line → IsNoRequest line
-no_request_unsigned line h q r = (subst (λ l. AllByRecursion (λ b. b ≢ 37) l) r.whole h).0 refl
+no_request_without_sign : (line : List ℕ) → Lacks 37 line → IsNoRequest line
+no_request_without_sign line h q r = (subst (λ l. Lacks 37 l) r.whole h).0 refl
 
--- no line of bytes without the sign 37 is a request
-no_requests_unsigned : (before bytes : List ℕ) → AllByRecursion (λ b. b ≢ 37) before → AllByRecursion (λ b. b ≢ 37) bytes
-    → AllByRecursion IsNoRequest (lines_of (map frame_of (pieces_behind before bytes)))
-no_requests_unsigned before [] h g = tt
-no_requests_unsigned before (b ∷ bytes) h g =
+-- no line of bytes without the sign (37), behind others without it (`before`), is a request
+no_requests_without_sign : (before bytes : List ℕ) → Lacks 37 before → Lacks 37 bytes
+    → AllByRecursion IsNoRequest (lines_of (frames_behind before bytes))
+no_requests_without_sign before [] h g = tt
+no_requests_without_sign before (b ∷ bytes) h g =
     chosen (is_line_feed b)
-    (framed IsNoRequest (frame_of before) (map frame_of (pieces_behind [] bytes))
-    (λ line e. no_request_unsigned line (subst (λ l. AllByRecursion (λ b. b ≢ 37) l) (sym (frame_line before line e))
-    (every_take (λ b. b ≢ 37) before (length before - 1) h))) (no_requests_unsigned [] bytes tt g.1))
-    (no_requests_unsigned (before ++ b ∷ []) bytes (all_append (λ b. b ≢ 37) before (b ∷ []) h (g.0, tt)) g.1)
+    (lines_of_framed IsNoRequest (frame_of before) (frames_behind [] bytes)
+    (λ line e. no_request_without_sign line (subst (λ l. Lacks 37 l) (sym (frame_line before line e))
+    (every_take (λ b. b ≢ 37) before (length before - 1) h))) (no_requests_without_sign [] bytes tt g.1))
+    (no_requests_without_sign (before ++ b ∷ []) bytes (all_append (λ b. b ≢ 37) before (b ∷ []) h (g.0, tt)) g.1)
   where
     -- the lemma above, by whether the next byte ends a frame (`t`)
     chosen : (t : Bool) → AllByRecursion IsNoRequest (lines_of (map frame_of (before ∷ pieces_behind [] bytes)))
-        → AllByRecursion IsNoRequest (lines_of (map frame_of (pieces_behind (before ++ b ∷ []) bytes)))
+        → AllByRecursion IsNoRequest (lines_of (frames_behind (before ++ b ∷ []) bytes))
         → AllByRecursion IsNoRequest (lines_of (map frame_of (cond t (before ∷ pieces_behind [] bytes) (pieces_behind (before ++ b ∷ []) bytes))))
     chosen true here later = here
     chosen false here later = later
 
 -- bytes without a CR don't end in one
-no_return : (bytes : List ℕ) → AllByRecursion (λ b. b ≢ 13) bytes → ends_in_return bytes ≡ false
-no_return [] h = refl
-no_return (b ∷ bytes) h =
+no_return_at_end : (bytes : List ℕ) → Lacks 13 bytes → ends_in_return bytes ≡ false
+no_return_at_end [] h = refl
+no_return_at_end (b ∷ bytes) h =
     let last : eqb (slice_index (b ∷ bytes) (length (b ∷ bytes) - 1)) 13 ≡ false =
     ne_eqb (slice_index (b ∷ bytes) (length (b ∷ bytes) - 1)) 13 (All-from_recursion
     (λ b. b ≢ 13) (b ∷ bytes) h (length (b ∷ bytes) - 1) 0 (omega arith)) in
     ap (λ t. ltb 0 (length (b ∷ bytes)) && t) last ∙ and-false (ltb 0 (length (b ∷ bytes)))
 
 -- bytes without a CR are no line
-no_line : (bytes : List ℕ) → AllByRecursion (λ b. b ≢ 13) bytes → frame_of bytes ≡ Cleared
-no_line bytes h = ap (λ t. cond t (cond (ltb 512 (length bytes - 1)) Overlong (Line (record { items = take (length bytes - 1) bytes }))) Cleared) (no_return bytes h)
+no_line : (bytes : List ℕ) → Lacks 13 bytes → frame_of bytes ≡ Cleared
+no_line bytes h = ap (λ t. cond t (cond (ltb 512 (length bytes - 1)) Overlong (Line (record { items = take (length bytes - 1) bytes }))) Cleared) (no_return_at_end bytes h)
 
--- if the frame that a byte would end is no line, and there are no lines in the frames after it if the byte ends it (`here`), nor
--- in the frames if it doesn't (`later`), there are no lines, whether the byte ends that frame (`t`) or not
-one_by_one : (t : Bool) (before : List ℕ) (here later : List (List ℕ)) → frame_of before ≡ Cleared → lines_of (map frame_of here) ≡ []
+-- if the bytes `before` are no line, and no piece of `here` is one, nor of `later`: there are no lines, whether the pieces are
+-- `before` and then `here` (`t`), or `later`
+no_lines_either_way : (t : Bool) (before : List ℕ) (here later : List (List ℕ)) → frame_of before ≡ Cleared → lines_of (map frame_of here) ≡ []
     → lines_of (map frame_of later) ≡ [] → lines_of (map frame_of (cond t (before ∷ here) later)) ≡ []
-one_by_one true before here later none h g = ap (λ f. lines_of (f ∷ map frame_of here)) none ∙ h
-one_by_one false before here later none h g = g
+no_lines_either_way true before here later none h g = ap (λ f. lines_of (f ∷ map frame_of here)) none ∙ h
+no_lines_either_way false before here later none h g = g
 
--- no lines are in bytes without a CR
-no_lines : (before bytes : List ℕ) → AllByRecursion (λ b. b ≢ 13) before → AllByRecursion (λ b. b ≢ 13) bytes → lines_of (map frame_of (pieces_behind before bytes)) ≡ []
+-- no lines are in bytes without a CR, behind others without one (`before`)
+no_lines : (before bytes : List ℕ) → Lacks 13 before → Lacks 13 bytes → lines_of (frames_behind before bytes) ≡ []
 no_lines before [] h g = refl
 no_lines before (b ∷ bytes) h g =
-    one_by_one (is_line_feed b) before (pieces_behind [] bytes) (pieces_behind (before ++ b ∷ []) bytes) (no_line before h) (no_lines [] bytes tt g.1)
+    no_lines_either_way (is_line_feed b) before (pieces_behind [] bytes) (pieces_behind (before ++ b ∷ []) bytes) (no_line before h) (no_lines [] bytes tt g.1)
     (no_lines (before ++ b ∷ []) bytes (all_append (λ b. b ≢ 13) before (b ∷ []) h (g.0, tt)) g.1)
 
 -- A request.
 
--- a front or a tail of a request of a call that fits is no request, unless it is the whole one
-pub whole_or_nothing : (id : ℕ) (call : Call) → IsFitting call → IsWholeOrNothing id call
+-- each request of a call that fits is whole or nothing, whatever its id
+pub whole_or_nothing : CutRequestsAreWholeOrNothing
 whole_or_nothing id call fits =
     let line = request_line (Some id) call in
     let above = above_body id call fits in
@@ -238,15 +240,15 @@ whole_or_nothing id call fits =
       front = λ count le. ap (λ l. lines (l ++ 10 ∷ [])) (take-append-le count line (13 ∷ 10 ∷ []) le)
           ∙ no_lines [] (take count line ++ 10 ∷ []) tt
           (all_append (λ b. b ≢ 13) (take count line) (10 ∷ []) (every_take (λ b. b ≢ 13) line count
-          ((λ e. omega (arith, e)), all_on (λ b. 37 < b) (λ b. b ≢ 13) (body id call) (λ b l e. omega (arith, l, e)) above)) ((λ e. omega (arith, e)), tt));
+          ((λ e. omega (arith, e)), all_on (λ b. 37 < b) (λ b. b ≢ 13) (request_body id call) (λ b l e. omega (arith, l, e)) above)) ((λ e. omega (arith, e)), tt));
       whole = ap (λ l. l ++ 10 ∷ []) (take-append-add line (13 ∷ 10 ∷ []) 1) ∙ append_assoc line (13 ∷ []) (10 ∷ []);
       tail = λ count some. tail_of above count some;
     }
   where
     -- a tail of a request that lacks at least the request's first byte has no request in it
-    tail_of : AreAbove (body id call) → (count : ℕ) → 0 < count → HasNoRequest (drop count (request_bytes id call))
+    tail_of : AreAbove (request_body id call) → (count : ℕ) → 0 < count → HasNoRequest (drop count (request_bytes id call))
     tail_of above zero some = absurd (omega (arith, some))
     tail_of above (suc k) some =
-        no_requests_unsigned [] (drop k (body id call ++ 13 ∷ 10 ∷ [])) tt
-        (every_drop (λ b. b ≢ 37) (body id call ++ 13 ∷ 10 ∷ []) k (all_append (λ b. b ≢ 37) (body id call) (13 ∷ 10 ∷ [])
-        (all_on (λ b. 37 < b) (λ b. b ≢ 37) (body id call) (λ b l e. omega (arith, l, e)) above) ((λ e. omega (arith, e)), ((λ e. omega (arith, e)), tt))))
+        no_requests_without_sign [] (drop k (request_body id call ++ 13 ∷ 10 ∷ [])) tt
+        (every_drop (λ b. b ≢ 37) (request_body id call ++ 13 ∷ 10 ∷ []) k (all_append (λ b. b ≢ 37) (request_body id call) (13 ∷ 10 ∷ [])
+        (all_on (λ b. 37 < b) (λ b. b ≢ 37) (request_body id call) (λ b l e. omega (arith, l, e)) above) ((λ e. omega (arith, e)), ((λ e. omega (arith, e)), tt))))

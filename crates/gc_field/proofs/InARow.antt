@@ -15,8 +15,8 @@ use Rattle.gc_field.specs.Field.{Move}
 use Rattle.gc_field.specs.Runs.{Program}
 use Rattle.gc_field.specs.InARow.{AreFaithful, AreFewKilledWithTurns, AreInARow, ProgramsInARowAreFaithful, killed_by, killed_over}
 use Rattle.gc_field.specs.Instrument.{IsAnInstrument}
-use Rattle.gc_field.proofs.BeginJoin.{left_lines}
-use Rattle.gc_field.proofs.BegunRuns.{IsShortOfTheWord, run_result, short_rising, short_word}
+use Rattle.gc_field.proofs.BeginJoin.{left_well_formed}
+use Rattle.gc_field.proofs.BegunRuns.{IsShortOfTheWord, run_result, short_if_rising, short_lacks_the_word}
 use Rattle.gc_field.proofs.Joining.{run_faithful}
 
 -- lines that are marked as old, without the marks, are the same lines
@@ -27,7 +27,7 @@ same_lines xs = map-map _ _ xs ∙ map-id xs
 same_ids : {State : Type 0} (u : UnderWay State) → ids_under_way (leaves (begins u)) ≡ ids_under_way u
 same_ids u = ap₂ (λ (d : List (List ℕ)) (q : List Request). filter_map heard d ++ map (λ x. x.id) q) (same_lines u.down) (same_lines u.up)
 
--- a run with these turns and moves
+-- the run of these turns of its synchronization and of the moves after it
 abbrev pub run : {State : Type 0} → List (SyncTurn State) → List (Move State) → Run State
 run ts ms = record { turns = ts; moves = ms }
 
@@ -38,7 +38,7 @@ module _ {State : Type 0} (ends : Ends State) (Good : State → Type 0) (kept : 
       → ArePossibleIf WINDOW ends Good kept (after_turns ends u (run ts ms)).left (after_turns ends u (run ts ms)) ms → killed_by ends n u (run ts ms) ts ≤ 5
       → IsShortOfTheWord Good (killed_by ends n u (run ts ms) ts) (left_by_run WINDOW ends u (run ts ms))
   after_run [] ms n u short turns p few = record {
-    lines = left_lines ends Good kept is u [] short.lines tt;
+    lines = left_well_formed ends Good kept is u [] short.lines tt;
     more = short.more;
     tail = short.tail;
     split = short.split;
@@ -62,11 +62,11 @@ module _ {State : Type 0} (ends : Ends State) (Good : State → Type 0) (kept : 
   all_faithful : (xs : List (Program State)) (n : ℕ) (u : UnderWay State) → IsShortOfTheWord Good n u → AreInARow ends Good kept n u xs → AreFaithful ends Good kept u xs
   all_faithful [] n u short h = tt
   all_faithful (x ∷ xs) n u short h = (
-    run_faithful ends Good kept is u x (record { runs = h.0.runs; lines = short.lines; none = short_word Good n u short; shown = h.0.shown; possible = h.0.possible }),
+    run_faithful ends Good kept is u x (record { runs = h.0.runs; lines = short.lines; none = short_lacks_the_word Good n u short; shown = h.0.shown; possible = h.0.possible }),
     all_faithful xs (killed_over ends n u x.runs) (left_by_runs WINDOW ends u x.runs) (after_runs x.runs n u short h.0.possible h.0.few) h.1,
   )
 
   -- where what is in flight before the first of stations one after the other is `IsWellFormed`, and `HasRisingIds` holds of it,
   -- the stations are faithful, as long as few in a row are killed while they synchronize (`AreInARow`)
   pub in_a_row : ProgramsInARowAreFaithful ends Good kept
-  in_a_row u lines row xs h = all_faithful xs 0 u (short_rising Good u lines row) h
+  in_a_row u lines row xs h = all_faithful xs 0 u (short_if_rising Good u lines row) h

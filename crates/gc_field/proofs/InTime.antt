@@ -17,7 +17,7 @@ use Rattle.gc_world.specs.Clients.{by_ids, by_numbers}
 use Rattle.gc_field.specs.World.{Ends, Numbered, Wire, World, requested}
 use Rattle.gc_world.proofs.Sound.{IsComing}
 use Rattle.gc_field.specs.Begin.{UnderWay}
-use Rattle.gc_field.specs.Begun.{IsClean, IsFaithful, behind, ids_begun, nulls_settled, numbers_begun, ArePossibleOnceBegun}
+use Rattle.gc_field.specs.Begun.{IsClean, IsFaithful, world_once_begun, ids_begun, nulls_settled, numbers_begun, ArePossibleOnceBegun}
 use Rattle.gc_field.specs.Field.{Move, Sends, Tells, Comes, Foreign, OnLine, Anew, Changes, Joins, moves, moved, seen}
 use Rattle.gc_field.specs.Instrument.{IsAnInstrument}
 use Rattle.gc_field.specs.Laws.{asked}
@@ -25,7 +25,7 @@ use Rattle.gc_field.specs.Runs.{IsFaithfulThroughout, IsInTime, times_out, world
 use Rattle.gc_field.specs.Shown.{Stretch}
 use Rattle.gc_field.proofs.Instruments.{exchange_of}
 use Rattle.gc_field.proofs.Possible.{front_possible, later_possible, moved_append}
-use Rattle.gc_field.proofs.Waits.{Waits, after_is, after_moves, waits_all}
+use Rattle.gc_field.proofs.Waits.{WaitsAs, pending_is, pending_after, waits_all}
 use Rattle.gc_field.proofs.Moving.{both_all}
 use Rattle.gc_field.proofs.BegunFaithful.{both_begun, faithful}
 use Rattle.gc_field.proofs.Unbegun.{faithful_none}
@@ -47,10 +47,10 @@ seen_append (Joins line ∷ front) later = seen_append front later
 
 -- if more than k requests are outstanding (`ps`), what a reply to the one at place k settles has at place k the settlement of
 -- that request by the reply
-met_at : (k : ℕ) (line : List ℕ) (ps : List (Pending Asked)) → k < length ps → (p : Pending Asked) × (slice_get ps k ≡ Some p) × (slice_get (settle k line ps) k ≡ Some (settled_by_line p line))
-met_at k line [] low = absurd (omega (arith, low))
-met_at zero line (p ∷ ps) low = (p, refl, refl)
-met_at (suc k) line (p ∷ ps) low = met_at k line ps (omega (arith, low))
+settled_at : (k : ℕ) (line : List ℕ) (ps : List (Pending Asked)) → k < length ps → (p : Pending Asked) × (slice_get ps k ≡ Some p) × (slice_get (settle k line ps) k ≡ Some (settled_by_line p line))
+settled_at k line [] low = absurd (omega (arith, low))
+settled_at zero line (p ∷ ps) low = (p, refl, refl)
+settled_at (suc k) line (p ∷ ps) low = settled_at k line ps (omega (arith, low))
 
 -- a list that has an element, x, between a front and later elements isn't empty
 pub not_nil : {A : Type 0} (xs front later : List A) (x : A) → xs ≡ [] → xs ≡ front ++ x ∷ later → ⊥
@@ -81,8 +81,8 @@ module _ {State : Type 0} (ends : Ends State) (Good : State → Type 0) (kept : 
       ]
 
   -- a sound stretch is faithful after any number of its first moves
-  pub throughout : (s : Stretch State) → IsSoundStretch s → IsFaithfulThroughout ends Good kept s
-  throughout s sound front later e =
+  pub faithful_throughout : (s : Stretch State) → IsSoundStretch s → IsFaithfulThroughout ends Good kept s
+  faithful_throughout s sound front later e =
       elim sound.clean [
         | inl clean ↦ clean_faithful s.from clean front (front_possible 7 ends Good kept s.moves front later (ids_begun s.from) e sound.possible)
         | inr none ↦ subst (λ ms. IsFaithful 7 ends s.from ms Good kept) (sym (front_nil front later (sym none ∙ e))) (faithful_none ends Good kept s.from)
@@ -91,7 +91,7 @@ module _ {State : Type 0} (ends : Ends State) (Good : State → Type 0) (kept : 
   -- after a clean synchronization, what is settled after the first ones of possible moves stays in front of what is settled by
   -- all
   settled_more : (u : UnderWay State) → IsClean Good kept u → (ms front later : List (Move State)) → ms ≡ front ++ later → ArePossibleOnceBegun 7 ends u Good kept ms
-      → (more : List (Settlement Asked)) × ((behind 7 ends u ms).wire.settled ≡ (behind 7 ends u front).wire.settled ++ more)
+      → (more : List (Settlement Asked)) × ((world_once_begun 7 ends u ms).wire.settled ≡ (world_once_begun 7 ends u front).wire.settled ++ more)
   settled_more u clean ms front later e p =
       let whole = clean_faithful u clean ms p in
       let part = clean_faithful u clean front (front_possible 7 ends Good kept ms front later (ids_begun u) e p) in
@@ -108,10 +108,10 @@ module _ {State : Type 0} (ends : Ends State) (Good : State → Type 0) (kept : 
   -- after a clean synchronization and possible moves, if the front reply is to a request that isn't settled, that request is one
   -- of those that wait
   below_sent : (u : UnderWay State) → IsClean Good kept u → (front : List (Move State)) → ArePossibleOnceBegun 7 ends u Good kept front
-      → (line : List ℕ) (n : ℕ) (rest : List (Numbered (List ℕ))) → (behind 7 ends u front).wire.down ≡ record { number = n; line = line } ∷ rest
-      → length (behind 7 ends u front).wire.settled ≤ n → n - length (behind 7 ends u front).wire.settled < length (behind 7 ends u front).client.waiting
+      → (line : List ℕ) (n : ℕ) (rest : List (Numbered (List ℕ))) → (world_once_begun 7 ends u front).wire.down ≡ record { number = n; line = line } ∷ rest
+      → length (world_once_begun 7 ends u front).wire.settled ≤ n → n - length (world_once_begun 7 ends u front).wire.settled < length (world_once_begun 7 ends u front).client.waiting
   below_sent u clean front possible line n rest e le =
-      let a = behind 7 ends u front in
+      let a = world_once_begun 7 ends u front in
       let b = moved ends (by_numbers 7) front (numbers_begun u) in
       let both = both_all 7 (omega arith) ends Good (exchange_of ends Good kept is) kept front (ids_begun u) (numbers_begun u) possible (both_begun ends Good kept is 7 (omega arith) u clean) in
       let same : a.wire ≡ b.wire = both.agree.wire in
@@ -126,21 +126,21 @@ module _ {State : Type 0} (ends : Ends State) (Good : State → Type 0) (kept : 
   abbrev MetAt : Stretch State → Type 0
   MetAt s =
       (front later : List (Move State)) (line : List ℕ) (n : ℕ) (rest : List (Numbered (List ℕ))) → s.moves ≡ front ++ Comes line ∷ later
-      → (behind 7 ends s.from front).wire.down ≡ record { number = n; line = line } ∷ rest → length (behind 7 ends s.from front).wire.settled ≤ n
-      → (p : Pending Asked) × (slice_get (behind 7 ends s.from front).client.waiting (n - length (behind 7 ends s.from front).wire.settled) ≡ Some p)
+      → (world_once_begun 7 ends s.from front).wire.down ≡ record { number = n; line = line } ∷ rest → length (world_once_begun 7 ends s.from front).wire.settled ≤ n
+      → (p : Pending Asked) × (slice_get (world_once_begun 7 ends s.from front).client.waiting (n - length (world_once_begun 7 ends s.from front).wire.settled) ≡ Some p)
       × (slice_get (world ends s).wire.settled n ≡ Some (settled_by_line p line))
 
   -- after a clean synchronization `MetAt` holds of a stretch with possible moves
-  meets : (s : Stretch State) → IsClean Good kept s.from → ArePossibleOnceBegun 7 ends s.from Good kept s.moves → MetAt s
-  meets s clean possible = λ front later line n rest e down le.
-      let w = behind 7 ends s.from front in
+  all_met_at : (s : Stretch State) → IsClean Good kept s.from → ArePossibleOnceBegun 7 ends s.from Good kept s.moves → MetAt s
+  all_met_at s clean possible = λ front later line n rest e down le.
+      let w = world_once_begun 7 ends s.from front in
       let k = n - length w.wire.settled in
       let split : s.moves ≡ (front ++ Comes line ∷ []) ++ later = e ∙ sym (append_assoc front (Comes line ∷ []) later) in
       let before = front_possible 7 ends Good kept s.moves front (Comes line ∷ later) (ids_begun s.from) e possible in
       let f = clean_faithful s.from clean front before in
-      let p = met_at k line w.client.waiting (below_sent s.from clean front before line n rest down le) in
+      let p = settled_at k line w.client.waiting (below_sent s.from clean front before line n rest down le) in
       let more = settled_more s.from clean s.moves (front ++ Comes line ∷ []) later split possible in
-      let here : (behind 7 ends s.from (front ++ Comes line ∷ [])).wire.settled ≡ w.wire.settled ++ settle k line w.client.waiting =
+      let here : (world_once_begun 7 ends s.from (front ++ Comes line ∷ [])).wire.settled ≡ w.wire.settled ++ settle k line w.client.waiting =
       ap (λ (v : World (ById Asked) State). v.wire.settled) (moved_append ends (by_ids 7 ends) front (Comes line ∷ []) (ids_begun s.from)) ∙ f.first_reply n line rest down le in (
         p.0,
         p.1,
@@ -164,35 +164,36 @@ module _ {State : Type 0} (ends : Ends State) (Good : State → Type 0) (kept : 
   -- if there are as many requests settled and waiting together as were sent, a request that the client doesn't refuse (`b` says
   -- whether it does) waits after the others once it is sent
   sent_by_test : (w : World (ById Asked) State) (target : ℕ) (call : Asked) (deadline : ℕ) (b : Bool) → b ≡ false → length w.wire.settled + length w.client.waiting ≡ length w.wire.sent
-      → Waits (requested w target call (send_unless_full w.client target call deadline b)) (length w.wire.sent) (pending_of target call deadline)
+      → WaitsAs (requested w target call (send_unless_full w.client target call deadline b)) (length w.wire.sent) (pending_of target call deadline)
   sent_by_test w target call deadline true e counts = cc
   sent_by_test w target call deadline false e counts = λ le. get_behind w.client.waiting (pending_of target call deadline ∷ []) (length w.wire.sent - length w.wire.settled) 0 (omega (arith, counts))
 
   -- after moves (`before`) of which `IsFaithful` holds, and while fewer than seven requests wait, a request that is sent waits
   -- after the others
-  sent_waits : (u : UnderWay State) (before : List (Move State)) (target : ℕ) (call : Asked) (deadline : ℕ) → IsFaithful 7 ends u before Good kept → length (behind 7 ends u before).client.waiting < 7
-      → Waits (moves ends (by_ids 7 ends) (behind 7 ends u before) (Sends target call deadline)) (length (behind 7 ends u before).wire.sent) (pending_of target call deadline)
+  sent_waits : (u : UnderWay State) (before : List (Move State)) (target : ℕ) (call : Asked) (deadline : ℕ) → IsFaithful 7 ends u before Good kept
+      → length (world_once_begun 7 ends u before).client.waiting < 7
+      → WaitsAs (moves ends (by_ids 7 ends) (world_once_begun 7 ends u before) (Sends target call deadline)) (length (world_once_begun 7 ends u before).wire.sent) (pending_of target call deadline)
   sent_waits u before target call deadline f room =
-      let w = behind 7 ends u before in
+      let w = world_once_begun 7 ends u before in
       sent_by_test w target call deadline (nat_eq (length w.client.waiting) 7) (ne_eqb (length w.client.waiting) 7 (λ e. omega (arith, e, room))) (sent_counts w f.accounted)
 
   -- after a clean synchronization a stretch with possible moves is in time
   in_time_clean : (s : Stretch State) → IsClean Good kept s.from → ArePossibleOnceBegun 7 ends s.from Good kept s.moves → IsInTime ends s
   in_time_clean s clean all_possible = λ before between later target call deadline line rest e room down le.
       let front = before ++ Sends target call deadline ∷ between in
-      let w = behind 7 ends s.from before in
+      let w = world_once_begun 7 ends s.from before in
       let n = length w.wire.sent in
       let split : s.moves ≡ before ++ (Sends target call deadline ∷ (between ++ Comes line ∷ later)) = e ∙ append_assoc before (Sends target call deadline ∷ between) (Comes line ∷ later) in
       let sent = Sends target call deadline ∷ (between ++ Comes line ∷ later) in
       let f = clean_faithful s.from clean before (front_possible 7 ends Good kept s.moves before sent (ids_begun s.from) split all_possible) in
-      let m = meets s clean all_possible front later line n rest e down le in
+      let m = all_met_at s clean all_possible front later line n rest e down le in
       let possible = later_possible 7 ends Good kept front before (Sends target call deadline ∷ between) (ids_begun s.from) refl
       (front_possible 7 ends Good kept s.moves front (Comes line ∷ later) (ids_begun s.from) e all_possible) in
       let p = pending_of target call deadline in
-      let waits : Waits (behind 7 ends s.from front) n (after_moves p between) =
-      subst (λ (v : World (ById Asked) State). Waits v n (after_moves p between)) (sym (moved_append ends (by_ids 7 ends) before (Sends target call deadline ∷ between) (ids_begun s.from)))
+      let waits : WaitsAs (world_once_begun 7 ends s.from front) n (pending_after p between) =
+      subst (λ (v : World (ById Asked) State). WaitsAs v n (pending_after p between)) (sym (moved_append ends (by_ids 7 ends) before (Sends target call deadline ∷ between) (ids_begun s.from)))
       (waits_all ends Good kept between (moves ends (by_ids 7 ends) w (Sends target call deadline)) n p possible.1 (sent_waits s.from before target call deadline f room)) in
-      let same : m.0 ≡ record p { given_up = times_out deadline between } = same_Some m.0 (record p { given_up = times_out deadline between }) (sym m.1 ∙ waits le ∙ ap Some (after_is p between)) in
+      let same : m.0 ≡ record p { given_up = times_out deadline between } = same_Some m.0 (record p { given_up = times_out deadline between }) (sym m.1 ∙ waits le ∙ ap Some (pending_is p between)) in
       m.2 ∙ ap (λ q. Some (settled_by_line q line)) same
 
   -- a sound stretch is in time

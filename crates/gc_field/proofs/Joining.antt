@@ -4,7 +4,6 @@
 use Rattle.std.proofs.Common.{◌≡◌, inl, inr, ℕ, suc, ◌<◌, ◌+◌, ◌≤◌, Bool, true, false, List, [], ◌∷◌, ◌++◌, map, length, Option, Some, refl, sym, ◌∙◌, ap, subst, arith, append_assoc, append-nil, drop, if◌then◌else◌}
 use Rattle.std.specs.Prelude.{slice_get}
 use Rattle.std.specs.List.{AllByRecursion, AllZip}
-use Rattle.gc_catalogue.specs.declared.answer.Reading.{Reading}
 use Rattle.gc_catalogue.specs.declared.asked.Asked.{Asked}
 use Rattle.gc_client.specs.Beginning.{the_word}
 use Rattle.gc_client.specs.OneForOne.{Wanted, Restart, Send, Step, begun, course}
@@ -34,8 +33,8 @@ use Rattle.gc_world.specs.Record.{IsReplyTo}
 use Rattle.std.proofs.lemmas.Option.{slice_get_within}
 use Rattle.gc_field.specs.World.{Ends}
 use Rattle.gc_field.specs.Begin.{IsWellFormed, LacksTheWord, AreTurns, UnderWay, begins, leaves, left_by_turns}
-use Rattle.gc_field.specs.Beginnings.{AreOwn, ArePossibleIf, AreRuns, IsOwnIf, Run, after_turns, left_by_run, left_if, on_line}
-use Rattle.gc_field.specs.Begun.{IsFaithful, IsSafe, WasMadeOn, behind, ArePossibleOnceBegun}
+use Rattle.gc_field.specs.Beginnings.{AreOwn, ArePossibleIf, AreRuns, IsOwnIf, Run, after_turns, left_by_run, left_if, under_way_on}
+use Rattle.gc_field.specs.Begun.{IsFaithful, IsSafe, WasMadeOn, world_once_begun, ArePossibleOnceBegun}
 use Rattle.gc_field.specs.Field.{seen}
 use Rattle.gc_field.specs.Instrument.{IsAnInstrument}
 use Rattle.gc_field.specs.Laws.{asked}
@@ -44,7 +43,7 @@ use Rattle.gc_field.specs.Shown.{AreShownAs, Stretch, shown, stretches}
 use Rattle.gc_field.proofs.BeginJoin.{begins_cleanly}
 use Rattle.gc_field.proofs.BegunFaithful.{sent_is}
 use Rattle.gc_field.proofs.BegunRising.{rising_lack_the_word, runs_leave_good, runs_leave_rising_ids}
-use Rattle.gc_field.proofs.InTime.{IsSoundStretch, in_time, clean_faithful, throughout}
+use Rattle.gc_field.proofs.InTime.{IsSoundStretch, in_time, clean_faithful, faithful_throughout}
 use Rattle.gc_field.proofs.Meant.{are_meant}
 use Rattle.gc_field.proofs.Safe.{goes_out}
 use Rattle.gc_field.proofs.Shown.{left_is}
@@ -54,6 +53,7 @@ use Rattle.gc_world.proofs.Places.{get_seen}
 use Rattle.gc_field.proofs.Among.{among_first, get_drop}
 use Rattle.std.proofs.lemmas.List.{drop-map}
 use Rattle.std.proofs.lemmas.Bool.{true≢false}
+use Rattle.gc_station.specs.Scopes.{Reads}
 
 module _ {State : Type 0} (ends : Ends State) (Good : State → Type 0) (kept : State → Option KeptReply) (is : IsAnInstrument ends Good kept) where
   -- One part.
@@ -97,7 +97,7 @@ module _ {State : Type 0} (ends : Ends State) (Good : State → Type 0) (kept : 
       let good = runs_leave_good ends Good kept is 7 (omega arith) (leaves s) clean r.moves possible in
       let row = runs_leave_rising_ids ends Good kept is 7 (omega arith) (leaves s) clean r.moves possible in
       subst (λ w. MayBegin (left_if 7 ends w s r.moves)) (sym e)
-      (record { lines = record { ids = good.1; good = good.0 }; none = rising_lack_the_word (on_line (behind 7 ends (leaves s) r.moves).wire) row })
+      (record { lines = record { ids = good.1; good = good.0 }; none = rising_lack_the_word (under_way_on (world_once_begun 7 ends (leaves s) r.moves).wire) row })
 
   -- A stretch with its part.
 
@@ -194,7 +194,7 @@ module _ {State : Type 0} (ends : Ends State) (Good : State → Type 0) (kept : 
   all_safe commands (p ∷ ps) [] rules fit sent = absurd fit
   all_safe commands (p ∷ ps) (s ∷ ss) rules fit sent = (safe_part commands p s (rules 0 p refl) fit.0 sent.0, all_safe commands ps ss (λ i q e. rules (suc i) q e) fit.1 sent.1)
 
-  module _ (reads : Asked → List ℕ → Reading) (commands : List Task) where
+  module _ (reads : Reads) (commands : List Task) where
     -- where `Books` holds of the last part, its marks are of the requests of its stretch
     marks_of_last : (rs : List Record) (p : Part) (s : Stretch State) (end : Model) → Fits p s
         → Books reads commands fresh [] rs p end.client end.marks (sent_of end.records) → MarksAsk commands p.marks (map asked (own_sent ends s))
@@ -249,14 +249,14 @@ module _ {State : Type 0} (ends : Ends State) (Good : State → Type 0) (kept : 
 
   -- `P` holds *at first*: wherever a part and a stretch are the first of a run, fit, and are safe, and the part's marks are of
   -- the stretch's requests, it holds of the records of what the stretch settled, and of what was lost then
-  abbrev HoldsAtFirst : (List Part → List (Stretch State) → Record → Type 0) → (Asked → List ℕ → Reading) → List Task → Type 0
+  abbrev HoldsAtFirst : (List Part → List (Stretch State) → Record → Type 0) → Reads → List Task → Type 0
   HoldsAtFirst P reads commands =
       (p : Part) (s : Stretch State) (ps : List Part) (ss : List (Stretch State)) (waiting : List (Pending Asked)) (xs : List (Settlement Asked))
       → xs ≡ own_settled ends s ++ map lost waiting → Fits p s → IsSafePart p s → MarksAsk commands p.marks (map asked (own_sent ends s))
       → AllByRecursion (P (p ∷ ps) (s ∷ ss)) (records_of reads 0 p.marks xs)
 
   -- `IsOwnAnswer` holds at first
-  own_first : (reads : Asked → List ℕ → Reading) (commands : List Task) → HoldsAtFirst (IsOwnAnswer ends Good kept commands) reads commands
+  own_first : (reads : Reads) (commands : List Task) → HoldsAtFirst (IsOwnAnswer ends Good kept commands) reads commands
   own_first reads commands p s ps ss waiting xs e f safe sent =
       all_records reads 0 (IsOwnAnswer ends Good kept commands (p ∷ ps) (s ∷ ss)) p.marks xs
       (λ n mark x at got line says.
@@ -300,7 +300,7 @@ module _ {State : Type 0} (ends : Ends State) (Good : State → Type 0) (kept : 
   -- Executed, though late.
 
   -- `LateHasExecution` holds at first
-  late_first : (reads : Asked → List ℕ → Reading) (commands : List Task) → HoldsAtFirst (LateHasExecution ends Good kept commands) reads commands
+  late_first : (reads : Reads) (commands : List Task) → HoldsAtFirst (LateHasExecution ends Good kept commands) reads commands
   late_first reads commands p s ps ss waiting xs e f safe sent =
       all_records reads 0 (LateHasExecution ends Good kept commands (p ∷ ps) (s ∷ ss)) p.marks xs
       (λ n mark x at got says.
@@ -333,7 +333,7 @@ module _ {State : Type 0} (ends : Ends State) (Good : State → Type 0) (kept : 
     sent : AreSentAs ends commands ps ss
 
   -- if P lasts (`IsLasting`), and holds at first, and the parts and the stretches match, P holds of all that the stretches record
-  all_over : (P : List Part → List (Stretch State) → Record → Type 0) → IsLasting P → (reads : Asked → List ℕ → Reading) (commands : List Task) → HoldsAtFirst P reads commands
+  all_over : (P : List Part → List (Stretch State) → Record → Type 0) → IsLasting P → (reads : Reads) (commands : List Task) → HoldsAtFirst P reads commands
       → (ps : List Part) (ss : List (Stretch State)) → AreMatched commands ps ss → AllByRecursion (P ps ss) (written_over ends reads ps ss)
   all_over P lasts reads commands first [] [] h = tt
   all_over P lasts reads commands first [] (s ∷ ss) h = tt
@@ -360,7 +360,7 @@ module _ {State : Type 0} (ends : Ends State) (Good : State → Type 0) (kept : 
 
   -- if P lasts (`IsLasting`), holds at first, and holds of any record of a command that wasn't sent, and the parts and the
   -- stretches match: P holds of all records, if those of commands that were sent are what the stretches record
-  all_recorded : (P : List Part → List (Stretch State) → Record → Type 0) → IsLasting P → (reads : Asked → List ℕ → Reading) (commands : List Task)
+  all_recorded : (P : List Part → List (Stretch State) → Record → Type 0) → IsLasting P → (reads : Reads) (commands : List Task)
       → HoldsAtFirst P reads commands → (ps : List Part) (ss : List (Stretch State)) → ((r : Record) → went_out r.end ≡ false → P ps ss r) → (rs : List Record)
       → AreMatched commands ps ss → map timeless (sent_of rs) ≡ written_over ends reads ps ss → AllByRecursion (P ps ss) rs
   all_recorded P lasts reads commands first ps ss unsent rs matched written =
@@ -410,5 +410,5 @@ module _ {State : Type 0} (ends : Ends State) (Good : State → Type 0) (kept : 
         written = written;
         meant = are_meant x.plan x.commands start x.acts fine h.runs;
         in_time = each_fits (IsInTime ends) (λ p s f. in_time ends Good kept is s f.sound) ps ss fit.0;
-        each = each_fits (IsFaithfulThroughout ends Good kept) (λ p s f. throughout ends Good kept is s f.sound) ps ss fit.0;
+        each = each_fits (IsFaithfulThroughout ends Good kept) (λ p s f. faithful_throughout ends Good kept is s f.sound) ps ss fit.0;
       }

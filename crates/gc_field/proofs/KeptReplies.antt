@@ -24,23 +24,23 @@ newest true n table = n
 newest false n table = table
 
 -- if request n isn't before the newest known one, `table`, the newest known one once n was handed isn't before `table` either
-pub newest_up : (known : Bool) (n table : ℕ) → table ≤ n → table ≤ newest known n table
-newest_up true n table le = le
-newest_up false n table le = omega arith
+pub newest_not_before : (known : Bool) (n table : ℕ) → table ≤ n → table ≤ newest known n table
+newest_not_before true n table le = le
+newest_not_before false n table le = omega arith
 
 -- if request n isn't before the newest known one, `table`, the newest known one once n was handed isn't later than n
-pub newest_low : (known : Bool) (n table : ℕ) → table ≤ n → newest known n table ≤ n
-newest_low true n table le = omega arith
-newest_low false n table le = le
+pub newest_not_later : (known : Bool) (n table : ℕ) → table ≤ n → newest known n table ≤ n
+newest_not_later true n table le = omega arith
+newest_not_later false n table le = le
 
--- request n isn't later than the newest known one (`table`), or it isn't known
-abbrev pub IsDealt : (knows : Asked → Bool) (sent : List Sent) (table n : ℕ) → Type 0
-IsDealt knows sent table n = (n ≤ table) ⊎ IsUnknown knows sent n
+-- request n isn't a known one that is later than `table`, the newest known one: it isn't later, or it isn't known
+abbrev pub IsNoNewerKnown : (knows : Asked → Bool) (sent : List Sent) (table n : ℕ) → Type 0
+IsNoNewerKnown knows sent table n = (n ≤ table) ⊎ IsUnknown knows sent n
 
--- once request n was handed, it is `IsDealt`, if it is `IsUnknown` where `known` is false
-pub newest_dealt : (knows : Asked → Bool) (sent : List Sent) (known : Bool) (n table : ℕ) → ((known ≡ false) → IsUnknown knows sent n) → IsDealt knows sent (newest known n table) n
-newest_dealt knows sent true n table f = inl (omega arith)
-newest_dealt knows sent false n table f = inr (f refl)
+-- once request n was handed, it is `IsNoNewerKnown`, if it is `IsUnknown` where `known` is false
+pub newest_no_newer : (knows : Asked → Bool) (sent : List Sent) (known : Bool) (n table : ℕ) → ((known ≡ false) → IsUnknown knows sent n) → IsNoNewerKnown knows sent (newest known n table) n
+newest_no_newer knows sent true n table f = inl (omega arith)
+newest_no_newer knows sent false n table f = inr (f refl)
 
 -- What is kept.
 

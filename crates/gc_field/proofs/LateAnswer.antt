@@ -13,14 +13,14 @@ use Rattle.gc_field.specs.ChainWitness.{at_start}
 use Rattle.gc_field.specs.LateAnswer.{IsLateInField, acts, answer, commands, from, late, moves, program}
 use Rattle.gc_field.specs.Begun.{WasMadeOn}
 use Rattle.gc_field.proofs.ChainWitness.{shown_are}
-use Rattle.gc_field.proofs.Witness.{asked_each, fits, one_part, opens, units}
+use Rattle.gc_field.proofs.Witness.{asked_each, opening_fits, one_part, opens_simulator, units}
 use Rattle.gc_texts.specs.Nears.{is_elsewhere}
-use Rattle.gc_station.specs.Parts.{parts_of}
 use Rattle.gc_station.proofs.Going.{runs-append}
 use Rattle.gc_station.specs.Model.{opening}
 use Rattle.gc_field.specs.Field.{seen}
 use Rattle.gc_field.specs.Shown.{AreShownAs}
 use Rattle.gc_field.specs.Witness.{plan, replies, scope}
+use Rattle.gc_station.specs.Links.{parts}
 
 -- the late reply was made on executing the first command's request
 late_made : WasMadeOn WINDOW simulator_ends from moves 8 (Table InstrumentNo) late
@@ -34,21 +34,21 @@ answer_made = record { front = take 9 moves; later = drop 10 moves; split = refl
 
 -- the run's parts are these: one with these steps, and with the two requests by place and moment; and the empty one
 -- after the end
-parts_are : parts_of plan commands (opening plan scope) acts ≡ one_part (asked_each replies) (seen moves) ((0, 15) ∷ (1, 115) ∷ [])
+parts_are : parts plan commands scope acts ≡ one_part (asked_each replies) (seen moves) ((0, 15) ∷ (1, 115) ∷ [])
 unfolding is_elsewhere header_at reply_at digits
 parts_are = refl
 
 -- this run is in the field, and records a late record and an answer
-pub come_late : IsLateInField
+pub late_in_field : IsLateInField
 unfolding is_elsewhere header_at reply_at handed exec digits
-come_late =
+late_in_field =
     record {
       field =
           record {
             runs =
-                runs-append plan commands (opening plan scope) (take 27 acts) (drop 27 acts) (opens 1 commands scope.reads)
+                runs-append plan commands (opening plan scope) (take 27 acts) (drop 27 acts) (opens_simulator 1 commands scope.reads)
                 (tt, (refl, (tt, (tt, (refl, (tt, (tt, (tt, (refl, tt)))))))));
-            lines = record { ids = tt; good = fits };
+            lines = record { ids = tt; good = opening_fits };
             none = λ h. h;
             shown = subst (AreShownAs simulator_ends at_start program.runs) (sym parts_are) (shown_are, refl, (refl, refl, tt));
             possible = ((units 24, (tt, (tt, (tt, (tt, (tt, (tt, (tt, (tt, ((8, [], refl), (tt, (tt, ((9, [], refl), tt))))))))))))), ((tt, refl), tt));

@@ -11,13 +11,13 @@ use Rattle.gc_links.specs.Acts.{Act, Told, Untold, Put, Cut, Gave, Silent, Ended
 use Rattle.gc_station.specs.Deciding.{has_begun}
 use Rattle.gc_station.specs.Parts.{Part, Hears, sync_part, client_part, heard_steps, put_part}
 use Rattle.gc_station.specs.Model.{Model, action_at, is_heard, lines_completed, Performs, after, Runs}
-use Rattle.gc_station.proofs.Asked.{none_doing, steps_none, sync_steps_gave, sync_steps_none, word_after_sync_steps}
+use Rattle.gc_station.proofs.Asked.{client_part_no_sync_steps, steps_none, sync_steps_gave, sync_steps_none, word_after_sync_steps}
 use Rattle.gc_station.proofs.Booking.{sending_of, sends_with_room}
 use Rattle.gc_station.proofs.EachRun.{invariant_after}
 use Rattle.gc_station.proofs.Givens.{after_rest, rest_with}
 use Rattle.gc_station.proofs.Invariant.{Invariant}
-use Rattle.gc_station.proofs.Meant.{IsPutByClient, IsPutBySync, asked_is, put_is}
-use Rattle.gc_field.specs.Asking.{IsAskedFor, IsHeardOrDiscarded, MeansSyncSteps}
+use Rattle.gc_station.proofs.Meant.{IsPutByClient, IsPutBySync, put_by_sync, put_by_client}
+use Rattle.gc_field.specs.Asking.{IsNullOrLineFeed, IsHeardOrDiscarded, MeansSyncSteps}
 use Rattle.gc_field.specs.Meaning.{IsPut, Means}
 use Rattle.gc_field.specs.Runs.{AreMeant, IsMeant}
 
@@ -50,11 +50,11 @@ gave_means_sync_steps true rest behind piece m e = inl (refl, e)
 gave_means_sync_steps false rest behind piece m e = inr (refl, e)
 
 -- where bytes that are sent while the station synchronizes mean the part p to it, they mean p's steps of the synchronization
-put_means_sync_steps : (s : Model) (bytes : List ℕ) (p : Part) → IsPutBySync s bytes p → IsAskedFor s.progress.word bytes p.sync_steps
+put_means_sync_steps : (s : Model) (bytes : List ℕ) (p : Part) → IsPutBySync s bytes p → IsNullOrLineFeed s.progress.word bytes p.sync_steps
 put_means_sync_steps s bytes p (inl e) = inl (e.0, ap (λ (x : Part). x.sync_steps) e.1)
 put_means_sync_steps s bytes p (inr e) = inr (e.0, ap (λ (x : Part). x.sync_steps) e.1)
 
--- an act brings no bytes, and does not close the connection
+-- this act brings no bytes, and doesn't close the connection
 abbrev LeavesRest : Act → Type 0
 LeavesRest (Gave piece m) = ⊥
 LeavesRest Closed = ⊥
@@ -89,12 +89,12 @@ module _ (plan : Plan) (commands : List Task) where
       (after_rest plan commands s (Gave piece m) obeys)
   act_means s (Put bytes) fine begun obeys = (
     put_means s bytes (put_part plan commands s (action_at plan s))
-        (put_is plan commands s (Put bytes) bytes fine obeys refl begun),
+        (put_by_client plan commands s (Put bytes) bytes fine obeys refl begun),
     same_rest s (Put bytes) obeys tt,
   )
   act_means s (Cut bytes count) fine begun obeys = (
     put_means s bytes (put_part plan commands s (action_at plan s))
-        (put_is plan commands s (Cut bytes count) bytes fine obeys refl begun),
+        (put_by_client plan commands s (Cut bytes count) bytes fine obeys refl begun),
     same_rest s (Cut bytes count) obeys tt,
   )
   act_means s (Told m) fine begun obeys = (refl, same_rest s (Told m) obeys tt)
@@ -114,12 +114,12 @@ module _ (plan : Plan) (commands : List Task) where
       (gave_means_sync_steps (is_heard s.progress.phase) s.rest (after plan commands s (Gave piece m)).rest piece m (after_rest plan commands s (Gave piece m) obeys))
   sync_steps_mean s (Put bytes) begins obeys = (
     put_means_sync_steps s bytes (sync_part s (action_at plan s) (Put bytes))
-        (asked_is plan commands s (Put bytes) bytes obeys refl begins),
+        (put_by_sync plan commands s (Put bytes) bytes obeys refl begins),
     same_rest s (Put bytes) obeys tt,
   )
   sync_steps_mean s (Cut bytes count) begins obeys = (
     put_means_sync_steps s bytes (sync_part s (action_at plan s) (Cut bytes count))
-        (asked_is plan commands s (Cut bytes count) bytes obeys refl begins),
+        (put_by_sync plan commands s (Cut bytes count) bytes obeys refl begins),
     same_rest s (Cut bytes count) obeys tt,
   )
   sync_steps_mean s Untold begins obeys = (sync_steps_none s (action_at plan s) Untold tt, same_rest s Untold obeys tt)
@@ -135,7 +135,7 @@ module _ (plan : Plan) (commands : List Task) where
   -- not
   pub is_meant : (s : Model) (act : Act) (b : Bool) → has_begun s.progress ≡ b → Invariant plan commands s → Performs commands s (action_at plan s) act
       → IsMeant b s act (if b then client_part plan commands s (action_at plan s) act else sync_part s (action_at plan s) act) (after plan commands s act)
-  is_meant s act true e fine obeys = (none_doing plan commands s (action_at plan s) act, act_means s act fine e obeys)
+  is_meant s act true e fine obeys = (client_part_no_sync_steps plan commands s (action_at plan s) act, act_means s act fine e obeys)
   is_meant s act false e fine obeys = (steps_none s (action_at plan s) act, sync_steps_mean s act e obeys, word_after_sync_steps plan commands s act obeys e)
 
   -- from a model of which the `Invariant` holds, each act of a run means its part

@@ -18,14 +18,14 @@ use Rattle.gc_field.specs.World.{Request, Sent, Numbered, Ends, Step, Send, Up_d
 use Rattle.gc_world.proofs.Agree.{Agree, agrees}
 use Rattle.std.proofs.lemmas.Option.{none-some}
 use Rattle.gc_world.proofs.Places.{all_at, get_push}
-use Rattle.gc_world.proofs.Replay.{IsAsSent, of_more}
+use Rattle.gc_world.proofs.Replay.{IsAsSent, as_sent_more}
 use Rattle.gc_world.proofs.Rows.{each_without, each_doubled}
 use Rattle.gc_world.proofs.Sound.{IsGoing, Sound, sound_step, sound_open}
 use Rattle.gc_field.specs.Field.{Move, Sends, Tells, Comes, Foreign, OnLine, Anew, Changes, Joins, IsLineStep, moves, moved, IsPossible, ArePossible, AsksOnly, IsFirstAlone}
 use Rattle.gc_field.specs.Instrument.{IsAnInstrumentFor, KeepsItsOwn, KeepsItsReply, MayBeKept, own_reply}
 use Rattle.gc_field.proofs.Answered.{HoldsOfAll, HoldsOfOutcome, holds_get}
 use Rattle.gc_field.specs.Once.{ExecutesOnce, IsInOrder}
-use Rattle.gc_field.proofs.Once.{acts_once, once_few, climbing_first, order_few, ordered_first}
+use Rattle.gc_field.proofs.Once.{executes_once_if_rising, few_rise, climbing_first, few_in_order, ordered_first}
 use Rattle.gc_field.proofs.KeptReplies.{IsVouched, fields_of, kept_one, log_of, unknown_or_retained, ReplyHas}
 use Rattle.gc_field.proofs.Vouched.{Vouched, AllVouched, vouched_requested, vouched_down, vouched_line, vouched_started, vouched_changed}
 use Rattle.gc_field.specs.Made.{WasMadeFrom}
@@ -168,7 +168,7 @@ module _ {State : Type 0} (width : ℕ) (narrow : width ≤ 7) (knows : Asked �
   abbrev pub Trusted : World (ByNumber Asked) State → Type 0
   Trusted w = AllVouched width narrow knows ends Good kept keeper low E MustKnow M w
 
-  -- `Vouched` in a `Trusted` world: request n is `IsDealt`; and it is excepted, or the line is vouched for as its reply
+  -- `Vouched` in a `Trusted` world: request n is `IsNoNewerKnown`; and it is excepted, or the line is vouched for as its reply
   abbrev Vouches : (w : World (ByNumber Asked) State) → Trusted w → ℕ → List ℕ → Type 0
   Vouches w t n line = Vouched width narrow knows ends Good kept keeper low E MustKnow M w.wire.sent w.wire.executed w.wire.made t.table n line
 
@@ -193,7 +193,7 @@ module _ {State : Type 0} (width : ℕ) (narrow : width ≤ 7) (knows : Asked �
           late = λ late. let l : (line : List ℕ) × Vouches w t m line = subst (λ o. HoldsOfOutcome (Vouches w t) m o) late (outcome_vouched w t m s e) in (l.0, own_line w t m l.0 not l.1);
         };
         order = t.order.order;
-        once = λ keeps k. acts_once keeps w.wire.sent w.wire.executed w.wire.starts (t.once keeps k).once;
+        once = λ keeps k. executes_once_if_rising keeps w.wire.sent w.wire.executed w.wire.starts (t.once keeps k).once;
       }
 
   -- if the moves ask only what is known, so do those after the first
@@ -355,7 +355,7 @@ module _ {State : Type 0} (width : ℕ) (narrow : width ≤ 7) (knows : Asked �
         settled = f.settled;
         sent = omega (arith, f.sent, length_push b.wire.sent r);
         lines =
-            all_append _ b.wire.up _ (all_on _ _ b.wire.up (of_more written b.wire.sent (r ∷ [])) f.lines)
+            all_append _ b.wire.up _ (all_on _ _ b.wire.up (as_sent_more written b.wire.sent (r ∷ [])) f.lines)
             (record { request = r; found = get_push b.wire.sent r; small = omega arith; call = refl; text = refl }, tt);
         known = all_append (λ (r : Sent). knows r.call ≡ true) b.wire.sent (r ∷ []) f.known (is, tt);
       }
@@ -369,45 +369,45 @@ module _ {State : Type 0} (width : ℕ) (narrow : width ≤ 7) (knows : Asked �
 
   -- where `Both` holds of two worlds, and the world of numbers is fresh: `IsVouchedFor` holds after possible moves of which
   -- `RepliesHave` holds, and which ask only what is known, the first request alone; whatever the instrument kept before
-  pub early_all : (ms : List (Move State)) (out : Bool) (a : World (ById Asked) State) (b : World (ByNumber Asked) State) → Both width narrow ends Good ex kept a b
+  pub fresh_all : (ms : List (Move State)) (out : Bool) (a : World (ById Asked) State) (b : World (ByNumber Asked) State) → Both width narrow ends Good ex kept a b
       → ArePossible ends Good kept (by_ids width ends) ms a → AsksOnly knows ms → IsFirstAlone out ms → RepliesHave width ends M ms b → IsFresh b out
       → IsVouchedFor ends Good kept E M (moved ends (by_numbers width) ms b).wire
-  early_all [] out a b h p k l on f =
+  fresh_all [] out a b h p k l on f =
       record {
         own = λ m s not e. absurd (none-some s (subst (λ (l : List (Settlement Asked)). slice_get l m ≡ Some s) f.settled e));
-        order = order_few b.wire.executed (omega (arith, ap (λ (l : List ℕ). length l) f.executed));
+        order = few_in_order b.wire.executed (omega (arith, ap (λ (l : List ℕ). length l) f.executed));
         once = λ keeps is.
-            acts_once keeps b.wire.sent b.wire.executed b.wire.starts
-            (once_few keeps b.wire.sent b.wire.executed b.wire.starts (omega (arith, ap (λ (l : List ℕ). length l) f.executed)));
+            executes_once_if_rising keeps b.wire.sent b.wire.executed b.wire.starts
+            (few_rise keeps b.wire.sent b.wire.executed b.wire.starts (omega (arith, ap (λ (l : List ℕ). length l) f.executed)));
       }
-  early_all (Sends target call deadline ∷ ms) false a b h p k l on f =
-      early_all ms true _ _ (both_move width narrow ends Good ex kept a b (Sends target call deadline) p.0 h) p.1 k.1 l.1
+  fresh_all (Sends target call deadline ∷ ms) false a b h p k l on f =
+      fresh_all ms true _ _ (both_move width narrow ends Good ex kept a b (Sends target call deadline) p.0 h) p.1 k.1 l.1
       (replies_have_behind width ends M (Sends target call deadline) ms b on) (fresh_sent b target call deadline (eqb (length b.client.requests - b.client.count) width) k.0 f)
-  early_all (Sends target call deadline ∷ ms) true a b h p k l on f = absurd (true≢false l.0)
-  early_all (Tells now ∷ ms) out a b h p k l on f =
-      early_all ms out _ _ (both_move width narrow ends Good ex kept a b (Tells now) p.0 h) p.1 k l (replies_have_behind width ends M (Tells now) ms b on)
+  fresh_all (Sends target call deadline ∷ ms) true a b h p k l on f = absurd (true≢false l.0)
+  fresh_all (Tells now ∷ ms) out a b h p k l on f =
+      fresh_all ms out _ _ (both_move width narrow ends Good ex kept a b (Tells now) p.0 h) p.1 k l (replies_have_behind width ends M (Tells now) ms b on)
       (record { since = f.since; count = f.count; down = f.down; executed = f.executed; settled = f.settled; sent = f.sent; lines = f.lines; known = f.known })
-  early_all (Comes line ∷ ms) out a b h p k l on f = absurd (nothing_down a b out _ p.0.1 h f p.0.2)
-  early_all (Foreign line ∷ ms) out a b h p k l on f = early_all ms out a b h p.1 k l (replies_have_behind width ends M (Foreign line) ms b on) f
-  early_all (OnLine step ∷ ms) out a b h p k l on f =
+  fresh_all (Comes line ∷ ms) out a b h p k l on f = absurd (nothing_down a b out _ p.0.1 h f p.0.2)
+  fresh_all (Foreign line ∷ ms) out a b h p k l on f = fresh_all ms out a b h p.1 k l (replies_have_behind width ends M (Foreign line) ms b on) f
+  fresh_all (OnLine step ∷ ms) out a b h p k l on f =
       let both = both_move width narrow ends Good ex kept a b (OnLine step) p.0 h in
       elim (fresh_line b out h.sound f step p.0) [
-        | inl g ↦ early_all ms out _ _ both p.1 k l (replies_have_behind width ends M (OnLine step) ms b on) g
+        | inl g ↦ fresh_all ms out _ _ both p.1 k l (replies_have_behind width ends M (OnLine step) ms b on) g
         | inr t ↦ (vouched_for width narrow knows ends Good ex kept keeper 1 E (Unit {0}) M (moved ends (by_numbers width) ms (happens ends (by_numbers width) b step))
             (trusted_all width narrow knows ends Good ex kept keeper 1 E (Unit {0}) M ms _ _ both p.1 (λ plain. k) (replies_have_behind width ends M (OnLine step) ms b on) t))
       ]
-  early_all (Anew ∷ ms) out a b h p k l on f =
-      early_all ms out _ _ (both_move width narrow ends Good ex kept a b Anew p.0 h) p.1 k l (replies_have_behind width ends M Anew ms b on)
+  fresh_all (Anew ∷ ms) out a b h p k l on f =
+      fresh_all ms out _ _ (both_move width narrow ends Good ex kept a b Anew p.0 h) p.1 k l (replies_have_behind width ends M Anew ms b on)
       (record { since = f.since; count = f.count; down = f.down; executed = f.executed; settled = f.settled; sent = f.sent; lines = f.lines; known = f.known })
-  early_all (Changes state ∷ ms) out a b h p k l on f =
-      early_all ms out _ _ (both_move width narrow ends Good ex kept a b (Changes state) p.0 h) p.1 k l (replies_have_behind width ends M (Changes state) ms b on)
+  fresh_all (Changes state ∷ ms) out a b h p k l on f =
+      fresh_all ms out _ _ (both_move width narrow ends Good ex kept a b (Changes state) p.0 h) p.1 k l (replies_have_behind width ends M (Changes state) ms b on)
       (record { since = f.since; count = f.count; down = f.down; executed = f.executed; settled = f.settled; sent = f.sent; lines = f.lines; known = f.known })
-  early_all (Joins line ∷ ms) out a b h p k l on f = absurd p.0
+  fresh_all (Joins line ∷ ms) out a b h p k l on f = absurd p.0
 
   -- from a good state of the instrument on, with a new client and nothing in flight: `IsVouchedFor` holds after possible moves of
   -- which `RepliesHave` holds, and which ask only what is known, the first request alone
   pub vouched_at : (ms : List (Move State)) (state : State) → Good state → ArePossible ends Good kept (by_ids width ends) ms (ids_open state) → AsksOnly knows ms
       → IsFirstAlone false ms → RepliesHave width ends M ms (numbers_open state) → IsVouchedFor ends Good kept E M (moved ends (by_numbers width) ms (numbers_open state)).wire
   vouched_at ms state good p k l on =
-      early_all ms false (ids_open state) (numbers_open state) (both_open width narrow ends Good ex kept state good) p k l on
+      fresh_all ms false (ids_open state) (numbers_open state) (both_open width narrow ends Good ex kept state good) p k l on
       (record { since = refl; count = refl; down = refl; executed = refl; settled = refl; sent = omega arith; lines = tt; known = tt })

@@ -5,7 +5,7 @@ use Rattle.std.specs.List.{AllByRecursion}
 use Rattle.gc_catalogue.specs.declared.asked.Asked.{Asked}
 use Rattle.gc_instrument.specs.State.{KeptReply}
 use Rattle.gc_field.specs.World.{Sent}
-use Rattle.gc_field.proofs.KeptReplies.{IsKept, newest, newest_up}
+use Rattle.gc_field.proofs.KeptReplies.{IsKept, newest, newest_not_before}
 
 module _ (knows : Asked → Bool) (E : ℕ → Type 0) (MustKnow : Type 0) where
   -- `MustKnow` holds, no request after the newest known one was handed, and all requests that were sent are known; or each
@@ -32,7 +32,7 @@ module _ (knows : Asked → Bool) (E : ℕ → Type 0) (MustKnow : Type 0) where
       inl (h.0, omega (arith, is), h.2)
   near_handed sent top table n known low all (inr f) = inr (λ i. elim (f i) [
     | inl e ↦ inl e
-    | inr le ↦ inr (let up = newest_up known n table low in omega (arith, le, up))
+    | inr le ↦ inr (let up = newest_not_before known n table low in omega (arith, le, up))
   ])
 
   -- where `IsNear` holds, request n is excepted, or at most seven after the newest known one, if it is below `top` + 7

@@ -23,9 +23,9 @@ use Rattle.gc_field.specs.World.{Sent}
 use Rattle.gc_field.proofs.Instruments.{keeps_none}
 
 -- where n is held for an id, the reply with that id and n is kept
-kept_own : (k : Keeper) (id n : ℕ) → held k id ≡ Some n → keeper_kept k ≡ Some (record { id = id; line = giving id n })
-kept_own None id n e = let never : ⊥ = cc in absurd never
-kept_own (Some x) id n e = chosen (nat_eq x.0 id) refl e where
+held_is_kept : (k : Keeper) (id n : ℕ) → held k id ≡ Some n → keeper_kept k ≡ Some (record { id = id; line = giving id n })
+held_is_kept None id n e = let never : ⊥ = cc in absurd never
+held_is_kept (Some x) id n e = chosen (nat_eq x.0 id) refl e where
   -- the lemma above, by whether the number is kept with this id (`b`)
   chosen : (b : Bool) → nat_eq x.0 id ≡ b → cond b (Some x.1) None ≡ Some n → keeper_kept (Some x) ≡ Some (record { id = id; line = giving id n })
   chosen true t e = ap (λ i. Some (record { id = i; line = giving i x.1 })) (eqb-true x.0 id t) ∙ ap (λ m. Some (record { id = id; line = giving id m })) (same_Some x.1 n e)
@@ -41,45 +41,45 @@ reads_refusal id small = reply_heard 3081 id 0 [] (lit< tt) small (lit< tt)
 
 module _ {State : Type 0} (next : State) (new id : ℕ) where
   -- the reply of `repeats_or_executes` to a request with an id below 8 reads as one with that id
-  pub else_reads : (s : State) (o : Option ℕ) → id < 8 → heard (repeats_or_executes next new id s o).reply ≡ Some id
-  else_reads s (Some n) small = reads_giving id n small
-  else_reads s None small = reads_giving id new small
+  pub repeats_or_executes_reads : (s : State) (o : Option ℕ) → id < 8 → heard (repeats_or_executes next new id s o).reply ≡ Some id
+  repeats_or_executes_reads s (Some n) small = reads_giving id n small
+  repeats_or_executes_reads s None small = reads_giving id new small
 
   module _ (keeps : State → Keeper) where
     -- a line that `repeats_or_executes` sends without executing the request is the one that it keeps, for this id
-    pub else_repeats : (s : State) (o : Option ℕ) → held (keeps s) id ≡ o → (repeats_or_executes next new id s o).executed ≡ false
+    pub repeats_or_executes_repeats : (s : State) (o : Option ℕ) → held (keeps s) id ≡ o → (repeats_or_executes next new id s o).executed ≡ false
         → keeper_kept (keeps s) ≡ Some (own_reply id (repeats_or_executes next new id s o))
-    else_repeats s (Some n) e not = kept_own (keeps s) id n e
-    else_repeats s None e not = absurd (true≢false not)
+    repeats_or_executes_repeats s (Some n) e not = held_is_kept (keeps s) id n e
+    repeats_or_executes_repeats s None e not = absurd (true≢false not)
 
     -- after a request `repeats_or_executes` keeps its reply to that request, if the state `next` keeps the number `new` for its
     -- id
-    pub else_keeps : (s : State) (o : Option ℕ) → held (keeps s) id ≡ o → keeps next ≡ Some (id, new)
+    pub repeats_or_executes_keeps : (s : State) (o : Option ℕ) → held (keeps s) id ≡ o → keeps next ≡ Some (id, new)
         → keeper_kept (keeps (repeats_or_executes next new id s o).state) ≡ Some (own_reply id (repeats_or_executes next new id s o))
-    else_keeps s (Some n) e own = kept_own (keeps s) id n e
-    else_keeps s None e own = ap keeper_kept own
+    repeats_or_executes_keeps s (Some n) e own = held_is_kept (keeps s) id n e
+    repeats_or_executes_keeps s None e own = ap keeper_kept own
 
 -- the reply of `keeper_handed` to a request with an id below 8 reads as one with that id
-again_reads : (k : Keeper) (id : ℕ) (o : Option ℕ) → id < 8 → heard (keeper_handed id k o).reply ≡ Some id
-again_reads k id o small = else_reads {State = Keeper} (Some (id, 0)) 0 id k o small
+keeper_reads : (k : Keeper) (id : ℕ) (o : Option ℕ) → id < 8 → heard (keeper_handed id k o).reply ≡ Some id
+keeper_reads k id o small = repeats_or_executes_reads {State = Keeper} (Some (id, 0)) 0 id k o small
 
 -- a line that `keeper_handed` sends without executing the request is the one that it keeps, for this id
-again_repeats : (k : Keeper) (id : ℕ) (o : Option ℕ) → held k id ≡ o → (keeper_handed id k o).executed ≡ false → keeper_kept k ≡ Some (own_reply id (keeper_handed id k o))
-again_repeats k id o e not = else_repeats {State = Keeper} (Some (id, 0)) 0 id (λ (x : Keeper). x) k o e not
+keeper_repeats : (k : Keeper) (id : ℕ) (o : Option ℕ) → held k id ≡ o → (keeper_handed id k o).executed ≡ false → keeper_kept k ≡ Some (own_reply id (keeper_handed id k o))
+keeper_repeats k id o e not = repeats_or_executes_repeats {State = Keeper} (Some (id, 0)) 0 id (λ (x : Keeper). x) k o e not
 
 -- after a request `keeper_handed` keeps its reply to that request
-again_keeps : (k : Keeper) (id : ℕ) (o : Option ℕ) → held k id ≡ o → keeper_kept (keeper_handed id k o).state ≡ Some (own_reply id (keeper_handed id k o))
-again_keeps k id o e = else_keeps {State = Keeper} (Some (id, 0)) 0 id (λ (x : Keeper). x) k o e refl
+keeper_keeps : (k : Keeper) (id : ℕ) (o : Option ℕ) → held k id ≡ o → keeper_kept (keeper_handed id k o).state ≡ Some (own_reply id (keeper_handed id k o))
+keeper_keeps k id o e = repeats_or_executes_keeps {State = Keeper} (Some (id, 0)) 0 id (λ (x : Keeper). x) k o e refl
 
 -- the reply of `handed_if_known` to a request with an id below 8 reads as one with that id
-refuses_reads : (b : Bool) (k : Keeper) (id : ℕ) → id < 8 → heard (handed_if_known b k id).reply ≡ Some id
-refuses_reads true k id small = again_reads k id (held k id) small
-refuses_reads false k id small = reads_refusal id small
+if_known_reads : (b : Bool) (k : Keeper) (id : ℕ) → id < 8 → heard (handed_if_known b k id).reply ≡ Some id
+if_known_reads true k id small = keeper_reads k id (held k id) small
+if_known_reads false k id small = reads_refusal id small
 
 -- a line that `handed_if_known` sends without executing the request is the one that it keeps, for this id
-refuses_repeats : (b : Bool) (k : Keeper) (id : ℕ) → (handed_if_known b k id).executed ≡ false → keeper_kept k ≡ Some (own_reply id (handed_if_known b k id))
-refuses_repeats true k id not = again_repeats k id (held k id) refl not
-refuses_repeats false k id not = absurd (true≢false not)
+if_known_repeats : (b : Bool) (k : Keeper) (id : ℕ) → (handed_if_known b k id).executed ≡ false → keeper_kept k ≡ Some (own_reply id (handed_if_known b k id))
+if_known_repeats true k id not = keeper_repeats k id (held k id) refl not
+if_known_repeats false k id not = absurd (true≢false not)
 
 -- a number that is above all that were executed wasn't executed
 unexecuted_above : (n : ℕ) (xs : List ℕ) → AllByRecursion (λ m. m < n) xs → WasExecuted xs n → ⊥
@@ -114,9 +114,9 @@ keeper_is : IsAnInstrument keeper AnyState keeper_kept
 keeper_is =
     record {
       hears = λ line. refl;
-      replies = λ k id call good small. again_reads k id (held k id) small;
-      repeats = λ k id call good small not. again_repeats k id (held k id) refl not;
-      keeps = λ k id call good small. inl (inr (again_keeps k id (held k id) refl));
+      replies = λ k id call good small. keeper_reads k id (held k id) small;
+      repeats = λ k id call good small not. keeper_repeats k id (held k id) refl not;
+      keeps = λ k id call good small. inl (inr (keeper_keeps k id (held k id) refl));
       starts = λ k good. inl refl;
       stays_good = λ k id call good small. tt;
       starts_good = λ k good. tt;
@@ -127,8 +127,8 @@ refuses_raws_is : IsAnInstrument refuses_raws AnyState keeper_kept
 refuses_raws_is =
     record {
       hears = λ line. refl;
-      replies = λ k id call good small. refuses_reads (is_of_table call) k id small;
-      repeats = λ k id call good small not. refuses_repeats (is_of_table call) k id not;
+      replies = λ k id call good small. if_known_reads (is_of_table call) k id small;
+      repeats = λ k id call good small not. if_known_repeats (is_of_table call) k id not;
       keeps = λ k id call good small. after k id (is_of_table call);
       starts = λ k good. inl refl;
       stays_good = λ k id call good small. tt;
@@ -137,12 +137,12 @@ refuses_raws_is =
   where
     -- what `refuses_raws` keeps after a request is as `MayBeKept` says, whether it knows the request (`b`) or not
     after : (k : Keeper) (id : ℕ) (b : Bool) → MayBeKept b (own_reply id (handed_if_known b k id)) (keeper_kept k) (keeper_kept (handed_if_known b k id).state)
-    after k id true = inl (inr (again_keeps k id (held k id) refl))
+    after k id true = inl (inr (keeper_keeps k id (held k id) refl))
     after k id false = inr (refl, refl)
 
 -- `executes_again` is an instrument
-again_is : IsAnInstrument executes_again AnyState keeper_kept
-again_is =
+executes_again_is : IsAnInstrument executes_again AnyState keeper_kept
+executes_again_is =
     record {
       hears = λ line. refl;
       replies = λ k id call good small. reads_giving id 0 small;
@@ -158,16 +158,16 @@ forgets_is : IsAnInstrument forgets AnyState never_kept
 forgets_is = keeps_none Bool forgets (λ line. refl) (λ b id call good small. reads_giving id 0 small) (λ b id call. refl)
 
 -- an instrument in order replies to a request with an id below 8 with that id
-in_order : (b : Bool) (id : ℕ) → IsUnbroken b → id < 8 → heard (breakable_handed b id b).reply ≡ Some id
-in_order false id good small = reads_giving id 0 small
-in_order true id good small = absurd (true≢false good)
+breakable_reads : (b : Bool) (id : ℕ) → IsUnbroken b → id < 8 → heard (breakable_handed b id b).reply ≡ Some id
+breakable_reads false id good small = reads_giving id 0 small
+breakable_reads true id good small = absurd (true≢false good)
 
 -- `sound` is an instrument in its good states
 sound_is : IsAnInstrument sound IsUnbroken never_kept
 sound_is =
     record {
       hears = λ line. refl;
-      replies = λ b id call good small. in_order b id good small;
+      replies = λ b id call good small. breakable_reads b id good small;
       repeats = λ b id call good small not. absurd (true≢false not);
       keeps = λ b id call good small. inl (inl refl);
       starts = λ b good. inl refl;
@@ -179,15 +179,15 @@ sound_is =
 clean_none : {State : Type 0} (Good : State → Type 0) (retains : State → Option KeptReply) (state : State) → Good state → retains state ≡ None → IsClean Good retains (none_under_way state)
 clean_none Good retains state good none = record { good = good; up = tt; down = tt; keeps = λ k e. absurd (none-some k (sym none ∙ e)) }
 
--- `clean_none` of the state `false`, where nothing is kept, and each state is a good one
+-- with nothing in flight, and the state `false`, a synchronization is clean, if each state is a good one and none keeps a reply
 clean_any : IsClean AnyState never_kept (none_under_way false)
 clean_any = clean_none AnyState never_kept false tt refl
 
--- `clean_none` of the state `false`, where nothing is kept, and the good states are those in order
+-- with nothing in flight, and the state `false`, which is in order, a synchronization is clean, if no state keeps a reply
 clean_order : IsClean IsUnbroken never_kept (none_under_way false)
 clean_order = clean_none IsUnbroken never_kept false refl refl
 
--- `clean_none` of a `Keeper` that has nothing
+-- with nothing in flight, and a `Keeper` that has nothing, a synchronization is clean
 clean_kept : IsClean AnyState keeper_kept (none_under_way None)
 clean_kept = clean_none AnyState keeper_kept None tt refl
 
@@ -246,8 +246,8 @@ all_needed =
             all_but =
                 record {
                   hears = inr (λ line. refl);
-                  replies = inr (λ k id call good small. refuses_reads (nat_eq (procedure_of call) 0) k id small);
-                  repeats = inr (λ k id call good small not. refuses_repeats (nat_eq (procedure_of call) 0) k id not);
+                  replies = inr (λ k id call good small. if_known_reads (nat_eq (procedure_of call) 0) k id small);
+                  repeats = inr (λ k id call good small not. if_known_repeats (nat_eq (procedure_of call) 0) k id not);
                   keeps = inl refl;
                   starts = inr (λ k good. inl refl);
                   stays_good = inr (λ k id call good small. tt);
@@ -310,9 +310,9 @@ all_needed =
             all_but =
                 record {
                   hears = inr (λ line. refl);
-                  replies = inr (λ k id call good small. again_reads k id (held k id) small);
-                  repeats = inr (λ k id call good small not. again_repeats k id (held k id) refl not);
-                  keeps = inr (λ k id call good small. inl (inr (again_keeps k id (held k id) refl)));
+                  replies = inr (λ k id call good small. keeper_reads k id (held k id) small);
+                  repeats = inr (λ k id call good small not. keeper_repeats k id (held k id) refl not);
+                  keeps = inr (λ k id call good small. inl (inr (keeper_keeps k id (held k id) refl)));
                   starts = inl refl;
                   stays_good = inr (λ k id call good small. tt);
                   starts_good = inr (λ k good. tt);
@@ -325,7 +325,7 @@ all_needed =
             all_but =
                 record {
                   hears = inr (λ line. refl);
-                  replies = inr (λ b id call good small. in_order b id good small);
+                  replies = inr (λ b id call good small. breakable_reads b id good small);
                   repeats = inr (λ b id call good small not. absurd (true≢false not));
                   keeps = inr (λ b id call good small. inl (inl refl));
                   starts = inr (λ b good. inl refl);
@@ -340,7 +340,7 @@ all_needed =
             all_but =
                 record {
                   hears = inr (λ line. refl);
-                  replies = inr (λ b id call good small. in_order b id good small);
+                  replies = inr (λ b id call good small. breakable_reads b id good small);
                   repeats = inr (λ b id call good small not. absurd (true≢false not));
                   keeps = inr (λ b id call good small. inl (inl refl));
                   starts = inr (λ b good. inl refl);
@@ -411,7 +411,7 @@ all_needed =
       sound_is = sound_is;
       changes_good = record { beyond = omega arith; clean = clean_any; field = (tt, (tt, ((8, [], refl), ((tt, refl), (tt, (tt, (tt, ((9, [], refl), tt)))))))); settled = refl; executed = not_10 };
       again = record {
-        instrument = again_is;
+        instrument = executes_again_is;
         good = tt;
         clean = clean_kept;
         field = (tt, (tt, ((8, [], refl), (tt, (tt, (tt, (tt, tt)))))));

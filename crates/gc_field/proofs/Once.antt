@@ -32,8 +32,8 @@ get_pushed xs x i y e =
     last zero at got = (omega (arith, at), same_Some x y got)
     last (suc k) at got = absurd (none-some y got)
 
--- of two places, i before j, of a list with one element more behind it: i was one before, and so was j; or j is the last place,
--- and has that element
+-- where x is before y in a list with n added at its end, at the places i and j: x was at i before; and so was y at j, or j is the
+-- last place, and y is n
 pushed_two : {A : Type 0} (xs : List A) (n : A) (i j : ℕ) (x y : A) → i < j → slice_get (xs ++ n ∷ []) i ≡ Some x → slice_get (xs ++ n ∷ []) j ≡ Some y
     → (slice_get xs i ≡ Some x) × ((slice_get xs j ≡ Some y) ⊎ ((j ≡ length xs) × (n ≡ y)))
 pushed_two xs n i j x y lt a b = (by_first (get_pushed xs n i x a), get_pushed xs n j y b) where
@@ -61,8 +61,8 @@ pub unknown_more : (knows : Asked → Bool) (sent more : List Sent) (n : ℕ) �
 unknown_more knows sent more n h = (h.0, get_more sent more n h.0 h.1, h.2)
 
 -- a request that is known isn't `IsUnknown`
-pub known_not : (knows : Asked → Bool) (sent : List Sent) (n : ℕ) (r : Sent) → slice_get sent n ≡ Some r → knows r.call ≡ true → IsUnknown knows sent n → ⊥
-known_not knows sent n r found known h =
+pub known_not_unknown : (knows : Asked → Bool) (sent : List Sent) (n : ℕ) (r : Sent) → slice_get sent n ≡ Some r → knows r.call ≡ true → IsUnknown knows sent n → ⊥
+known_not_unknown knows sent n r found known h =
     true≢false (sym known ∙ ap (λ (x : Sent). knows x.call) (same_Some r h.0 (sym found ∙ h.1)) ∙ h.2)
 
 -- what an instrument did so far, and the reply that it keeps, if any: the requests that were sent, those that it executed, in
@@ -84,15 +84,15 @@ RiseUnlessUnknown knows sent executed starts =
     (i j m n : ℕ) → i < j → HasNoStart starts i j → slice_get executed i ≡ Some m → slice_get executed j ≡ Some n → (m < n) ⊎ IsUnknown knows sent n
 
 -- the request handed last, top - 1, isn't known, or `IsHeld` holds with its id, which is counted from `since`
-abbrev pub LastIs : (knows : Asked → Bool) (since top : ℕ) → Log → Type 0
-LastIs knows since top l = IsUnknown knows l.sent (top - 1) ⊎ IsHeld ((top - 1 - since) % 8) l
+abbrev pub IsLastUnknownOrHeld : (knows : Asked → Bool) (since top : ℕ) → Log → Type 0
+IsLastUnknownOrHeld knows since top l = IsUnknown knows l.sent (top - 1) ⊎ IsHeld ((top - 1 - since) % 8) l
 
 -- `RiseUnlessUnknown` holds of what was executed, and each number is below `top`; and of the request handed last, top - 1,
--- `LastIs` holds
+-- `IsLastUnknownOrHeld` holds
 pub record IsClimbing (knows : Asked → Bool) (since top : ℕ) (l : Log) : Type 0 where
   pub once : RiseUnlessUnknown knows l.sent l.executed l.starts
   pub below : AllByRecursion (λ n. n < top) l.executed
-  pub last : LastIs knows since top l
+  pub last : IsLastUnknownOrHeld knows since top l
 
 -- what was executed is in order, and each number is below `top`
 pub record IsOrdered (top : ℕ) (executed : List ℕ) : Type 0 where
@@ -104,15 +104,15 @@ never_two : (executed : List ℕ) (j k n : ℕ) → length executed ≤ 1 → j 
 never_two executed j k n few lt b = let size : k < length executed = slice_get_within executed k n b in omega (arith, size, few, lt)
 
 -- a list of at most one execution is in order
-pub order_few : (executed : List ℕ) → length executed ≤ 1 → IsInOrder executed
-order_few executed few j k m n lt a b = absurd (never_two executed j k n few lt b)
+pub few_in_order : (executed : List ℕ) → length executed ≤ 1 → IsInOrder executed
+few_in_order executed few j k m n lt a b = absurd (never_two executed j k n few lt b)
 
--- where each execution is of a request before `top`, and request n, which is none before the last of these, is handed to the
--- instrument, each is of a request up to n
+-- where each execution is of a request before `top`, each is of a request up to n, if n is at least `top` - 1
 below_handed : (top n : ℕ) (executed : List ℕ) → top ≤ n + 1 → AllByRecursion (λ m. m < top) executed → AllByRecursion (λ m. m < n + 1) executed
 below_handed top n executed le h = all_on (λ m. m < top) (λ m. m < n + 1) executed (λ m l. omega (arith, l, le)) h
 
--- `below_handed` where request n is executed
+-- where each execution is of a request before `top`, and then request n is executed: each is of a request up to n, if n is at
+-- least `top` - 1
 below_acted : (top n : ℕ) (executed : List ℕ) → top ≤ n + 1 → AllByRecursion (λ m. m < top) executed → AllByRecursion (λ m. m < n + 1) (executed ++ n ∷ [])
 below_acted top n executed le h = all_append (λ m. m < n + 1) executed (n ∷ []) (below_handed top n executed le h) (omega arith, tt)
 
@@ -141,19 +141,19 @@ pub ordered_first : (n : ℕ) (executed : List ℕ) (acted : Bool) → executed 
 ordered_first n executed acted none nought = subst (λ l. IsOrdered 1 (cond acted (l ++ n ∷ []) l)) (sym none) (chosen acted) where
   -- the lemma above, by whether the request was executed (`acted`)
   chosen : (acted : Bool) → IsOrdered 1 (cond acted (n ∷ []) [])
-  chosen true = record { order = order_few (n ∷ []) (omega arith); below = (omega (arith, nought), tt) }
-  chosen false = record { order = order_few [] (omega arith); below = tt }
+  chosen true = record { order = few_in_order (n ∷ []) (omega arith); below = (omega (arith, nought), tt) }
+  chosen false = record { order = few_in_order [] (omega arith); below = tt }
 
 -- `RiseUnlessUnknown` holds of a list of at most one execution
-pub once_few : (knows : Asked → Bool) (sent : List Sent) (executed starts : List ℕ) → length executed ≤ 1 → RiseUnlessUnknown knows sent executed starts
-once_few knows sent executed starts few i j m n lt run a b = absurd (never_two executed i j n few lt b)
+pub few_rise : (knows : Asked → Bool) (sent : List Sent) (executed starts : List ℕ) → length executed ≤ 1 → RiseUnlessUnknown knows sent executed starts
+few_rise knows sent executed starts few i j m n lt run a b = absurd (never_two executed i j n few lt b)
 
 -- where `RiseUnlessUnknown` holds, `ExecutesOnce` holds
-pub acts_once : (knows : Asked → Bool) (sent : List Sent) (executed starts : List ℕ) → RiseUnlessUnknown knows sent executed starts → ExecutesOnce knows sent executed starts
-acts_once knows sent executed starts once i j m n r lt run a b found known =
+pub executes_once_if_rising : (knows : Asked → Bool) (sent : List Sent) (executed starts : List ℕ) → RiseUnlessUnknown knows sent executed starts → ExecutesOnce knows sent executed starts
+executes_once_if_rising knows sent executed starts once i j m n r lt run a b found known =
     elim (once i j m n lt run a b) [
       | inl l ↦ l
-      | inr u ↦ absurd (known_not knows sent n r found known u)
+      | inr u ↦ absurd (known_not_unknown knows sent n r found known u)
     ]
 
 -- `IsClimbing` is preserved where more requests are sent
@@ -195,12 +195,12 @@ climbing_started knows since top l after now h =
 abbrev pub IsUnknownOrRetained : (knows : Asked → Bool) (sent : List Sent) (since n : ℕ) → Option KeptReply → Type 0
 IsUnknownOrRetained knows sent since n after = IsUnknown knows sent n ⊎ ((r : KeptReply) × (after ≡ Some r) × (r.id ≡ (n + 1 - 1 - since) % 8))
 
--- `IsUnknownOrRetained` gives `LastIs`, where request n was handed last
-pub last_of : (knows : Asked → Bool) (since n : ℕ) (l : Log) → IsUnknownOrRetained knows l.sent since n l.retained → LastIs knows since (n + 1) l
-last_of knows since n l (inl u) =
+-- `IsUnknownOrRetained` gives `IsLastUnknownOrHeld`, where request n was handed last
+pub last_unknown_or_held : (knows : Asked → Bool) (since n : ℕ) (l : Log) → IsUnknownOrRetained knows l.sent since n l.retained → IsLastUnknownOrHeld knows since (n + 1) l
+last_unknown_or_held knows since n l (inl u) =
     let back : n ≡ n + 1 - 1 = omega arith in
     inl (subst (λ i. IsUnknown knows l.sent i) back u)
-last_of knows since n l (inr kept) =
+last_unknown_or_held knows since n l (inr kept) =
     inr (record {
       idle = λ none. absurd (none-some kept.0 (sym none ∙ kept.1));
       same = λ y e. ap (λ (x : KeptReply). x.id) (sym (same_Some kept.0 y (sym kept.1 ∙ e))) ∙ kept.2;
@@ -214,7 +214,7 @@ climbing_handed knows since top n l after le why h =
     record {
       once = h.once;
       below = below_handed top n l.executed le h.below;
-      last = last_of knows since n (record l { retained = after }) why;
+      last = last_unknown_or_held knows since n (record l { retained = after }) why;
     }
 
 -- if nothing was executed since the last start, an execution, at place j, and the next one to come, at place k, have a start
@@ -243,7 +243,7 @@ climbing_acted knows since top n l after le why retained h =
             | inr new ↦ subst (λ z. (x < z) ⊎ IsUnknown knows l.sent z) new.1 (later i j x run two.0 new.0 why)
           ];
       below = below_acted top n l.executed le h.below;
-      last = last_of knows since n (record l { executed = l.executed ++ n ∷ []; retained = after }) retained;
+      last = last_unknown_or_held knows since n (record l { executed = l.executed ++ n ∷ []; retained = after }) retained;
     }
   where
     -- an earlier execution, at place i, with no start between it and the execution of request n, at place j, is of a request
@@ -257,9 +257,9 @@ climbing_acted knows since top n l after le why retained h =
 -- where `IsClimbing` holds, request n is known and has the id n - `since` modulo 8, no later one was handed before, and the
 -- instrument keeps no reply with that id: nothing was executed since the last start, or n is later than all that the instrument
 -- was handed
-pub why_acted : (knows : Asked → Bool) (since top n id : ℕ) (l : Log) → (IsUnknown knows l.sent n → ⊥) → id ≡ (n - since) % 8 → top ≤ n + 1
+pub idle_or_latest_if_executed : (knows : Asked → Bool) (since top n id : ℕ) (l : Log) → (IsUnknown knows l.sent n → ⊥) → id ≡ (n - since) % 8 → top ≤ n + 1
     → ((line : List ℕ) → l.retained ≡ Some (record { id = id; line = line }) → ⊥) → IsClimbing knows since top l → IsIdle l.executed l.starts ⊎ (top ≤ n)
-why_acted knows since top n id l known mine le other h = chosen (ltb n top) refl where
+idle_or_latest_if_executed knows since top n id l known mine le other h = chosen (ltb n top) refl where
   -- where `IsHeld` holds with the id of the request handed last, and that is request n, nothing is kept, so nothing was
   -- executed since the last start
   again : top - 1 ≡ n → (o : Option KeptReply) → l.retained ≡ o → IsHeld ((top - 1 - since) % 8) l → IsIdle l.executed l.starts
@@ -286,9 +286,9 @@ pub climbing_first : (knows : Asked → Bool) (since n : ℕ) (l : Log) (acted :
     → IsClimbing knows since 1 (record l { executed = cond acted (l.executed ++ n ∷ []) l.executed; retained = after })
 climbing_first knows since n l acted after none nought why =
     record {
-      once = once_few knows l.sent (cond acted (l.executed ++ n ∷ []) l.executed) l.starts (few acted);
+      once = few_rise knows l.sent (cond acted (l.executed ++ n ∷ []) l.executed) l.starts (few acted);
       below = low acted;
-      last = subst (λ m. LastIs knows since m by_then) one (last_of knows since n by_then why);
+      last = subst (λ m. IsLastUnknownOrHeld knows since m by_then) one (last_unknown_or_held knows since n by_then why);
     }
   where
     -- what the instrument did by then

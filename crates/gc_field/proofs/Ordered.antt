@@ -12,8 +12,8 @@ use Rattle.gc_client.specs.Rule.{ById, Settlement, Answered}
 use Rattle.gc_instrument.specs.State.{KeptReply}
 use Rattle.gc_world.specs.Clients.{by_ids}
 use Rattle.gc_field.specs.World.{Ends, Numbered, Request, Sent, Up_deliver, World}
-use Rattle.gc_field.specs.Begun.{IsClean, IsSafe, WasMadeOn, behind, ids_begun, ArePossibleOnceBegun}
-use Rattle.gc_field.specs.Chains.{AreCalls, IsExecutedAfter}
+use Rattle.gc_field.specs.Begun.{IsClean, IsSafe, WasMadeOn, world_once_begun, ids_begun, ArePossibleOnceBegun}
+use Rattle.gc_field.specs.Chains.{AreCalls, IsExecutedBefore}
 use Rattle.gc_field.specs.Field.{Move, OnLine, moves, moved, ArePossible}
 use Rattle.gc_field.specs.Instrument.{IsAnInstrument}
 use Rattle.gc_field.specs.Once.{ExecutesOnce, HasNoStart, IsInOrder}
@@ -23,7 +23,7 @@ use Rattle.gc_field.proofs.BeginLists.{each_both}
 use Rattle.gc_field.proofs.Between.{IsConsistent, acted, calls_more, did_all, made_both, consistent_all}
 use Rattle.gc_field.proofs.InTime.{clean_faithful}
 use Rattle.gc_field.proofs.Possible.{front_possible, later_possible, moved_append}
-use Rattle.gc_station.proofs.Lists.{fronts, get_behind, get_more}
+use Rattle.gc_station.proofs.Lists.{one_front_begins_other, get_behind, get_more}
 use Rattle.gc_station.proofs.SentAt.{get_split}
 
 -- Lists.
@@ -62,8 +62,8 @@ module _ (e : List ℕ) (m n : ℕ) (numbers : List ℕ) where
   between_in_order rises j k x y lt a b = rises (length e + (1 + j)) (length e + (1 + k)) x y (omega (arith, lt)) (at_x j x a) (at_x k y b)
 
   -- if all executions are in order, those between are of no request before m and of none after n
-  pub upto : IsInOrder all → AllByRecursion (λ x. (m ≤ x) × (x ≤ n)) numbers
-  upto rises =
+  pub none_outside : IsInOrder all → AllByRecursion (λ x. (m ≤ x) × (x ≤ n)) numbers
+  none_outside rises =
       each_at (λ (x : ℕ). (m ≤ x) × (x ≤ n)) numbers
       (λ i x got.
       let small : i < length numbers = slice_get_within numbers i x got in (
@@ -73,9 +73,9 @@ module _ (e : List ℕ) (m n : ℕ) (numbers : List ℕ) where
 
   -- if no start came after the execution of m, all executions are in order, and the instrument acts once for the requests that
   -- `knows` names, the executions between of such requests are of requests sent after m and before n
-  pub inside : (knows : Asked → Bool) (sent : List Sent) (starts : List ℕ) → AllByRecursion (λ s. s ≤ length e) starts → IsInOrder all → ExecutesOnce knows sent all starts
+  pub known_strictly_between : (knows : Asked → Bool) (sent : List Sent) (starts : List ℕ) → AllByRecursion (λ s. s ≤ length e) starts → IsInOrder all → ExecutesOnce knows sent all starts
       → AllByRecursion (λ x. (r : Sent) → slice_get sent x ≡ Some r → knows r.call ≡ true → (m < x) × (x < n)) numbers
-  inside knows sent starts early rises once =
+  known_strictly_between knows sent starts early rises once =
       each_at (λ (x : ℕ). (r : Sent) → slice_get sent x ≡ Some r → knows r.call ≡ true → (m < x) × (x < n)) numbers
       (λ i x got r found known.
       let small : i < length numbers = slice_get_within numbers i x got in (
@@ -110,7 +110,7 @@ module _ {State : Type 0} (ends : Ends State) (Good : State → Type 0) (kept : 
     (s : Stretch State) (clean : IsClean Good kept s.from) (field : ArePossibleOnceBegun 7 ends s.from Good kept s.moves) where
   -- the world after these moves of the stretch
   abbrev at : List (Move State) → World (ById Asked) State
-  at ms = behind 7 ends s.from ms
+  at ms = world_once_begun 7 ends s.from ms
 
   -- where a line was made on executing request n, that request had been sent before it reached the instrument
   was_sent : (n : ℕ) (call : Asked) (line : List ℕ) (h : WasMadeOn 7 ends s.from s.moves n call line) → n < length (at h.front).wire.sent
@@ -135,7 +135,7 @@ module _ {State : Type 0} (ends : Ends State) (Good : State → Type 0) (kept : 
       → (call : Asked) (line : List ℕ) (h : WasMadeOn 7 ends s.from s.moves n call line)
       → (more : List (Move State)) × (h.front ≡ before ++ more)
   behind_front before later e n unsent call line h =
-      elim (fronts before later h.front (OnLine Up_deliver ∷ h.later) (sym e ∙ h.split)) [
+      elim (one_front_begins_other before later h.front (OnLine Up_deliver ∷ h.later) (sym e ∙ h.split)) [
         | inl x ↦ x
         | inr x ↦ (let grown = sent_more h.front x.0 later (e ∙ ap (λ l. l ++ later) x.1) in
             let size : length (at before).wire.sent ≡ length ((at h.front).wire.sent ++ grown.0) = ap (λ l. length (at l).wire.sent) x.1 ∙ ap length grown.1 in
@@ -143,10 +143,10 @@ module _ {State : Type 0} (ends : Ends State) (Good : State → Type 0) (kept : 
             absurd (omega (arith, size, sum, was_sent n call line h, unsent)))
       ]
 
-  -- where request n was executed after request m, `IsExecutedAfter` holds of them: it says what was executed between the two
+  -- where request n was executed after request m, `IsExecutedBefore` holds of them: it says what was executed between the two
   both_made : (m n : ℕ) (call_m call_n : Asked) (line_m line_n : List ℕ) (f : WasMadeOn 7 ends s.from s.moves m call_m line_m)
       (h : WasMadeOn 7 ends s.from s.moves n call_n line_n) (between : List (Move State)) → h.front ≡ f.front ++ OnLine Up_deliver ∷ between
-      → IsExecutedAfter ends Good kept s (record { number = m; call = call_m; line = line_m }) (record { number = n; call = call_n; line = line_n })
+      → IsExecutedBefore ends Good kept s (record { number = m; call = call_m; line = line_m }) (record { number = n; call = call_n; line = line_n })
   both_made m n call_m call_n line_m line_n f h between order =
       let split : s.moves ≡ (f.front ++ OnLine Up_deliver ∷ between) ++ OnLine Up_deliver ∷ h.later = h.split ∙ ap (λ l. l ++ OnLine Up_deliver ∷ h.later) order in
       let split_f : s.moves ≡ f.front ++ (OnLine Up_deliver ∷ (between ++ OnLine Up_deliver ∷ h.later)) = split ∙ append_assoc f.front (OnLine Up_deliver ∷ between) (OnLine Up_deliver ∷ h.later) in
@@ -188,7 +188,7 @@ module _ {State : Type 0} (ends : Ends State) (Good : State → Type 0) (kept : 
         numbers = did.numbers;
         executed = ran;
         in_order = between_in_order e m n did.numbers (subst IsInOrder whole law_there.in_order);
-        within = upto e m n did.numbers (subst IsInOrder whole law_there.in_order);
+        within = none_outside e m n did.numbers (subst IsInOrder whole law_there.in_order);
         strictly = λ knows keeps quiet.
             let starts : (at (h.front ++ OnLine Up_deliver ∷ [])).wire.starts ≡ v.wire.starts =
             ap (λ (x : World (ById Asked) State). x.wire.starts) behind_last ∙ last.2 ∙ ap (λ (x : World (ById Asked) State). x.wire.starts) there ∙ did.starts quiet ∙ one.2 in
@@ -207,7 +207,7 @@ module _ {State : Type 0} (ends : Ends State) (Good : State → Type 0) (kept : 
             (get_more (at h.front).wire.sent near.0 x r
             (in_front_at (at h.front).wire.sent grown.0 x r (omega (arith, size, in_it.1)) (subst (λ l. slice_get l x ≡ Some r) grown_all found))))
             known)
-            did.numbers (upto e m n did.numbers in_order) (inside e m n did.numbers knows there v.wire.starts stands.begun in_order once);
+            did.numbers (none_outside e m n did.numbers in_order) (known_strictly_between e m n did.numbers knows there v.wire.starts stands.begun in_order once);
         calls = did.calls;
         asked = subst (λ l. AreCalls l did.numbers did.calls) (sym grown_all) (calls_more (at h.front).wire.sent grown.0 did.numbers did.calls asked_there);
         state = λ apart effect has still.
@@ -216,11 +216,11 @@ module _ {State : Type 0} (ends : Ends State) (Good : State → Type 0) (kept : 
       }
 
   -- where request m, from 8 on and `IsSafe`, was answered by the end of the moves `before`, and request n, which hadn't been sent
-  -- by then, is executed: n is executed after m, by `IsExecutedAfter`
+  -- by then, is executed: n is executed after m, by `IsExecutedBefore`
   pub executed_behind : (before later : List (Move State)) → s.moves ≡ before ++ later → (m n : ℕ) (x : Settlement Asked) (line_m : List ℕ) → 8 ≤ m
       → IsSafe 7 ends s.from Good kept before m → slice_get (at before).wire.settled m ≡ Some x → x.outcome ≡ Answered line_m
       → length (at before).wire.sent ≤ n → (call : Asked) (line_n : List ℕ) → WasMadeOn 7 ends s.from s.moves n call line_n
-      → IsExecutedAfter ends Good kept s (record { number = m; call = x.call; line = line_m }) (record { number = n; call = call; line = line_n })
+      → IsExecutedBefore ends Good kept s (record { number = m; call = x.call; line = line_m }) (record { number = n; call = call; line = line_n })
   executed_behind before later e m n x line_m beyond safe settled answered unsent call line_n h =
       let possible = front_possible 7 ends Good kept s.moves before later (ids_begun s.from) e field in
       let f = (clean_faithful ends Good kept is s.from clean before possible).made_on m x (beyond, safe) settled line_m answered in

@@ -9,38 +9,39 @@ use Rattle.gc_station.specs.Deciding.{has_begun}
 use Rattle.gc_station.specs.Parts.{Part, parts_joined, idle_part, in_front, part_of_act, sync_part, client_part, ends_part, parts_of}
 use Rattle.gc_station.specs.Progressing.{loses_all}
 use Rattle.gc_station.specs.Model.{Model, action_at, after}
-use Rattle.gc_station.proofs.Asked.{FirstHasNoSyncSteps, goes_begun, marks_none, nil_both, no_sync_steps}
+use Rattle.gc_station.proofs.Asked.{FirstHasNoSyncSteps, begun_if_nothing_lost, marks_none, nil_both, first_part_no_sync_steps}
 use Rattle.std.proofs.lemmas.Option.{same_Some, none-some}
 
 -- the first list has at least one part, and the second one at least as many; and if the last part of the first list has requests,
 -- its steps of a synchronization are those of the part at its place in the second
-abbrev pub AreWhole : (ps qs : List Part) → Type 0
-AreWhole [] qs = ⊥
-AreWhole (p ∷ ps) [] = ⊥
-AreWhole (p ∷ []) (q ∷ qs) = (p.marks ≡ []) ⊎ (q.sync_steps ≡ p.sync_steps)
-AreWhole (p ∷ next ∷ ps) (q ∷ qs) = AreWhole (next ∷ ps) qs
+abbrev pub IsLastSyncWhole : (ps qs : List Part) → Type 0
+IsLastSyncWhole [] qs = ⊥
+IsLastSyncWhole (p ∷ ps) [] = ⊥
+IsLastSyncWhole (p ∷ []) (q ∷ qs) = (p.marks ≡ []) ⊎ (q.sync_steps ≡ p.sync_steps)
+IsLastSyncWhole (p ∷ next ∷ ps) (q ∷ qs) = IsLastSyncWhole (next ∷ ps) qs
 
--- `AreWhole` holds of the one part in which nothing happens, and of parts of which there is at least one (`in_front`)
-whole_none : (p : Part) (b : Bool) (ps : List Part) → AreWhole (idle_part ∷ []) (in_front p b ps)
-whole_none p true ps = inl refl
-whole_none p false [] = inl refl
-whole_none p false (q ∷ ps) = inl refl
+-- `IsLastSyncWhole` holds of the list of the one part in which nothing happens and each list of at least one part (`in_front`)
+whole_of_idle : (p : Part) (b : Bool) (ps : List Part) → IsLastSyncWhole (idle_part ∷ []) (in_front p b ps)
+whole_of_idle p true ps = inl refl
+whole_of_idle p false [] = inl refl
+whole_of_idle p false (q ∷ ps) = inl refl
 
--- two parts without steps of a synchronization, joined to the same one, give parts with the same ones
+-- two parts without steps of a synchronization, joined to the same part, give parts with the same steps of a synchronization
 sync_steps_alike : (p x y : Part) → x.sync_steps ≡ [] → y.sync_steps ≡ [] → (parts_joined p y).sync_steps ≡ (parts_joined p x).sync_steps
 sync_steps_alike p x y e f = ap (λ l. p.sync_steps ++ l) (f ∙ sym e)
 
--- `AreWhole` is preserved by part p put before both lists (`b`), or joined to the first part of each (`b` is false), if p has no
--- marks, or if the parts that it is joined to have no steps of a synchronization
-whole_more : (p : Part) (b : Bool) (ps qs : List Part) → (p.marks ≡ []) ⊎ (b ≡ false → FirstHasNoSyncSteps ps × FirstHasNoSyncSteps qs) → AreWhole ps qs → AreWhole (in_front p b ps) (in_front p b qs)
-whole_more p b [] qs k h = absurd h
-whole_more p true (x ∷ ps) [] k h = absurd h
-whole_more p false (x ∷ ps) [] k h = absurd h
-whole_more p true (x ∷ ps) (y ∷ qs) k h = h
-whole_more p false (x ∷ []) (y ∷ qs) k (inr e) = inr (ap (λ l. p.sync_steps ++ l) e)
-whole_more p false (x ∷ []) (y ∷ qs) (inl e) (inl f) = inl (nil_both p.marks x.marks e f)
-whole_more p false (x ∷ []) (y ∷ qs) (inr g) (inl f) = inr (sync_steps_alike p x y (g refl).0 (g refl).1)
-whole_more p false (x ∷ next ∷ ps) (y ∷ qs) k h = h
+-- `IsLastSyncWhole` is preserved by part p put before both lists (`b`), or joined to the first part of each (`b` is false), if p
+-- has no marks, or if the parts that it is joined to have no steps of a synchronization
+whole_in_front : (p : Part) (b : Bool) (ps qs : List Part) → (p.marks ≡ []) ⊎ (b ≡ false → FirstHasNoSyncSteps ps × FirstHasNoSyncSteps qs)
+    → IsLastSyncWhole ps qs → IsLastSyncWhole (in_front p b ps) (in_front p b qs)
+whole_in_front p b [] qs k h = absurd h
+whole_in_front p true (x ∷ ps) [] k h = absurd h
+whole_in_front p false (x ∷ ps) [] k h = absurd h
+whole_in_front p true (x ∷ ps) (y ∷ qs) k h = h
+whole_in_front p false (x ∷ []) (y ∷ qs) k (inr e) = inr (ap (λ l. p.sync_steps ++ l) e)
+whole_in_front p false (x ∷ []) (y ∷ qs) (inl e) (inl f) = inl (nil_both p.marks x.marks e f)
+whole_in_front p false (x ∷ []) (y ∷ qs) (inr g) (inl f) = inr (sync_steps_alike p x y (g refl).0 (g refl).1)
+whole_in_front p false (x ∷ next ∷ ps) (y ∷ qs) k h = h
 
 module _ (plan : Plan) (commands : List Task) where
   -- while the station synchronizes (`b` is false), an act's part has no marks; else, unless the act is the last of its part
@@ -51,14 +52,14 @@ module _ (plan : Plan) (commands : List Task) where
   sends_or_not s act xs ys false = inl (marks_none s (action_at plan s) act)
   sends_or_not s act xs ys true =
       let t = after plan commands s act in
-      inr (λ f. (no_sync_steps plan commands t xs (goes_begun t f), no_sync_steps plan commands t ys (goes_begun t f)))
+      inr (λ f. (first_part_no_sync_steps plan commands t xs (begun_if_nothing_lost t f), first_part_no_sync_steps plan commands t ys (begun_if_nothing_lost t f)))
 
-  -- `AreWhole` holds of the parts of a run's first acts, and the parts of all of its acts
-  pub whole_parts : (s : Model) (xs ys : List Act) → AreWhole (parts_of plan commands s xs) (parts_of plan commands s (xs ++ ys))
+  -- `IsLastSyncWhole` holds of the parts of a run's first acts, and the parts of all of its acts
+  pub whole_parts : (s : Model) (xs ys : List Act) → IsLastSyncWhole (parts_of plan commands s xs) (parts_of plan commands s (xs ++ ys))
   whole_parts s [] [] = inl refl
-  whole_parts s [] (act ∷ ys) = whole_none (part_of_act plan commands s (action_at plan s) act) (ends_part plan commands s act) (parts_of plan commands (after plan commands s act) ys)
+  whole_parts s [] (act ∷ ys) = whole_of_idle (part_of_act plan commands s (action_at plan s) act) (ends_part plan commands s act) (parts_of plan commands (after plan commands s act) ys)
   whole_parts s (act ∷ xs) ys =
-      whole_more (part_of_act plan commands s (action_at plan s) act) (ends_part plan commands s act) (parts_of plan commands (after plan commands s act) xs)
+      whole_in_front (part_of_act plan commands s (action_at plan s) act) (ends_part plan commands s act) (parts_of plan commands (after plan commands s act) xs)
       (parts_of plan commands (after plan commands s act) (xs ++ ys))
       (sends_or_not s act xs (xs ++ ys) (has_begun s.progress))
       (whole_parts (after plan commands s act) xs ys)

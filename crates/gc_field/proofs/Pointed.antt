@@ -1,5 +1,5 @@
 -- Where the telescope pointed when a command of a chain was executed.
-use Rattle.std.proofs.Common.{◌≡◌, ℕ, ◌+◌, ◌-◌, ℤ, pos, ◌<◌, Bool, true, false, if◌then◌else◌, List, [], ◌∷◌, length, map, Option, Some, None, refl, sym, ◌∙◌, ap, subst, arith}
+use Rattle.std.proofs.Common.{◌≡◌, ℕ, ◌+◌, ◌-◌, ℤ, pos, ◌<◌, Bool, true, false, List, [], ◌∷◌, length, map, Option, Some, None, refl, sym, ◌∙◌, ap, subst, arith}
 use Rattle.std.specs.Prelude.{fold, slice_get, unsigned_abs}
 use Rattle.std.specs.List.{AllByRecursion}
 use Rattle.std.specs.Ordering.{int_eq}
@@ -17,16 +17,16 @@ use Rattle.gc_instrument.specs.Replying.{Handed, kept_line, without_kept}
 use Rattle.gc_instrument.specs.State.{State, IsFittingState}
 use Rattle.gc_instrument.proofs.Answering.{handed_again, handed_new}
 use Rattle.gc_instrument.proofs.Keeping.{commanded_by_tests, executes_apart}
-use Rattle.gc_texts.specs.Stamps.{date_time}
 use Rattle.gc_texts.specs.Tasks.{call_at}
 use Rattle.gc_texts.specs.declared.tasks.Task.{Task}
+use Rattle.gc_texts.proofs.TaskMoments.{at_any_moment}
 use Rattle.gc_station.specs.Links.{ChainsStay, MarksGoOn, RecordsStay}
 use Rattle.gc_station.specs.Parts.{MarkAsks}
 use Rattle.gc_station.specs.Records.{Record}
 use Rattle.gc_station.proofs.Booking.{marks_ask_at}
 use Rattle.gc_field.specs.Simulator.{simulator_ends, simulator_handed}
 use Rattle.gc_field.specs.World.{Sent}
-use Rattle.gc_world.proofs.Handing.{bare_after}
+use Rattle.gc_world.proofs.Handing.{without_kept_after}
 use Rattle.std.proofs.lemmas.Option.{same_Some, slice_get_within}
 use Rattle.gc_world.proofs.Places.{get_map, element_at}
 use Rattle.gc_field.specs.Begin.{UnderWay}
@@ -38,7 +38,7 @@ use Rattle.gc_field.specs.Runs.{IsInField, Program, own_sent, program_parts, pro
 use Rattle.gc_field.specs.Shown.{Stretch, stretches}
 use Rattle.gc_field.proofs.Among.{zip_at}
 use Rattle.gc_field.proofs.Chained.{chains_executed}
-use Rattle.gc_field.proofs.Instruments.{simulator}
+use Rattle.gc_field.proofs.Instruments.{simulator_is_an_instrument}
 use Rattle.gc_field.proofs.Joining.{run_faithful}
 use Rattle.gc_station.proofs.Lists.{all_on, get_dropped}
 use Rattle.std.proofs.lemmas.Bool.{true≢false}
@@ -56,21 +56,21 @@ handed_same s id c (Some line) e not = ap (λ (x : Handed State). x.state) (hand
 handed_same s id c None e not = absurd (true≢false (sym (ap (λ (x : Handed State). x.executed) (handed_new s id c e)) ∙ not))
 
 -- if the simulator executes a request, that has the effect `state_after_call` on its state, but for the kept reply
-executes : (s : State) (id : ℕ) (asked : Asked) → (simulator_handed s id asked).executed ≡ true → without_kept (simulator_handed s id asked).state ≡ without_kept (state_after_call s asked)
-executes s id (Table c) e = bare_after s id c e ∙ call_without_kept s (Table c)
-executes s id (Raw raw) e = refl
+executes_by_effect : (s : State) (id : ℕ) (asked : Asked) → (simulator_handed s id asked).executed ≡ true → without_kept (simulator_handed s id asked).state ≡ without_kept (state_after_call s asked)
+executes_by_effect s id (Table c) e = without_kept_after s id c e ∙ call_without_kept s (Table c)
+executes_by_effect s id (Raw raw) e = refl
 
 -- if the simulator doesn't execute a request, its state stays, but for the kept reply
-repeats : (s : State) (id : ℕ) (asked : Asked) → (simulator_handed s id asked).executed ≡ false → without_kept (simulator_handed s id asked).state ≡ without_kept s
-repeats s id (Table c) not = ap without_kept (handed_same s id c (kept_line s.kept (Some id)) refl not)
-repeats s id (Raw raw) not = refl
+repeats_unchanged : (s : State) (id : ℕ) (asked : Asked) → (simulator_handed s id asked).executed ≡ false → without_kept (simulator_handed s id asked).state ≡ without_kept s
+repeats_unchanged s id (Table c) not = ap without_kept (handed_same s id c (kept_line s.kept (Some id)) refl not)
+repeats_unchanged s id (Raw raw) not = refl
 
 -- executing a request has the effect `state_after_call` on the simulator
 pub has_effect : SimulatorHasItsEffect
 has_effect =
     record {
-      executes = executes;
-      repeats = repeats;
+      executes = executes_by_effect;
+      repeats = repeats_unchanged;
       alike = λ s t asked e. sym (call_without_kept s asked) ∙ ap (λ x. state_after_call x asked) e ∙ call_without_kept t asked;
     }
 
@@ -128,7 +128,7 @@ asked_same : (s : State) (asked : Asked) → turns_telescope asked ≡ false →
 asked_same s (Table c) e = call_same s c e
 asked_same s (Raw raw) e = record { pointing = refl; face = refl }
 
--- a request turns no telescope if, should it be a call of the table, it turns none: other requests turn none
+-- a request turns no telescope if it turns none in case that it is a call of the table, since other requests turn none
 still_table : (asked : Asked) → (is_of_table asked ≡ true → turns_telescope asked ≡ false) → turns_telescope asked ≡ false
 still_table (Table c) f = f refl
 still_table (Raw raw) f = refl
@@ -168,12 +168,8 @@ null_still : (a : Wanted Asked) (r : Sent) → asked r ≡ a → a ≡ record { 
 null_still a r e f = ap (λ (o : Wanted Asked). turns_telescope o.call) (e ∙ f)
 
 -- a task that turns no telescope turns none at any moment
-turns_none : (task : Task) (utc : ℕ) → turns_telescope task.command.call ≡ false → turns_telescope (call_at task utc) ≡ false
-turns_none task utc still = by_clock task.now where
-  -- the lemma above, by whether the task sets the clock (`b`)
-  by_clock : (b : Bool) → turns_telescope (if b then Table (call.SetDate (date_time utc)) else task.command.call) ≡ false
-  by_clock true = refl
-  by_clock false = still
+still_at_any_moment : (task : Task) (utc : ℕ) → turns_telescope task.command.call ≡ false → turns_telescope (call_at task utc) ≡ false
+still_at_any_moment task utc still = at_any_moment (λ call. turns_telescope call ≡ false) task utc refl still
 
 module _ (u : UnderWay State) (run : Program State) (field : IsInField simulator_ends IsFittingState kept_of u run) where
   -- the stretches of the run
@@ -189,13 +185,13 @@ module _ (u : UnderWay State) (run : Program State) (field : IsInField simulator
     still_by x r None above under at y e is = null_still y r e is
     still_by x r (Some mark) above under at y e is =
         let there = h.between x mark above under at in
-        let quiet = turns_none is.0 mark.sent (still mark.place is.0 there.1 there.2 is.1) in
+        let quiet = still_at_any_moment is.0 mark.sent (still mark.place is.0 there.1 there.2 is.1) in
         ap (λ (o : Wanted Asked). turns_telescope o.call) (e ∙ is.2) ∙ quiet
 
     -- a request of the client between those of the chain's two commands turns no telescope
     still_at : (x : ℕ) (r : Sent) → h.m < x → x < h.n → slice_get (own_sent simulator_ends h.stretch) x ≡ Some r → turns_telescope r.call ≡ false
     still_at x r above under got =
-        let f = run_faithful simulator_ends IsFittingState kept_of simulator.instrument u run field in
+        let f = run_faithful simulator_ends IsFittingState kept_of simulator_is_an_instrument.instrument u run field in
         let of = zip_at _ (program_parts run) ss h.i h.part h.stretch f.sent h.of_parts h.of_stretches in
         let size : h.n < length h.part.marks = slice_get_within h.part.marks h.n _ h.mark_b in
         let mark = element_at h.part.marks x (omega (arith, under, size)) in
@@ -221,7 +217,7 @@ module _ (u : UnderWay State) (run : Program State) (field : IsInField simulator
         let x = h.executed in
         let s = earlier_state in
         let calls = all_still (world simulator_ends h.stretch).wire.sent (8 + h.m) (8 + h.n) x.numbers x.calls x.asked
-        (x.strictly is_of_table simulator.keeps (no_start x.between quiet)) (λ k r above under got. still_number k r above under got) in
+        (x.strictly is_of_table simulator_is_an_instrument.keeps (no_start x.between quiet)) (λ k r above under got. still_number k r above under got) in
         let there = x.state without_kept state_after_call has_effect quiet in
         let t = state_after_call s h.earlier.answer.command.call in
         let same = calls_same x.calls t calls in
@@ -240,4 +236,4 @@ module _ (u : UnderWay State) (run : Program State) (field : IsInField simulator
   pointed stay go_on records_stay =
       all_on (IsExecutedInChain simulator_ends IsFittingState kept_of u run) (IsPointedInChain u run) (program_records run)
       (λ b h line a answered many low less chained. let c = h line a answered many low less chained in (c, λ still quiet. pointed_there b line a c still quiet))
-      (chains_executed simulator_ends IsFittingState kept_of simulator.instrument stay go_on records_stay run.plan run.commands run.scope run.acts u run.runs field)
+      (chains_executed simulator_ends IsFittingState kept_of simulator_is_an_instrument.instrument stay go_on records_stay run.plan run.commands run.scope run.acts u run.runs field)

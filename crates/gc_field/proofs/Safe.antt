@@ -14,12 +14,12 @@ use Rattle.gc_station.specs.Behind.{IsNearTheTable}
 use Rattle.gc_field.specs.World.{Ends}
 use Rattle.gc_world.proofs.Places.{element_at}
 use Rattle.gc_world.specs.Worlds.{of_sent}
-use Rattle.gc_field.specs.Begun.{IsBehindTheTable, IsByReply, WentOutBehindTheTable, behind, ids_begun, nulls, nulls_settled}
+use Rattle.gc_field.specs.Begun.{IsBehindTheTable, IsByReply, WentOutBehindTheTable, world_once_begun, ids_begun, nulls, nulls_settled}
 use Rattle.gc_field.specs.Field.{Move, Sends, Tells, Comes, Foreign, OnLine, Anew, Changes, Joins, seen}
 use Rattle.gc_field.specs.Instrument.{IsAnInstrument}
 use Rattle.gc_field.specs.Shown.{Stretch}
 use Rattle.gc_field.proofs.BegunFaithful.{sent_is}
-use Rattle.gc_field.proofs.InTime.{IsSoundStretch, throughout}
+use Rattle.gc_field.proofs.InTime.{IsSoundStretch, faithful_throughout}
 use Rattle.gc_field.proofs.Possible.{front_possible}
 use Rattle.gc_station.proofs.Lists.{cons_head, cons_tail, get_behind}
 
@@ -142,22 +142,22 @@ module _ {State : Type 0} (ends : Ends State) (Good : State → Type 0) (kept : 
   -- by the first moves of a sound stretch (`before`), eight more requests are sent than by the steps that the client sees of
   -- these moves: the null procedures
   sent_count : (s : Stretch State) → IsSoundStretch ends Good kept is s → (before after : List (Move State)) → s.moves ≡ before ++ after
-      → length (behind 7 ends s.from before).wire.sent ≡ 8 + length (course 7 begun (seen before)).sent
+      → length (world_once_begun 7 ends s.from before).wire.sent ≡ 8 + length (course 7 begun (seen before)).sent
   sent_count s sound before after e =
       let p = front_possible 7 ends Good kept s.moves before after (ids_begun s.from) e sound.possible in
-      let w = (behind 7 ends s.from before).wire in
+      let w = (world_once_begun 7 ends s.from before).wire in
       let all = sent_is ends Good kept is 7 (omega arith) s.from before p in
       sym (length-map w.sent of_sent) ∙ ap length all ∙ length-append (map of_sent nulls) (course 7 begun (seen before)).sent
 
   -- if the request that is sent next after the first moves of a sound stretch (`before`) is near the table by the steps that the
   -- client sees of them, it is sent after the table (`IsBehindTheTable`)
   near_is : (s : Stretch State) → IsSoundStretch ends Good kept is s → (before after : List (Move State)) → s.moves ≡ before ++ after → IsNearTheTable (course 7 begun (seen before))
-      → IsBehindTheTable (behind 7 ends s.from before).wire
+      → IsBehindTheTable (world_once_begun 7 ends s.from before).wire
   near_is s sound before after e near =
-      let w = (behind 7 ends s.from before).wire in
+      let w = (world_once_begun 7 ends s.from before).wire in
       let x = course 7 begun (seen before) in
       let count = sent_count s sound before after e in
-      let f = throughout ends Good kept is s sound before after e in
+      let f = faithful_throughout ends Good kept is s sound before after e in
       elim near [
         | inl few ↦ (7, omega (arith, count), omega (arith, count, few), inl refl)
         | inr h ↦ (

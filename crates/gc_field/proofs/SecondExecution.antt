@@ -7,9 +7,9 @@ use Rattle.gc_instrument.specs.Replying.{handed}
 use Rattle.gc_field.specs.SecondExecution.{IsExecutedAgain}
 
 -- the third request is executed twice, and the second execution's reply is its answer
-pub again : IsExecutedAgain
+pub executed_again : IsExecutedAgain
 unfolding header_at reply_at handed exec digits
-again =
+executed_again =
     record {
       possible = (tt, (tt, ((8, [], refl), (tt, (tt, ((9, [], refl), (tt, (tt, (tt, (tt, (tt, (tt, ((10, [], refl), tt)))))))))))));
       executed = refl;

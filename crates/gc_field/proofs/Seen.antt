@@ -5,7 +5,7 @@ use Rattle.std.proofs.lemmas.List.{map-append, append-nil}
 use Rattle.gc_catalogue.specs.declared.asked.Asked.{Asked}
 use Rattle.gc_catalogue.specs.Asked.{asked_line}
 use Rattle.gc_client.specs.OneForOne.{Course, course, sent_on, settled_on, begun}
-use Rattle.gc_client.specs.Rule.{ById, Sending, sends, hears, heard}
+use Rattle.gc_client.specs.Rule.{ById, Sending, sends, hears, heard, hears_line}
 use Rattle.gc_instrument.specs.State.{KeptReply}
 use Rattle.gc_world.specs.Clients.{by_ids, ids_open}
 use Rattle.gc_field.specs.World.{Numbered, Ends, Step, World, requested, with_settled, down_delivered, happens}
@@ -39,21 +39,21 @@ module _ {State : Type 0} (width : ℕ) (ends : Ends State) (same_heard : ReadsB
 
   -- `SameAs` is preserved by a reply that is heard
   same_reply : (x : Course Asked) (w : World (ById Asked) State) (line : List ℕ) (rest : List (Numbered (List ℕ))) → SameAs x w
-      → SameAs (settled_on x (hears x.client line (heard line))) (with_settled (record w.wire { down = rest }) (hears w.client line (ends.heard line)))
+      → SameAs (settled_on x (hears_line x.client line)) (with_settled (record w.wire { down = rest }) (hears w.client line (ends.heard line)))
   same_reply x w line rest h =
-      subst (λ o. SameAs (settled_on x (hears x.client line (heard line))) (with_settled (record w.wire { down = rest }) (hears w.client line o))) (sym (same_heard line))
-      (subst (λ c. SameAs (settled_on x (hears c line (heard line))) (with_settled (record w.wire { down = rest }) (hears w.client line (heard line)))) (sym h.client)
-      (record { sent = h.sent; settled = ap (λ l. l ++ (hears w.client line (heard line)).settlements) h.settled; client = refl }))
+      subst (λ o. SameAs (settled_on x (hears_line x.client line)) (with_settled (record w.wire { down = rest }) (hears w.client line o))) (sym (same_heard line))
+      (subst (λ c. SameAs (settled_on x (hears_line c line)) (with_settled (record w.wire { down = rest }) (hears_line w.client line))) (sym h.client)
+      (record { sent = h.sent; settled = ap (λ l. l ++ (hears_line w.client line).settlements) h.settled; client = refl }))
 
   -- `SameAs` is preserved by the front reply
   same_comes : (x : Course Asked) (w : World (ById Asked) State) (line : List ℕ) (n : ℕ) (rest : List (Numbered (List ℕ)))
       → w.wire.down ≡ record { number = n; line = line } ∷ rest → SameAs x w
-      → SameAs (settled_on x (hears x.client line (heard line))) (down_delivered (by_ids width ends) w w.wire.down)
+      → SameAs (settled_on x (hears_line x.client line)) (down_delivered (by_ids width ends) w w.wire.down)
   same_comes x w line n rest e h =
-      subst (λ q. SameAs (settled_on x (hears x.client line (heard line))) (down_delivered (by_ids width ends) w q)) (sym e) (same_reply x w line rest h)
+      subst (λ q. SameAs (settled_on x (hears_line x.client line)) (down_delivered (by_ids width ends) w q)) (sym e) (same_reply x w line rest h)
 
   -- `SameAs` is preserved by a line without an id
-  same_foreign : (x : Course Asked) (w : World (ById Asked) State) (line : List ℕ) → heard line ≡ None → SameAs x w → SameAs (settled_on x (hears x.client line (heard line))) w
+  same_foreign : (x : Course Asked) (w : World (ById Asked) State) (line : List ℕ) → heard line ≡ None → SameAs x w → SameAs (settled_on x (hears_line x.client line)) w
   same_foreign x w line e h =
       subst (λ o. SameAs (settled_on x (hears x.client line o)) w) (sym e) (record { sent = h.sent; settled = append-nil x.settlements ∙ h.settled; client = h.client })
 

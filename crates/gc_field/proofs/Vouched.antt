@@ -20,30 +20,30 @@ use Rattle.gc_field.specs.World.{Request, Sent, Numbered, Ends, Step, Send, Up_d
 use Rattle.gc_world.proofs.Booked.{Has, has_more, has_push}
 use Rattle.std.proofs.lemmas.Option.{same_Some, none-some}
 use Rattle.gc_world.proofs.Places.{get_more, get_push, all_at}
-use Rattle.gc_world.proofs.Replay.{IsAsSent, of_more}
+use Rattle.gc_world.proofs.Replay.{IsAsSent, as_sent_more}
 use Rattle.gc_world.proofs.Rows.{each_without, each_doubled, rising_each, rising_tail}
 use Rattle.gc_world.proofs.Sound.{IsGoing, Sound}
 use Rattle.gc_field.specs.Field.{IsLineStep}
 use Rattle.gc_field.specs.Instrument.{IsAnInstrumentFor, KeepsItsReply, MayBeKept, MayForget, own_reply}
 use Rattle.gc_field.proofs.Answered.{HoldsOfAll, holds_more, holds_append, holds_settled}
-use Rattle.gc_field.proofs.Once.{IsClimbing, IsIdle, IsOrdered, IsUnknown, climbing_started, climbing_acted, climbing_handed, climbing_sent, known_not, ordered_acted, ordered_handed, unknown_more, why_acted}
-use Rattle.gc_field.proofs.KeptReplies.{VouchedFields, fields_of, log_of, unknown_or_retained, KeptIs, kept_more, kept_still, newest, newest_up, newest_low, IsDealt, newest_dealt, kept_handed, IsVouched, ReplyHas}
+use Rattle.gc_field.proofs.Once.{IsClimbing, IsIdle, IsOrdered, IsUnknown, climbing_started, climbing_acted, climbing_handed, climbing_sent, known_not_unknown, ordered_acted, ordered_handed, unknown_more, idle_or_latest_if_executed}
+use Rattle.gc_field.proofs.KeptReplies.{VouchedFields, fields_of, log_of, unknown_or_retained, KeptIs, kept_more, kept_still, newest, newest_not_before, newest_not_later, IsNoNewerKnown, newest_no_newer, kept_handed, IsVouched, ReplyHas}
 use Rattle.gc_field.proofs.NearTable.{IsNear, near_kept, near_handed, near_if_below}
 
 module _ {State : Type 0} (width : ℕ) (narrow : width ≤ 7) (knows : Asked → Bool) (ends : Ends State) (Good : State → Type 0)
     (kept : State → Option KeptReply) (keeper : IsAnInstrumentFor ends Good kept knows) (low : ℕ) (E : ℕ → Type 0) (MustKnow : Type 0) (M : ℕ → Asked → List ℕ → Type 0) where
-  -- request n is `IsDealt`; and it is one of those that are excepted, or the line is vouched for as its reply
+  -- request n is `IsNoNewerKnown`; and it is one of those that are excepted, or the line is vouched for as its reply
   abbrev pub Vouched : (sent : List Sent) (executed : List ℕ) (made : List (Numbered (List ℕ))) (table n : ℕ) (line : List ℕ) → Type 0
-  Vouched sent executed made table n line = IsDealt knows sent table n × (E n ⊎ IsVouched ends Good M sent executed made n line)
+  Vouched sent executed made table n line = IsNoNewerKnown knows sent table n × (E n ⊎ IsVouched ends Good M sent executed made n line)
 
   -- `Vouched` is preserved where further requests are sent
   stays_sent : (sent more : List Sent) (executed : List ℕ) (made : List (Numbered (List ℕ))) (table n : ℕ) (line : List ℕ)
       → Vouched sent executed made table n line → Vouched (sent ++ more) executed made table n line
-  stays_sent sent more executed made table n line h = (dealt h.0, own h.1) where
-    -- request n stays `IsDealt` where more requests are sent
-    dealt : IsDealt knows sent table n → IsDealt knows (sent ++ more) table n
-    dealt (inl l) = inl l
-    dealt (inr u) = inr (unknown_more knows sent more n u)
+  stays_sent sent more executed made table n line h = (no_newer h.0, own h.1) where
+    -- request n stays `IsNoNewerKnown` where more requests are sent
+    no_newer : IsNoNewerKnown knows sent table n → IsNoNewerKnown knows (sent ++ more) table n
+    no_newer (inl l) = inl l
+    no_newer (inr u) = inr (unknown_more knows sent more n u)
 
     -- request n stays excepted, or its line vouched for, where more requests are sent
     own : E n ⊎ IsVouched ends Good M sent executed made n line → E n ⊎ IsVouched ends Good M (sent ++ more) executed made n line
@@ -54,11 +54,11 @@ module _ {State : Type 0} (width : ℕ) (narrow : width ≤ 7) (knows : Asked �
   -- executed then (`after`), and the newest known request then, `next`, isn't before that of before, `table`
   stays_on : (sent : List Sent) (executed after : List ℕ) (made more : List (Numbered (List ℕ))) (table next n : ℕ) (line : List ℕ) → ((i : ℕ) → Has i executed → Has i after)
       → table ≤ next → Vouched sent executed made table n line → Vouched sent after (made ++ more) next n line
-  stays_on sent executed after made more table next n line lasts le h = (dealt h.0, own h.1) where
-    -- request n stays `IsDealt` where a later request is the newest known one
-    dealt : IsDealt knows sent table n → IsDealt knows sent next n
-    dealt (inl l) = inl (omega (arith, l, le))
-    dealt (inr u) = inr u
+  stays_on sent executed after made more table next n line lasts le h = (no_newer h.0, own h.1) where
+    -- request n stays `IsNoNewerKnown` where a later request is the newest known one
+    no_newer : IsNoNewerKnown knows sent table n → IsNoNewerKnown knows sent next n
+    no_newer (inl l) = inl (omega (arith, l, le))
+    no_newer (inr u) = inr u
 
     -- request n stays excepted, or its line vouched for, where more requests are executed and more replies made
     own : E n ⊎ IsVouched ends Good M sent executed made n line → E n ⊎ IsVouched ends Good M sent after (made ++ more) n line
@@ -115,7 +115,7 @@ module _ {State : Type 0} (width : ℕ) (narrow : width ≤ 7) (knows : Asked �
         above = all_append _ v.up _ h.above (omega (arith, h.within), tt);
         below = h.below;
         holds = kept_more P Q f v.since h.top h.table v.retained h.holds;
-        lines = all_append _ v.up _ (all_on _ _ v.up (of_more written v.sent (r ∷ [])) h.lines) (record { request = r; found = get_push v.sent r; small = digit; call = refl; text = refl }, tt);
+        lines = all_append _ v.up _ (all_on _ _ v.up (as_sent_more written v.sent (r ∷ [])) h.lines) (record { request = r; found = get_push v.sent r; small = digit; call = refl; text = refl }, tt);
         near = near_sent r plain h.near;
         coming = all_on (λ (x : Numbered (List ℕ)). P x.number x.line) (λ x. Q x.number x.line) v.down (λ x. f x.number x.line) h.coming;
         answers = holds_more P Q f 0 v.settled h.answers;
@@ -200,14 +200,14 @@ module _ {State : Type 0} (width : ℕ) (narrow : width ≤ 7) (knows : Asked �
       let n = x.number in
       let m : Numbered (List ℕ) = record { number = n; line = line } in
       let next = newest known n h.table in
-      let up : h.table ≤ next = newest_up known n h.table front.least in
+      let up : h.table ≤ next = newest_not_before known n h.table front.least in
       let P = Vouched v.sent v.executed v.made h.table in
       let Q = Vouched v.sent executed (v.made ++ m ∷ []) next in
       let f : (i : ℕ) (line : List ℕ) → P i line → Q i line = λ i line p. stays_on v.sent v.executed executed v.made (m ∷ []) h.table next i line was.lasts up p in
-      let own : Q n line = (newest_dealt knows v.sent known n h.table front.unknown, was.new) in
+      let own : Q n line = (newest_no_newer knows v.sent known n h.table front.unknown, was.new) in
       let rising = rising_tail c.count n (numbers v.down) (numbers rest) (subst (λ l. Rising c.count (numbers v.down ++ numbers l)) q s.order) in
       let o = subst (λ l. AllByRecursion (IsAsSent written v.sent) l) q h.lines in
-      let low : next ≤ n = newest_low known n h.table front.least in
+      let low : next ≤ n = newest_not_later known n h.table front.least in
       record {
         top = n + 1;
         table = next;
@@ -276,7 +276,7 @@ module _ {State : Type 0} (width : ℕ) (narrow : width ≤ 7) (knows : Asked �
   acted_by w x hd known keeps true e k is exe good h front =
       let v = w.wire in
       let o = front.of in
-      inr (why_acted keeps w.client.since h.top x.number x.line.id (log_of (fields_of kept w)) (known_not keeps v.sent x.number o.request o.found (ap keeps o.call ∙ e))
+      inr (idle_or_latest_if_executed keeps w.client.since h.top x.number x.line.id (log_of (fields_of kept w)) (known_not_unknown keeps v.sent x.number o.request o.found (ap keeps o.call ∙ e))
       front.id front.top (λ line same. true≢false (sym exe ∙ sym (ap (λ (k : Handed State). k.executed) is) ∙ k.again v.state x.line.id x.line.call line good o.small e same)) (h.once keeps k))
   acted_by w x hd known keeps false e k is exe good h front = inl (front.of.request, front.of.found, ap keeps front.of.call ∙ e)
 

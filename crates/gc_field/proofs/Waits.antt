@@ -17,22 +17,22 @@ use Rattle.std.proofs.Math.Bool.{or_assoc, or-false}
 use Rattle.gc_world.proofs.Places.{get_map}
 
 -- what these moves make of an outstanding request: a moment at or past its deadline times it out, and nothing else changes it
-abbrev pub after_moves : {State : Type 0} → Pending Asked → List (Move State) → Pending Asked
-after_moves p [] = p
-after_moves p (Tells now ∷ ms) = after_moves (expired now p) ms
-after_moves p (_ ∷ ms) = after_moves p ms
+abbrev pub pending_after : {State : Type 0} → Pending Asked → List (Move State) → Pending Asked
+pending_after p [] = p
+pending_after p (Tells now ∷ ms) = pending_after (expired now p) ms
+pending_after p (_ ∷ ms) = pending_after p ms
 
 -- after moves a request has timed out just if it had before, or if a moment at or past its deadline is read; all else of it stays
-pub after_is : {State : Type 0} (p : Pending Asked) (ms : List (Move State)) → after_moves p ms ≡ record p { given_up = p.given_up || times_out p.deadline ms }
-after_is p [] = ap (λ b. record p { given_up = b }) (sym (or-false p.given_up))
-after_is p (Tells now ∷ ms) = after_is (expired now p) ms ∙ ap (λ b. record p { given_up = b }) (or_assoc p.given_up (nat_le p.deadline now) (times_out p.deadline ms))
-after_is p (Sends target call deadline ∷ ms) = after_is p ms
-after_is p (Comes line ∷ ms) = after_is p ms
-after_is p (Foreign line ∷ ms) = after_is p ms
-after_is p (OnLine step ∷ ms) = after_is p ms
-after_is p (Anew ∷ ms) = after_is p ms
-after_is p (Changes state ∷ ms) = after_is p ms
-after_is p (Joins line ∷ ms) = after_is p ms
+pub pending_is : {State : Type 0} (p : Pending Asked) (ms : List (Move State)) → pending_after p ms ≡ record p { given_up = p.given_up || times_out p.deadline ms }
+pending_is p [] = ap (λ b. record p { given_up = b }) (sym (or-false p.given_up))
+pending_is p (Tells now ∷ ms) = pending_is (expired now p) ms ∙ ap (λ b. record p { given_up = b }) (or_assoc p.given_up (nat_le p.deadline now) (times_out p.deadline ms))
+pending_is p (Sends target call deadline ∷ ms) = pending_is p ms
+pending_is p (Comes line ∷ ms) = pending_is p ms
+pending_is p (Foreign line ∷ ms) = pending_is p ms
+pending_is p (OnLine step ∷ ms) = pending_is p ms
+pending_is p (Anew ∷ ms) = pending_is p ms
+pending_is p (Changes state ∷ ms) = pending_is p ms
+pending_is p (Joins line ∷ ms) = pending_is p ms
 
 -- where request n isn't settled yet (the first `size` requests are), it waits as `p`, at its place in the list of those that
 -- are outstanding
@@ -40,8 +40,8 @@ abbrev pub WaitsAt : (size : ℕ) (waiting : List (Pending Asked)) (n : ℕ) (p 
 WaitsAt size waiting n p = size ≤ n → slice_get waiting (n - size) ≡ Some p
 
 -- in this world request n, if it isn't settled yet, waits as `p`, at its place
-abbrev pub Waits : {State : Type 0} → World (ById Asked) State → ℕ → Pending Asked → Type 0
-Waits w n p = WaitsAt (length w.wire.settled) w.client.waiting n p
+abbrev pub WaitsAs : {State : Type 0} → World (ById Asked) State → ℕ → Pending Asked → Type 0
+WaitsAs w n p = WaitsAt (length w.wire.settled) w.client.waiting n p
 
 -- a request that a reply leaves unsettled waits on, whether a request waits at the place k of the reply's id (`b`) or none does
 waits_settled : (c : ById Asked) (line : List ℕ) (k : ℕ) (b : Bool) (before : List (Settlement Asked)) (n : ℕ) (p : Pending Asked) → nat_lt k (length c.waiting) ≡ b
@@ -67,27 +67,27 @@ waits_heard c line None before n p h = λ le.
 waits_heard c line (Some id) before n p h = waits_settled c line (place_in c id) (nat_lt (place_in c id) (length c.waiting)) before n p refl h
 
 module _ {State : Type 0} (ends : Ends State) (Good : State → Type 0) (kept : State → Option KeptReply) where
-  -- `Waits` is preserved if the front reply comes, if there is one: a request that this doesn't settle waits on
-  waits_came : (w : World (ById Asked) State) (q : List (Numbered (List ℕ))) (n : ℕ) (p : Pending Asked) → Waits w n p → Waits (down_delivered (by_ids 7 ends) w q) n p
+  -- `WaitsAs` is preserved if the front reply comes, if there is one: a request that this doesn't settle waits on
+  waits_came : (w : World (ById Asked) State) (q : List (Numbered (List ℕ))) (n : ℕ) (p : Pending Asked) → WaitsAs w n p → WaitsAs (down_delivered (by_ids 7 ends) w q) n p
   waits_came w [] n p h = h
   waits_came w (x ∷ rest) n p h = waits_heard w.client x.line (ends.heard x.line) w.wire.settled n p h
 
-  -- `Waits` is preserved if another request is sent, or is refused because the window is full (`b`)
-  waits_sent : (w : World (ById Asked) State) (target : ℕ) (call : Asked) (deadline : ℕ) (b : Bool) (n : ℕ) (p : Pending Asked) → Waits w n p
-      → Waits (requested w target call (send_unless_full w.client target call deadline b)) n p
+  -- `WaitsAs` is preserved if another request is sent, or is refused because the window is full (`b`)
+  waits_sent : (w : World (ById Asked) State) (target : ℕ) (call : Asked) (deadline : ℕ) (b : Bool) (n : ℕ) (p : Pending Asked) → WaitsAs w n p
+      → WaitsAs (requested w target call (send_unless_full w.client target call deadline b)) n p
   waits_sent w target call deadline true n p h = h
   waits_sent w target call deadline false n p h = λ le. get_more w.client.waiting (pending_of target call deadline ∷ []) (n - length w.wire.settled) p (h le)
 
-  -- `Waits` is preserved if a step of the line happens
-  waits_line : (w : World (ById Asked) State) (step : Step) (n : ℕ) (p : Pending Asked) → IsLineStep step → Waits w n p → Waits (moves ends (by_ids 7 ends) w (OnLine step)) n p
+  -- `WaitsAs` is preserved if a step of the line happens
+  waits_line : (w : World (ById Asked) State) (step : Step) (n : ℕ) (p : Pending Asked) → IsLineStep step → WaitsAs w n p → WaitsAs (moves ends (by_ids 7 ends) w (OnLine step)) n p
   waits_line w step n p o h =
       let after = same_over_line ends (by_ids 7 ends) w step o in
       subst (λ (c : ById Asked). WaitsAt (length (moves ends (by_ids 7 ends) w (OnLine step)).wire.settled) c.waiting n p) (sym after.client)
       (subst (λ xs. WaitsAt (length xs) w.client.waiting n p) (sym after.settled) h)
 
-  -- where `Waits` holds of request n and `p`, after possible moves it holds of n and what they make of `p` (`after_moves`)
-  pub waits_all : (ms : List (Move State)) (w : World (ById Asked) State) (n : ℕ) (p : Pending Asked) → ArePossible ends Good kept (by_ids 7 ends) ms w → Waits w n p
-      → Waits (moved ends (by_ids 7 ends) ms w) n (after_moves p ms)
+  -- where `WaitsAs` holds of request n and `p`, after possible moves it holds of n and what they make of `p` (`pending_after`)
+  pub waits_all : (ms : List (Move State)) (w : World (ById Asked) State) (n : ℕ) (p : Pending Asked) → ArePossible ends Good kept (by_ids 7 ends) ms w → WaitsAs w n p
+      → WaitsAs (moved ends (by_ids 7 ends) ms w) n (pending_after p ms)
   waits_all [] w n p o h = h
   waits_all (Sends target call deadline ∷ ms) w n p o h = waits_all ms _ n p o.1 (waits_sent w target call deadline (nat_eq (length w.client.waiting) 7) n p h)
   waits_all (Tells now ∷ ms) w n p o h = waits_all ms _ n (expired now p) o.1 (λ le. get_map (expired now) w.client.waiting (n - length w.wire.settled) p (h le))

@@ -5,7 +5,6 @@ use Rattle.std.specs.Prelude.{codes, map, take, drop}
 use Rattle.std.specs.Fmt.{digits}
 use Rattle.gc_lines.specs.Readers.{header_at, reply_at}
 use Rattle.gc_values.specs.Text.{IsStringByte, IsText}
-use Rattle.gc_catalogue.specs.declared.answer.Reading.{Reading}
 use Rattle.gc_catalogue.specs.declared.asked.Asked.{Asked}
 use Rattle.gc_catalogue.specs.declared.asked.Asked.TheVariants.{Table}
 use Rattle.gc_catalogue.specs.declared.call.Call.TheVariants.{InstrumentNo}
@@ -18,16 +17,18 @@ use Rattle.gc_instrument.specs.State.{IsFittingState, simulator_opening}
 use Rattle.gc_texts.specs.Nears.{is_elsewhere}
 use Rattle.gc_texts.specs.declared.tasks.Task.{Task}
 use Rattle.gc_station.specs.Parts as part
-use Rattle.gc_station.specs.Parts.{Part, idle_part, parts_of}
+use Rattle.gc_station.specs.Parts.{Part, idle_part}
 use Rattle.gc_station.proofs.Going.{runs-append}
 use Rattle.gc_station.specs.Model.{Runs, opening}
-use Rattle.gc_field.specs.Plain.{plain_expected}
+use Rattle.gc_station.specs.NextCommand.{expected_first}
 use Rattle.gc_field.specs.Simulator.{simulator_ends}
 use Rattle.gc_field.specs.Begin.{begins, left_by_turns}
 use Rattle.gc_field.specs.Begun.{WasMadeOn}
 use Rattle.gc_field.specs.Field.{seen}
 use Rattle.gc_field.specs.Shown.{AreShownAs, shown}
 use Rattle.gc_field.specs.Witness.{SomeRunIsInField, acts, answer, at_start, begun_with, commands, moves, plan, plan_of_width, replies, program, scope, turns}
+use Rattle.gc_station.specs.Scopes.{Reads, scoped}
+use Rattle.gc_station.specs.Links.{parts}
 
 -- What the runs share.
 
@@ -36,28 +37,28 @@ abbrev pub Units : ℕ → Type 0
 Units zero = Unit {0}
 Units (suc n) = Unit {0} × Units n
 
--- `Units` holds
+-- `Units` holds of each number
 pub units : (n : ℕ) → Units n
 units zero = tt
 units (suc n) = (tt, units n)
 
--- the acts by which a connection is made and cleared, and the null procedures are answered by these lines, are a run, with any
--- width of the window, and whatever is to be asked
+-- the acts by which a connection is made and cleared, and the null procedures are answered by these lines, are a run, whatever
+-- the width of the window and whatever is to be asked
 abbrev pub OpensWith : List (List ℕ) → Type 0
 OpensWith answers =
-    (width : ℕ) (tasks : List Task) (reads : Asked → List ℕ → Reading)
-    → Runs (plan_of_width width) tasks (opening (plan_of_width width) (record { turns = 100; reads = reads })) (begun_with answers [])
+    (width : ℕ) (tasks : List Task) (reads : Reads)
+    → Runs (plan_of_width width) tasks (opening (plan_of_width width) (scoped 100 reads)) (begun_with answers [])
 
--- with the simulator's replies to all eight null procedures these acts are a run
-pub opens : OpensWith replies
+-- `OpensWith` holds of the simulator's replies to all eight null procedures
+pub opens_simulator : OpensWith replies
 unfolding is_elsewhere header_at reply_at digits
-opens width tasks reads =
+opens_simulator width tasks reads =
     (tt, (refl, (tt, (refl, (tt, (tt, (refl, (tt, (tt, (refl, (tt, (tt, (refl, (tt, (tt, (refl, (tt, (tt, (refl, (tt, (tt, (refl, (tt, (tt, (refl, (tt, (tt, tt)))))))))))))))))))))))))))
 
 -- the part with these steps, of a synchronization and of the client, whose requests are of the first cycle: each by its place,
 -- and the moment before it was sent
 abbrev pub part_of : List part.SyncStep → List (Step Asked) → List (ℕ × ℕ) → Part
-part_of sync_steps steps sent = record { sync_steps = sync_steps; steps = steps; marks = map (λ x. Some (record { cycle = 1; place = x.0; sent = x.1; expected = plain_expected })) sent }
+part_of sync_steps steps sent = record { sync_steps = sync_steps; steps = steps; marks = map (λ x. Some (record { cycle = 1; place = x.0; sent = x.1; expected = expected_first [] })) sent }
 
 -- the parts of a run that never resynchronizes: the part with these steps and requests, and the empty one after the end
 abbrev pub one_part : List part.SyncStep → List (Step Asked) → List (ℕ × ℕ) → List Part
@@ -66,37 +67,37 @@ one_part sync_steps steps sent = part_of sync_steps steps sent ∷ idle_part ∷
 -- The run of one command.
 
 -- bytes above 34 are bytes of a string
-in_string : (b : ℕ) → 34 < b → IsStringByte b
-in_string b more = ((λ e. absurd (omega (arith, more, e))), (λ e. absurd (omega (arith, more, e))), (λ e. absurd (omega (arith, more, e))))
+string_byte : (b : ℕ) → 34 < b → IsStringByte b
+string_byte b more = ((λ e. absurd (omega (arith, more, e))), (λ e. absurd (omega (arith, more, e))), (λ e. absurd (omega (arith, more, e))))
 
 -- a space is a byte of a string
-space : IsStringByte 32
-space = ((λ e. (cc)), (λ e. (cc)), (λ e. (cc)))
+string_space : IsStringByte 32
+string_space = ((λ e. (cc)), (λ e. (cc)), (λ e. (cc)))
 
 -- the simulator's name is a text
-named : IsText (codes "GEOCOM SIM")
-named =
+name_is_text : IsText (codes "GEOCOM SIM")
+name_is_text =
     record {
       few = omega arith;
       plain = (
-        in_string 71 (lit< tt),
+        string_byte 71 (lit< tt),
         (
-          in_string 69 (lit< tt),
+          string_byte 69 (lit< tt),
           (
-            in_string 79 (lit< tt),
-            (in_string 67 (lit< tt), (in_string 79 (lit< tt), (in_string 77 (lit< tt), (space, (in_string 83 (lit< tt), (in_string 73 (lit< tt), (in_string 77 (lit< tt), tt))))))),
+            string_byte 79 (lit< tt),
+            (string_byte 67 (lit< tt), (string_byte 79 (lit< tt), (string_byte 77 (lit< tt), (string_space, (string_byte 83 (lit< tt), (string_byte 73 (lit< tt), (string_byte 77 (lit< tt), tt))))))),
           ),
         ),
       );
     }
 
 -- the simulator's opening state fits
-pub fits : IsFittingState simulator_opening
-fits =
+pub opening_fits : IsFittingState simulator_opening
+opening_fits =
     record {
       precision = omega arith;
       serial = (omega (arith, ints), omega (arith, ints));
-      name = named;
+      name = name_is_text;
       date = ((omega (arith, ints), omega (arith, ints)), (lit< tt, (lit< tt, (lit< tt, (lit< tt, (lit< tt, tt))))));
       prism = (omega (arith, ints), omega (arith, ints));
       kept = tt;
@@ -107,10 +108,10 @@ not_six_and_zero : (n m : ℕ) → n ≡ m → n ≡ 6 → m ≡ 0 → ⊥
 not_six_and_zero n m e a b = omega (arith, e, a, b)
 
 -- the word isn't a subsequence of two ids 0
-pub none_here : IsSubsequence the_word (0 ∷ 0 ∷ []) → ⊥
-none_here (inl h) = not_six_and_zero 6 0 h.0 refl refl
-none_here (inr (inl h)) = not_six_and_zero 6 0 h.0 refl refl
-none_here (inr (inr h)) = h
+pub zeros_lack_the_word : IsSubsequence the_word (0 ∷ 0 ∷ []) → ⊥
+zeros_lack_the_word (inl h) = not_six_and_zero 6 0 h.0 refl refl
+zeros_lack_the_word (inr (inl h)) = not_six_and_zero 6 0 h.0 refl refl
+zeros_lack_the_word (inr (inr h)) = h
 
 -- the answer was made on executing the command's request, the client's first one
 was_made : WasMadeOn WINDOW simulator_ends (left_by_turns simulator_ends turns at_start) moves 8 (Table InstrumentNo) answer
@@ -129,19 +130,19 @@ all_sync_steps = part.Asks ∷ part.Hears (codes "%R1P,0,0:0,654321") ∷ part.H
 
 -- the run's parts are these: one with these steps, and with the request for the command at place 0, which was sent
 -- after the moment 15; and the empty one after the end
-parts_are : parts_of plan commands (opening plan scope) acts ≡ one_part all_sync_steps (seen moves) ((0, 15) ∷ [])
+parts_are : parts plan commands scope acts ≡ one_part all_sync_steps (seen moves) ((0, 15) ∷ [])
 unfolding is_elsewhere header_at reply_at digits
 parts_are = refl
 
--- what happens while the station synchronizes shows these steps
+-- what happens while the station synchronizes shows the steps `all_sync_steps`
 shown_are : shown simulator_ends turns (begins at_start) ≡ all_sync_steps
 unfolding is_elsewhere header_at reply_at handed exec digits
 shown_are = refl
 
 -- this run is in the field, and its command is answered
-pub answered : SomeRunIsInField
+pub answered_in_field : SomeRunIsInField
 unfolding is_elsewhere header_at reply_at handed exec digits
-answered =
+answered_in_field =
     record {
       field =
           record {
@@ -149,8 +150,8 @@ answered =
                 runs-append plan commands (opening plan scope) (take 20 acts) (drop 20 acts)
                 (tt, (refl, (tt, (refl, (tt, (tt, (tt, (tt, (refl, (tt, (tt, (refl, (tt, (tt, (refl, (tt, (tt, (refl, (tt, (tt, tt))))))))))))))))))))
                 (refl, (tt, (tt, (refl, (tt, (tt, (refl, (tt, (tt, (tt, (refl, (tt, (tt, (refl, tt))))))))))))));
-            lines = record { ids = (lit< tt, tt); good = fits };
-            none = none_here;
+            lines = record { ids = (lit< tt, tt); good = opening_fits };
+            none = zeros_lack_the_word;
             shown = subst (AreShownAs simulator_ends at_start program.runs) (sym parts_are) (shown_are, refl, (refl, refl, tt));
             possible = ((units 27, (tt, (tt, (tt, (tt, (tt, ((8, [], refl), tt))))))), ((tt, refl), tt));
           };

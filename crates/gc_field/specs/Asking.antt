@@ -7,11 +7,10 @@ use Rattle.gc_links.specs.Acts.{Act, Put, Cut, Gave, Closed}
 use Rattle.gc_station.specs.Parts.{SyncStep, Asks, Hears}
 use Rattle.gc_station.specs.Model.{lines_completed, null_text}
 
--- the bytes that a synchronizing station sends, and the steps that this means: they are a line feed, which clears the receiver
--- and is no step; or they are the line of the null procedure of the first id that isn't answered (no bytes if all are answered),
--- which is the step `Asks`
-abbrev pub IsAskedFor : (word bytes : List ℕ) → List SyncStep → Type 0
-IsAskedFor word bytes steps = ((bytes ≡ 10 ∷ []) × (steps ≡ [])) ⊎ ((bytes ≡ null_text word) × (steps ≡ Asks ∷ []))
+-- what bytes that are put mean to a synchronizing station: a line feed clears the receiver, and is no step; and the line of the
+-- null procedure of the first id that isn't answered (no bytes if all are answered) is the step `Asks`
+abbrev pub IsNullOrLineFeed : (word bytes : List ℕ) → List SyncStep → Type 0
+IsNullOrLineFeed word bytes steps = ((bytes ≡ 10 ∷ []) × (steps ≡ [])) ⊎ ((bytes ≡ null_text word) × (steps ≡ Asks ∷ []))
 
 -- what becomes of a piece that comes while a station synchronizes: it is heard line by line; or it is discarded, as if its
 -- lines had been lost. `before` and `behind` are the bytes since the last line feed, before the piece and after it
@@ -21,8 +20,8 @@ IsHeardOrDiscarded before piece steps behind = ((steps ≡ map Hears (lines_comp
 -- what an act means while these ids of the word aren't answered: its steps. `before` and `behind` are the bytes since the last
 -- line feed, before and after the act; a close forgets them
 abbrev pub MeansSyncSteps : (word before : List ℕ) → Act → List SyncStep → List ℕ → Type 0
-MeansSyncSteps word before (Put bytes) steps behind = IsAskedFor word bytes steps × (behind ≡ before)
-MeansSyncSteps word before (Cut bytes count) steps behind = IsAskedFor word bytes steps × (behind ≡ before)
+MeansSyncSteps word before (Put bytes) steps behind = IsNullOrLineFeed word bytes steps × (behind ≡ before)
+MeansSyncSteps word before (Cut bytes count) steps behind = IsNullOrLineFeed word bytes steps × (behind ≡ before)
 MeansSyncSteps word before (Gave piece m) steps behind = IsHeardOrDiscarded before piece steps behind
 MeansSyncSteps word before Closed steps behind = (steps ≡ []) × (behind ≡ [])
 MeansSyncSteps word before _ steps behind = (steps ≡ []) × (behind ≡ before)

@@ -9,7 +9,7 @@ use Rattle.gc_field.specs.Simulator.{simulator_ends}
 use Rattle.gc_field.specs.World.{Up_deliver}
 use Rattle.gc_field.specs.Begin.{IsWellFormed, SyncTurn, Asks, Comes, Reaches, Up_lose, Up_repeat, Anew, UnderWay, begins, left_by_turns, turned}
 use Rattle.gc_field.specs.Beginnings.{AreFewKilled, AreRuns, HasRisingIds, Run, left_by_run}
-use Rattle.gc_field.specs.Begun.{WasMadeOn, behind, nulls_settled, ArePossibleOnceBegun}
+use Rattle.gc_field.specs.Begun.{WasMadeOn, world_once_begun, nulls_settled, ArePossibleOnceBegun}
 use Rattle.gc_field.specs.Field as field
 use Rattle.gc_field.specs.Field.{Move, Sends, OnLine}
 use Rattle.gc_field.specs.Laws.{kept_of}
@@ -67,7 +67,7 @@ pub record AreSomeRuns : Type 0 where
   pub runs : AreRuns WINDOW simulator_ends IsFittingState kept_of at_start (killed_run ∷ next_run ∷ [])
   pub few : AreFewKilled WINDOW simulator_ends 0 at_start (killed_run ∷ next_run ∷ [])
   pub settled :
-      (behind WINDOW simulator_ends from next_run.moves).wire.settled
+      (world_once_begun WINDOW simulator_ends from next_run.moves).wire.settled
       ≡ nulls_settled ++ record { target = 7; call = Table InstrumentNo; outcome = Answered (codes "%R1P,0,0:0,123456") }
       ∷ record { target = 8; call = Table InstrumentNo; outcome = Answered (codes "%R1P,0,1:0,123456") } ∷ []
   pub made_on : WasMadeOn WINDOW simulator_ends from next_run.moves 8 (Table InstrumentNo) (codes "%R1P,0,0:0,123456")
@@ -101,6 +101,6 @@ pub record IsBookedFromBefore : Type 0 where
   pub begun : (turned simulator_ends eight_come (begins with_the_word)).left ≡ []
   pub possible : ArePossibleOnceBegun WINDOW simulator_ends left_by_eight IsFittingState kept_of moves_after
   pub settled :
-      (behind WINDOW simulator_ends left_by_eight moves_after).wire.settled
+      (world_once_begun WINDOW simulator_ends left_by_eight moves_after).wire.settled
       ≡ nulls_settled ++ record { target = 7; call = Table InstrumentNo; outcome = Answered (codes "%R1P,0,0:0,654321") } ∷ []
-  pub executed : (behind WINDOW simulator_ends left_by_eight moves_after).wire.executed ≡ []
+  pub executed : (world_once_begun WINDOW simulator_ends left_by_eight moves_after).wire.executed ≡ []

@@ -10,14 +10,14 @@ use Rattle.gc_field.specs.Simulator.{simulator_ends}
 use Rattle.gc_world.specs.Order.{Rising}
 use Rattle.gc_field.specs.World.{Ends, Wire}
 use Rattle.gc_field.specs.Begin.{IsWellFormed, LacksTheWord, AreTurns, SyncModel, SyncTurn, UnderWay, begins, ids_under_way, leaves, turned}
-use Rattle.gc_field.specs.Begun.{HasSynchronizedCleanly, IsFaithful, OfMovesOnceBegun, behind, ArePossibleOnceBegun}
+use Rattle.gc_field.specs.Begun.{HasSynchronizedCleanly, IsFaithful, OfMovesOnceBegun, world_once_begun, ArePossibleOnceBegun}
 use Rattle.gc_field.specs.Field.{Move}
 use Rattle.gc_field.specs.Instrument.{OfAnyInstrument}
 use Rattle.gc_field.specs.Laws.{kept_of}
 
 -- what is in flight on a wire
-abbrev pub on_line : {State : Type 0} → Wire State → UnderWay State
-on_line w = record { up = map (λ x. x.line) w.up; down = map (λ x. x.line) w.down; state = w.state }
+abbrev pub under_way_on : {State : Type 0} → Wire State → UnderWay State
+under_way_on w = record { up = map (λ x. x.line) w.up; down = map (λ x. x.line) w.down; state = w.state }
 
 -- what a run that has synchronized may have in flight, if anything: replies and then requests whose numbers never fall from one
 -- to the next, and lie within eight consecutive numbers, from `low` - 1 on; and the ids are the numbers modulo 8
@@ -37,7 +37,7 @@ RisingIdsLackTheWord State = (u : UnderWay State) → HasRisingIds u → LacksTh
 -- (`OfMovesOnceBegun`)
 abbrev pub RunsLeaveRisingIds : Type 0 → Type 0
 RunsLeaveRisingIds State = OfAnyInstrument {State = State} (λ ends Good kept.
-    OfMovesOnceBegun ends Good kept (λ width u ms. HasRisingIds (on_line (behind width ends u ms).wire)))
+    OfMovesOnceBegun ends Good kept (λ width u ms. HasRisingIds (under_way_on (world_once_begun width ends u ms).wire)))
 
 -- Runs.
 
@@ -60,7 +60,7 @@ module _ {State : Type 0} (width : ℕ) (ends : Ends State) where
   -- what is in flight after a run, by the ids of its word that are left. If none is left, the run had synchronized, and its moves
   -- followed; else it was killed while it synchronized
   abbrev pub left_if : List ℕ → SyncModel State → List (Move State) → UnderWay State
-  left_if [] s ms = on_line (behind width ends (leaves s) ms).wire
+  left_if [] s ms = under_way_on (world_once_begun width ends (leaves s) ms).wire
   left_if (asked ∷ rest) s ms = leaves s
 
   -- what is in flight after a run

@@ -7,7 +7,6 @@ use Rattle.gc_catalogue.specs.declared.answer.Answer.TheVariants.{Long}
 use Rattle.gc_catalogue.specs.declared.asked.Asked.TheVariants.{Table}
 use Rattle.gc_catalogue.specs.declared.call.Call.TheVariants.{InstrumentNo}
 use Rattle.gc_client.specs.declared.window.TheConstants.{WINDOW}
-use Rattle.gc_texts.specs.declared.wish.Wish.{Wish}
 use Rattle.gc_texts.specs.declared.tasks.Task.{Task}
 use Rattle.gc_texts.specs.Endings as end
 use Rattle.gc_texts.specs.declared.quality.Quality.TheVariants.{Fine}
@@ -16,7 +15,7 @@ use Rattle.gc_links.specs.Acts.{Act, Told, Put, Gave, Silent, Closed}
 use Rattle.gc_station.specs.Beginnings.{IsResynchronizing}
 use Rattle.gc_station.specs.Records.{Record}
 use Rattle.gc_station.specs.Scopes.{Scope}
-use Rattle.gc_field.specs.Plain.{plain_task, plain_turn}
+use Rattle.gc_field.specs.Plain.{plain_record, plain_task}
 use Rattle.gc_field.specs.World.{Up_deliver, Up_lose}
 use Rattle.gc_field.specs.Begin as turn
 use Rattle.gc_field.specs.Begin.{SyncTurn, Asks, Reaches, UnderWay, left_by_turns}
@@ -32,13 +31,9 @@ use Rattle.gc_field.specs.Witness.{null_lines, at, begun_with, eight_answered, e
 abbrev pub plan : Plan
 plan = plan_of_width 7
 
--- what a command for this target asks: the instrument's number
-abbrev pub command : ℕ → Wish
-command target = record { target = target; call = Table InstrumentNo }
-
 -- the eight commands of this run, with a deadline of 100 ms each
 abbrev pub commands : List Task
-commands = map (λ target. plain_task (command target) 100 false) (1 ∷ 2 ∷ 3 ∷ 4 ∷ 5 ∷ 6 ∷ 7 ∷ 8 ∷ [])
+commands = map (λ target. plain_task target (Table InstrumentNo) 100 false) (1 ∷ 2 ∷ 3 ∷ 4 ∷ 5 ∷ 6 ∷ 7 ∷ 8 ∷ [])
 
 -- the scope of this run: every reply is taken to say what the reply to the last command says
 abbrev pub scope : Scope
@@ -75,8 +70,8 @@ abbrev pub seven_unanswered : List Act
 seven_unanswered = Told (at 15) ∷ put_all 15 seven_lines (Silent (at 115) ∷ [])
 
 -- the acts until seven have timed out: the station synchronizes, and then sends the seven
-abbrev pub given_up : List Act
-given_up = begun_with null_replies seven_unanswered
+abbrev pub acts_until_anew : List Act
+acts_until_anew = begun_with null_replies seven_unanswered
 
 -- the acts from there on: the station resynchronizes, and its first null procedure is sent. The reply to the first command
 -- comes, and is discarded; the reply to the seventh comes twice, and the second is discarded; the other null procedures are
@@ -102,7 +97,7 @@ acts_anew =
 
 -- all acts of the run
 abbrev pub acts : List Act
-acts = given_up ++ acts_anew
+acts = acts_until_anew ++ acts_anew
 
 -- the moves by which a request for the instrument's number is sent for each of these targets, at the moment `now` and with this
 -- deadline; and then the moves `ms`
@@ -138,17 +133,17 @@ abbrev pub moves_anew : List (Move Counter)
 moves_anew = Sends 8 (Table InstrumentNo) 220 ∷ Tells 120 ∷ OnLine Up_deliver ∷ Tells 125 ∷ Comes answer ∷ []
 
 -- what happens until the run resynchronizes
-abbrev pub run : Run Counter
-run = record { turns = eight_answered; moves = moves }
+abbrev pub first_run : Run Counter
+first_run = record { turns = eight_answered; moves = moves }
 
 -- the run as a program: until it resynchronizes, and from there on; after its end is one more run on the line, in which nothing
 -- happens
 abbrev pub program : Program Counter
-program = record { plan = plan; commands = commands; scope = scope; acts = acts; runs = run ∷ run_and_end turns moves_anew }
+program = record { plan = plan; commands = commands; scope = scope; acts = acts; runs = first_run ∷ run_and_end turns moves_anew }
 
 -- what is in flight when the run resynchronizes
 abbrev pub left_by_first : UnderWay Counter
-left_by_first = left_by_run WINDOW counting at_start run
+left_by_first = left_by_run WINDOW counting at_start first_run
 
 -- what is in flight once the run has synchronized again
 abbrev pub from : UnderWay Counter
@@ -156,7 +151,7 @@ from = left_by_turns counting turns left_by_first
 
 -- the record of a lost command, at this place and for this target
 abbrev pub lost_record : (place target : ℕ) → Record
-lost_record place target = record { sent = Some 15; utc = 115; cycle = 1; place = place; turn = plain_turn; command = command target; end = end.Lost }
+lost_record place target = plain_record 15 115 place target (Table InstrumentNo) end.Lost
 
 -- the records of the run: the first seven commands are lost, and the eighth has its answer
 abbrev pub records : List Record
@@ -168,7 +163,7 @@ records =
     ∷ lost_record 4 5
     ∷ lost_record 5 6
     ∷ lost_record 6 7
-    ∷ record { sent = Some 120; utc = 125; cycle = 1; place = 7; turn = plain_turn; command = command 8; end = end.Answered Fine (Some (Long (pos 45))) answer }
+    ∷ plain_record 120 125 7 8 (Table InstrumentNo) (end.Answered Fine (Some (Long (pos 45))) answer)
     ∷ []
 
 -- this is a run in the field, over an instrument, after which no act follows. It resynchronizes where seven have timed out. Two
@@ -178,7 +173,7 @@ pub record IsAnsweredAnew : Type 0 where
   pub instrument : IsAnInstrument counting AnyState kept_by
   pub field : IsInField counting AnyState kept_by at_start program
   pub over : NoActFollows program
-  pub begins_anew : IsResynchronizing plan commands scope given_up (Told (at 115))
+  pub begins_anew : IsResynchronizing plan commands scope acts_until_anew (Told (at 115))
   pub up : left_by_first.up ≡ record { id = 6; call = Table InstrumentNo } ∷ []
   pub down : left_by_first.down ≡ first_reply ∷ []
   pub written : program_records program ≡ records

@@ -28,17 +28,13 @@ use Rattle.gc_catalogue.specs.Asked.{is_of_table}
 abbrev pub eighth : Request
 eighth = record { id = 7; call = Table NullProc }
 
--- what the instrument keeps in this state, if it keeps anything, has the id of the eighth null procedure (7)
-abbrev pub IsOfEighth : {State : Type 0} → (State → Option KeptReply) → State → Type 0
-IsOfEighth kept state = (k : KeptReply) → kept state ≡ Some k → k.id ≡ 7
-
 -- what a synchronization leaves once it has synchronized cleanly: the instrument in a good state, copies of the eighth null
 -- procedure, replies with its id (7), and a kept reply with that id, or none
 pub record IsClean {State : Type 0} (Good : State → Type 0) (kept : State → Option KeptReply) (u : UnderWay State) : Type 0 where
   pub good : Good u.state
   pub up : AllByRecursion (λ x. x ≡ eighth) u.up
   pub down : AllByRecursion (λ line. heard line ≡ Some 7) u.down
-  pub keeps : IsOfEighth kept u.state
+  pub keeps : (k : KeptReply) → kept u.state ≡ Some k → k.id ≡ 7
 
 -- none of these requests or replies in flight is from before the synchronization
 abbrev pub NoneIsOld : {Line : Type 0} → List (InFlight Line) → Type 0
@@ -118,9 +114,9 @@ abbrev pub IsBehindTheTable : {State : Type 0} → Wire State → Type 0
 IsBehindTheTable w = (j : ℕ) × (j < length w.sent) × (length w.sent ≤ j + 7) × IsEnded w j
 
 module _ {State : Type 0} (width : ℕ) (ends : Ends State) (u : UnderWay State) where
-  -- the world after the moves, with the client that knows ids
-  abbrev pub behind : List (Move State) → World (ById Asked) State
-  behind ms = moved ends (by_ids width ends) ms (ids_begun u)
+  -- the world after these moves, which begin after the synchronization, with the client that knows ids
+  abbrev pub world_once_begun : List (Move State) → World (ById Asked) State
+  world_once_begun ms = moved ends (by_ids width ends) ms (ids_begun u)
 
   -- these moves are possible after the synchronization, in the order in which they stand
   abbrev pub ArePossibleOnceBegun : (State → Type 0) → (State → Option KeptReply) → List (Move State) → Type 0
@@ -141,8 +137,8 @@ module _ {State : Type 0} (width : ℕ) (ends : Ends State) (u : UnderWay State)
     pub call : Asked
     pub deadline : ℕ
     pub split : ms ≡ front ++ Sends target call deadline ∷ later
-    pub number : length (behind front).wire.sent ≡ m
-    pub behind_table : IsBehindTheTable (behind front).wire
+    pub number : length (world_once_begun front).wire.sent ≡ m
+    pub behind_table : IsBehindTheTable (world_once_begun front).wire
 
   -- one of the three conditions holds under which the answer to request m is its own: each request of these moves is a call of
   -- the table; or the instrument keeps its own reply, or none, after every request (`TreatsRawsAlike`); or request m was sent
@@ -157,7 +153,7 @@ module _ {State : Type 0} (width : ℕ) (ends : Ends State) (u : UnderWay State)
 
 -- the wire after these moves of a client that has synchronized with an instrument in this state, with nothing in flight then
 abbrev pub wire_over_empty_line : {State : Type 0} → Ends State → State → List (Move State) → Wire State
-wire_over_empty_line ends state ms = (behind WINDOW ends (none_under_way state) ms).wire
+wire_over_empty_line ends state ms = (world_once_begun WINDOW ends (none_under_way state) ms).wire
 
 -- `Holds` is true of any possible moves after a clean synchronization (`IsClean`), for a client with a window of at most `WINDOW`
 -- requests. `Good` says which states of the instrument are good, and `kept` what reply each of them keeps

@@ -7,7 +7,7 @@ use Rattle.gc_links.specs.Acts.{Act}
 use Rattle.gc_field.specs.Simulator.{simulator_ends}
 use Rattle.gc_field.specs.World.{Ends}
 use Rattle.gc_field.specs.Begin.{UnderWay}
-use Rattle.gc_field.specs.Begun.{IsClean, IsFaithful, behind, ArePossibleOnceBegun}
+use Rattle.gc_field.specs.Begun.{IsClean, IsFaithful, world_once_begun, ArePossibleOnceBegun}
 use Rattle.gc_field.specs.Field.{Move, seen}
 use Rattle.gc_field.specs.Instrument.{OfAnyInstrument}
 use Rattle.gc_field.specs.Laws.{kept_of}
@@ -26,7 +26,7 @@ pub record IsCarried {State : Type 0} (ends : Ends State) (Good : State → Type
 -- `IsFaithful` holds of these moves, and the station's client ends in the same state as the world's client
 pub record IsStationFaithful {State : Type 0} (ends : Ends State) (Good : State → Type 0) (kept : State → Option KeptReply) (u : UnderWay State) (ms : List (Move State)) : Type 0 where
   pub faithful : IsFaithful WINDOW ends u ms Good kept
-  pub client : client_after fresh (seen ms) ≡ (behind WINDOW ends u ms).client
+  pub client : client_after fresh (seen ms) ≡ (world_once_begun WINDOW ends u ms).client
 
 -- acts of a station that has synchronized cleanly (`IsCarried`) are faithful (`IsStationFaithful`), whenever the station sends.
 -- `Good` says which states of the instrument are good, and `kept` what reply each of them keeps

@@ -16,7 +16,7 @@ use Rattle.gc_links.specs.Acts.{Act, Told, Put, Gave, Closed}
 use Rattle.gc_station.specs.Links.{AreChained}
 use Rattle.gc_station.specs.Records.{Record}
 use Rattle.gc_station.specs.Scopes.{Scope}
-use Rattle.gc_field.specs.Plain.{plain_task, plain_turn}
+use Rattle.gc_field.specs.Plain.{plain_record, plain_task}
 use Rattle.gc_field.specs.Simulator.{simulator_ends}
 use Rattle.gc_field.specs.World.{Up_deliver}
 use Rattle.gc_field.specs.Begin.{UnderWay, left_by_turns, none_under_way}
@@ -51,9 +51,9 @@ reads_all = Table (SimpleMea (pos 3000) (pos 1))
 -- the three commands, as one chain
 abbrev pub commands : List Task
 commands =
-    plain_task (record { target = 7; call = points }) 100 false
-    ∷ plain_task (record { target = 7; call = measures }) 100 true
-    ∷ plain_task (record { target = 7; call = reads_all }) 100 true
+    plain_task 7 points 100 false
+    ∷ plain_task 7 measures 100 true
+    ∷ plain_task 7 reads_all 100 true
     ∷ []
 
 -- the scope of this run: every reply is taken to say the number 0, whatever it says
@@ -117,9 +117,9 @@ moves_with a b c =
 -- the records of the run, in which the three commands are answered by the lines a, b and c
 abbrev pub records_with : (a b c : List ℕ) → List Record
 records_with a b c =
-    record { sent = Some 15; utc = 20; cycle = 1; place = 0; turn = plain_turn; command = record { target = 7; call = points }; end = end.Answered Fine (Some (Long (pos 0))) a }
-    ∷ record { sent = Some 20; utc = 25; cycle = 1; place = 1; turn = plain_turn; command = record { target = 7; call = measures }; end = end.Answered Fine (Some (Long (pos 0))) b }
-    ∷ record { sent = Some 25; utc = 30; cycle = 1; place = 2; turn = plain_turn; command = record { target = 7; call = reads_all }; end = end.Answered Fine (Some (Long (pos 0))) c }
+    plain_record 15 20 0 7 points (end.Answered Fine (Some (Long (pos 0))) a)
+    ∷ plain_record 20 25 1 7 measures (end.Answered Fine (Some (Long (pos 0))) b)
+    ∷ plain_record 25 30 2 7 reads_all (end.Answered Fine (Some (Long (pos 0))) c)
     ∷ []
 
 -- the acts of the run over the simulator

@@ -70,7 +70,7 @@ module _ {State : Type 0} (ends : Ends State) (Good : State → Type 0) (kept : 
   -- Two executions of a stretch.
 
   -- in a stretch request m was executed, and later request n
-  pub record IsExecutedAfter (s : Stretch State) (m n : ExecutedRequest) : Type 0 where
+  pub record IsExecutedBefore (s : Stretch State) (m n : ExecutedRequest) : Type 0 where
     pub first : WasMadeOn WINDOW ends s.from s.moves m.number m.call m.line
     pub second : WasMadeOn WINDOW ends s.from s.moves n.number n.call n.line
     pub between : List (Move State)
@@ -121,7 +121,7 @@ module _ {State : Type 0} (ends : Ends State) (Good : State → Type 0) (kept : 
       pub between : (k : ℕ) (mark : _) → m < k → k < n → slice_get part.marks k ≡ Some (Some mark) → (mark.cycle ≡ b.cycle) × (a < mark.place) × (mark.place < b.place)
       -- and they were executed in this order, with these replies
       pub executed :
-          IsExecutedAfter stretch (record { number = 8 + m; call = earlier.answer.command.call; line = earlier.good.line })
+          IsExecutedBefore stretch (record { number = 8 + m; call = earlier.answer.command.call; line = earlier.good.line })
           (record { number = 8 + n; call = b.command.call; line = line_b })
 
     -- if a reply in time ended the command of record b, each command before it in its chain was executed before it

@@ -18,7 +18,7 @@ use Rattle.gc_texts.specs.declared.quality.Quality.TheVariants.{Fine}
 use Rattle.gc_station.specs.declared.plan.Plan.{Plan}
 use Rattle.gc_links.specs.Acts.{Act, Told, Put, Gave, Silent, Broke, Closed, Opened}
 use Rattle.gc_station.specs.Scopes.{Scope}
-use Rattle.gc_field.specs.Plain.{plain_task, plain_turn}
+use Rattle.gc_field.specs.Plain.{plain_record, plain_task}
 use Rattle.gc_field.specs.World.{Ends, Up_deliver, Down_lose, ends_of}
 use Rattle.gc_field.specs.Begin.{SyncTurn, Asks, Reaches, left_by_turns, none_under_way}
 use Rattle.gc_field.specs.Begin as turn
@@ -45,8 +45,8 @@ plan = record (plan_of_width 1) { retries = 3 }
 -- the two commands of this run: one asks for the instrument's number, the other for a procedure that isn't in the table
 abbrev pub commands : RawCall → List Task
 commands raw =
-    plain_task (record { target = 7; call = Table InstrumentNo }) 100 false
-    ∷ plain_task (record { target = 8; call = Raw raw }) 100 false
+    plain_task 7 (Table InstrumentNo) 100 false
+    ∷ plain_task 8 (Raw raw) 100 false
     ∷ []
 
 -- the scope of this run: the parameters of replies aren't read, so each reply says nothing
@@ -142,8 +142,8 @@ pub record IsAnsweredByDrifting (raw : RawCall) : Type 0 where
   pub over : NoActFollows (program raw)
   pub records :
       program_records (program raw)
-      ≡ record { sent = Some 220; utc = 360; cycle = 1; place = 0; turn = plain_turn; command = record { target = 7; call = Table InstrumentNo }; end = end.Lost }
-      ∷ record { sent = Some 320; utc = 360; cycle = 1; place = 1; turn = plain_turn; command = record { target = 8; call = Raw raw }; end = end.Answered Fine (Some Nothing) answer }
+      ≡ plain_record 220 360 0 7 (Table InstrumentNo) end.Lost
+      ∷ plain_record 320 360 1 8 (Raw raw) (end.Answered Fine (Some Nothing) answer)
       ∷ []
   pub made_on : WasMadeOn WINDOW drifting (left_by_turns drifting turns (none_under_way 5)) (moves raw) 9 (Raw raw) answer
 

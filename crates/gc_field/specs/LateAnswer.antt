@@ -10,7 +10,7 @@ use Rattle.gc_texts.specs.declared.tasks.Task.{Task}
 use Rattle.gc_texts.specs.Endings as end
 use Rattle.gc_texts.specs.declared.quality.Quality.TheVariants.{Fine}
 use Rattle.gc_links.specs.Acts.{Act, Told, Put, Gave, Silent, Closed}
-use Rattle.gc_field.specs.Plain.{plain_task, plain_turn}
+use Rattle.gc_field.specs.Plain.{plain_record, plain_task}
 use Rattle.gc_field.specs.Simulator.{simulator_ends}
 use Rattle.gc_field.specs.World.{Up_deliver}
 use Rattle.gc_field.specs.Begin.{UnderWay, left_by_turns}
@@ -25,8 +25,8 @@ use Rattle.gc_field.specs.Witness.{plan, scope, at, begun_with, eight_answered, 
 -- two requests for the instrument's number
 abbrev pub commands : List Task
 commands =
-    plain_task (record { target = 7; call = Table InstrumentNo }) 100 false
-    ∷ plain_task (record { target = 8; call = Table InstrumentNo }) 100 false
+    plain_task 7 (Table InstrumentNo) 100 false
+    ∷ plain_task 8 (Table InstrumentNo) 100 false
     ∷ []
 
 -- the reply to the first request, which comes too late: it has the bytes of the answer in the run of one command
@@ -87,16 +87,8 @@ pub record IsLateInField : Type 0 where
   pub over : NoActFollows program
   pub records :
       program_records program
-      ≡ record { sent = Some 15; utc = 120; cycle = 1; place = 0; turn = plain_turn; command = record { target = 7; call = Table InstrumentNo }; end = end.Late }
-      ∷ record {
-        sent = Some 115;
-        utc = 125;
-        cycle = 1;
-        place = 1;
-        turn = plain_turn;
-        command = record { target = 8; call = Table InstrumentNo };
-        end = end.Answered Fine (Some (Long (pos 123456))) answer;
-      }
+      ≡ plain_record 15 120 0 7 (Table InstrumentNo) end.Late
+      ∷ plain_record 115 125 1 8 (Table InstrumentNo) (end.Answered Fine (Some (Long (pos 123456))) answer)
       ∷ []
   pub late_made_on : WasMadeOn WINDOW simulator_ends from moves 8 (Table InstrumentNo) late
   pub answer_made_on : WasMadeOn WINDOW simulator_ends from moves 9 (Table InstrumentNo) answer

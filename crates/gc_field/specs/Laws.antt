@@ -1,4 +1,4 @@
--- What holds in the field of a client, this project's own, and in particular of one that doesn't synchronize; and the simulator
+-- What holds of a client in the field, this project's own, and in particular of one that doesn't synchronize; and the simulator
 -- as an instrument. Requests are numbered from 0 on, in the order of sending. The client that knows ids finds a reply's request
 -- by the reply's id; the one that is given numbers is given the request's number, and serves for comparison alone.
 use Rattle.std.specs.Prelude.{◌≡◌, ℕ, Bool, ◌-◌, ◌<◌, ◌≤◌, List, [], ◌∷◌, ◌++◌, length, map, Option, Some, slice_get}

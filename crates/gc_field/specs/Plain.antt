@@ -1,23 +1,32 @@
 -- Plain commands, this project's own: commands of which the station's text says what they ask, their deadline, and whether they
 -- are chained, and nothing else. Runs that are computed have them.
-use Rattle.std.specs.Prelude.{ℕ, Bool, None, false, []}
+use Rattle.std.specs.Prelude.{ℕ, Bool, None, Some, false}
+use Rattle.gc_catalogue.specs.declared.asked.Asked.{Asked}
 use Rattle.gc_texts.specs.Again.{no_again}
 use Rattle.gc_texts.specs.Codes.{no_codes}
-use Rattle.gc_texts.specs.declared.near.Expected.{Expected}
+use Rattle.gc_texts.specs.Endings.{End}
 use Rattle.gc_texts.specs.declared.tasks.Task.{Task}
-use Rattle.gc_texts.specs.declared.turn.Turn.{Turn}
-use Rattle.gc_texts.specs.declared.wish.Wish.{Wish}
-use Rattle.gc_station.specs.NextCommand.{expected_first, no_turn}
+use Rattle.gc_station.specs.NextCommand.{no_turn}
+use Rattle.gc_station.specs.Records.{Record}
 
--- the turn of every plain command: place 0 of its section and of its chain, first attempt, as where there is no command
-abbrev pub plain_turn : Turn
-plain_turn = no_turn
+-- a plain command that asks this of this target, with this deadline in milliseconds, chained to the command before it or not. Its
+-- turn is as where there is no command: place 0 of its section and of its chain, first attempt
+abbrev pub plain_task : (target : ℕ) → Asked → (deadline : ℕ) → (chained : Bool) → Task
+plain_task target call deadline chained =
+    record {
+      command = record { target = target; call = call };
+      deadline = deadline;
+      chained = chained;
+      near = None;
+      accepted = no_codes;
+      again = no_again;
+      turn = no_turn;
+      others = 0;
+      now = false;
+    }
 
--- a plain command that asks this wish, with this deadline in milliseconds, chained to the command before it or not
-abbrev pub plain_task : Wish → ℕ → Bool → Task
-plain_task wish deadline chained =
-    record { command = wish; deadline = deadline; chained = chained; near = None; accepted = no_codes; again = no_again; turn = plain_turn; others = 0; now = false }
-
--- what is expected of the answer to a plain command: nothing in particular, as where there is no command
-abbrev pub plain_expected : Expected
-plain_expected = expected_first []
+-- the record of a plain command of the first cycle, at this place in the list, which was sent at the moment `sent`, and ended at
+-- the moment `utc`
+abbrev pub plain_record : (sent utc place target : ℕ) → Asked → End → Record
+plain_record sent utc place target call end =
+    record { sent = Some sent; utc = utc; cycle = 1; place = place; turn = no_turn; command = record { target = target; call = call }; end = end }

@@ -4,7 +4,6 @@
 -- the ids of a synchronization's null procedures.
 use Rattle.std.specs.Prelude.{◌≡◌, ℕ, ◌+◌, ◌<◌, ◌≤◌, Bool, true, false, ◌||◌, if◌then◌else◌, nat_le, List, [], ◌∷◌, ◌++◌, drop, length, map, Option, Some, slice_get}
 use Rattle.std.specs.List.{AllByRecursion, AllZip}
-use Rattle.gc_catalogue.specs.declared.answer.Reading.{Reading}
 use Rattle.gc_catalogue.specs.declared.asked.Asked.{Asked}
 use Rattle.gc_client.specs.Beginning.{the_word}
 use Rattle.gc_client.specs.declared.window.TheConstants.{WINDOW}
@@ -29,14 +28,14 @@ use Rattle.gc_station.specs.Records.{Record}
 use Rattle.gc_station.specs.Requests.{asked_at}
 use Rattle.gc_station.specs.Runs.{state_after}
 use Rattle.gc_station.specs.Model.{Model, opening, action_at, after, Runs}
-use Rattle.gc_station.specs.Scopes.{Scope}
+use Rattle.gc_station.specs.Scopes.{Scope, Reads}
 use Rattle.gc_field.specs.Simulator.{simulator_ends}
 use Rattle.gc_world.specs.Record.{IsReplyTo}
 use Rattle.gc_field.specs.World.{Ends, Numbered, Sent, World}
 use Rattle.gc_field.specs.Asking.{MeansSyncSteps}
 use Rattle.gc_field.specs.Begin.{IsWellFormed, LacksTheWord, UnderWay}
 use Rattle.gc_field.specs.Beginnings.{AreOwn, AreRuns, Run}
-use Rattle.gc_field.specs.Begun.{IsFaithful, WasMadeOn, behind}
+use Rattle.gc_field.specs.Begun.{IsFaithful, WasMadeOn, world_once_begun}
 use Rattle.gc_field.specs.Field.{Move, Sends, Tells, Comes}
 use Rattle.gc_field.specs.Instrument.{OfAnyInstrument}
 use Rattle.gc_field.specs.Laws.{WasExecuted, asked, kept_of}
@@ -74,7 +73,7 @@ module _ {State : Type 0} (ends : Ends State) where
   -- the world after these moves of a stretch. Its requests 0 to 7 are the null procedures of the synchronization, and the
   -- client's come after them
   abbrev pub world_at : Stretch State → List (Move State) → World (ById Asked) State
-  world_at s ms = behind WINDOW ends s.from ms
+  world_at s ms = world_once_begun WINDOW ends s.from ms
 
   -- the world after a stretch
   abbrev pub world : Stretch State → World (ById Asked) State
@@ -107,7 +106,7 @@ module _ {State : Type 0} (ends : Ends State) where
 
   -- the records that a run with these parts and stretches records, with the moment 0, where `reads` gives what a line says of its
   -- call: how each command ended in its own stretch, and as lost what is outstanding when the next stretch begins
-  abbrev pub written_over : (Asked → List ℕ → Reading) → List Part → List (Stretch State) → List Record
+  abbrev pub written_over : Reads → List Part → List (Stretch State) → List Record
   written_over reads (p ∷ []) (s ∷ []) = records_of reads 0 p.marks (own_settled s)
   written_over reads (p ∷ q ∷ ps) (s ∷ t ∷ ss) =
       records_of reads 0 p.marks (own_settled s ++ map lost (world s).client.waiting) ++ written_over reads (q ∷ ps) (t ∷ ss)

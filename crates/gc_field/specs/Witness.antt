@@ -16,7 +16,7 @@ use Rattle.gc_links.specs.declared.link.Moment.{Moment}
 use Rattle.gc_station.specs.declared.plan.Plan.{Plan}
 use Rattle.gc_links.specs.Acts.{Act, Told, Put, Gave, Closed, Opened}
 use Rattle.gc_station.specs.Scopes.{Scope, scoped}
-use Rattle.gc_field.specs.Plain.{plain_task, plain_turn}
+use Rattle.gc_field.specs.Plain.{plain_record, plain_task}
 use Rattle.gc_field.specs.Simulator.{simulator_ends}
 use Rattle.gc_field.specs.World.{Up_deliver}
 use Rattle.gc_field.specs.Begin as turn
@@ -37,7 +37,7 @@ plan = plan_of_width 1
 
 -- the command: a request for the instrument's number
 abbrev pub commands : List Task
-commands = plain_task (record { target = 7; call = Table InstrumentNo }) 100 false ∷ []
+commands = plain_task 7 (Table InstrumentNo) 100 false ∷ []
 
 -- a scope of at most a hundred acts, in which every reply is taken to say this
 abbrev pub scope_saying : Answer → Scope
@@ -127,14 +127,5 @@ program = record { plan = plan; commands = commands; scope = scope; acts = acts;
 pub record SomeRunIsInField : Type 0 where
   pub field : IsInField simulator_ends IsFittingState kept_of at_start program
   pub over : NoActFollows program
-  pub records :
-      program_records program ≡ record {
-        sent = Some 15;
-        utc = 20;
-        cycle = 1;
-        place = 0;
-        turn = plain_turn;
-        command = record { target = 7; call = Table InstrumentNo };
-        end = end.Answered Fine (Some (Long (pos 123456))) answer;
-      } ∷ []
+  pub records : program_records program ≡ plain_record 15 20 0 7 (Table InstrumentNo) (end.Answered Fine (Some (Long (pos 123456))) answer) ∷ []
   pub made_on : WasMadeOn WINDOW simulator_ends (left_by_turns simulator_ends turns at_start) moves 8 (Table InstrumentNo) answer

@@ -9,7 +9,7 @@ use Rattle.gc_files.specs.Sinks.{known_content}
 use Rattle.gc_files.proofs.Moments.{held_after_two}
 use Rattle.gc_files.specs.Files.{Step, Append, Cut, Sync, Life, has_sync, content, later_by, Adds}
 use Rattle.gc_files.specs.Runs.{synced}
-use Rattle.gc_files.specs.Rows.{whole, is_empty, mended, cuts_none, appended, MendedAndPut, IsFront, Did, Opens, OpensInPart, PutsAll, IsEndOfRows, IsMended, IsMendedInPart}
+use Rattle.gc_files.specs.Rows.{whole, is_empty, mended, cuts_none, appended, MendedAndPut, IsFront, Did, Opens, OpensInPart, PutsAll, PutsFront, IsEndOfRows, IsMended, IsMendedInPart}
 
 -- adding the steps `xs` to a life, and then `ys`, is adding `xs ++ ys`
 pub later_two : (xs ys : List Step) (life : Life) → later_by ys (later_by xs life) ≡ later_by (xs ++ ys) life
@@ -60,10 +60,10 @@ mended_by_cut held end len less is ends = elim (cases_Bool (length (whole held) 
 ]
 
 -- a cut after the whole rows of a file that has more bytes, and a sync after it, mend the file
-pub mend_all : (old mid new : Option Life) (known : Life) (end len : ℕ)
+pub cut_and_sync_mend : (old mid new : Option Life) (known : Life) (end len : ℕ)
     (less : end < len) (is : len ≡ length (content known)) (ends : end ≡ length (whole (content known)))
     (cut : Adds old mid (Cut end ∷ [])) (sync : Adds mid new (Sync ∷ [])) → Adds old new (mended (content known))
-mend_all old mid new known end len less is ends cut sync =
+cut_and_sync_mend old mid new known end len less is ends cut sync =
     subst (λ (steps : List Step). Adds old new steps) (sym (mended_by_cut (content known) end len less is ends)) (adds_two old mid new (Cut end ∷ []) (Sync ∷ []) cut sync)
 
 -- where l, the whole rows of a file, isn't empty, an opening writes no head: what `head_written` has is nothing
@@ -114,7 +114,7 @@ opens_part head old new part life is =
 -- a file without a whole row that was mended, and to which a front of the head was appended, was opened as far as the opening
 -- came (`OpensInPart`)
 pub opens_head_part : (head : List ℕ) (old mid new : Option Life) (end : ℕ) → end ≤ 0 → IsEndOfRows old end → IsMended old mid
-    → (front : List ℕ) × IsFront front head × PutsAll mid new front → OpensInPart head old new
+    → PutsFront mid new head → OpensInPart head old new
 opens_head_part head old mid new end none ends adds part life is =
     let ran = put_after_mending old mid new part.0 adds part.2 life is in
     (ran.0, ran.1, inr (part.0, ran.2, subst (λ (all : List ℕ). IsFront part.0 all) (sym (head_without_rows head (whole (content life)) (omega (arith, none, ends life is)))) part.1))
@@ -141,15 +141,15 @@ pub appended_sync : (steps : List Step) → appended (steps ++ Sync ∷ []) ≡ 
 appended_sync steps = appended_two steps (Sync ∷ []) ∙ append-nil (appended steps)
 
 -- a sync at the end is among the steps
-has_last : (steps : List Step) → has_sync (steps ++ Sync ∷ []) ≡ true
-has_last [] = refl
-has_last (Append bytes ∷ steps) = has_last steps
-has_last (Cut size ∷ steps) = has_last steps
-has_last (Sync ∷ steps) = refl
+has_sync_last : (steps : List Step) → has_sync (steps ++ Sync ∷ []) ≡ true
+has_sync_last [] = refl
+has_sync_last (Append bytes ∷ steps) = has_sync_last steps
+has_sync_last (Cut size ∷ steps) = has_sync_last steps
+has_sync_last (Sync ∷ steps) = refl
 
 -- where the last step is a sync, all that was appended was synced
 pub synced_all : (steps : List Step) → synced (steps ++ Sync ∷ []) ≡ appended steps
 synced_all [] = refl
-synced_all (Append bytes ∷ steps) = ap (λ (b : Bool). if b then bytes ++ synced (steps ++ Sync ∷ []) else []) (has_last steps) ∙ ap (λ (xs : List ℕ). bytes ++ xs) (synced_all steps)
+synced_all (Append bytes ∷ steps) = ap (λ (b : Bool). if b then bytes ++ synced (steps ++ Sync ∷ []) else []) (has_sync_last steps) ∙ ap (λ (xs : List ℕ). bytes ++ xs) (synced_all steps)
 synced_all (Cut size ∷ steps) = synced_all steps
 synced_all (Sync ∷ steps) = synced_all steps

@@ -9,7 +9,7 @@ use Rattle.gc_files.specs.Runs.{Run, IsHead, IsRun, HasRows}
 use Rattle.gc_files.specs.Failing.{Sides, settled, same_sides, done_by, Loses, Event, Ran, Failed, Copied, Crashed, sides_after, Occur, runs_of, IsTrusted, IsFound, TablesOutlastFailures}
 use Rattle.gc_files.proofs.Whole.{whole_front}
 use Rattle.gc_files.proofs.Moments.{may_stay}
-use Rattle.gc_files.proofs.Lasting.{Lasts, one_more, same_table}
+use Rattle.gc_files.proofs.Lasting.{Lasts, lasts_over_one_more, same_table}
 
 -- both sides of a file have the rows of these runs after the table `before`, and the sides are the same where the file isn't
 -- in doubt
@@ -46,7 +46,7 @@ module _ (head before : List ℕ) (heads : IsHead head) where
   run_lasts : (runs : List Run) (sides : Sides) (run : Run)
       → HasRowsOnBothSides head before runs sides false → IsRun head (content sides.read) run
       → Lasts head before (runs ++ run ∷ []) (later_by run.steps sides.disk)
-  run_lasts runs sides run has is = one_more head before heads runs sides.disk run has.disk (subst (λ (life : Life). IsRun head (content life) run) (has.same refl) is)
+  run_lasts runs sides run has is = lasts_over_one_more head before heads runs sides.disk run has.disk (subst (λ (life : Life). IsRun head (content life) run) (has.same refl) is)
 
   -- as `run_lasts`, of both sides: after the steps of that run both have the rows of all these runs, and the file isn't in doubt
   after_run : (runs : List Run) (sides : Sides) (run : Run)

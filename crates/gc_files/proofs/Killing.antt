@@ -3,21 +3,21 @@ use Rattle.std.proofs.Common.{◌≡◌, inl, inr, ℕ, List, [], ◌∷◌, ◌
 use Rattle.std.proofs.lemmas.List.{append-nil}
 use Rattle.gc_files.specs.Files.{Step, Sync, Life, held_after, content, later_by}
 use Rattle.gc_files.specs.Rows.{opened_table, head_written, mended, appended, MendedAndPut, IsFront, ComesTo}
-use Rattle.gc_files.specs.Runs.{synced, Run, row_lines, IsHead, IsRun, life_after, life_once_ended, HasRows, IsKilled, AreKilled, KillsLoseNothing, OpeningsAreRuns, FailedOpeningsAreRuns}
+use Rattle.gc_files.specs.Runs.{synced, Run, run_bytes, IsHead, IsRun, life_after, life_once_ended, HasRows, IsUncrashedRun, AreUncrashedRuns, KillsLoseNothing, OpeningsAreRuns, FailedOpeningsAreRuns}
 use Rattle.gc_files.proofs.Adding.{cuts_two, appended_two, synced_all}
 use Rattle.gc_files.proofs.Lasting.{RunHas, run_moments, has_rows_more}
-use Rattle.gc_files.proofs.Moments.{may_stay, held_after_two, two_steps, mend_synced}
+use Rattle.gc_files.proofs.Moments.{may_stay, held_after_two, mended_by_two_steps, mend_synced}
 
 -- where steps mended a file, and then appended `bytes`, what they and a sync after them have synced is `bytes`
-pub ran_synced : (held : List ℕ) (steps : List Step) (bytes : List ℕ) → MendedAndPut held steps bytes → synced (steps ++ Sync ∷ []) ≡ bytes
-ran_synced held steps bytes ran =
+pub synced_after_mending : (held : List ℕ) (steps : List Step) (bytes : List ℕ) → MendedAndPut held steps bytes → synced (steps ++ Sync ∷ []) ≡ bytes
+synced_after_mending held steps bytes ran =
     let at : steps ++ Sync ∷ [] ≡ take 2 (mended held) ++ (ran.later ++ Sync ∷ []) =
-    ap (λ (xs : List Step). xs ++ Sync ∷ []) ran.split ∙ append_assoc (mended held) ran.later (Sync ∷ []) ∙ ap (λ (xs : List Step). xs ++ (ran.later ++ Sync ∷ [])) (sym (two_steps held)) in
+    ap (λ (xs : List Step). xs ++ Sync ∷ []) ran.split ∙ append_assoc (mended held) ran.later (Sync ∷ []) ∙ ap (λ (xs : List Step). xs ++ (ran.later ++ Sync ∷ [])) (sym (mended_by_two_steps held)) in
     ap synced at ∙ mend_synced held 2 (ran.later ++ Sync ∷ []) ∙ synced_all ran.later ∙ ran.puts.all
 
 -- an opening, and what is written after it, are a run, as `OpeningsAreRuns` has it
-pub calls_opened : OpeningsAreRuns
-calls_opened head held run did are few were =
+pub openings_are_runs : OpeningsAreRuns
+openings_are_runs head held run did are few were =
     let ran = did.opened in
     let later = did.later in
     let puts = did.puts in
@@ -44,8 +44,8 @@ calls_opened head held run did are few were =
     }
 
 -- an opening that failed is a run, as `FailedOpeningsAreRuns` has it
-pub calls_failed : FailedOpeningsAreRuns
-calls_failed head held steps left comes = record {
+pub failed_openings_are_runs : FailedOpeningsAreRuns
+failed_openings_are_runs head held steps left comes = record {
   rows = tt;
   steps = subst (λ (all : List ℕ). ComesTo held all steps) (sym (append-nil (head_written head held))) comes;
   few = omega arith;
@@ -57,7 +57,7 @@ abbrev synced_run : Run → Run
 synced_run run = record run { steps = run.steps ++ Sync ∷ [] }
 
 -- a file after a run that ended by itself or by a kill has first rows of the run, at least those that count as kept (`RunHas`)
-killed_has_rows : (head held : List ℕ) (run : Run) → IsHead head → IsKilled head held run → RunHas head held run (held_after held run.steps)
+killed_has_rows : (head held : List ℕ) (run : Run) → IsHead head → IsUncrashedRun head held run → RunHas head held run (held_after held run.steps)
 killed_has_rows head held run heads one = elim one.is.kept [
   | inl none ↦ run_moments head held run (held_after held run.steps) heads (record { rows = one.is.rows; steps = one.is.steps; few = one.is.few; kept = inl none }) (may_stay held run.steps)
   | inr whole ↦
@@ -79,7 +79,7 @@ killed_has_rows head held run heads one = elim one.is.kept [
           whole.2,
         );
         few = one.is.few;
-        kept = inr (subst (λ (all : List ℕ). IsFront (head_written head held ++ row_lines (take run.kept run.rows)) all) (sym (ran_synced held run.steps bytes ran)) whole.3);
+        kept = inr (subst (λ (all : List ℕ). IsFront (run_bytes head held (take run.kept run.rows)) all) (sym (synced_after_mending held run.steps bytes ran)) whole.3);
       } in
       let same : held_after held with.steps ≡ held_after held run.steps = held_after_two held run.steps (Sync ∷ []) in
       let has = run_moments head held with (held_after held with.steps) heads is (may_stay held with.steps) in
@@ -91,10 +91,10 @@ killed_has_rows head held run heads one = elim one.is.kept [
       }
 ]
 
--- where a file has the rows of the runs `done`, and `runs` follow, each ended by itself or by a kill (`AreKilled`), then
+-- where a file has the rows of the runs `done`, and `runs` follow, each ended by itself or by a kill (`AreUncrashedRuns`), then
 -- after `runs` the file has the rows of all of them
 killed_runs_add_rows : (head before : List ℕ) → IsHead head → (done runs : List Run) (life : Life)
-    → HasRows head before done (content life) → AreKilled head life runs
+    → HasRows head before done (content life) → AreUncrashedRuns head life runs
     → HasRows head before (done ++ runs) (content (life_after life runs))
 killed_runs_add_rows head before heads done [] life has killed = subst (λ (rs : List Run). HasRows head before rs (content life)) (sym (append-nil done)) has
 killed_runs_add_rows head before heads done (run ∷ runs) life has killed =
@@ -103,7 +103,7 @@ killed_runs_add_rows head before heads done (run ∷ runs) life has killed =
     let more = has_rows_more head before done run (content life) (content (later_by run.steps life)) has left in
     let all = killed_runs_add_rows head before heads (done ++ run ∷ []) runs (later_by run.steps life) more killed.1 in
     subst (λ (rs : List Run). HasRows head before rs (content (life_after life (run ∷ runs)))) (append_assoc done (run ∷ []) runs)
-    (subst (λ (o : Option (List ℕ)). HasRows head before ((done ++ run ∷ []) ++ runs) (content (life_after (life_once_ended life run o) runs))) (sym killed.0.killed) all)
+    (subst (λ (o : Option (List ℕ)). HasRows head before ((done ++ run ∷ []) ++ runs) (content (life_after (life_once_ended life run o) runs))) (sym killed.0.uncrashed) all)
 
 -- the law: while the machine goes on no row is lost that went out whole
 pub kills_lose_nothing : KillsLoseNothing

@@ -7,8 +7,8 @@ use Rattle.std.proofs.lemmas.List.Prefix.{front_fits}
 use Rattle.gc_files.specs.Files.{Step, Append, Cut, Sync, Life, settled, has_sync, content, later_by, MayBeLeft, MayLeave}
 use Rattle.gc_files.specs.Rows.{whole, row_line, is_empty, head_written, opened_table, mended, appended, MendedAndPut, IsFront}
 use Rattle.gc_files.specs.Runs.{synced, Run, row_lines, run_bytes, AreRows, IsHead, IsRun, life_once_ended, CrashMayLeave, Happen, life_after, rows_of, AreRowCounts, HasRows, TablesLast}
-use Rattle.gc_files.proofs.Whole.{whole_whole, whole_more, Within, within}
-use Rattle.gc_files.proofs.Moments.{may_stay, leaves_two, no_sync, mended_leaves_whole, mend_moments, two_steps, mend_synced, front_take, put_moments}
+use Rattle.gc_files.proofs.Whole.{whole_whole, whole_more, Within, whole_rows_within}
+use Rattle.gc_files.proofs.Moments.{may_stay, leaves_two, none_synced, mended_leaves_whole, mend_moments, mended_by_two_steps, mend_synced, front_take, put_moments}
 
 -- the table of a file that holds `left` is the one from before a run and the first `count` of the run's rows, at least all that
 -- end within the first k bytes of what the run appends
@@ -26,7 +26,7 @@ table_by_whole_rows head left rows is = ap (λ (l : List ℕ). l ++ (if is_empty
 -- none of the run's rows was added, and none ends within 0 bytes
 pub no_rows_within : (head held : List ℕ) (rows : List (List ℕ)) (left : List ℕ) → AreRows rows → opened_table head left ≡ opened_table head held → HasRowsWithin head held rows 0 left
 no_rows_within head held rows left are same =
-    let w = within rows 0 are in
+    let w = whole_rows_within rows 0 are in
     record {
       count = w.count;
       few = w.few;
@@ -48,7 +48,7 @@ line_first (b ∷ row) = (b, row ++ 10 ∷ [], refl)
 rows_within_after_rows : (head held : List ℕ) (b : ℕ) (bs : List ℕ) (rows : List (List ℕ)) (k : ℕ) (left : List ℕ) → AreRows rows → whole held ≡ b ∷ bs
     → left ≡ whole held ++ take k (run_bytes head held rows) → HasRowsWithin head held rows k left
 rows_within_after_rows head held b bs rows k left are some is =
-    let w = within rows k are in
+    let w = whole_rows_within rows k are in
     let start : head_written head held ≡ [] = ap (λ (l : List ℕ). if is_empty l then head else []) some in
     let at : left ≡ whole held ++ take k (row_lines rows) = is ∙ ap (λ (l : List ℕ). whole held ++ take k (l ++ row_lines rows)) start in
     let whole_at : whole left ≡ whole held ++ row_lines (take w.count rows) =
@@ -66,7 +66,7 @@ rows_within_after_rows head held b bs rows k left are some is =
 rows_within_without_head : (held : List ℕ) (rows : List (List ℕ)) (k : ℕ) (left : List ℕ) → AreRows rows → whole held ≡ []
     → left ≡ whole held ++ take k (run_bytes [] held rows) → HasRowsWithin [] held rows k left
 rows_within_without_head held rows k left are none is =
-    let w = within rows k are in
+    let w = whole_rows_within rows k are in
     let start : head_written [] held ≡ [] = ap (λ (l : List ℕ). if is_empty l then [] else []) none in
     let at : left ≡ take k (row_lines rows) = is ∙ ap (λ (l : List ℕ). l ++ take k (head_written [] held ++ row_lines rows)) none ∙ ap (λ (l : List ℕ). take k (l ++ row_lines rows)) start in
     record {
@@ -91,7 +91,7 @@ rows_within_without_head held rows k left are none is =
 rows_within_after_head : (row held : List ℕ) (rows : List (List ℕ)) (k : ℕ) (left : List ℕ) → whole held ≡ [] → (w : Within (row ∷ rows) k)
     → whole left ≡ row_lines (take w.count (row ∷ rows)) → HasRowsWithin (row_line row) held rows k left
 rows_within_after_head row held rows k left none w is = by w.count refl where
-  -- by how many of these lines are whole: none, or the head and some rows
+  -- `left` has these rows (`HasRowsWithin`), whether none of the lines is whole, or the head's and some of the rows' are
   by : (count : ℕ) → w.count ≡ count → HasRowsWithin (row_line row) held rows k left
   by zero e =
       let start : head_written (row_line row) held ≡ row_line row = ap (λ (l : List ℕ). if is_empty l then row_line row else []) none in
@@ -110,7 +110,8 @@ rows_within_after_head row held rows k left none w is = by w.count refl where
       record {
         count = n;
         few = omega (arith, e, w.few);
-        is = table_of_rows (row_line row) f.0 (f.1 ++ row_lines (take n rows)) left first ∙ ap (λ (l : List ℕ). l ++ row_lines (take n rows)) (sym f.2 ∙ sym (table_by_whole_rows (row_line row) held [] none));
+        is = table_of_rows (row_line row) f.0 (f.1 ++ row_lines (take n rows)) left first
+            ∙ ap (λ (l : List ℕ). l ++ row_lines (take n rows)) (sym f.2 ∙ sym (table_by_whole_rows (row_line row) held [] none));
         least = λ m few le. omega (arith, e, w.least (suc m) (omega (arith, few)) (subst (λ (l : List ℕ). length (l ++ row_lines (take m rows)) ≤ k) start le));
       }
 
@@ -127,12 +128,12 @@ rows_within head held rows k left heads are is = elim (list_cases (whole held)) 
   | inr some ↦ rows_within_after_rows head held some.0 some.1 rows k left are some.2 is
   | inl none ↦ elim heads [
     | inl empty ↦ subst (λ (h : List ℕ). HasRowsWithin h held rows k left) (sym empty)
-        (rows_within_without_head held rows k left are none (subst (λ (h : List ℕ). left ≡ whole held ++ take k (head_written h held ++ row_lines rows)) empty is))
+        (rows_within_without_head held rows k left are none (subst (λ (h : List ℕ). left ≡ whole held ++ take k (run_bytes h held rows)) empty is))
     | inr one ↦
         let row = one.0 in
-        let w = within (row ∷ rows) k (one.1, are) in
+        let w = whole_rows_within (row ∷ rows) k (one.1, are) in
         let start : head_written head held ≡ row_line row = ap (λ (l : List ℕ). if is_empty l then head else []) none ∙ one.2 in
-        let at : left ≡ take k (row_lines (row ∷ rows)) = is ∙ ap (λ (l : List ℕ). l ++ take k (head_written head held ++ row_lines rows)) none ∙ ap (λ (l : List ℕ). take k (l ++ row_lines rows)) start in
+        let at : left ≡ take k (row_lines (row ∷ rows)) = is ∙ ap (λ (l : List ℕ). l ++ take k (run_bytes head held rows)) none ∙ ap (λ (l : List ℕ). take k (l ++ row_lines rows)) start in
         subst (λ (h : List ℕ). HasRowsWithin h held rows k left) (sym one.2) (rows_within_after_head row held rows k left none w (ap whole at ∙ w.is))
   ]
 ]
@@ -164,7 +165,7 @@ kept_within head held run left k one enough has = record {
 -- there before the run and as what is found: none of the run's rows is kept, and none is added
 no_row_kept : (head held : List ℕ) (run : Run) (left : List ℕ) → IsRun head held run → synced run.steps ≡ [] → RunHas head left run left
 no_row_kept head held run left one nothing =
-    let w = within run.rows 0 one.rows in
+    let w = whole_rows_within run.rows 0 one.rows in
     record {
       count = w.count;
       least = elim one.kept [
@@ -212,14 +213,14 @@ run_moments head held run left heads one may = elim one.steps [
         let is_synced : synced run.steps ≡ synced ran.later = ap synced ran.split ∙ whole_mended ran.later in
         elim (leaves_two held (mended held) ran.later left here) [
           | inl before ↦
-              let nothing : synced run.steps ≡ [] = is_synced ∙ no_sync ran.later before.0 in
-              let same = mend_moments held 2 left (subst (λ (steps : List Step). MayLeave held steps left) (sym (two_steps held)) before.1) in
+              let nothing : synced run.steps ≡ [] = is_synced ∙ none_synced ran.later before.0 in
+              let same = mend_moments held 2 left (subst (λ (steps : List Step). MayLeave held steps left) (sym (mended_by_two_steps held)) before.1) in
               kept_within head held run left 0 one (omega (arith, ap length nothing)) (no_rows_within head held run.rows left one.rows (same_table head left held same))
           | inr behind_it ↦
               let there = subst (λ (h : List ℕ). MayLeave h ran.later left) (mended_leaves_whole held) behind_it in
               let moment = put_moments ran.later (whole held) left ran.puts.none_cut there in
               let at_bytes : left ≡ whole held ++ take moment.count bytes = moment.is ∙ ap (λ (l : List ℕ). whole held ++ take moment.count l) ran.puts.all in
-              let t = front_take (whole held) (head_written head held ++ row_lines run.rows) bytes moment.count front in
+              let t = front_take (whole held) (run_bytes head held run.rows) bytes moment.count front in
               let enough : length (synced run.steps) ≤ t.0 = elim t.1 [
                 | inl more ↦ omega (arith, more, moment.enough, ap length is_synced)
                 | inr more ↦ omega (arith, more, synced_length ran.later, ap length ran.puts.all, ap length is_synced)
@@ -229,7 +230,7 @@ run_moments head held run left heads one may = elim one.steps [
       where
         -- of the steps that mend a file, and of the steps `later` after them, the same is synced as of `later` alone
         whole_mended : (later : List Step) → synced (mended held ++ later) ≡ synced later
-        whole_mended later = ap (λ (steps : List Step). synced (steps ++ later)) (sym (two_steps held)) ∙ mend_synced held 2 later
+        whole_mended later = ap (λ (steps : List Step). synced (steps ++ later)) (sym (mended_by_two_steps held)) ∙ mend_synced held 2 later
 
 -- counts for some runs, and after them a count for one more run, at least its kept rows and at most all its rows, are counts for
 -- all of these runs (`AreRowCounts`)
@@ -269,11 +270,11 @@ Lasts head before runs life = (left : List ℕ) → MayBeLeft life left → HasR
 module _ (head before : List ℕ) (heads : IsHead head) where
   -- where `Lasts` is true of a life and some runs, and one more run is over what the file then holds, `Lasts` is true of the life
   -- with that run's steps, and of all these runs
-  pub one_more : (runs : List Run) (life : Life) (run : Run)
+  pub lasts_over_one_more : (runs : List Run) (life : Life) (run : Run)
       → Lasts head before runs life → IsRun head (content life) run → Lasts head before (runs ++ run ∷ []) (later_by run.steps life)
-  one_more runs life run lasts one left may = elim (leaves_two life.start life.steps run.steps left may) [
+  lasts_over_one_more runs life run lasts one left may = elim (leaves_two life.start life.steps run.steps left may) [
     | inl old ↦
-        let nothing = no_sync run.steps old.0 in
+        let nothing = none_synced run.steps old.0 in
         let more = no_row_kept head (content life) run left one nothing in
         has_rows_more head before runs run left left (lasts left old.1) more
     | inr new ↦ has_rows_more head before runs run (content life) left (lasts (content life) (may_stay life.start life.steps)) (run_moments head (content life) run left heads one new)
@@ -282,22 +283,22 @@ module _ (head before : List ℕ) (heads : IsHead head) where
   -- where `Lasts` is true of a life and some runs, and one more run is over what the file then holds, and ended in a crash that
   -- left what it may leave (`Some`), or in none (`None`), `Lasts` is true of the life once that run has ended, and of all these
   -- runs
-  one_more_ended : (runs : List Run) (life : Life) (run : Run) (left : Option (List ℕ)) → Lasts head before runs life → IsRun head (content life) run
+  lasts_once_ended : (runs : List Run) (life : Life) (run : Run) (left : Option (List ℕ)) → Lasts head before runs life → IsRun head (content life) run
       → CrashMayLeave life run left → Lasts head before (runs ++ run ∷ []) (life_once_ended life run left)
-  one_more_ended runs life run None lasts one end = one_more runs life run lasts one
-  one_more_ended runs life run (Some there) lasts one end = λ left may. subst (HasRows head before (runs ++ run ∷ [])) (sym may) (one_more runs life run lasts one there end)
+  lasts_once_ended runs life run None lasts one end = lasts_over_one_more runs life run lasts one
+  lasts_once_ended runs life run (Some there) lasts one end = λ left may. subst (HasRows head before (runs ++ run ∷ [])) (sym may) (lasts_over_one_more runs life run lasts one there end)
 
   -- where `Lasts` is true of a life and the runs `earlier`, and `runs` happen after these (`Happen`), `Lasts` is true of the life
   -- after `runs`, and of all these runs
-  all_runs : (earlier runs : List Run) (life : Life)
+  lasts_over_runs : (earlier runs : List Run) (life : Life)
       → Lasts head before earlier life → Happen head life runs → Lasts head before (earlier ++ runs) (life_after life runs)
-  all_runs earlier [] life lasts happen = subst (λ (rs : List Run). Lasts head before rs life) (sym (append-nil earlier)) lasts
-  all_runs earlier (run ∷ runs) life lasts happen =
+  lasts_over_runs earlier [] life lasts happen = subst (λ (rs : List Run). Lasts head before rs life) (sym (append-nil earlier)) lasts
+  lasts_over_runs earlier (run ∷ runs) life lasts happen =
       subst (λ (rs : List Run). Lasts head before rs (life_after (life_once_ended life run run.left) runs)) (append_assoc earlier (run ∷ []) runs)
-      (all_runs (earlier ++ run ∷ []) runs (life_once_ended life run run.left) (one_more_ended earlier life run run.left lasts happen.0 happen.1) happen.2)
+      (lasts_over_runs (earlier ++ run ∷ []) runs (life_once_ended life run run.left) (lasts_once_ended earlier life run run.left lasts happen.0 happen.1) happen.2)
 
 -- the law: over any runs and crashes the table lasts
 pub tables_last : TablesLast
 tables_last head held heads runs happen =
-    all_runs head (opened_table head held) heads [] runs (settled held)
+    lasts_over_runs head (opened_table head held) heads [] runs (settled held)
     (λ left may. ([], tt, ap (opened_table head) may ∙ sym (append-nil (opened_table head held)))) happen

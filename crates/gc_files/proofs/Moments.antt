@@ -39,11 +39,11 @@ leaves_two held (step ∷ xs) ys left (inr next) = elim (leaves_two (stepped hel
 ]
 
 -- of steps without a sync nothing was synced
-pub no_sync : (steps : List Step) → has_sync steps ≡ false → synced steps ≡ []
-no_sync [] none = refl
-no_sync (Append bytes ∷ steps) none = rw (none) refl
-no_sync (Cut size ∷ steps) none = no_sync steps none
-no_sync (Sync ∷ steps) none = absurd (true≢false none)
+pub none_synced : (steps : List Step) → has_sync steps ≡ false → synced steps ≡ []
+none_synced [] none = refl
+none_synced (Append bytes ∷ steps) none = rw (none) refl
+none_synced (Cut size ∷ steps) none = none_synced steps none
+none_synced (Sync ∷ steps) none = absurd (true≢false none)
 
 -- mending a file leaves its whole rows
 pub mended_leaves_whole : (held : List ℕ) → held_after held (mended held) ≡ whole held
@@ -88,8 +88,8 @@ mend_moments held count left may = elim (cases_Bool (length (whole held) == leng
 ]
 
 -- a file is mended by two steps at most
-pub two_steps : (held : List ℕ) → take 2 (mended held) ≡ mended held
-two_steps held = elim (cases_Bool (length (whole held) == length held)) [
+pub mended_by_two_steps : (held : List ℕ) → take 2 (mended held) ≡ mended held
+mended_by_two_steps held = elim (cases_Bool (length (whole held) == length held)) [
   | inl same ↦ rw (same) (take-nil 2)
   | inr less ↦ rw (less) refl
 ]
@@ -134,7 +134,7 @@ pub put_moments : (steps : List Step) (held left : List ℕ)
 put_moments [] held left none may = record { count = 0; is = may ∙ sym (append-nil held); enough = omega arith }
 put_moments (Append bytes ∷ steps) held left none (inl now) =
     let at = front_take held (bytes ++ appended steps) bytes now.1.0 (record { rest = appended steps; split = refl }) in
-    record { count = at.0; is = now.1.1 ∙ at.2; enough = subst (λ (l : List ℕ). length l ≤ at.0) (sym (no_sync (Append bytes ∷ steps) now.0)) (omega arith) }
+    record { count = at.0; is = now.1.1 ∙ at.2; enough = subst (λ (l : List ℕ). length l ≤ at.0) (sym (none_synced (Append bytes ∷ steps) now.0)) (omega arith) }
 put_moments (Append bytes ∷ steps) held left none (inr next) =
     let rest = put_moments steps (held ++ bytes) left none next in
     record {

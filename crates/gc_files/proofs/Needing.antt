@@ -18,8 +18,8 @@ second_run = record { rows = (65 ∷ []) ∷ []; steps = Append (65 ∷ 10 ∷ [
 
 -- the last sync of the first run fails: a read still returns the head, and the disk has a zero in its place. Then the second
 -- run goes on in that file
-abbrev events : List Event
-events = Failed first_run (10 ∷ []) (0 ∷ []) ∷ Ran second_run ∷ []
+abbrev failing_events : List Event
+failing_events = Failed first_run (10 ∷ []) (0 ∷ []) ∷ Ran second_run ∷ []
 
 -- the first run is one over an empty file
 first_is_a_run : IsRun line_feed_head [] first_run
@@ -40,7 +40,7 @@ second_is_a_run = record {
 }
 
 -- these events can happen to an empty file, where runs go on in any file
-events_occur : Occur (λ doubted. Unit {0}) line_feed_head (same_sides (settled [])) false events
+events_occur : Occur (λ doubted. Unit {0}) line_feed_head (same_sides (settled [])) false failing_events
 events_occur = (
   tt,
   first_is_a_run,
@@ -52,6 +52,6 @@ events_occur = (
 -- the law: it isn't so that tables last where runs go on in any file, in doubt or not
 pub copies_are_needed : CopiesAreNeeded
 copies_are_needed lasts =
-    let has = lasts line_feed_head [] (inr ([], refl, refl)) events events_occur (0 ∷ 65 ∷ 10 ∷ []) (inr (inr (inr refl))) in
-    let wrong : 0 ∷ 65 ∷ 10 ∷ [] ≡ 10 ∷ rows_of (runs_of events) has.0 = has.2 in
+    let has = lasts line_feed_head [] (inr ([], refl, refl)) failing_events events_occur (0 ∷ 65 ∷ 10 ∷ []) (inr (inr (inr refl))) in
+    let wrong : 0 ∷ 65 ∷ 10 ∷ [] ≡ 10 ∷ rows_of (runs_of failing_events) has.0 = has.2 in
     cc

@@ -5,7 +5,7 @@ use Rattle.std.proofs.lemmas.Bool.{true≢false}
 use Rattle.std.proofs.lemmas.List.{map_push}
 use Rattle.std.proofs.lemmas.Option.{same_Some}
 use Rattle.gc_files.specs.declared.memory_file.Call.{Call}
-use Rattle.gc_files.specs.Calls.{step_of, life_by}
+use Rattle.gc_files.specs.Calls.{step_of, life_by, HoldsAfter}
 use Rattle.gc_files.specs.Files.{Step, Sync, Life, stepped, held_after, content, MayLeave, IsKept, later_by, Adds}
 use Rattle.gc_files.proofs.Moments.{held_after_two, leaves_two}
 
@@ -22,7 +22,7 @@ content_step life step = held_after_two life.start life.steps (step ∷ [])
 -- holds what c makes of `old`, it holds what `new` make of `start`
 pub holds_after_call : (start : List ℕ) (calls new : List Call) (c : Call) (old now next : List ℕ)
     → new ≡ calls ++ c ∷ [] → now ≡ next → next ≡ stepped old (step_of c)
-    → old ≡ content (life_by start calls) → now ≡ content (life_by start new)
+    → HoldsAfter start calls old → HoldsAfter start new now
 holds_after_call start calls new c old now next is put made was =
     put ∙ made ∙ ap (λ (held : List ℕ). stepped held (step_of c)) was ∙ sym (content_step (life_by start calls) (step_of c)) ∙ ap content (sym (life_more start calls new c is))
 
@@ -38,8 +38,8 @@ made_step start calls new c is life same =
     after (Some l) = Some (later_by (step_of c ∷ []) l)
 
 -- where the last step was a sync, the file is kept, as `IsKept` has it
-kept_behind : (old : Life) → IsKept (later_by (Sync ∷ []) old)
-kept_behind old left may = elim (leaves_two old.start old.steps (Sync ∷ []) left may) [
+kept_after_sync : (old : Life) → IsKept (later_by (Sync ∷ []) old)
+kept_after_sync old left may = elim (leaves_two old.start old.steps (Sync ∷ []) left may) [
   | inl earlier ↦ absurd (true≢false earlier.0)
   | inr new ↦ last new
 ]
@@ -51,4 +51,4 @@ kept_behind old left may = elim (leaves_two old.start old.steps (Sync ∷ []) le
 
 -- where a sync was added to the life `old` of a file, and its life is now `known`, the file is kept
 pub kept_once_synced : (old known : Life) (now : Option Life) → Adds (Some old) now (Sync ∷ []) → now ≡ Some known → IsKept known
-kept_once_synced old known now adds is = subst IsKept (same_Some (later_by (Sync ∷ []) old) known (sym (adds old refl) ∙ is)) (kept_behind old)
+kept_once_synced old known now adds is = subst IsKept (same_Some (later_by (Sync ∷ []) old) known (sym (adds old refl) ∙ is)) (kept_after_sync old)

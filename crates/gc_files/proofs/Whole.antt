@@ -112,9 +112,9 @@ none_ends_within row rows k less zero le = omega arith
 none_ends_within row rows k less (suc m) le = absurd (omega (arith, less, le, length-append (row_line row) (row_lines (take m rows))))
 
 -- for each k it can be said how many rows are whole in the first k bytes of their lines (`Within`)
-pub within : (rows : List (List ℕ)) (k : ℕ) → AreRows rows → Within rows k
-within [] k are = record { count = 0; few = omega arith; is = ap whole (take_all k [] (omega arith)); least = λ m few le. few }
-within (row ∷ rows) k are = elim (cases_lt k (length (row_line row))) [
+pub whole_rows_within : (rows : List (List ℕ)) (k : ℕ) → AreRows rows → Within rows k
+whole_rows_within [] k are = record { count = 0; few = omega arith; is = ap whole (take_all k [] (omega arith)); least = λ m few le. few }
+whole_rows_within (row ∷ rows) k are = elim (cases_lt k (length (row_line row))) [
   | inl less ↦
       let inside : k ≤ length row = omega (arith, less, length-line row) in
       let at : take k (row_lines (row ∷ rows)) ≡ take k row =
@@ -122,7 +122,7 @@ within (row ∷ rows) k are = elim (cases_lt k (length (row_line row))) [
       let none : has_feed (take k row) ≡ false = feed_first (take k row) (drop k row) (ap has_feed (take-append-drop k row) ∙ are.0) in
       record { count = 0; few = omega arith; is = ap whole at ∙ whole_none (take k row) none; least = λ m few le. none_ends_within row rows k less m le }
   | inr more ↦
-      let rest = within rows (k - length (row_line row)) are.1 in
+      let rest = whole_rows_within rows (k - length (row_line row)) are.1 in
       let is_k : k ≡ length (row_line row) + (k - length (row_line row)) = omega (arith, more) in
       let at : take k (row_lines (row ∷ rows)) ≡ row_line row ++ take (k - length (row_line row)) (row_lines rows) =
       ap (λ n. take n (row_lines (row ∷ rows))) is_k ∙ take-append-add (row_line row) (row_lines rows) (k - length (row_line row)) in

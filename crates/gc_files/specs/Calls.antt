@@ -10,13 +10,9 @@ step_of (call.Append bytes) = Append bytes.items
 step_of (call.Cut size) = Cut size
 step_of call.Sync = Sync
 
--- the steps that these calls are
-abbrev pub steps_of : List Call → List Step
-steps_of calls = map step_of calls
-
 -- the life of a file that held `start` at first, after these calls
 abbrev pub life_by : List ℕ → List Call → Life
-life_by start calls = record { start = start; steps = steps_of calls }
+life_by start calls = record { start = start; steps = map step_of calls }
 
 -- a file that held `start` at first holds these bytes after these calls
 abbrev pub HoldsAfter : (start : List ℕ) → List Call → (bytes : List ℕ) → Type 0

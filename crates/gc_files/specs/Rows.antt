@@ -98,6 +98,10 @@ OpensInPart head old new = Did old new (λ held. ComesTo held (head_written head
 abbrev pub PutsAll : (old new : Option Life) (bytes : List ℕ) → Type 0
 PutsAll old new bytes = Did old new (λ held steps. Puts steps bytes)
 
+-- a front of these bytes was appended, in some pieces, and nothing else was done but syncs
+abbrev pub PutsFront : (old new : Option Life) (bytes : List ℕ) → Type 0
+PutsFront old new bytes = (front : List ℕ) × IsFront front bytes × PutsAll old new front
+
 -- The file with this life, if that is known.
 
 -- `len` is how many bytes the file holds
@@ -109,8 +113,8 @@ abbrev pub IsEndOfRows : Option Life → (end : ℕ) → Type 0
 IsEndOfRows life end = IfKnown life (λ known. end ≡ length (whole (content known)))
 
 -- `torn` is how many bytes follow the whole rows of the file
-abbrev pub IsTorn : Option Life → (torn : ℕ) → Type 0
-IsTorn life torn = IfKnown life (λ known. length (content known) ≡ length (whole (content known)) + torn)
+abbrev pub IsTornLength : Option Life → (torn : ℕ) → Type 0
+IsTornLength life torn = IfKnown life (λ known. length (content known) ≡ length (whole (content known)) + torn)
 
 -- the file begins with the sign, or holds a front of it and nothing else (true), or neither (false)
 abbrev pub Fits : (sign : List ℕ) → Option Life → (is : Bool) → Type 0

@@ -41,15 +41,15 @@ abbrev pub WereKept : (head held : List ℕ) (rows : List (List ℕ)) (kept : �
 WereKept head held rows kept steps = (kept ≡ 0) ⊎ IsFront (run_bytes head held (take kept rows)) (synced steps)
 
 -- a run over a file that held `held`: it mended the file, and then wrote the head where no whole row was there, and its rows,
--- none of which has a line feed in it, as far as it came; and `Counts` says what its steps did with those of its first rows that
--- it counts as kept
+-- none of which has a line feed in it, as far as it came; and `Counts` holds of its rows, of how many of the first of them count
+-- as kept, and of its steps
 pub record IsRunBy (Counts : (head held : List ℕ) (rows : List (List ℕ)) (kept : ℕ) → List Step → Type 0) (head held : List ℕ) (run : Run) : Type 0 where
   pub rows : AreRows run.rows
   pub steps : ComesTo held (run_bytes head held run.rows) run.steps
   pub few : run.kept ≤ length run.rows
   pub kept : Counts head held run.rows run.kept run.steps
 
--- what a run can be over a file that held `held`; as many of its first rows as it counts as kept were kept
+-- a run over a file that held `held`, whose first rows, as many as it counts as kept, were kept (`WereKept`)
 abbrev pub IsRun : (head held : List ℕ) → Run → Type 0
 IsRun head held run = IsRunBy WereKept head held run
 
@@ -108,21 +108,21 @@ WereWritten head held rows count steps =
     ⊎ ((bytes : List ℕ) × MendedAndPut held steps bytes × IsFront bytes (run_bytes head held rows)
     × IsFront (run_bytes head held (take count rows)) bytes)
 
--- a run that ended by itself or by a kill, with the machine going on; only rows that went out whole count as kept
-pub record IsKilled (head held : List ℕ) (run : Run) : Type 0 where
+-- a run that ended by itself or by a kill, and not by a crash of the machine; only rows that went out whole count as kept
+pub record IsUncrashedRun (head held : List ℕ) (run : Run) : Type 0 where
   pub is : IsRunBy WereWritten head held run
-  pub killed : run.left ≡ None
+  pub uncrashed : run.left ≡ None
 
--- these runs happened to the file, one after the other, each ended by itself or by a kill
-abbrev pub AreKilled : (head : List ℕ) → Life → List Run → Type 0
-AreKilled head life [] = Unit {0}
-AreKilled head life (run ∷ runs) = IsKilled head (content life) run × AreKilled head (later_by run.steps life) runs
+-- these runs happened to the file, one after the other, each ended by itself or by a kill (`IsUncrashedRun`)
+abbrev pub AreUncrashedRuns : (head : List ℕ) → Life → List Run → Type 0
+AreUncrashedRuns head life [] = Unit {0}
+AreUncrashedRuns head life (run ∷ runs) = IsUncrashedRun head (content life) run × AreUncrashedRuns head (later_by run.steps life) runs
 
 -- Over any runs and kills, while the machine goes on, no row that went out whole is lost, synced or not: the table is what was
 -- there before the runs, and after that the first rows of each run, at least those that count as kept, for which it is enough
--- that they went out whole (`IsKilled`).
+-- that they went out whole (`IsUncrashedRun`).
 abbrev pub KillsLoseNothing : Type 0
-KillsLoseNothing = (head : List ℕ) → IsHead head → (life : Life) (runs : List Run) → AreKilled head life runs
+KillsLoseNothing = (head : List ℕ) → IsHead head → (life : Life) (runs : List Run) → AreUncrashedRuns head life runs
     → HasRows head (opened_table head (content life)) runs (content (life_after life runs))
 
 -- the steps of this run, over a file that held `held`, are those of an opening, and after them those of writes and syncs of the

@@ -6,7 +6,7 @@ ghost use Rattle.gc_files.specs.declared.opening.Refused.TheVariants.{Foreign};
 ghost use Rattle.gc_files.specs.Sinks.{life_in, has_failed, torn_in, steps_in, HasOptions};
 ghost use Rattle.gc_files.specs.Files.{IfKnown, content};
 ghost use Rattle.gc_files.specs.Extents.{IsExtentOf};
-ghost use Rattle.gc_files.specs.Rows.{Fits, IsEndOfRows, IsLengthOf, IsMended, IsMendedInPart, IsTorn, LeavesForeign, whole, Opens, OpensInPart, PutsAll, IsFront};
+ghost use Rattle.gc_files.specs.Rows.{Fits, IsEndOfRows, IsLengthOf, IsMended, IsMendedInPart, IsTornLength, LeavesForeign, whole, Opens, OpensInPart, PutsAll, PutsFront};
 
 use crate::appending::Appending;
 use crate::rows_file::{RowsFile, RowsOptions};
@@ -139,7 +139,7 @@ fn cut_torn_row<F: Appending>(file: &mut F, extent: Extent) -> Result<(), PortFa
 // Appends all of these bytes, in as many calls as the file needs. Where it fails, a front of them was appended.
 pub(crate) fn append_all<F: Appending>(file: &mut F, bytes: &[u8]) -> Result<(), PortFailed>
     ensures ok { OnOk result (PutsAll (F.life file.old) (F.life file.new) bytes.now) }
-    ensures err { OnErr result ((front : List ℕ) × IsFront front bytes.now × PutsAll (F.life file.old) (F.life file.new) front) }
+    ensures err { OnErr result (PutsFront (F.life file.old) (F.life file.new) bytes.now) }
 {
     let mut done = 0;
     while done < bytes.len() {
@@ -194,7 +194,7 @@ pub fn open_rows<F: Appending>(
     // head was written where there was no whole row.
     ensures opened { IfOk result (λ rows. Opens options.head.now (F.life file) (life_in rows)) }
     ensures taken { OnOk result (Fits options.sign.now (F.life file) true) }
-    ensures torn { IfOk result (λ rows. IsTorn (F.life file) (torn_in rows)) }
+    ensures torn { IfOk result (λ rows. IsTornLength (F.life file) (torn_in rows)) }
     ensures sound { IfOk result (λ rows. has_failed rows ≡ false) }
     ensures asked { IfOk result (λ rows. HasOptions options rows) }
     ensures trusted { OnOk result (F.doubted file ≡ false) }

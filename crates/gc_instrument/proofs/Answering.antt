@@ -33,9 +33,9 @@ pub refused_reply : (state : State) (q : RequestFields) (fault : CallFault) (id 
 refused_reply state q fault id line is same made = refuses fault is refl (made ∙ ap (λ n. refusal_line n fault) same)
 
 -- where the reply line of a call's outcome reads back as the outcome's reading, `IsAnswered` holds of that line
-reads_as : (before : State) (id : ℕ) (call : Call) (x : Executed) → exec before call ≡ x
+answered_by_reading : (before : State) (id : ℕ) (call : Call) (x : Executed) → exec before call ≡ x
     → ReadsBackAnswer call id x.rc x.answer x.state.precision (reading_of x) → IsAnswered before id call (executed_line id x)
-reads_as before id call x e back = record {
+answered_by_reading before id call x e back = record {
   fields = reply_of id x.rc x.answer x.state.precision;
   is_reply = reply_found (executed_line id x) (reply_of id x.rc x.answer x.state.precision) back.line;
   same_id = refl;
@@ -52,8 +52,8 @@ reads_executed before id call x e back refused =
     let value : Reading = Value (rounded_answer x.state.precision x.answer) in
     let ReadsBack : Reading → Type 0 = λ r. ReadsBackAnswer call id x.rc x.answer x.state.precision r in
     elim (cases_eq x.rc 0) [
-      | inl h ↦ reads_as before id call x e (subst ReadsBack (sym (ap (λ (n : ℕ). if n == 0 then value else Refused x.rc) h)) (back call h (outcome.answers h)))
-      | inr h ↦ reads_as before id call x e (subst ReadsBack (sym (cond-false (x.rc == 0) value (Refused x.rc) (ne_eqb x.rc 0 h))) (refused call h))
+      | inl h ↦ answered_by_reading before id call x e (subst ReadsBack (sym (ap (λ (n : ℕ). if n == 0 then value else Refused x.rc) h)) (back call h (outcome.answers h)))
+      | inr h ↦ answered_by_reading before id call x e (subst ReadsBack (sym (cond-false (x.rc == 0) value (Refused x.rc) (ne_eqb x.rc 0 h))) (refused call h))
     ]
 
 -- the request line of a call with values in range and an id below 8 reads as the call's request
@@ -61,9 +61,9 @@ own_request : (id : ℕ) (call : Call) → id < 8 → IsFitting call → IsReque
 own_request id call small fits = request_found (request_line (Some id) call) (request_of (Some id) call) (call_again (Some id) call small fits).line
 
 -- the request line of a call with values in range and an id below 8 reads as no request but the call's
-pub read_of : (line : List ℕ) (q : RequestFields) (id : ℕ) (call : Call) → id < 8 → IsFitting call → line ≡ request_line (Some id) call
+pub only_own_request : (line : List ℕ) (q : RequestFields) (id : ℕ) (call : Call) → id < 8 → IsFitting call → line ≡ request_line (Some id) call
     → IsRequest line q → q ≡ request_of (Some id) call
-read_of line q id call small fits e is =
+only_own_request line q id call small fits e is =
     one_request line q (request_of (Some id) call) is
     (subst (λ (x : List ℕ). IsRequest x (request_of (Some id) call)) (sym e) (own_request id call small fits))
 
@@ -93,9 +93,9 @@ handed_does before after id call text (executes e state line) =
 
 -- where a text is the reply (`IsReplyToRequest`) to the request of a call with values in range and an id below 8, `IsExchanged`
 -- holds of the call and that text
-pub exchanged : (before after : State) (id : ℕ) (call : Call) (text : List ℕ) → id < 8 → IsFitting call
+pub reply_is_exchanged : (before after : State) (id : ℕ) (call : Call) (text : List ℕ) → id < 8 → IsFitting call
     → IsReplyToRequest before (request_of (Some id) call) after text → IsExchanged before id call after (Some text)
-exchanged before after id call text small fits is_reply = by_answer (call_again (Some id) call small fits).is_asked is_reply.answers where
+reply_is_exchanged before after id call text small fits is_reply = by_answer (call_again (Some id) call small fits).is_asked is_reply.answers where
   -- the request names the call, so the instrument answered that one
   by_answer : IsCall (request_of (Some id) call).rpc (request_of (Some id) call).params call → AnswersRequest before (request_of (Some id) call) after text
       → IsExchanged before id call after (Some text)
@@ -145,7 +145,7 @@ module _ (before after : State) (line : List ℕ) where
       absurd (none q (subst (λ (x : List ℕ). IsRequest x q) (sym own) (own_request id call small fits)))
   is_exchanged id call reply small fits own (answers q is text does told) =
       subst (λ (o : Option (List ℕ)). IsExchanged before id call after o) (sym told)
-      (exchanged before after id call text small fits (subst (λ (r : RequestFields). IsReplyToRequest before r after text) (read_of line q id call small fits own is) does))
+      (reply_is_exchanged before after id call text small fits (subst (λ (r : RequestFields). IsReplyToRequest before r after text) (only_own_request line q id call small fits own is) does))
 
   -- where `IsReplyToRequest` holds of the reply that was appended, or none was, `IsReplied` holds of it
   pub line_replied : (old new : List ℕ) (has_reply : Bool) → AppendsAnswer (RepliesTo IsReplyToRequest before line after) old new has_reply
@@ -178,8 +178,8 @@ pub handed_replied : (s : State) (id : ℕ) (call : Call) → id < 8 → IsFitti
 handed_replied s id call small fits =
     answers (request_of (Some id) call) (own_request id call small fits) (handed s id call).reply (answers_call call (call_again (Some id) call small fits).is_asked (handed_answers s id call)) refl
 
--- where `new` is the empty text with a reply to a line (`IsReplied`) appended, `new` is this reply. This lemma and the next are
--- `appended_alone` with the predicate filled in, since the search doesn't find the predicate by itself
+-- where `new` is the empty text with a reply to a line (`IsReplied`) appended, `new` is this reply. `replied_alone` and
+-- `exchanged_alone` are `appended_alone` with the predicate filled in, since the search doesn't find the predicate by itself
 pub replied_alone : (s t : State) (line new : List ℕ) → AppendsAnswer (IsReplied s line t) [] new true → IsReplied s line t (Some new)
 replied_alone s t line new h = appended_alone (IsReplied s line t) new h
 
@@ -189,9 +189,9 @@ pub exchanged_alone : (s t : State) (id : ℕ) (call : Call) (new : List ℕ) �
 exchanged_alone s t id call new h = appended_alone (IsExchanged s id call t) new h
 
 -- the reply to a call (`IsReplyToCall`) is the reply to the request that names the call (`IsReplyToRequest`)
-pub request_call : (before after : State) (q : RequestFields) (call : Call) (text : List ℕ) → IsCall q.rpc q.params call
+pub reply_to_call_is_to_request : (before after : State) (q : RequestFields) (call : Call) (text : List ℕ) → IsCall q.rpc q.params call
     → IsReplyToCall before q.id call after text → IsReplyToRequest before q after text
-request_call before after q call text is h = record {
+reply_to_call_is_to_request before after q call text is h = record {
   answers = answers_call call is h.answers;
   plain = λ d other. h.plain;
   says = λ d other none. subst (λ (c : Call). IsAnswered before (reply_id q) c text) (one_call q.rpc q.params call d is other) (h.says none);

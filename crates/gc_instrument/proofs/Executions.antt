@@ -123,17 +123,17 @@ searched_outcome s call area_hz area_v of_call = by_test (int_lt area_hz.digits 
 -- What the tests of values imply.
 
 -- a precision that is allowed is at most 15
-precision_few : (n : ℤ) → is_precision n ≡ true → unsigned_abs n ≤ 15
-precision_few (pos k) h = leb-true k 15 (and_parts (nat_le 0 k) (nat_le k 15) h).1
-precision_few (negsuc k) h = let wrong : ⊥ = cc in absurd wrong
+precision_at_most_fifteen : (n : ℤ) → is_precision n ≡ true → unsigned_abs n ≤ 15
+precision_at_most_fifteen (pos k) h = leb-true k 15 (and_parts (nat_le 0 k) (nat_le k 15) h).1
+precision_at_most_fifteen (negsuc k) h = let wrong : ⊥ = cc in absurd wrong
 
 -- a year from 1 to 9999 fits in a Short
-short_fits : (z : ℤ) → int_le (pos 1) z ≡ true → int_le z (pos 9999) ≡ true → FitsShort z
-short_fits (pos k) low high = let few : k ≤ 9999 = leb-true k 9999 high in (omega (arith, ints), omega (arith, ints, few))
-short_fits (negsuc k) low high = let wrong : ⊥ = cc in absurd wrong
+year_fits : (z : ℤ) → int_le (pos 1) z ≡ true → int_le z (pos 9999) ≡ true → FitsShort z
+year_fits (pos k) low high = let few : k ≤ 9999 = leb-true k 9999 high in (omega (arith, ints), omega (arith, ints, few))
+year_fits (negsuc k) low high = let wrong : ⊥ = cc in absurd wrong
 
--- where all nine tests of a date hold, a to i in the order of `is_date`, so does each that the ranges of its values need: all
--- but c and e, that month and day are at least 1
+-- where all nine tests of a date hold (a to i, in the order of `is_date`), so do the seven that the ranges of its values need.
+-- Those left out, c and e, say that month and day are at least 1
 date_tests : (a b c d e f g h i : Bool) → a && b && c && d && e && f && g && h && i ≡ true
     → (a ≡ true) × (b ≡ true) × (d ≡ true) × (f ≡ true) × (g ≡ true) × (h ≡ true) × (i ≡ true)
 date_tests a b c d e f g h i all =
@@ -164,7 +164,7 @@ date_fits d h =
     let hour = leb-true d.hour 23 t.4 in
     let minute = leb-true d.minute 59 t.5 in
     let second = leb-true d.second 59 t.6 in
-    (short_fits d.year t.0 t.1, (omega (arith, month), (omega (arith, day), (omega (arith, hour), (omega (arith, minute), (omega (arith, second), tt))))))
+    (year_fits d.year t.0 t.1, (omega (arith, month), (omega (arith, day), (omega (arith, hour), (omega (arith, minute), (omega (arith, second), tt))))))
 
 -- a face's number fits in a Long
 face_fits : (f : Face) → FitsLong (face_number f)
@@ -185,8 +185,8 @@ pub restarted_fits : (s : State) → IsFittingState s → IsFittingState (restar
 restarted_fits s f = record { precision = f.precision; serial = f.serial; name = f.name; date = date_fits first_date refl; prism = (omega (arith, ints), omega (arith, ints)); kept = tt }
 
 -- a state that fits does so with a new precision that is allowed
-new_places : (s : State) (n : ℤ) → is_precision n ≡ true → IsFittingState s → IsFittingState (record s { precision = unsigned_abs n })
-new_places s n h f = record { precision = precision_few n h; serial = f.serial; name = f.name; date = f.date; prism = f.prism; kept = f.kept }
+new_precision : (s : State) (n : ℤ) → is_precision n ≡ true → IsFittingState s → IsFittingState (record s { precision = unsigned_abs n })
+new_precision s n h f = record { precision = precision_at_most_fifteen n h; serial = f.serial; name = f.name; date = f.date; prism = f.prism; kept = f.kept }
 
 -- a state that fits does so with a new date that the clock takes
 new_date : (s : State) (d : DateTime) → is_date d ≡ true → IsFittingState s → IsFittingState (record s { date = d })
@@ -197,7 +197,22 @@ new_prism : (s : State) (n : ℤ) → is_prism n ≡ true → IsFittingState s �
 new_prism s n h f = record { precision = f.precision; serial = f.serial; name = f.name; date = f.date; prism = prism_fits n h; kept = f.kept }
 
 -- the lemmas of which the search proves each row of the execution table
-ruleset row_rules = (answered_outcome, done_outcome, set_outcome, distance_sound, commanded_outcome, searched_outcome, may_stay, leads_likewise, new_places, new_date, new_prism, face_fits, precision_fits, arith)
+ruleset row_rules = (
+  answered_outcome,
+  done_outcome,
+  set_outcome,
+  distance_sound,
+  commanded_outcome,
+  searched_outcome,
+  may_stay,
+  leads_likewise,
+  new_precision,
+  new_date,
+  new_prism,
+  face_fits,
+  precision_fits,
+  arith,
+)
 
 -- the outcome of every call in every state is sound. A new row of the table is made of the same parts, so it needs nothing here
 pub exec_outcome : (s : State) (call : Call) → IsSoundOutcome s call (exec s call)

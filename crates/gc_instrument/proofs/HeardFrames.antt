@@ -24,21 +24,21 @@ use Rattle.gc_instrument.proofs.Answering.{is_replied}
 use Rattle.gc_instrument.specs.Hearing.{Hears, replies_text}
 use Rattle.gc_instrument.specs.Serving.{AnswersFrame, ServesAll, ServesPart, Serves}
 
--- where `IsReplyToRequest` holds of the reply to a line, `AnswersFrame` holds of the frame and its text
-frame_answered : (before after : State) (frame : Frame) (text : Option (List ℕ)) → AnswersLines (RepliesTo IsReplyToRequest) before frame after text
+-- a text that answers a frame by replies that are `IsReplyToRequest` answers it as `AnswersFrame` says
+answers_frame : (before after : State) (frame : Frame) (text : Option (List ℕ)) → AnswersLines (RepliesTo IsReplyToRequest) before frame after text
     → AnswersFrame before frame after text
-frame_answered before after (Line line) text h = (h.0, is_replied before after line.items h.0 h.1, h.2)
-frame_answered before after Cleared text h = h
-frame_answered before after Overlong text h = h
-frame_answered before after More text h = h
+answers_frame before after (Line line) text h = (h.0, is_replied before after line.items h.0 h.1, h.2)
+answers_frame before after Cleared text h = h
+answers_frame before after Overlong text h = h
+answers_frame before after More text h = h
 
--- where a text was appended by which `IsReplyToRequest` holds of the reply to a line, or none was, `AnswersFrame` holds of the frame
--- and that text, or none
+-- where the text that was appended, or none, answers a frame by replies that are `IsReplyToRequest`, it answers the frame as
+-- `AnswersFrame` says
 pub answered_frame : (before after : State) (frame : Frame) (old new : List ℕ) (has_text : Bool)
     → AppendsAnswer (AnswersLines (RepliesTo IsReplyToRequest) before frame after) old new has_text
     → AppendsAnswer (AnswersFrame before frame after) old new has_text
-answered_frame before after frame old new true h = (h.0, frame_answered before after frame (Some h.0) h.1, h.2)
-answered_frame before after frame old new false h = (frame_answered before after frame None h.0, h.1)
+answered_frame before after frame old new true h = (h.0, answers_frame before after frame (Some h.0) h.1, h.2)
+answered_frame before after frame old new false h = (answers_frame before after frame None h.0, h.1)
 
 -- What an instrument heard of frames.
 

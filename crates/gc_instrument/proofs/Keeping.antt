@@ -6,7 +6,6 @@ use Rattle.std.proofs.lemmas.List.{take_all}
 use Rattle.std.proofs.Math.Seq.{drop-append_seam}
 use Rattle.gc_lines.specs.Lines.{IsPlain}
 use Rattle.std.specs.Ordering.{int_eq}
-use Rattle.std.specs.Option.{option_map}
 use Rattle.gc_values.specs.declared.decimal.Decimal.{Decimal}
 use Rattle.gc_catalogue.specs.declared.answer.Answer.{Answer}
 use Rattle.gc_catalogue.specs.declared.answer.Answer.TheVariants.{Nothing}
@@ -16,12 +15,12 @@ use Rattle.gc_instrument.specs.Execution.{Executed, exec, done, refused, set_if,
 use Rattle.gc_instrument.specs.Laws.{ExecutesApart}
 use Rattle.gc_instrument.specs.Replying.{IsReplyToCall, IsReplyToExecuted, executes, IsAnswered, kept_after, kept_line, with_kept, executed_with}
 use Rattle.gc_instrument.specs.Seen.{IsSoundState}
-use Rattle.gc_instrument.specs.State.{State, KeptReply, IsFittingState, IsFittingKept, kept_in}
+use Rattle.gc_instrument.specs.State.{State, KeptReply, IsFittingState, IsFittingKept, kept_id, kept_in}
 use Rattle.gc_instrument.specs.Targets.{first_within}
 use Rattle.gc_instrument.specs.declared.target.Target.{Target}
 
 -- the stored reply that `kept_in` makes of an id and a line has that id; without an id it makes none
-pub id_kept : (id : Option ℕ) (line : List ℕ) → id ≡ option_map (λ (k : KeptReply). k.id) (kept_in id line)
+pub id_kept : (id : Option ℕ) (line : List ℕ) → id ≡ kept_id (kept_in id line)
 id_kept None line = refl
 id_kept (Some id) line = refl
 
@@ -37,20 +36,20 @@ none_kept None asked line e = refl
 none_kept (Some n) asked line e = let never : ⊥ = cc in absurd never
 
 -- where b is whether the id asked for is the stored one, the stored line is found if b is true, and none if it is false
-kept_as : (b : Bool) (id asked : Option ℕ) (k n : ℕ) (line : List ℕ) → id ≡ Some k → asked ≡ Some n → eqb k n ≡ b
+kept_by_test : (b : Bool) (id asked : Option ℕ) (k n : ℕ) (line : List ℕ) → id ≡ Some k → asked ≡ Some n → eqb k n ≡ b
     → cond b (Some line) None ≡ kept_line (kept_in id line) asked
-kept_as b id asked k n line e f is =
+kept_by_test b id asked k n line e f is =
     sym (ap (λ (o : Option ℕ). kept_line (kept_in o line) asked) e ∙ ap (kept_line (Some (record { id = k; line = line }))) f ∙ ap (λ (c : Bool). cond c (Some line) None) is)
 
 -- where the id asked for is the stored one, the stored line is found
 pub same_kept : (id asked : Option ℕ) (k n : ℕ) (line : List ℕ) → id ≡ Some k → asked ≡ Some n → eqb k n ≡ true
     → Some line ≡ kept_line (kept_in id line) asked
-same_kept = kept_as true
+same_kept = kept_by_test true
 
 -- where the id asked for isn't the stored one, no stored line is found
 pub other_kept : (id asked : Option ℕ) (k n : ℕ) (line : List ℕ) → id ≡ Some k → asked ≡ Some n → eqb k n ≡ false
     → None ≡ kept_line (kept_in id line) asked
-other_kept = kept_as false
+other_kept = kept_by_test false
 
 -- The outcome of a call doesn't depend on the stored reply. On the left of each equation is the outcome in the state `s` itself,
 -- by which the search finds the equation.
@@ -100,14 +99,14 @@ searched_apart s kept area_hz area_v = by_test (int_lt area_hz.digits (pos 0) ||
 ruleset apart_rules = (set_apart, distance_apart, commanded_apart, searched_apart)
 
 -- no call's outcome depends on the stored reply. A new row of the table is made of the same parts, so it needs nothing here
-by_rows : (s : State) (kept : Option KeptReply) (call : Call) → executed_with kept (exec s call) ≡ exec (with_kept kept s) call
+exec_apart : (s : State) (kept : Option KeptReply) (call : Call) → executed_with kept (exec s call) ≡ exec (with_kept kept s) call
 unfolding exec
-by_rows s kept NullProc = refl
-by_rows s kept call = search apart_rules
+exec_apart s kept NullProc = refl
+exec_apart s kept call = search apart_rules
 
 -- the outcome of a call doesn't depend on the stored reply, and leaves that reply as it is
 pub executes_apart : ExecutesApart
-executes_apart s kept call = sym (by_rows s kept call)
+executes_apart s kept call = sym (exec_apart s kept call)
 
 -- What is stored of an execution.
 

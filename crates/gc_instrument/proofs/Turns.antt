@@ -28,17 +28,17 @@ one_answer_to_call s t u id call x y (executes e same made) (executes f again to
     (same ∙ ap (λ (line : List ℕ). with_kept (kept_after s.kept id line) (exec s call).state) one ∙ sym again, one)
 
 -- a state and a request determine the state after the request, and the reply
-one_answer : (s t u : State) (q : RequestFields) (x y : List ℕ) → AnswersRequest s q t x → AnswersRequest s q u y → (t ≡ u) × (x ≡ y)
-one_answer s t u q x y (refuses e is same made) (refuses f other again told) =
+one_answer_to_request : (s t u : State) (q : RequestFields) (x y : List ℕ) → AnswersRequest s q t x → AnswersRequest s q u y → (t ≡ u) × (x ≡ y)
+one_answer_to_request s t u q x y (refuses e is same made) (refuses f other again told) =
     (same ∙ sym again, made ∙ ap (λ (g : CallFault). refusal_line (reply_id q) g) (one_refusal q.rpc q.params e f is other) ∙ sym told)
-one_answer s t u q x y (refuses e is same made) (answers_call c other does) = absurd (no_refusal q.rpc q.params c e other is)
-one_answer s t u q x y (answers_call c is does) (refuses e other again told) = absurd (no_refusal q.rpc q.params c e is other)
-one_answer s t u q x y (answers_call c is does) (answers_call d other makes) =
+one_answer_to_request s t u q x y (refuses e is same made) (answers_call c other does) = absurd (no_refusal q.rpc q.params c e other is)
+one_answer_to_request s t u q x y (answers_call c is does) (refuses e other again told) = absurd (no_refusal q.rpc q.params c e is other)
+one_answer_to_request s t u q x y (answers_call c is does) (answers_call d other makes) =
     one_answer_to_call s t u q.id d x y (subst (λ (e : Call). AnswersCall s q.id e t x) (one_call q.rpc q.params c d is other) does) makes
 
 -- a state and a line determine the state after the line, and the reply or that there is none
 pub one_reply : OneReply
-one_reply = replies_once AnswersRequest one_answer
+one_reply = replies_once AnswersRequest one_answer_to_request
 
 -- a state and lines determine the state after them, and their replies
 pub one_hearing : (s t u : State) (heard : List (List ℕ)) (ps qs : List (List ℕ)) → Hears s heard t ps → Hears s heard u qs → (t ≡ u) × (ps ≡ qs)

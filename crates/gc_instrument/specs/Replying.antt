@@ -147,7 +147,7 @@ pub record IsReplyToRequest (before : State) (q : RequestFields) (after : State)
 abbrev pub OfItsCall : (line : List ℕ) → (Then : (id : ℕ) → Call → Type 0) → Type 0
 OfItsCall line Then = (id : ℕ) (call : Call) → id < 8 → IsFitting call → line ≡ request_line (Some id) call → Then id call
 
--- if the line is the request line of a call (`OfItsCall`), its reply was appended to `old`, and `IsExchanged` holds of the call and
--- this reply. `has_reply` says whether a reply was appended
+-- if the line is the request line of a call (`OfItsCall`), its reply was appended to `old`, and `IsExchanged` holds of the call
+-- and this reply. `has_reply` says whether a reply was appended
 abbrev pub AppendsExchange : (before : State) → (line : List ℕ) → (after : State) → (old new : List ℕ) → (has_reply : Bool) → Type 0
 AppendsExchange before line after old new has_reply = OfItsCall line (λ id call. AppendsAnswer (IsExchanged before id call after) old new has_reply)

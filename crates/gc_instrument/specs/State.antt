@@ -1,5 +1,6 @@
 -- The state of a simulated instrument, as it is at the start and after a restart: this project's own.
 use Rattle.std.specs.Prelude.{◌≡◌, ◌≤◌, ℕ, ℤ, pos, List, [], ◌∷◌, Option, Some, None, IfSome, codes, refl}
+use Rattle.std.specs.Option.{option_map}
 use Rattle.gc_lines.specs.Replies.{ReplyFields, IsReply}
 use Rattle.gc_values.specs.Decimals.{decimal, zero}
 use Rattle.gc_values.specs.declared.decimal.Decimal.{Decimal}
@@ -24,6 +25,10 @@ pub record KeptReply : Type 0 where
 abbrev pub kept_after : (kept : Option KeptReply) → (id : Option ℕ) → (line : List ℕ) → Option KeptReply
 kept_after kept None line = kept
 kept_after kept (Some id) line = Some (record { id = id; line = line })
+
+-- the id of the stored reply, if one is stored
+abbrev pub kept_id : Option KeptReply → Option ℕ
+kept_id kept = option_map (λ (k : KeptReply). k.id) kept
 
 -- the stored reply with this id and this line; none without an id
 abbrev pub kept_in : (id : Option ℕ) → (line : List ℕ) → Option KeptReply

@@ -1,7 +1,7 @@
 //! The simulated instrument: its parts, how it starts, and the values that its owner can read.
 
 ghost use Rattle.std.specs.Prelude.{◌≡◌, ◌<◌, ◌≤◌, ◌↔◌, length, IfOk, IsErr};
-ghost use Rattle.gc_instrument.specs.State.{IsFittingState, opening, restarted, simulator_opening};
+ghost use Rattle.gc_instrument.specs.State.{IsFittingState, kept_id, opening, restarted, simulator_opening};
 
 mod execution;
 mod kept;
@@ -75,7 +75,6 @@ impl Model for Instrument {
 }
 
 impl Instrument {
-    ghost use Rattle.std.specs.Option.{option_map};
     ghost use Rattle.gc_instrument.specs.Targets.{nowhere};
 
     /// Makes an instrument with this serial number, name and scene, in the opening state, which is this project's own: precision 15, the
@@ -170,7 +169,7 @@ impl Instrument {
     /// The id of the last request that carried one and was executed since the instrument was made or restarted. A request that
     /// names any call and carries this id gets the stored reply. `None`: no request with an id was executed since then.
     pub fn kept_id(&self) -> Option<u8>
-        ensures { result ≡ option_map (λ k. k.id) self.now.kept }
+        ensures { result ≡ kept_id self.now.kept }
     {
         self.kept.id()
     }

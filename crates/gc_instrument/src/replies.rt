@@ -1,8 +1,7 @@
 //! What the simulator and the instrument of a scene have in common: how they reply to lines and frames, by how they reply to requests.
 
-ghost use Rattle.std.specs.Prelude.{◌≤◌, ◌+◌, ℕ, List, length};
-ghost use Rattle.arrayvec.specs.ArrayVec.{array_vec_len};
-ghost use Rattle.gc_lines.specs.Answering.{AppendsAnswer, AppendsText, GrowsByReply, HasRoomForReply};
+ghost use Rattle.std.specs.Prelude.{ℕ, List};
+ghost use Rattle.gc_lines.specs.Answering.{AppendsAnswer, AppendsText, GrowsByAnswer, GrowsByReply, HasRoomForAnswer, HasRoomForReply};
 ghost use Rattle.gc_lines.specs.AnsweringLines.{AnswersLines, RepliesTo};
 ghost use Rattle.gc_lines.specs.Headers.{MayBeId};
 ghost use Rattle.gc_lines.specs.Lent.{lent_seen};
@@ -54,10 +53,10 @@ pub fn answer_frame<I: Replies<8192>>(
     frame: Lent<'_>,
     text: &mut Outgoing,
 ) -> bool
-    requires { array_vec_len text.old + 514 ≤ 8192 }
+    requires { HasRoomForAnswer text.old }
     ensures answered { AppendsAnswer (AnswersLines (RepliesTo I.does) instrument.old (lent_seen frame.entry) instrument.new)
         text.old.items text.new.items result }
-    ensures bound { length text.new.items ≤ length text.old.items + 514 }
+    ensures bound { GrowsByAnswer text.old.items text.new.items }
 {
     let Lent::Line(line) = frame else {
         return false;

@@ -59,7 +59,8 @@ fn reading_of(words: &str) -> Option<Reading> {
     Some(decode_answer(&call, &reply))
 }
 
-// Reports the reading of a reply, the second word, for the call of a request, the first one; or that there is none (`reading_of`).
+// Reports the reading of a reply, the second word, for the call of a request, the first one; or that there is none
+// (`reading_of`).
 fn tell_reading(words: &str, came: &mut Told) {
     match reading_of(words) {
         Some(reading) => came.debug(&reading),

@@ -18,8 +18,8 @@ struct Clients<W: Window<Asked = Call>> {
     settled: ArrayVec<Settlement<Call>, WINDOW>,
 }
 
-/// Plays a case twice: with a client over a window in fixed places, and with one over a ring. Where the ring gets no memory, `wrong`
-/// notes that it lacks a part.
+/// Plays a case twice: with a client over a window in fixed places, and with one over a ring. Where the ring gets no memory,
+/// `wrong` notes that it lacks a part.
 pub fn play_clients(case: &Case<'_>, wrong: &mut Told) {
     play_over(case, Slots::new(), wrong);
     match Ring::new(wrong.alloc) {
@@ -70,8 +70,8 @@ impl<W: Window<Asked = Call>> Clients<W> {
         }
     }
 
-    // Takes the call of this request's line as the one that is sent from now on. A line without a call is reported, and the call that
-    // was taken before stays.
+    // Takes the call of this request's line as the one that is sent from now on. A line without a call is reported, and the call
+    // that was taken before stays.
     fn take_call(&mut self, line: &[u8], came: &mut Told) {
         match call_of(line) {
             Some(call) => self.call = call,

@@ -6,8 +6,8 @@ use gc_lines::{FromReader, ToWriter};
 use gc_values::{Decimal, Text};
 use std::io::{Read, Write};
 
-// Serves an instrument with one target over any reader and writer, until the end of the input. Returns how many replies were written;
-// `None`: the instrument couldn't be made, or serving ended with a fault.
+// Serves an instrument with one target over any reader and writer, until the end of the input. Returns how many replies were
+// written; `None`: the instrument couldn't be made, or serving ended with a fault.
 fn serve_bench<R: Read + Drop, W: Write + Drop>(input: R, output: W) -> Option<Served> {
     let name = Text::new(b"BENCH").ok()?;
     let prism = Target {

@@ -25,8 +25,8 @@ impl Instruments {
         }
     }
 
-    // Adds a target to the scene, by the words for its direction, its vertical angle and its distance. Reports only if it can't: a word is
-    // no decimal, or memory ran out.
+    // Adds a target to the scene, by the words for its direction, its vertical angle and its distance. Reports only if it can't:
+    // a word is no decimal, or memory ran out.
     fn add_target(&mut self, words: &str, came: &mut Told) {
         match target_of(words) {
             Some(target) if self.scene.push(target).is_ok() => {}
@@ -114,7 +114,8 @@ fn target_of(words: &str) -> Option<Target> {
     })
 }
 
-/// Hands in a line, and reports the reply (`tell_reply`) and the id whose reply the instrument has stored then, or that it has none.
+/// Hands in a line, and reports the reply (`tell_reply`) and the id whose reply the instrument has stored then, or that it has
+/// none.
 pub fn hand_in(instrument: &mut Instrument, bytes: &[u8], came: &mut Told) {
     tell_reply(instrument, bytes, came);
     match instrument.kept_id() {

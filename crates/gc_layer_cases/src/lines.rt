@@ -69,8 +69,8 @@ fn rewrite_reply(line: &[u8], came: &mut Told) {
     }
 }
 
-// Reports a header: of a request if there is one word, the procedure number; of a reply if there are three, the communication code, the
-// id and the return code. Reports that there is no header for other words.
+// Reports a header: of a request if there is one word, the procedure number; of a reply if there are three, the communication
+// code, the id and the return code. Reports that there is no header for other words.
 fn tell_header(words: &str, came: &mut Told) {
     match header_of(words) {
         Some(line) => came.bytes(line.as_slice()),

@@ -1,5 +1,5 @@
-//! Plays the cases of the layers up to the instrument, and of files of rows: no part of the product. The cases of a layer are
-//! in a file of their own, `data/layers.NAME`, and are played by the file of `src` for that layer (`measuring.rt` for `stations`).
+//! Plays the cases of the layers up to the instrument, and of files of rows: no part of the product. The cases of a layer are in
+//! a file of their own, `data/layers.NAME`, and are played by the file of `src` for that layer (`measuring.rt` for `stations`).
 //!
 //! A case is a list of rows, `do WORD WHAT -> CAME` (`play_rows` of gc_cases). A `Row` has WORD, WHAT as it is (`what`), and the
 //! bytes for which WHAT stands (`bytes`). What a function reports is appended to `came`, a text that is then compared with CAME.

@@ -1,5 +1,5 @@
-//! The core of a station, which `docs/LIBRARY.md` names as an example: it sends calls to targets, and reports how each request ended.
-//! After it comes what plays the rows of a case with such a station.
+//! The core of a station, which `docs/LIBRARY.md` names as an example: it sends calls to targets, and reports how each request
+//! ended. After it comes what plays the rows of a case with such a station.
 
 use crate::client::target_and_deadline;
 use gc_cases::{Row, Rows, Told};
@@ -25,8 +25,8 @@ impl StationEnd {
         }
     }
 
-    /// Sends a call to a target, to be answered before the deadline. `false`: seven requests are outstanding, so nothing was sent.
-    /// `Err`: the connection didn't take the whole line; the request is outstanding all the same.
+    /// Sends a call to a target, to be answered before the deadline. `false`: seven requests are outstanding, so nothing was
+    /// sent. `Err`: the connection didn't take the whole line; the request is outstanding all the same.
     fn ask<W: Write>(
         &mut self,
         connection: &mut W,
@@ -56,8 +56,8 @@ impl StationEnd {
         Ok(())
     }
 
-    /// Takes a frame: if it is a line that settles requests, reports how they ended. Every other frame is ignored. `Err`: memory ran out
-    /// for `told`; the requests are settled all the same.
+    /// Takes a frame: if it is a line that settles requests, reports how they ended. Every other frame is ignored. `Err`: memory
+    /// ran out for `told`; the requests are settled all the same.
     fn hear_frame(&mut self, frame: &Frame, told: &mut String) -> Result<(), AllocError> {
         let Frame::Line(line) = frame else {
             return Ok(());
@@ -74,8 +74,9 @@ impl StationEnd {
         self.assembler = Assembler::new();
     }
 
-    /// Restarts over a connection that was opened again, once the caller has synchronized over it with a `Beginning` of gc_client:
-    /// reports that what is outstanding is lost. `Err`: memory ran out for `told`; the client has restarted all the same.
+    /// Restarts over a connection that was opened again, once the caller has synchronized over it with a `Beginning` of
+    /// gc_client: reports that what is outstanding is lost. `Err`: memory ran out for `told`; the client has restarted all the
+    /// same.
     fn restart(&mut self, told: &mut String) -> Result<(), AllocError> {
         self.assembler = Assembler::new();
         tell_settlements(&self.client.restart(), told)
@@ -120,8 +121,8 @@ impl Stations {
         }
     }
 
-    // Asks for a measurement of the target that the first word says, to be answered before the moment of the second one. Reports only if
-    // nothing was sent (seven wait), or memory ran out.
+    // Asks for a measurement of the target that the first word says, to be answered before the moment of the second one. Reports
+    // only if nothing was sent (seven wait), or memory ran out.
     fn ask(&mut self, words: &str, came: &mut Told) {
         let (target, deadline) = target_and_deadline(words, came);
         let call = Call::SimpleMea {

@@ -37,8 +37,8 @@ struct PieceReader<'a, 'b> {
 impl Read for PieceReader<'_, '_> {
     ghost remaining = { λ _. None };
 
-    // Notes the call and the room for its bytes, and gives the next bytes, none once all are given; or, at the call with the number
-    // `fails_at`, an interruption.
+    // Notes the call and the room for its bytes, and gives the next bytes, none once all are given; or, at the call with the
+    // number `fails_at`, an interruption.
     fn read(&mut self, buf: &mut [u8]) -> io::Result<usize> {
         let call = self.asked.calls.get();
         self.asked.calls.set(call.saturating_add(1));
@@ -85,8 +85,8 @@ fn read_ahead(words: &str, came: &mut Told) {
     read_four_times(&mut FromReader::new(ReadAhead::new(reader)), &asked, came);
 }
 
-// A reader of the bytes of the third word. The first word says how many bytes it gives a read at most, and the second at which read
-// it is interrupted, counted from 0.
+// A reader of the bytes of the third word. The first word says how many bytes it gives a read at most, and the second at which
+// read it is interrupted, counted from 0.
 fn reader_of<'a, 'b>(words: &'a str, asked: &'b ReadCalls, came: &mut Told) -> PieceReader<'a, 'b> {
     let (most, rest) = cut_word(words);
     let (fails_at, left) = cut_word(rest);
@@ -98,8 +98,8 @@ fn reader_of<'a, 'b>(words: &'a str, asked: &'b ReadCalls, came: &mut Told) -> P
     }
 }
 
-// Reads four times into four bytes, by the trait's bound alone, and reports of each read what came (`read_once`), how often the reader
-// was asked by then, and for how many bytes the last time.
+// Reads four times into four bytes, by the trait's bound alone, and reports of each read what came (`read_once`), how often the
+// reader was asked by then, and for how many bytes the last time.
 fn read_four_times<S: Source>(source: &mut S, asked: &ReadCalls, came: &mut Told) {
     for _ in 0..4 {
         read_once(source, came);
@@ -129,8 +129,8 @@ fn write_through(room: &str, came: &mut Told) {
     write_four_times(&mut ToWriter::new(&mut bytes[..room]), came);
 }
 
-// Writes three bytes four times, by the trait's bound alone, and reports of each time how many were taken, or `failed`, and, by `!`,
-// whether the sink has failed.
+// Writes three bytes four times, by the trait's bound alone, and reports of each time how many were taken, or `failed`, and, by
+// `!`, whether the sink has failed.
 fn write_four_times<K: Sink>(sink: &mut K, came: &mut Told) {
     for _ in 0..4 {
         match sink.write(b"abc") {

@@ -5,8 +5,9 @@ use crate::instrument::hand_in;
 use gc_cases::Told;
 use gc_instrument::Instrument;
 
-// Requests whose calls are carried out between a request and its repeat. They go to `Instrument::execute` and not through a line, so
-// that the stored reply stays: whatever can be set is set to something else, then the face is changed, and the third target measured.
+// Requests whose calls are carried out between a request and its repeat. They go to `Instrument::execute` and not through a line,
+// so that the stored reply stays: whatever can be set is set to something else, then the face is changed, and the third target
+// measured.
 const ALL_SET: [&[u8]; 8] = [
     b"%R1Q,107,0:3",
     b"%R1Q,5007,0:2001,'02','03','04','05','06'",

@@ -119,7 +119,8 @@ fn round_to(decimal: &Decimal, places: u8, came: &mut Told)
     came.bytes(decimal.round(places).write().as_slice());
 }
 
-// Reports whether the decimal of the first word differs from that of the second by at most that of the third; or that a word is no decimal.
+// Reports whether the decimal of the first word differs from that of the second by at most that of the third; or that a word is
+// no decimal.
 fn within(words: &str, came: &mut Told) {
     let (value, rest) = cut_word(words);
     match (Decimal::read(value.as_bytes()), two_decimals(rest)) {
@@ -163,8 +164,8 @@ fn kind_of(word: &str) -> Option<Kind> {
     }
 }
 
-// Reads an item as a value of the kind that the word names, and reports the text that is written of the value, or the fault; or that no
-// kind has this name.
+// Reads an item as a value of the kind that the word names, and reports the text that is written of the value, or the fault; or
+// that no kind has this name.
 fn read_as_named(word: &str, item: &[u8], came: &mut Told) {
     match kind_of(word) {
         Some(kind) => read_as(kind, item, came),

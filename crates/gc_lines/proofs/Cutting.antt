@@ -20,17 +20,16 @@ record CutAt (r xs : List ℕ) (n : ℕ) : Type 0 where
   goes : n < length xs
       → (pieces_behind r xs ≡ (r ++ take n xs) ∷ pieces_behind [] (drop (n + 1) xs)) × (rest_behind r xs ≡ rest_behind [] (drop (n + 1) xs))
 
--- where b is a line feed, `CutAt` is true of `b ∷ bs` after r, with 0 as the place of the first line feed
-cut_here : (r bs : List ℕ) (b : ℕ) → is_line_feed b ≡ true → CutAt r (b ∷ bs) 0
-cut_here r bs b e = record {
+-- if b is a line feed, `CutAt` is true of `b ∷ bs` after r, with 0 as the place of the first line feed
+cut_at_head : (r bs : List ℕ) (b : ℕ) → is_line_feed b ≡ true → CutAt r (b ∷ bs) 0
+cut_at_head r bs b e = record {
   ends = λ h. absurd (omega arith);
   goes = λ _. (rw e (rw (append-nil r) refl), rw e refl);
 }
 
--- where b is no line feed, and `CutAt` is true of bs after r and b, with place n, it is true of `b ∷ bs` after r, with place 1 +
--- n
-cut_later : (r bs : List ℕ) (b n : ℕ) → is_line_feed b ≡ false → CutAt (r ++ b ∷ []) bs n → CutAt r (b ∷ bs) (1 + n)
-cut_later r bs b n e c = record {
+-- if b is no line feed, and `CutAt` is true of bs after r and b, with place n, it is true of `b ∷ bs` after r, with 1 + n
+cut_at_later : (r bs : List ℕ) (b n : ℕ) → is_line_feed b ≡ false → CutAt (r ++ b ∷ []) bs n → CutAt r (b ∷ bs) (1 + n)
+cut_at_later r bs b n e c = record {
   ends = λ h. let k = c.ends (omega arith) in (rw e k.0, rw e (k.1 ∙ append_assoc r (b ∷ []) bs));
   goes = λ h. let k = c.goes (omega arith) in
       let same : 1 + n + 1 ≡ suc (n + 1) = omega arith in
@@ -41,11 +40,11 @@ cut_later r bs b n e c = record {
 cut_at_feed : (r xs : List ℕ) → CutAt r xs (prefix_len goes_on xs)
 cut_at_feed r [] = record { ends = λ _. (refl, sym (append-nil r)); goes = λ h. absurd (omega arith) }
 cut_at_feed r (b ∷ bs) = elim (is_line_feed b) as (λ v. is_line_feed b ≡ v → CutAt r (b ∷ bs) (cond (not v) (1 + prefix_len goes_on bs) 0)) [
-  | true ↦ λ e. cut_here r bs b e
-  | false ↦ λ e. cut_later r bs b (prefix_len goes_on bs) e (cut_at_feed (r ++ b ∷ []) bs)
+  | true ↦ λ e. cut_at_head r bs b e
+  | false ↦ λ e. cut_at_later r bs b (prefix_len goes_on bs) e (cut_at_feed (r ++ b ∷ []) bs)
 ] refl
 
--- where `position` finds no line feed in xs, xs after r makes no piece, and `r ++ xs` is the rest
+-- if xs has no line feed, as `position` has it, there is no piece of xs after r, and the rest is `r ++ xs`
 pub cut_none : (r xs : List ℕ) → position is_line_feed xs ≡ None → (pieces_behind r xs ≡ []) × (rest_behind r xs ≡ r ++ xs)
 cut_none r xs e = (cut_at_feed r xs).ends (elim (ltb (prefix_len goes_on xs) (length xs)) as
     (λ v. ltb (prefix_len goes_on xs) (length xs) ≡ v → cond v (Some (prefix_len goes_on xs)) None ≡ None → length xs ≤ prefix_len goes_on xs) [
@@ -53,8 +52,8 @@ cut_none r xs e = (cut_at_feed r xs).ends (elim (ltb (prefix_len goes_on xs) (le
       | false ↦ λ f _. ltb-false _ _ f
     ] refl e)
 
--- where the first line feed of xs is at place `at`, the first piece of xs after r is r and then the bytes of xs before that line
--- feed, and the bytes of xs after it have the other pieces and the rest
+-- if the first line feed of xs is at place `at`, the first piece of xs after r is r and the bytes of xs before that line feed;
+-- the other pieces and the rest are those of the bytes after it
 pub cut_some : (r xs : List ℕ) (at : ℕ) → position is_line_feed xs ≡ Some at →
     (pieces_behind r xs ≡ (r ++ take at xs) ∷ pieces_behind [] (drop (at + 1) xs)) × (rest_behind r xs ≡ rest_behind [] (drop (at + 1) xs))
 cut_some r xs at e = elim (ltb (prefix_len goes_on xs) (length xs)) as (λ v. ltb (prefix_len goes_on xs) (length xs) ≡ v → cond v (Some (prefix_len goes_on xs)) None ≡ Some at →
@@ -81,7 +80,7 @@ rest-append r (x ∷ xs) ys = elim (is_line_feed x) as (λ v. cond v (rest_behin
       | false ↦ rest-append (r ++ x ∷ []) xs ys
     ]
 
--- the pieces of xs after r, each with a line feed after it, and then the rest are all of the bytes: `r ++ xs`
+-- the pieces of xs after r, each with a line feed after it, and then the rest are `r ++ xs`
 pub cut_whole : (r xs : List ℕ) → flat_map (λ part. part ++ 10 ∷ []) (pieces_behind r xs) ++ rest_behind r xs ≡ r ++ xs
 cut_whole r [] = sym (append-nil r)
 cut_whole r (x ∷ xs) = elim (is_line_feed x) as (λ v. is_line_feed x ≡ v
@@ -93,9 +92,9 @@ cut_whole r (x ∷ xs) = elim (is_line_feed x) as (λ v. is_line_feed x ≡ v
       | false ↦ λ e. cut_whole (r ++ x ∷ []) xs ∙ append_assoc r (x ∷ []) xs
     ] refl
 
--- A stream has one such cutting.
+-- A stream has one cutting, as `IsCut` has it.
 
--- where xs has no line feed, `xs ++ ys` after r has the pieces and the rest that ys has after `r ++ xs`
+-- if xs has no line feed, `xs ++ ys` after r has the pieces and the rest that ys has after `r ++ xs`
 pub front_joins_piece : (r xs ys : List ℕ) → HasNoLineFeed xs
     → (pieces_behind r (xs ++ ys) ≡ pieces_behind (r ++ xs) ys) × (rest_behind r (xs ++ ys) ≡ rest_behind (r ++ xs) ys)
 front_joins_piece r [] ys clean = (ap (λ p. pieces_behind p ys) (sym (append-nil r)), ap (λ p. rest_behind p ys) (sym (append-nil r)))
@@ -104,8 +103,8 @@ front_joins_piece r (b ∷ bs) ys clean =
     let same : is_line_feed b ≡ false = ne_eqb b 10 clean.0 in
     (rw same (more.0 ∙ ap (λ p. pieces_behind p ys) (append_assoc r (b ∷ []) bs)), rw same (more.1 ∙ ap (λ p. rest_behind p ys) (append_assoc r (b ∷ []) bs)))
 
--- where no part has a line feed, and `rest` has none, the parts, each with a line feed after it, and then `rest` are cut into
--- just these parts as the pieces, and `rest` as the rest
+-- if neither the parts nor `rest` have a line feed, the parts, each with a line feed after it, and then `rest` have the parts as
+-- their pieces, and `rest` as their rest
 cut_parts : (parts : List (List ℕ)) (rest : List ℕ) → AllByRecursion HasNoLineFeed parts → HasNoLineFeed rest
     → (pieces_behind [] (flat_map (λ part. part ++ 10 ∷ []) parts ++ rest) ≡ parts)
     × (rest_behind [] (flat_map (λ part. part ++ 10 ∷ []) parts ++ rest) ≡ rest)
@@ -118,17 +117,17 @@ cut_parts (part ∷ parts) rest each last =
     let same : flat_map (λ part. part ++ 10 ∷ []) (part ∷ parts) ++ rest ≡ part ++ 10 ∷ xs = append_assoc (part ++ 10 ∷ []) _ rest ∙ append_assoc part (10 ∷ []) xs in
     (ap (pieces_behind []) same ∙ here.0 ∙ ap (λ ps. part ∷ ps) more.0, ap (rest_behind []) same ∙ here.1 ∙ more.1)
 
--- where r has no line feed, no piece of xs after r has one, and neither has the rest
-cut_clean : (r xs : List ℕ) → HasNoLineFeed r → AllByRecursion HasNoLineFeed (pieces_behind r xs) × HasNoLineFeed (rest_behind r xs)
-cut_clean r [] clean = (tt, clean)
-cut_clean r (b ∷ bs) clean = elim (is_line_feed b) as (λ v. is_line_feed b ≡ v
+-- if r has no line feed, no piece of xs after r has one, and neither has the rest
+cut_has_no_feed : (r xs : List ℕ) → HasNoLineFeed r → AllByRecursion HasNoLineFeed (pieces_behind r xs) × HasNoLineFeed (rest_behind r xs)
+cut_has_no_feed r [] clean = (tt, clean)
+cut_has_no_feed r (b ∷ bs) clean = elim (is_line_feed b) as (λ v. is_line_feed b ≡ v
     → AllByRecursion HasNoLineFeed (cond v (r ∷ pieces_behind [] bs) (pieces_behind (r ++ b ∷ []) bs))
     × HasNoLineFeed (cond v (rest_behind [] bs) (rest_behind (r ++ b ∷ []) bs))) [
-      | true ↦ λ _. let more = cut_clean [] bs tt in ((clean, more.0), more.1)
-      | false ↦ λ e. cut_clean (r ++ b ∷ []) bs (every_append (λ x. x ≢ 10) r (b ∷ []) clean ((λ same. let t = eq-eqb b 10 same in (cc)), tt))
+      | true ↦ λ _. let more = cut_has_no_feed [] bs tt in ((clean, more.0), more.1)
+      | false ↦ λ e. cut_has_no_feed (r ++ b ∷ []) bs (every_append (λ x. x ≢ 10) r (b ∷ []) clean ((λ same. let t = eq-eqb b 10 same in (cc)), tt))
     ] refl
 
--- where a stream is cut into parts and a rest, as `IsCut` has it, these are its pieces and its rest
+-- if a stream is cut into parts and a rest, as `IsCut` has it, these are its pieces and its rest
 pub one_cut : (stream : List ℕ) (parts : List (List ℕ)) (rest : List ℕ) → IsCut stream parts rest → (parts ≡ pieces stream) × (rest ≡ rest_of stream)
 one_cut stream parts rest cut =
     let c = cut_parts parts rest cut.each cut.last in
@@ -136,13 +135,12 @@ one_cut stream parts rest cut =
 
 -- the pieces and the rest of a stream are a cutting of it, as `IsCut` has it
 pub is_cut_of : (stream : List ℕ) → IsCut stream (pieces stream) (rest_of stream)
-is_cut_of stream = let clean = cut_clean [] stream tt in record { whole = sym (cut_whole [] stream); each = clean.0; last = clean.1 }
+is_cut_of stream = let clean = cut_has_no_feed [] stream tt in record { whole = sym (cut_whole [] stream); each = clean.0; last = clean.1 }
 
--- the law: the frames of `xs ++ ys` are those of xs, and then those of the rest of xs with ys after it; and the rest of `xs ++ ys`
--- is that of the rest of xs with ys after it
+-- the law: `xs ++ ys` has the frames of xs and then those of the rest of xs with ys after it, and its rest is that of the latter
 pub however_cut : FramesHoweverCut
 however_cut xs ys =
-    let b = front_joins_piece [] (rest_of xs) ys (cut_clean [] xs tt).1 in (
+    let b = front_joins_piece [] (rest_of xs) ys (cut_has_no_feed [] xs tt).1 in (
       ap (λ ps. map frame_of ps) (pieces-append [] xs ys ∙ ap (λ ps. pieces xs ++ ps) (sym b.0)) ∙ map-append frame_of (pieces xs) (pieces (rest_of xs ++ ys)),
       rest-append [] xs ys ∙ sym b.1,
     )

@@ -6,11 +6,11 @@ use Rattle.gc_lines.specs.declared.served.Served.{Served}
 use Rattle.gc_lines.specs.declared.served.ServeFault.{ServeFault}
 use Rattle.gc_lines.specs.declared.served.ServeFault.TheVariants.{Read}
 
--- `HasEnded` follows from what the result says of the ports, as `EndsBecause` has it, and from the source having no byte left
--- where the result is `Ok`
-pub ended_exactly : (old new : Ports) (most : ℕ) (r : Result Served ServeFault) → OnOk r (IsAtEnd new.remaining)
+-- `HasEnded` is true if the ports are as the result says (`EndsBecause`), and if the source has no byte left where the result is
+-- `Ok`
+pub has_ended : (old new : Ports) (most : ℕ) (r : Result Served ServeFault) → OnOk r (IsAtEnd new.remaining)
     → EndsBecause old new most r → HasEnded old new most r
-ended_exactly old new most (Err (Read n)) whole ends = record {
+has_ended old new most (Err (Read n)) whole ends = record {
   whole = whole;
   ends = ends;
   served = search rules;
@@ -18,7 +18,7 @@ ended_exactly old new most (Err (Read n)) whole ends = record {
   write = search rules;
   too_many = search rules;
 }
-ended_exactly old new most r whole ends = record {
+has_ended old new most r whole ends = record {
   whole = whole;
   ends = ends;
   served = search rules;

@@ -5,8 +5,7 @@ use Rattle.std.proofs.lemmas.List.Sums.{position_or_len_is}
 use Rattle.std.proofs.lemmas.Bool.{false_from_ne_true, lt-ltb, le-ltb}
 use Rattle.memchr.specs.Find.{IsFirstByte}
 
--- where r is the first place at which the test holds, or none, as `IsFirstByte` has it of what `memchr` finds, r is what
--- `position` gives
+-- if r is the first place at which the test holds, or none, as `IsFirstByte` has it, `position` gives r
 pub first_position : (test : ℕ → Bool) (bytes : List ℕ) (r : Option ℕ) → IsFirstByte test bytes r → r ≡ position test bytes
 first_position test bytes None h =
     let at : position_or_len test bytes ≡ length bytes = position_or_len_is test bytes (length bytes) 0 (omega arith)

@@ -10,10 +10,10 @@ use Rattle.gc_lines.specs.Answering.{AnswerRule, AnswersInOrder, AnswersAll, Ans
 use Rattle.gc_lines.specs.Passing.{Gathering, GathersPart, TakesTextsPart, whole_and_part}
 use Rattle.gc_lines.specs.Ports.{TakesFront}
 use Rattle.gc_lines.specs.declared.frame.Frame.{Frame}
-use Rattle.gc_lines.proofs.InOrder.{in_order_then, in_order_one, all_of-append, all_then, part_then, part_before, one_part}
+use Rattle.gc_lines.proofs.InOrder.{in_order_then, in_order_one, all_of-append, all_then, part_then, part_with_later, one_part}
 use Rattle.gc_lines.proofs.Known.{Appends-is, Appends-parts}
 
--- where all frames `seen` were answered and their texts went out, `Gathering` is true of `seen`, with no text that waits
+-- if all frames `seen` were answered and their texts went out, `Gathering` is true of `seen`, with no text that waits
 pub gathering_start : {State : Type 0} (rule : AnswerRule State Frame) (from to : Progress State) (seen : List Frame)
     → AnswersAll rule from to seen → Gathering rule from to seen [] []
 gathering_start rule from to seen all = record {
@@ -28,7 +28,7 @@ gathering_start rule from to seen all = record {
   lengths_are = refl;
 }
 
--- where the list of the texts' lengths is empty, the list of the texts is empty
+-- if the texts have no lengths, there are no texts
 no_texts : (texts : List (List ℕ)) → [] ≡ map length texts → texts ≡ []
 no_texts [] e = refl
 no_texts (t ∷ ts) e = cc
@@ -42,11 +42,11 @@ pub record Joins (text lengths more text' lengths' : List ℕ) : Type 0 where
 -- Here `Gathering` is true of the frames `seen`, with the texts that wait in `text`, and their lengths in `lengths`.
 module _ {State : Type 0} (rule : AnswerRule State Frame) (from to : Progress State) (seen : List Frame) (text lengths : List ℕ)
     (g : Gathering rule from to seen text lengths) where
-  -- where the list of the lengths is empty, no text waits
+  -- if there are no lengths, no text waits
   no_text : lengths ≡ [] → text ≡ []
   no_text none = g.text_is ∙ ap all_of (no_texts g.texts (sym none ∙ g.lengths_are))
 
-  -- where the rule answers the next frame without a text, `Gathering` is true of `seen` and then that frame, with the same texts
+  -- if the rule answers the next frame without a text, `Gathering` is true of `seen` and then that frame, with the same texts
   -- waiting, and with the state after that frame
   pub gathering_silent : (next : State) (frame : Frame) → rule to.state frame next None
       → Gathering rule from (progress next to.taken to.whole) (seen ++ frame ∷ []) text lengths
@@ -64,8 +64,8 @@ module _ {State : Type 0} (rule : AnswerRule State Frame) (from to : Progress St
         lengths_are = g.lengths_are ∙ sym (ap (λ (ts : List (List ℕ)). map length ts) same);
       }
 
-  -- where the rule answers the next frame with the text `more`, which joins the texts that wait, `Gathering` is true of `seen`
-  -- and then that frame, with the texts that wait then, and with the state after that frame
+  -- if the rule answers the next frame with the text `more`, which joins the texts that wait, `Gathering` is true of `seen` and
+  -- then that frame, with the texts and lengths of then and the state after that frame
   pub gathering_more : (next : State) (frame : Frame) (more text' lengths' : List ℕ) → rule to.state frame next (Some more)
       → Joins text lengths more text' lengths' → Gathering rule from (progress next to.taken to.whole) (seen ++ frame ∷ []) text' lengths'
   gathering_more next frame more text' lengths' gives joins = record {
@@ -81,7 +81,7 @@ module _ {State : Type 0} (rule : AnswerRule State Frame) (from to : Progress St
     lengths_are = joins.counted ∙ ap (λ (ns : List ℕ). ns ++ length more ∷ []) g.lengths_are ∙ sym (map-append length g.texts (more ∷ []));
   }
 
-  -- where the sink then took all texts that waited, all of `seen` were answered and their texts went out; `total` counts the
+  -- if the sink then took all texts that waited, all of `seen` were answered and their texts went out; `total` counts the
   -- texts that had gone out before and those that waited
   pub gathering_written : (after : Option (List ℕ)) (total : ℕ) → Appends to.taken after text → total ≡ to.whole + length lengths
       → AnswersAll rule from (progress to.state after total) seen
@@ -95,13 +95,13 @@ module _ {State : Type 0} (rule : AnswerRule State Frame) (from to : Progress St
       subst (λ (fs : List Frame). AnswersAll rule from (progress to.state after total) fs) (sym g.order)
       (all_then rule from (progress g.state to.taken to.whole) (progress to.state after total) g.done g.held g.all out)
 
-  -- where the list of the lengths is empty, so that no text waits, all of `seen` were answered and their texts went out
+  -- if there are no lengths, so that no text waits, all of `seen` were answered and their texts went out
   pub gathering_end : lengths ≡ [] → AnswersAll rule from to seen
   gathering_end none =
       gathering_written to.taken to.whole (Appends-is to.taken to.taken [] text (sym (no_text none)) (Appends-nil to.taken))
       (omega (arith, ap (λ (ns : List ℕ). length ns) none))
 
--- the first n bytes of the texts end within one of them: where the sink took just these, `AnswersPart` says which frames were
+-- the first n bytes of the texts end within one of them: if the sink took just these, `AnswersPart` says which frames were
 -- answered, and `whole_and_part` gives its numbers
 record EndsWithin {State : Type 0} (rule : AnswerRule State Frame) (from : State) (seen : List Frame) (texts : List (List ℕ)) (whole n : ℕ) : Type 0 where
   reached : State
@@ -113,7 +113,7 @@ record EndsWithin {State : Type 0} (rule : AnswerRule State Frame) (from : State
 -- Here the rule answers the first frame with the first text.
 module _ {State : Type 0} (rule : AnswerRule State Frame) (s u : State) (frame : Frame) (later : List Frame) (t : List ℕ) (rest : List (List ℕ)) (whole n : ℕ)
     (gives : rule s frame u (Some t)) where
-  -- where the n bytes end within the first text, `EndsWithin` is true
+  -- if the n bytes end within the first text, `EndsWithin` is true
   ends_in_first : nat_lt n (length t) ≡ true → EndsWithin rule s (frame ∷ later) (t ∷ rest) whole n
   ends_in_first e =
       let less : n < length t = ltb-true n (length t) e in
@@ -123,13 +123,13 @@ module _ {State : Type 0} (rule : AnswerRule State Frame) (s u : State) (frame :
         reached = u;
         count = whole;
         bytes = n;
-        part = λ old new took. part_before rule (progress s old whole) (progress u new whole) (frame ∷ []) later n
+        part = λ old new took. part_with_later rule (progress s old whole) (progress u new whole) (frame ∷ []) later n
             (one_part rule (progress s old whole) (progress u new whole) frame t n gives (less, Appends-is old new _ _ front took) refl);
         counts = ap (λ (b : Bool). cond b (whole, n) (whole_and_part (whole + 1) (n - length t) (map length rest))) e;
       }
 
-  -- where the n bytes hold the first text whole, and `EndsWithin` is true of the later frames and texts, of the bytes after that
-  -- text, and of one text more that was taken whole, `EndsWithin` is true
+  -- if the n bytes hold the first text whole, and `EndsWithin` is true of the later frames and texts, with the bytes after that
+  -- text and with one text more that went out whole, it is true of all frames and texts
   ends_in_later : nat_lt n (length t) ≡ false → EndsWithin rule u later rest (whole + 1) (n - length t)
       → EndsWithin rule s (frame ∷ later) (t ∷ rest) whole n
   ends_in_later e k =
@@ -156,8 +156,8 @@ module _ {State : Type 0} (rule : AnswerRule State Frame) (s u : State) (frame :
 
 -- Here a frame is answered before the later ones. n is a number of bytes, and `whole` counts the texts that went out before.
 module _ {State : Type 0} (rule : AnswerRule State Frame) (s u : State) (frame : Frame) (later : List Frame) (whole n : ℕ) where
-  -- where the rule answers the frame without a text, and `EndsWithin` is true of the later frames, `EndsWithin` is true of the frame
-  -- and the later ones, with the same texts and bytes
+  -- if the rule answers the frame without a text, and `EndsWithin` is true of the later frames, it is true of the frame and the
+  -- later ones, with the same texts and bytes
   ends_past_silent : (texts : List (List ℕ)) → rule s frame u None → EndsWithin rule u later texts whole n → EndsWithin rule s (frame ∷ later) texts whole n
   ends_past_silent texts gives k = record {
     reached = k.reached;
@@ -174,9 +174,9 @@ module _ {State : Type 0} (rule : AnswerRule State Frame) (s u : State) (frame :
     counts = k.counts;
   }
 
-  -- where the rule answers the frame, with a text or without, n is less than the bytes that this text and the later ones have
-  -- together, and `EndsWithin` is true of the later frames and of each number of bytes that is less than those of the later texts,
-  -- `EndsWithin` is true of the frame and the later ones, and of n
+  -- if the rule answers the frame, with a text or without, n is less than the bytes of this text and the later ones, and
+  -- `EndsWithin` is true of the later frames and each number below the bytes of their texts, it is true of the frame and the
+  -- later ones, and of n
   ends_at_text : (text : Option (List ℕ)) (rest : List (List ℕ)) → rule s frame u text
       → n < length (all_of (option_to_list text ++ rest))
       → ((w m : ℕ) → m < length (all_of rest) → EndsWithin rule u later rest w m)
@@ -189,8 +189,7 @@ module _ {State : Type 0} (rule : AnswerRule State Frame) (s u : State) (frame :
         ends_in_later rule s u frame later t rest whole n gives e (next (whole + 1) (n - length t) left)
   ] refl
 
--- where the frames were answered in order with these texts, `EndsWithin` is true of each n that is less than the bytes that the
--- texts have together
+-- if the frames were answered in order with these texts, `EndsWithin` is true of each n below the bytes of all texts
 ends_within : {State : Type 0} (rule : AnswerRule State Frame) (from to : State) (seen : List Frame) (texts : List (List ℕ)) (whole n : ℕ)
     → AnswersInOrder State Frame rule from seen to texts → n < length (all_of texts) → EndsWithin rule from seen texts whole n
 ends_within rule from to [] texts whole n h less =
@@ -201,12 +200,12 @@ ends_within rule from to (frame ∷ later) texts whole n h less =
     subst (λ (ts : List (List ℕ)). EndsWithin rule from (frame ∷ later) ts whole n) (sym h.5)
     (ends_at_text rule from h.0 frame later whole n h.1 h.2 h.3 (subst (λ (ts : List (List ℕ)). n < length (all_of ts)) h.5 less) (λ w m fewer. ends_within rule h.0 to later h.2 w m h.4 fewer))
 
--- Here `Gathering` is true of the frames `seen`, with the texts that wait in `text`, and their lengths in `lengths`. A second
--- block, because the next one uses its lemma at other frames.
+-- Here `Gathering` is true of the frames `seen`, with the texts that wait in `text`, and their lengths in `lengths`. The
+-- next block uses the lemma of this one at other frames.
 module _ {State : Type 0} (rule : AnswerRule State Frame) (from to : Progress State) (seen : List Frame) (text lengths : List ℕ)
     (g : Gathering rule from to seen text lengths) where
-  -- where the sink took only a part of the texts that wait, as `TakesTextsPart` has it, `AnswersPart` is true: the frames were
-  -- answered up to one whose text went out in part, with `total` texts whole and `bytes` bytes of that text
+  -- if the sink took only a part of the texts that wait, as `TakesTextsPart` has it, the frames were answered up to one whose
+  -- text went out in part (`AnswersPart`), with `total` texts whole and `bytes` bytes of that text
   pub gathering_part : (after : Option (List ℕ)) (total bytes : ℕ) → TakesTextsPart to.taken after to.whole total text lengths bytes
       → (reached : State) × AnswersPart rule from (progress reached after total) seen bytes
   gathering_part after total bytes (n, took, counts) =
@@ -221,10 +220,11 @@ module _ {State : Type 0} (rule : AnswerRule State Frame) (from to : Progress St
             (part_then rule from (progress g.state to.taken to.whole) (progress k.reached after total) g.done g.held bytes g.all out),
       )
 
--- The same as above. Both lemmas assume that no text waits unless texts are gathered.
+-- Here `Gathering` is true of the frames `seen`, with the texts that wait in `text`, and their lengths in `lengths`; both lemmas
+-- assume that no text waits unless texts are gathered.
 module _ {State : Type 0} (rule : AnswerRule State Frame) (from to : Progress State) (seen : List Frame) (text lengths : List ℕ)
     (g : Gathering rule from to seen text lengths) where
-  -- where the rule answers one more frame with the text `more`, which joins the texts that wait, and the sink took only a part of
+  -- if the rule answers one more frame with the text `more`, which joins the texts that wait, and the sink took only a part of
   -- the texts that wait then, `GathersPart` is true of `seen` and then that frame
   pub answered_part : (last : Progress State) (frame : Frame) (more text' lengths' : List ℕ) (bytes : ℕ) (gathers : Bool)
       → (gathers ≡ false → lengths ≡ []) → rule to.state frame last.state (Some more) → Joins text lengths more text' lengths'
@@ -251,13 +251,13 @@ module _ {State : Type 0} (rule : AnswerRule State Frame) (from to : Progress St
         alone = λ _. refl;
       }
 
-  -- where the sink took only a part of the texts that wait, `GathersPart` is true of `seen`
-  pub rest_part : (after : Option (List ℕ)) (total bytes : ℕ) (gathers : Bool) → (gathers ≡ false → lengths ≡ [])
+  -- if the sink took only a part of the texts that wait, `GathersPart` is true of `seen`
+  pub waiting_part : (after : Option (List ℕ)) (total bytes : ℕ) (gathers : Bool) → (gathers ≡ false → lengths ≡ [])
       → TakesTextsPart to.taken after to.whole total text lengths bytes → GathersPart rule from (progress to.state after total) seen bytes gathers
-  rest_part after total bytes true alone took =
+  waiting_part after total bytes true alone took =
       let it = gathering_part rule from to seen text lengths g after total bytes took in
       record { reached = it.0; part = it.1; alone = λ e. cc }
-  rest_part after total bytes false alone (n, took, counts) =
+  waiting_part after total bytes false alone (n, took, counts) =
       let nothing : text ≡ [] = no_text rule from to seen text lengths g (alone refl) in
       let wrong : ⊥ = omega (arith, ap (λ (xs : List ℕ). length xs) nothing, took.0) in
       absurd wrong

@@ -13,8 +13,8 @@ use Rattle.gc_lines.proofs.InOrder.{all_then, part_then}
 use Rattle.gc_lines.proofs.Cutting.{rest-append}
 use Rattle.gc_lines.proofs.Passing.{frames-append}
 
--- where the source gave bytes in `reads` reads, and then in one more a piece of at most 256 bytes, it gave these bytes and then the
--- piece in `more` reads, where that is more than `reads`. `Q` is what is true of them
+-- if the source gave bytes in `reads` reads, and then a piece of at most 256 bytes in one read more, it gave both in `more`
+-- reads, if that is more than `reads`. `Q` is what is true of all of these bytes
 pub gave_more : (a a' a'' : Option (List ℕ)) (reads more : ℕ) (P Q : List ℕ → Type 0) (piece : List ℕ) (so : GaveInReads a a' reads P)
     → Consumes a' a'' piece → length piece ≤ 256 → reads + 1 ≤ more → Q (so.0 ++ piece) → GaveInReads a a'' more Q
 gave_more a a' a'' reads more P Q piece so gave short one_more is =
@@ -24,7 +24,8 @@ gave_more a a' a'' reads more P Q piece so gave short one_more is =
 abbrev pub HasAnswered : {State : Type 0} → AnswerRule State Frame → Kept → (from to : Progress State) → (given : List ℕ) → Type 0
 HasAnswered rule kept from to given = StandsFor kept (rest_behind [] given) × AnswersAll rule from to (frames given)
 
--- where a read gives no byte, all frames of the bytes that the source gave have still been answered, in as many reads
+-- if one more read gives no byte, all frames of the bytes that the source gave have been answered, with the reads counted as
+-- before
 pub given_end : {State : Type 0} (rule : AnswerRule State Frame) (a a' a'' : Option (List ℕ)) (kept : Kept) (s t : Progress State) (reads : ℕ)
     → GaveInReads a a' reads (HasAnswered rule kept s t) → Consumes a' a'' [] → GaveInReads a a'' reads (λ given. AnswersAll rule s t (frames given))
 given_end rule a a' a'' kept s t reads so gave = (
@@ -36,22 +37,22 @@ given_end rule a a' a'' kept s t reads so gave = (
 
 -- Here `HasAnswered` is true of the bytes `given`, and a piece comes after them.
 module _ {State : Type 0} (rule : AnswerRule State Frame) (kept : Kept) (s t u : Progress State) (given piece : List ℕ) (so : HasAnswered rule kept s t given) where
-  -- where, whatever rest the assembler stood for, all frames that the piece completes after that rest are answered, and the
-  -- assembler then stands for the bytes after the last line feed, `HasAnswered` is true of `given ++ piece`
-  pub answered_more : (kept' : Kept) → ((rest : List ℕ) → StandsFor kept rest → StandsFor kept' (rest_behind rest piece) × AnswersAll rule t u (frames_behind rest piece))
+  -- if the piece is answered whatever rest the assembler stood for (the frames that it completes after that rest, and what the
+  -- assembler stands for then), `HasAnswered` is true of `given ++ piece`
+  pub answered_with_piece : (kept' : Kept) → ((rest : List ℕ) → StandsFor kept rest → StandsFor kept' (rest_behind rest piece) × AnswersAll rule t u (frames_behind rest piece))
       → HasAnswered rule kept' s u (given ++ piece)
-  answered_more kept' answered =
+  answered_with_piece kept' answered =
       let it = answered (rest_behind [] given) so.0 in (
         subst (λ (rest : List ℕ). StandsFor kept' rest) (sym (rest-append [] given piece)) it.0,
         subst (λ (seen : List Frame). AnswersAll rule s u seen) (sym (frames-append given piece))
             (all_then rule s t u (frames given) (frames_behind (rest_behind [] given) piece) so.1 it.1),
       )
 
-  -- where, whatever rest the assembler stood for, the text of a frame that the piece completes after that rest goes out only in
-  -- part, as `GathersPart` has it, so it does of the frames of `given ++ piece`
-  pub answered_part : (bytes : ℕ) (gathers : Bool) → ((rest : List ℕ) → StandsFor kept rest → GathersPart rule t u (frames_behind rest piece) bytes gathers)
+  -- if `GathersPart` is true of the frames that the piece completes, whatever rest the assembler stood for, it is true of the
+  -- frames of `given ++ piece`
+  pub part_with_piece : (bytes : ℕ) (gathers : Bool) → ((rest : List ℕ) → StandsFor kept rest → GathersPart rule t u (frames_behind rest piece) bytes gathers)
       → GathersPart rule s u (frames (given ++ piece)) bytes gathers
-  answered_part bytes gathers answered =
+  part_with_piece bytes gathers answered =
       let it = answered (rest_behind [] given) so.0 in
       record {
         reached = it.reached;

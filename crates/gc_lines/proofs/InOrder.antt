@@ -10,7 +10,7 @@ use Rattle.gc_lines.specs.Ports.{TakesFront}
 use Rattle.gc_lines.specs.declared.frame.Frame.{Frame}
 use Rattle.gc_lines.proofs.Known.{Appends-is}
 
--- where answering the items xs takes the state from s to t with the texts ps, and answering ys takes it from t to u with the
+-- if answering the items xs takes the state from s to t with the texts ps, and answering ys takes it from t to u with the
 -- texts qs, answering `xs ++ ys` takes it from s to u with the texts `ps ++ qs`
 pub in_order_then : {State Item : Type 0} (rule : AnswerRule State Item) (s t u : State) (xs ys : List Item) (ps qs : List (List ℕ))
     → AnswersInOrder State Item rule s xs t ps → AnswersInOrder State Item rule t ys u qs → AnswersInOrder State Item rule s (xs ++ ys) u (ps ++ qs)
@@ -25,8 +25,7 @@ in_order_then {State} {Item} rule s t u (x ∷ xs) ys ps qs first next = (
   ap (λ (zs : List (List ℕ)). zs ++ qs) first.5 ∙ append_assoc (option_to_list first.1) first.2 qs,
 )
 
--- where the rule answers one item, the list of that item alone is answered in order, with the item's text, if there is one, as
--- the only text
+-- if the rule answers one item, the list of that item alone is answered in order, with the item's text, if any, as the only text
 pub in_order_one : {State Item : Type 0} (rule : AnswerRule State Item) (s t : State) (item : Item) (text : Option (List ℕ)) → rule s item t text
     → AnswersInOrder State Item rule s (item ∷ []) t (option_to_list text)
 in_order_one rule s t item text h = (t, text, [], h, (refl, refl), sym (append-nil (option_to_list text)))
@@ -35,11 +34,11 @@ in_order_one rule s t item text h = (t, text, [], h, (refl, refl), sym (append-n
 pub all_of-append : (xs ys : List (List ℕ)) → all_of (xs ++ ys) ≡ all_of xs ++ all_of ys
 all_of-append xs ys = flat_map-append (λ text. text) xs ys
 
--- `AnswersAll` is true of no frames, where the progress is the same before and after
-pub all_none : {State : Type 0} (rule : AnswerRule State Frame) (here : Progress State) → AnswersAll rule here here []
-all_none rule here = record { texts = []; answers = (refl, refl); counts = omega arith; took = Appends-nil here.taken }
+-- `AnswersAll` is true of no frames, with the same progress before and after
+pub no_frames_answered : {State : Type 0} (rule : AnswerRule State Frame) (here : Progress State) → AnswersAll rule here here []
+no_frames_answered rule here = record { texts = []; answers = (refl, refl); counts = omega arith; took = Appends-nil here.taken }
 
--- where all frames xs were answered, and then all frames ys, all frames `xs ++ ys` were answered
+-- if all frames xs were answered, and then all frames ys, all frames `xs ++ ys` were answered
 pub all_then : {State : Type 0} (rule : AnswerRule State Frame) (s t u : Progress State) (xs ys : List Frame)
     → AnswersAll rule s t xs → AnswersAll rule t u ys → AnswersAll rule s u (xs ++ ys)
 all_then rule s t u xs ys first next = record {
@@ -49,7 +48,7 @@ all_then rule s t u xs ys first next = record {
   took = Appends-is s.taken u.taken _ _ (sym (all_of-append first.texts next.texts)) (Appends-trans s.taken t.taken u.taken _ _ first.took next.took);
 }
 
--- where all frames xs were answered, and then the frames ys up to one whose text went out in part, the frames `xs ++ ys` were
+-- if all frames xs were answered, and then the frames ys up to one whose text went out in part, the frames `xs ++ ys` were
 -- answered up to that one
 pub part_then : {State : Type 0} (rule : AnswerRule State Frame) (s t u : Progress State) (xs ys : List Frame) (bytes : ℕ)
     → AnswersAll rule s t xs → AnswersPart rule t u ys bytes → AnswersPart rule s u (xs ++ ys) bytes
@@ -72,10 +71,10 @@ part_then rule s t u xs ys bytes first part =
           (Appends-trans s.taken t.taken u.taken _ _ first.took part.took);
     }
 
--- where `AnswersPart` is true of the frames xs, it is true of `xs ++ ys`: frames after the one whose text was cut change nothing
-pub part_before : {State : Type 0} (rule : AnswerRule State Frame) (s u : Progress State) (xs ys : List Frame) (bytes : ℕ)
+-- if `AnswersPart` is true of the frames xs, it is true of `xs ++ ys`: frames after the one whose text was cut change nothing
+pub part_with_later : {State : Type 0} (rule : AnswerRule State Frame) (s u : Progress State) (xs ys : List Frame) (bytes : ℕ)
     → AnswersPart rule s u xs bytes → AnswersPart rule s u (xs ++ ys) bytes
-part_before rule s u xs ys bytes part = record {
+part_with_later rule s u xs ys bytes part = record {
   earlier = part.earlier;
   frame = part.frame;
   later = part.later ++ ys;
@@ -90,7 +89,7 @@ part_before rule s u xs ys bytes part = record {
   took = part.took;
 }
 
--- where the rule answers a frame with a text, of which the sink took only the first `bytes` bytes, and no more text went out
+-- if the rule answers a frame with a text, of which the sink took only the first `bytes` bytes, and no more text went out
 -- whole, `AnswersPart` is true of the list of that frame alone
 pub one_part : {State : Type 0} (rule : AnswerRule State Frame) (s u : Progress State) (frame : Frame) (text : List ℕ) (bytes : ℕ)
     → rule s.state frame u.state (Some text) → TakesFront s.taken u.taken bytes text → u.whole ≡ s.whole → AnswersPart rule s u (frame ∷ []) bytes

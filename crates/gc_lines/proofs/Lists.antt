@@ -5,27 +5,27 @@ use Rattle.std.specs.Prelude.{slice_get}
 use Rattle.std.specs.List.{AllByRecursion}
 pub use Rattle.std.proofs.Permutation.{every_append as all_append}
 
--- what holds of each element of a list holds of the one at a place
+-- what holds of each element of a list holds of the one at any place
 pub all_at : {A : Type 0} (P : A → Type 0) (xs : List A) (i : ℕ) (x : A) → AllByRecursion P xs → slice_get xs i ≡ Some x → P x
 all_at P [] i x all e = cc
 all_at P (y ∷ xs) zero x all e = let same : y ≡ x = cc in subst P same all.0
 all_at P (y ∷ xs) (suc i) x all e = all_at P xs i x all.1 e
 
--- the first elements of equal lists are equal
+-- equal lists that aren't empty have equal first elements
 pub cons_head : {A : Type 0} (x y : A) (xs ys : List A) → x ∷ xs ≡ y ∷ ys → x ≡ y
 cons_head x y xs ys e = cc
 
--- the rests of equal lists, after their first elements, are equal
+-- equal lists that aren't empty have equal rests
 pub cons_tail : {A : Type 0} (x y : A) (xs ys : List A) → x ∷ xs ≡ y ∷ ys → xs ≡ ys
 cons_tail x y xs ys e = cc
 
--- an element keeps its place in a list when others are put after the list
+-- an element of a list keeps its place if others are put after the list
 pub get_more : {A : Type 0} (xs ys : List A) (i : ℕ) (x : A) → slice_get xs i ≡ Some x → slice_get (xs ++ ys) i ≡ Some x
 get_more [] ys i x e = cc
 get_more (y ∷ xs) ys zero x e = e
 get_more (y ∷ xs) ys (suc i) x e = get_more xs ys i x e
 
--- the element that was appended is at the place of the old length
+-- an element that is appended to a list is at the place of the list's length
 pub get_push : {A : Type 0} (xs : List A) (x : A) → slice_get (xs ++ x ∷ []) (length xs) ≡ Some x
 get_push [] x = refl
 get_push (y ∷ xs) x = get_push xs x

@@ -12,13 +12,13 @@ use Rattle.gc_lines.specs.declared.frame.Frame.TheVariants.{Line, Cleared, Overl
 use Rattle.gc_lines.specs.declared.session.Session.{Session}
 use Rattle.gc_lines.proofs.Cutting.{cut_none, cut_some, pieces-append}
 use Rattle.gc_lines.proofs.Gathering.{gathering_start}
-use Rattle.gc_lines.proofs.InOrder.{all_none, part_before}
+use Rattle.gc_lines.proofs.InOrder.{no_frames_answered, part_with_later}
 
 -- the frames of `given ++ piece` are those of `given`, and then those that the piece completes after the rest of `given`
 pub frames-append : (given piece : List ℕ) → frames (given ++ piece) ≡ frames given ++ frames_behind (rest_behind [] given) piece
 frames-append given piece = ap (λ ps. map frame_of ps) (pieces-append [] given piece) ∙ map-append frame_of (pieces_behind [] given) (pieces_behind (rest_behind [] given) piece)
 
--- `completed` gives the frame of any bytes in a list of its own: that frame is never `More`
+-- `completed` gives the frame of any bytes in a list of its own, as that frame is never `More`
 frame_is_completed : (bytes : List ℕ) → completed (frame_of bytes) ≡ frame_of bytes ∷ []
 frame_is_completed bytes = by_tests (ends_in_return bytes) _ where
   -- whichever frame the two tests of `frame_of` choose, it is completed
@@ -28,16 +28,16 @@ frame_is_completed bytes = by_tests (ends_in_return bytes) _ where
   by_tests true false = refl
   by_tests false b = refl
 
--- after the bytes `rest`, an assembler used the first `used` bytes of `left`, returned `frame`, and now keeps `kept`, which stands
--- for `now`. The frames that `left` completes after `rest` are `frame`, where it is complete, and then those that the unused bytes
--- complete after `now`; and in both cases the same bytes follow the last line feed
+-- after the bytes `rest`, an assembler used the first `used` bytes of `left`, returned `frame`, and now keeps `kept`, which
+-- stands for `now`. The frames that `left` completes after `rest` are `frame`, if it is complete, and then those that the unused
+-- bytes complete after `now`; and in both cases the same bytes follow the last line feed
 pub record Takes (rest left : List ℕ) (used : ℕ) (frame : Frame) (kept : Kept) : Type 0 where
   pub now : List ℕ
   pub stands : StandsFor kept now
   pub seen : frames_behind rest left ≡ completed frame ++ frames_behind now (drop used left)
   pub rests : rest_behind rest left ≡ rest_behind now (drop used left)
 
--- `Takes` is true where `left` has no line feed, all of it was used, the frame is `More`, and the assembler stands for `rest` and
+-- `Takes` is true if `left` has no line feed, all of it was used, the frame is `More`, and the assembler stands for `rest` and
 -- then `left`
 takes_without_feed : (rest left : List ℕ) (used : ℕ) (frame : Frame) (kept : Kept) → position is_line_feed left ≡ None
     → used ≡ length left → frame ≡ More
@@ -52,8 +52,8 @@ takes_without_feed rest left used frame kept none all more s =
       rests = rw nothing cut.1;
     }
 
--- `Takes` is true where the first line feed of `left` is at place `at`, the bytes through it were used, the frame is that of
--- `rest` and the bytes before the line feed, and the assembler stands for no bytes
+-- `Takes` is true if the first line feed of `left` is at place `at`, the bytes through it were used, the frame is that of `rest`
+-- and the bytes before the line feed, and the assembler stands for no bytes
 takes_with_feed : (rest left : List ℕ) (at used : ℕ) (frame : Frame) (kept : Kept) → position is_line_feed left ≡ Some at → used ≡ at + 1
     → frame ≡ frame_of (rest ++ take at left) → StandsFor kept [] → Takes rest left used frame kept
 takes_with_feed rest left at used frame kept some next is s =
@@ -65,13 +65,13 @@ takes_with_feed rest left at used frame kept some next is s =
       rests = rw next cut.1;
     }
 
--- `Takes` follows from what `Assembler::next` ensures: of bytes `left` without a line feed, and of bytes whose first line feed is
--- at place `at`
-pub takes : (rest left : List ℕ) (used : ℕ) (frame : Frame) (kept : Kept)
+-- `Takes` is true if what `Assembler::next` ensures is so: of bytes `left` without a line feed, and of bytes with their first
+-- one at place `at`
+pub assembler_takes : (rest left : List ℕ) (used : ℕ) (frame : Frame) (kept : Kept)
     → (position is_line_feed left ≡ None → (used ≡ length left) × (frame ≡ More) × StandsFor kept (rest ++ left))
     → ((at : ℕ) → position is_line_feed left ≡ Some at → (used ≡ at + 1) × (frame ≡ frame_of (rest ++ take at left)) × StandsFor kept [])
     → Takes rest left used frame kept
-takes rest left used frame kept more whole = elim (position is_line_feed left) as (λ v. position is_line_feed left ≡ v → Takes rest left used frame kept) [
+assembler_takes rest left used frame kept more whole = elim (position is_line_feed left) as (λ v. position is_line_feed left ≡ v → Takes rest left used frame kept) [
   | None ↦ λ e. let m = more e in takes_without_feed rest left used frame kept e m.0 m.1 m.2
   | Some at ↦ λ e. let m = whole at e in takes_with_feed rest left at used frame kept e m.0 m.1 m.2
 ] refl
@@ -86,8 +86,8 @@ pub record PieceAnswered {State : Type 0} (rule : AnswerRule State Frame) (rest 
   pub rests : rest_behind rest piece ≡ rest_behind now left
   pub gathered : Gathering rule from to answered session.text.items session.lengths
 
--- `PieceAnswered` is true before the first frame, where the assembler stands for `rest`, nothing of the piece was used, and no
--- text waits
+-- `PieceAnswered` is true before the first frame, if the assembler stands for `rest`, nothing of the piece was used, and no text
+-- waits
 pub piece_start : {State : Type 0} (rule : AnswerRule State Frame) (rest piece : List ℕ) (start : Progress State) (session : Session)
     → NoneWait session → StandsFor session.assembler rest → PieceAnswered rule rest piece piece start start session
 piece_start rule rest piece start session nothing s = record {
@@ -96,19 +96,18 @@ piece_start rule rest piece start session nothing s = record {
   stands = s;
   seen = refl;
   rests = refl;
-  gathered = rw (nothing.0, nothing.1) (gathering_start rule start start [] (all_none rule start));
+  gathered = rw (nothing.0, nothing.1) (gathering_start rule start start [] (no_frames_answered rule start));
 }
 
--- where `all` is `answered` and then `left`, and `left` is `frame` and then `later`, `all` is `answered ++ frame` and then
--- `later`
+-- if `all` is `answered` and then `left`, and `left` is `frame` and then `later`, `all` is `answered ++ frame` and then `later`
 seen_more : (answered frame later all left : List Frame) → all ≡ answered ++ left → left ≡ frame ++ later → all ≡ (answered ++ frame) ++ later
 seen_more answered frame later all left e f = e ∙ ap (λ zs. answered ++ zs) f ∙ sym (append_assoc answered frame later)
 
 -- Here `PieceAnswered` is true, and the assembler takes more of the piece, as `Takes` has it.
 module _ {State : Type 0} (rule : AnswerRule State Frame) (rest piece left : List ℕ) (from to : Progress State) (session : Session)
     (g : PieceAnswered rule rest piece left from to session) (used : ℕ) (frame : Frame) (kept : Kept) (taken : Takes g.now left used frame kept) where
-  -- where the next session has this assembler, and `Gathering` is true, with the texts that wait in it, of the frames answered
-  -- before and then the one that this completed, if any, `PieceAnswered` is true with what is left of the piece now
+  -- if the next session has this assembler, and `Gathering` is true of the frames answered before and the one that this
+  -- completed, if any, with the texts that wait in that session, `PieceAnswered` is true of it and what is left of the piece now
   pub piece_goes_on : (to' : Progress State) (next : Session) → next.assembler ≡ kept
       → Gathering rule from to' (g.answered ++ completed frame) next.text.items next.lengths
       → PieceAnswered rule rest piece (drop used left) from to' next
@@ -121,8 +120,8 @@ module _ {State : Type 0} (rule : AnswerRule State Frame) (rest piece left : Lis
     gathered = more;
   }
 
-  -- where `GathersPart` is true of the frames answered before and then the one that this completed, if any, it is true of all
-  -- frames of the piece
+  -- if `GathersPart` is true of the frames answered before and the one that this completed, if any, it is true of all frames of
+  -- the piece
   pub piece_cut : (last : Progress State) (bytes : ℕ) (gathers : Bool) → GathersPart rule from last (g.answered ++ completed frame) bytes gathers
       → GathersPart rule from last (frames_behind rest piece) bytes gathers
   piece_cut last bytes gathers part =
@@ -131,11 +130,11 @@ module _ {State : Type 0} (rule : AnswerRule State Frame) (rest piece left : Lis
       record {
         reached = part.reached;
         part = subst (λ (seen : List Frame). AnswersPart rule from (progress part.reached last.taken last.whole) seen bytes) (sym all)
-            (part_before rule from (progress part.reached last.taken last.whole) (g.answered ++ completed frame) later bytes part.part);
+            (part_with_later rule from (progress part.reached last.taken last.whole) (g.answered ++ completed frame) later bytes part.part);
         alone = part.alone;
       }
 
--- where `PieceAnswered` is true with nothing left of the piece, the assembler stands for what follows the last line feed of
+-- if `PieceAnswered` is true with nothing left of the piece, the assembler stands for what follows the last line feed of
 -- `rest` and the piece, and `Gathering` is true of all frames that the piece completes: they were answered, though texts may wait
 pub piece_end : {State : Type 0} (rule : AnswerRule State Frame) (rest piece : List ℕ) (from to : Progress State) (session : Session)
     → PieceAnswered rule rest piece [] from to session
@@ -145,6 +144,6 @@ piece_end rule rest piece from to session g = (
   subst (λ (xs : List Frame). Gathering rule from to xs session.text.items session.lengths) (sym (g.seen ∙ append-nil g.answered)) g.gathered,
 )
 
--- a length that fails the test for 0 is above 0
+-- a length is above 0 if the test whether it is 0 fails
 pub not_empty : (n : ℕ) (b : Bool) → b ≡ eqb n 0 → b ≡ false → 0 < n
 not_empty n b is e = grind (arith, nat_tests)

@@ -45,8 +45,7 @@ id_plain (Some i) = All-from_recursion IsPlainByte (44 ∷ (48 + i) ∷ []) (pla
 pub plain_cons : (b : ℕ) (xs : List ℕ) → 13 < b → IsPlain xs → IsPlain (b ∷ xs)
 plain_cons b xs above h = plain_append (b ∷ []) xs (All-from_recursion IsPlainByte (b ∷ []) (plain_above_13 b above, tt)) h
 
--- where a reply's parameters are plain, what is written of them is plain: a comma and then the parameters, or nothing where there
--- are none
+-- what is written of a reply's parameters is plain if they are: a comma and then the parameters, or nothing if there are none
 params_plain : (params : List ℕ) → IsPlain params → IsPlain (params_text params)
 params_plain [] h = h
 params_plain (b ∷ bs) h = plain_cons 44 (b ∷ bs) (omega arith) h
@@ -76,9 +75,9 @@ plain_has_no_feed : (bytes : List ℕ) → AllByRecursion IsPlainByte bytes → 
 plain_has_no_feed [] h = ((λ e. absurd (omega arith)), tt)
 plain_has_no_feed (b ∷ bs) h = (h.0.0, plain_has_no_feed bs h.1)
 
--- the frame of at most 512 bytes and a CR is the line of these bytes
-pub plain_frame : (bytes : List ℕ) → length bytes ≤ 512 → Line (record { items = bytes }) ≡ frame_of (bytes ++ 13 ∷ [])
-plain_frame bytes fits =
+-- the frame of at most 512 bytes, whichever they are, and a CR after them is the line of these bytes
+pub frame_is_line : (bytes : List ℕ) → length bytes ≤ 512 → Line (record { items = bytes }) ≡ frame_of (bytes ++ 13 ∷ [])
+frame_is_line bytes fits =
     let long : length (bytes ++ 13 ∷ []) ≡ length bytes + 1 = length-append bytes (13 ∷ []) in
     let one : length (bytes ++ 13 ∷ []) - 1 ≡ length bytes = omega arith in
     let last : get_or (bytes ++ 13 ∷ []) (length (bytes ++ 13 ∷ []) - 1) 0 ≡ 13 = last-append bytes (13 ∷ []) (omega arith) in
@@ -90,4 +89,4 @@ pub plain_line : PlainIsOneLine
 plain_line bytes h fits =
     let cut = front_joins_piece [] (bytes ++ 13 ∷ []) (10 ∷ []) (plain_has_no_feed bytes (recursion_from_All IsPlainByte bytes h)) in
     let whole : with_end bytes ≡ (bytes ++ 13 ∷ []) ++ 10 ∷ [] = sym (append_assoc bytes (13 ∷ []) (10 ∷ [])) in
-    (ap frames whole ∙ ap (λ ps. map frame_of ps) cut.0 ∙ ap (λ f. f ∷ []) (sym (plain_frame bytes fits)), ap rest_of whole ∙ cut.1)
+    (ap frames whole ∙ ap (λ ps. map frame_of ps) cut.0 ∙ ap (λ f. f ∷ []) (sym (frame_is_line bytes fits)), ap rest_of whole ∙ cut.1)

@@ -14,7 +14,7 @@ read_body h = Ok (record { rpc = h.number; id = h.id; params = h.rest })
 reads_body : ReadsBody read_body (λ _. Unit {0})
 reads_body = record { named = λ h d e. (cc); refused = λ h no. absurd (no tt) }
 
--- where `request_at` gives fields, the line has the grammar of a request with these fields
+-- if `request_at` gives fields, the line has the grammar of a request with these fields
 pub request_found : (line : List ℕ) (q : RequestFields) → request_at line ≡ Ok q → IsRequest line q
 unfolding request_at
 request_found line q e =
@@ -24,24 +24,24 @@ request_found line q e =
     let same : (let f : RequestFields = record { rpc = a.0.number; id = a.0.id; params = a.0.rest } in f) ≡ q = cc in
     subst (λ (f : RequestFields). IsRequest line f) same it
 
--- where a line has the grammar of a request with some fields, `request_at` gives these fields
+-- if a line has the grammar of a request with some fields, `request_at` gives these fields
 pub request_again : (line : List ℕ) (q : RequestFields) → IsRequest line q → request_at line ≡ Ok q
 unfolding request_at
 request_again line q is =
     let h : HeaderFields = record { number = q.rpc; id = q.id; rest = q.params } in
     bind_on (header_at request_signature line) read_body h (header_again request_signature line h (record { number = is.number; is_number = is.is_number; is_id = is.is_id; whole = is.whole }))
 
--- where `request_at` gives a fault, that fault names the first bad field of the line, as `FirstBadOfRequest` has it
+-- if `request_at` gives a fault, that fault names the first bad field of the line, as `FirstBadOfRequest` has it
 pub request_fault : (line : List ℕ) (d : LineFault) → request_at line ≡ Err d → FirstBadOfRequest line d
 unfolding request_at
 request_fault line d e = line_fault request_signature read_body (λ _. Unit {0}) reads_body line d e
 
--- where a fault names the first bad field of the line, as `FirstBadOfRequest` has it, `request_at` gives that fault
+-- if a fault names the first bad field of the line, as `FirstBadOfRequest` has it, `request_at` gives that fault
 pub request_bad : (line : List ℕ) (f : LineFault) → FirstBadOfRequest line f → request_at line ≡ Err f
 unfolding request_at
 request_bad line f bad = line_bad request_signature read_body (λ _. Unit {0}) reads_body line f bad
 
--- `request_at` gives fields just where the line has the grammar of a request with them, and a fault just where that fault names
+-- `request_at` gives fields exactly if the line has the grammar of a request with them, and a fault exactly if that fault names
 -- the first bad field
 pub request_reads : ReadsLines request_at IsRequest FirstBadOfRequest
 request_reads = record { found = request_found; again = request_again; fault = request_fault; bad = request_bad }

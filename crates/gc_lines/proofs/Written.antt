@@ -26,8 +26,8 @@ decimal_number n h =
     }
 
 -- a number below 65536, as it is written, has no leading zero
-decimal_zeros : (n : ℕ) → n < 65536 → NoLeadingZero (decimal n)
-decimal_zeros n h zero = elim (cases_lt 0 n) [
+no_zero_first : (n : ℕ) → n < 65536 → NoLeadingZero (decimal n)
+no_zero_first n h zero = elim (cases_lt 0 n) [
   | inl some ↦ absurd (omega (arith, first_decimal n some (omega arith)))
   | inr none ↦ ap length (decimal_digit n (omega arith))
 ]
@@ -41,12 +41,12 @@ params_end : (params : List ℕ) → EndsCode (params_text params) params
 params_end [] = inl (refl, refl)
 params_end (b ∷ bs) = inr refl
 
--- what is written after a reply's return code is empty exactly where there are no parameters
-params_comma : (params : List ℕ) → (params_text params ≡ []) ↔ (params ≡ [])
-params_comma [] = (λ e. refl, λ e. refl)
-params_comma (b ∷ bs) = (λ e. (cc), λ e. (cc))
+-- what is written after a reply's return code is empty exactly if there are no parameters
+params_text_empty : (params : List ℕ) → (params_text params ≡ []) ↔ (params ≡ [])
+params_text_empty [] = (λ e. refl, λ e. refl)
+params_text_empty (b ∷ bs) = (λ e. (cc), λ e. (cc))
 
--- a reply's end that is empty exactly where it has no parameters is the one that is written
+-- a reply's end that is empty exactly if it has no parameters is the one that is written
 tail_written : (tail params : List ℕ) → EndsCode tail params → ((tail ≡ []) ↔ (params ≡ [])) → tail ≡ params_text params
 tail_written tail params (inl e) comma = e.0 ∙ ap params_text (sym e.1)
 tail_written tail [] (inr e) comma = comma.1 refl
@@ -55,14 +55,14 @@ tail_written tail (b ∷ bs) (inr e) comma = e
 -- requests
 
 -- the text of a request in range has the grammar of a request with its fields
-abbrev request_has : (q : RequestFields) → IsRequestInRange q → IsRequest (request_text q) q
-request_has q r = record { number = decimal q.rpc; is_number = decimal_number q.rpc r.rpc; is_id = r.id; whole = refl }
+abbrev request_has_grammar : (q : RequestFields) → IsRequestInRange q → IsRequest (request_text q) q
+request_has_grammar q r = record { number = decimal q.rpc; is_number = decimal_number q.rpc r.rpc; is_id = r.id; whole = refl }
 
 -- the text of a request in range is a written line with its fields
 request_is_written : (q : RequestFields) → IsRequestInRange q → IsWrittenRequest (request_text q) q
-request_is_written q r = record { is = request_has q r; number = decimal_zeros q.rpc r.rpc }
+request_is_written q r = record { is = request_has_grammar q r; number = no_zero_first q.rpc r.rpc }
 
--- a line is a written one with the fields of a request exactly where the request is in range and the line is its text
+-- a line is a written one with the fields of a request exactly if the request is in range and the line is its text
 pub request_written : (line : List ℕ) (q : RequestFields) → IsWrittenRequest line q ↔ (IsRequestInRange q × (line ≡ request_text q))
 request_written line q = (
   λ w. (
@@ -74,13 +74,13 @@ request_written line q = (
 
 -- `request_at` gives the fields of a request in range for its text
 pub request_back : (q : RequestFields) → IsRequestInRange q → request_at (request_text q) ≡ Ok q
-request_back q r = request_again (request_text q) q (request_has q r)
+request_back q r = request_again (request_text q) q (request_has_grammar q r)
 
 -- replies
 
 -- the text of a reply in range has the grammar of a reply with its fields
-abbrev reply_has : (r : ReplyFields) → IsReplyInRange r → IsReply (reply_text r) r
-reply_has r in_range = record {
+abbrev reply_has_grammar : (r : ReplyFields) → IsReplyInRange r → IsReply (reply_text r) r
+reply_has_grammar r in_range = record {
   number = decimal r.rc_com;
   code = decimal r.rc;
   tail = params_text r.params;
@@ -93,9 +93,9 @@ reply_has r in_range = record {
 
 -- the text of a reply in range is a written line with its fields
 reply_is_written : (r : ReplyFields) → IsReplyInRange r → IsWrittenReply (reply_text r) r
-reply_is_written r in_range = record { is = reply_has r in_range; number = decimal_zeros r.rc_com in_range.rc_com; code = decimal_zeros r.rc in_range.rc; comma = params_comma r.params }
+reply_is_written r in_range = record { is = reply_has_grammar r in_range; number = no_zero_first r.rc_com in_range.rc_com; code = no_zero_first r.rc in_range.rc; comma = params_text_empty r.params }
 
--- a line is a written one with the fields of a reply exactly where the reply is in range and the line is its text
+-- a line is a written one with the fields of a reply exactly if the reply is in range and the line is its text
 pub reply_written : (line : List ℕ) (r : ReplyFields) → IsWrittenReply line r ↔ (IsReplyInRange r × (line ≡ reply_text r))
 reply_written line r = (
   λ w. (
@@ -110,4 +110,4 @@ reply_written line r = (
 
 -- `reply_at` gives the fields of a reply in range for its text
 pub reply_back : (r : ReplyFields) → IsReplyInRange r → reply_at (reply_text r) ≡ Ok r
-reply_back r in_range = reply_again (reply_text r) r (reply_has r in_range)
+reply_back r in_range = reply_again (reply_text r) r (reply_has_grammar r in_range)

@@ -129,22 +129,22 @@ pub record Taken : Type 0 where
 abbrev pub taken_by : {K : Type 0} → Sink K → K → Taken
 taken_by of_sink sink = record { bytes = of_sink.taken sink; failed = of_sink.failed sink }
 
--- what each result of a run of at most `most` reads says of the ports before (`old`) and after it (`new`). Ok: a read was
--- answered, and the last was the end. Read: one of the reads failed at the source, so fewer than `most` were answered, and none
--- was the end. Write: the sink failed, after a read that wasn't the end. TooManyReads: all `most` reads were answered, none was
--- the end, and no port failed in the run. Where no read was answered, `ended` is left from an earlier run, and nothing is claimed
--- of it. After Ok and Write the source hasn't failed, since its last read was answered. `sink_failed` stays as it was unless the
--- result is Write, and `source_failed` stays as it was if the result is TooManyReads
+-- what each result of a run of at most `most` reads says of the ports before (`old`) and after it (`new`). Where no read was
+-- answered, `ended` is left from an earlier run, and nothing is claimed of it
 abbrev pub EndsBecause : (old new : Ports) → (most : ℕ) → Result Served ServeFault → Type 0
+-- a read was answered, and the last was the end; so the source hasn't failed. The sink didn't fail in the run
 EndsBecause old new most (Ok _) =
     (old.reads < new.reads) × (new.reads ≤ old.reads + most) × (new.ended ≡ true)
     × (new.source_failed ≡ false) × (new.sink_failed ≡ old.sink_failed)
+-- a read failed at the source, so fewer than `most` were answered, and none was the end. The sink didn't fail in the run
 EndsBecause old new most (Err (Read _)) =
     (new.reads < old.reads + most) × (old.reads < new.reads → new.ended ≡ false)
     × (new.source_failed ≡ true) × (new.sink_failed ≡ old.sink_failed)
+-- the sink failed, after a read that was answered and wasn't the end; so the source hasn't failed
 EndsBecause old new most (Err (Write _ _)) =
     (old.reads < new.reads) × (new.reads ≤ old.reads + most) × (new.ended ≡ false)
     × (new.source_failed ≡ false) × (new.sink_failed ≡ true)
+-- all `most` reads were answered, and none was the end. No port failed in the run
 EndsBecause old new most (Err (TooManyReads _)) =
     (new.reads ≡ old.reads + most) × (old.reads < new.reads → new.ended ≡ false)
     × (new.source_failed ≡ old.source_failed) × (new.sink_failed ≡ old.sink_failed)
@@ -178,8 +178,8 @@ pub record IsRunOverPorts (does : (given : List ℕ) → (old new : Option (List
   -- why the run ended, and what that says of the ports
   pub ended : HasEnded old new most result
 
--- the frames of the bytes that the source gave were answered, and the sink took the texts: how far, `AnswersFrames` says by the
--- result. `old` and `new` are the ports before and after the run; `from` and `to` are as there
+-- the frames of the bytes that the source gave were answered, and the sink took the texts, as far as `AnswersFrames` says by the
+-- result. `from` and `to` are the answerer's states before and after the run, `old` and `new` the ports
 abbrev pub AnswersGiven : {State : Type 0} → AnswerRule State Frame → (from to : State) → (old new : Ports) → Result Served ServeFault → Type 0
 AnswersGiven rule from to old new result =
     GaveInReads old.remaining new.remaining (new.reads - old.reads) (λ given. AnswersFrames rule from to (frames given) old.taken new.taken result)
@@ -205,6 +205,14 @@ HasRoomForReply room text = array_vec_len text + 512 ≤ room
 -- a text has at most the 512 bytes of a reply more than before
 abbrev pub GrowsByReply : (old new : List ℕ) → Type 0
 GrowsByReply old new = length new ≤ length old + 512
+
+-- texts to be sent have room for one answer more, of at most 514 bytes, its line end counted
+abbrev pub HasRoomForAnswer : ArrayVec ℕ → Type 0
+HasRoomForAnswer text = array_vec_len text + 514 ≤ 8192
+
+-- texts to be sent have at most the 514 bytes of an answer more than before
+abbrev pub GrowsByAnswer : (old new : List ℕ) → Type 0
+GrowsByAnswer old new = length new ≤ length old + 514
 
 -- `new` is `old` and then a text of which `Is` is true
 pub record AppendsText (Is : List ℕ → Type 0) (old new : List ℕ) : Type 0 where

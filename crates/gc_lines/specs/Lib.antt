@@ -1,5 +1,4 @@
 pub mod Ports
-pub mod Reads
 pub mod Lines
 pub mod Frames
 pub mod Assembler

@@ -55,9 +55,9 @@ pub record GathersPart {State : Type 0} (rule : AnswerRule State Frame) (from to
   pub part : AnswersPart rule from (progress reached to.taken to.whole) seen bytes
   pub alone : gathers ≡ false → reached ≡ to.state
 
--- what became of one more frame, by the result of the call; where `frame` is `More`, there is none. If, from some `start`,
--- `Gathering` was true of the frames `seen` before the call, then with the frame after them, after the call, from that `start`:
--- `Gathering` is true (`Ok`), or `GathersPart` is, of some text of which the sink took only the first `bytes` bytes (`Err`)
+-- what became of one more frame (`More`: none), by the result of the call, if `Gathering` was true of the frames `seen` before
+-- it, from whatever `start`. `Ok`: `Gathering` is true of these and the frame. `Err`: these and the frame were answered up to one
+-- of whose text the sink took only the first `bytes` bytes, as `GathersPart` has it
 abbrev pub GathersFrame : {State : Type 0} → AnswerRule State Frame → (from to : Progress State) → (old new : Session) → Frame
     → Result (Unit {0}) ℕ → Type 0
 GathersFrame {State} rule from to old new frame (Ok _) =
@@ -101,9 +101,8 @@ abbrev pub whole_and_part : (whole taken : ℕ) → List ℕ → ℕ × ℕ
 whole_and_part whole taken [] = (whole, taken)
 whole_and_part whole taken (n ∷ ns) = if nat_lt taken n then (whole, taken) else whole_and_part (whole + 1) (taken - n) ns
 
--- of texts with these lengths, one after the other in `text`, a sink took only the first bytes, some number n of them, and not
--- all: with the texts that it took whole their count grew from `whole` to `total`, and of the next one it took `bytes` bytes.
--- `old` and `new` are what it has taken, before and after
+-- a sink took only a front of `text`, which is texts with these lengths, one after the other: some of them whole, by which their
+-- count grew from `whole` to `total`, and `bytes` bytes of the next. `old` and `new` are what it has taken, before and after
 abbrev pub TakesTextsPart : (old new : Option (List ℕ)) → (whole total : ℕ) → (text lengths : List ℕ) → (bytes : ℕ) → Type 0
 TakesTextsPart old new whole total text lengths bytes = (n : ℕ) × TakesFront old new n text × ((total, bytes) ≡ whole_and_part whole n lengths)
 

@@ -1,9 +1,8 @@
 //! The loop over the frames of a source: it reads, hands each frame to an answerer, and writes the answers into a sink. All
 //! reading of a whole run lives here.
 
-ghost use Rattle.std.specs.Prelude.{ℕ, ◌+◌, ◌≤◌, List, Option, length};
-ghost use Rattle.arrayvec.specs.ArrayVec.{array_vec_len};
-ghost use Rattle.gc_lines.specs.Answering.{AnswersRun, HasEnded, AppendsAnswer, ports_of};
+ghost use Rattle.std.specs.Prelude.{ℕ, List, Option};
+ghost use Rattle.gc_lines.specs.Answering.{AnswersRun, AppendsAnswer, GrowsByAnswer, HasEnded, HasRoomForAnswer, ports_of};
 ghost use Rattle.gc_lines.specs.Lent.{lent_seen};
 
 use crate::frame::Lent;
@@ -33,9 +32,9 @@ pub trait Answers {
     /// Appends the answer to the frame, with its line end, to `text`, which has room for 514 bytes more, and returns whether
     /// there is an answer. Without one `text` stays as it is.
     fn answer(&mut self, frame: Lent<'_>, text: &mut Outgoing) -> bool
-        requires { array_vec_len text.old + 514 ≤ 8192 }
+        requires { HasRoomForAnswer text.old }
         ensures answered { AppendsAnswer (answers self.old (lent_seen frame.entry) self.new) text.old.items text.new.items result }
-        ensures bound { length text.new.items ≤ length text.old.items + 514 };
+        ensures bound { GrowsByAnswer text.old.items text.new.items };
 }
 
 /// Answers the frames of a source until its end, in at most `max_reads` reads of at most 256 bytes, and writes the texts

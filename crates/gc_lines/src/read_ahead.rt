@@ -1,9 +1,8 @@
 //! A reader that reads ahead into a fixed array, so that many small reads ask the reader under it but once.
 
-ghost use Rattle.std.specs.Prelude.{◌≡◌, ◌-◌, ◌≤◌, ◌++◌, [], OnOk, OnErr, IsTrue, ◌↔◌, length, min, take};
+ghost use Rattle.std.specs.Prelude.{◌≡◌, ◌-◌, ◌<◌, ◌≤◌, ◌++◌, [], OnOk, OnErr, IsTrue, ◌↔◌, length, min, take};
 ghost use Rattle.std.specs.Io.{ReadsAtMost};
 ghost use Rattle.std.specs.Io.KnownBytes.{ReadConsumes, Consumes, IsAtEnd, Keeps, prepend_known};
-ghost use Rattle.gc_lines.specs.Reads.{GivesHeld};
 
 use std::io::{self, Read};
 use std::marker::Model;
@@ -109,7 +108,8 @@ impl<R: Read> Read for ReadAhead<R> {
             (⟦<ReadAhead<R> as Read>⟧.remaining self.new) result buf.new }
 
         // Where bytes are held, it returns as many of them as `buf` has room for, and doesn't read from the other.
-        ensures held { GivesHeld self.old.held self.old.reader self.new.reader buf.old result }
+        ensures held { 0 < length self.old.held
+            → (result ≡ Ok (min (length self.old.held) (length buf.old))) × (self.new.reader ≡ self.old.reader) }
 
         // Where the other failed, nothing is held: all bytes before that were returned.
         ensures failed { OnErr result ((self.old.held ≡ []) × (self.new.held ≡ [])) }

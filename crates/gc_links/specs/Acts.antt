@@ -69,6 +69,6 @@ abbrev pub GivesAtMost : {E : Type 0} → Result (Option ℕ) E → (buf : List 
 GivesAtMost result buf = IfOk result (λ given. IfSome given (λ n. n ≤ length buf))
 
 -- where a write of these bytes failed, fewer than all of them went out
-abbrev pub IsPart : Result (Unit {0}) ℕ → (bytes : List ℕ) → Type 0
-IsPart (Ok _) bytes = Unit {0}
-IsPart (Err n) bytes = n < length bytes
+abbrev pub IsPartIfErr : Result (Unit {0}) ℕ → (bytes : List ℕ) → Type 0
+IsPartIfErr (Ok _) bytes = Unit {0}
+IsPartIfErr (Err n) bytes = n < length bytes

@@ -4,9 +4,9 @@ use std::io::{self, ErrorKind};
 use std::net::{Net, SocketAddr, TcpListener, TcpStream, ToSocketAddrs};
 use std::time::Duration;
 
-/// How long the making of a connection (at each address of a name), or one write, may wait for the other end, in milliseconds. A radio
-/// modem takes a request line in less than a second. Over TCP a put of a link that needs more than one write may wait this long for
-/// each. A write of a `Wire` over TCP has no such bound.
+/// How long the making of a connection (at each address of a name), or one write, may wait for the other end, in milliseconds. A
+/// radio modem takes a request line in less than a second. Over TCP a put of a link that needs more than one write may wait this
+/// long for each. A write of a `Wire` over TCP has no such bound.
 pub(crate) const PATIENCE: u64 = 10_000;
 
 /// The other end of a connection over TCP.

@@ -16,7 +16,8 @@ use std::rt::Files;
 use std::thread;
 use std::time::{Clock, Duration};
 
-/// How long to rest where nothing has come, or nothing can go, yet, in milliseconds. At 19,200 baud a byte takes half a millisecond.
+/// How long to rest where nothing has come, or nothing can go, yet, in milliseconds. At 19,200 baud a byte takes half a
+/// millisecond.
 pub(crate) const REST: u64 = 2;
 
 /// Why a path can't be used as the device of a link.
@@ -75,8 +76,8 @@ fn set_nonblocking(file: &File) -> io::Result<()> {
     other.set_nonblocking(true)
 }
 
-// Whether an error of a read or a write says only that nothing has come, or nothing can go, yet, or that the call was interrupted:
-// it is to be made again after a rest.
+// Whether an error of a read or a write says only that nothing has come, or nothing can go, yet, or that the call was
+// interrupted: it is to be made again after a rest.
 fn is_not_ready(kind: ErrorKind) -> bool {
     matches!(kind, ErrorKind::WouldBlock | ErrorKind::Interrupted)
 }
@@ -178,9 +179,9 @@ impl<'a, R: Files<File = File> + Clock> DeviceLink<'a, R> {
         }
     }
 
-    // Reads until bytes came, the device ended or failed, the clock couldn't be read, or `millis` milliseconds have gone by since the
-    // moment `began`, in milliseconds since the link was made. The moment of a silence is taken before the last read. That read gave
-    // nothing, so nothing had come by that moment.
+    // Reads until bytes came, the device ended or failed, the clock couldn't be read, or `millis` milliseconds have gone by since
+    // the moment `began`, in milliseconds since the link was made. The moment of a silence is taken before the last read. That
+    // read gave nothing, so nothing had come by that moment.
     fn read_until(&mut self, buf: &mut [u8], began: u64, millis: u64) -> Came
         ensures { CameWithin result buf.new }
     {

@@ -1,7 +1,7 @@
 //! A link: a connection that can be made again, and a clock, as one port, so that the order of all its calls is known.
 
 ghost use Rattle.std.specs.Prelude.{[], ◌∷◌, ◌<◌, length};
-ghost use Rattle.gc_links.specs.Acts.{Closed, AddsActs, clock_act, put_act, read_act, open_act, CameWithin, IsPart};
+ghost use Rattle.gc_links.specs.Acts.{Closed, AddsActs, clock_act, put_act, read_act, open_act, CameWithin, IsPartIfErr};
 
 use gc_lines::PortFailed;
 
@@ -47,8 +47,8 @@ pub trait Link {
     fn now(&mut self) -> Result<Moment, PortFailed>
         ensures { AddsActs (acts self.old) (acts self.new) (clock_act result ∷ []) };
 
-    /// Reads some bytes into the front of `buf`, which is not empty, and waits for them about `millis` milliseconds at most. It may
-    /// end earlier, with `Silence`.
+    /// Reads some bytes into the front of `buf`, which is not empty, and waits for them about `millis` milliseconds at most. It
+    /// may end earlier, with `Silence`.
     ///
     /// Without a connection it waits that long, and returns `Silence`, or `NoMoment`.
     fn read(&mut self, buf: &mut [u8], millis: u64) -> Came
@@ -61,7 +61,7 @@ pub trait Link {
     fn put(&mut self, bytes: &[u8]) -> Result<(), usize>
         requires { 0 < length bytes.now }
         ensures tells { AddsActs (acts self.old) (acts self.new) (put_act result bytes.now ∷ []) }
-        ensures part { IsPart result bytes.now };
+        ensures part { IsPartIfErr result bytes.now };
 
     /// Closes the connection.
     fn close(&mut self)

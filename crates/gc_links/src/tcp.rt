@@ -71,8 +71,8 @@ impl<'a, R: Net<Listener = TcpListener, Stream = TcpStream> + Clock> TcpLink<'a,
         }
     }
 
-    // Reads with the shortest timeout, a millisecond. The moment of a silence is taken before the read: since the read gave nothing,
-    // nothing had come by that moment, even if this program was stopped for a while before it.
+    // Reads with the shortest timeout, a millisecond. The moment of a silence is taken before the read: since the read gave
+    // nothing, nothing had come by that moment, even if this program was stopped for a while before it.
     fn read_briefly(&self, buf: &mut [u8]) -> Came
         ensures { CameWithin result buf.new }
     {

@@ -28,10 +28,8 @@ impl<'a, R: Clock> Timer<'a, R> {
     /// doesn't know whether the end of the run was asked for.
     pub(crate) fn moment(&self) -> io::Result<Moment> {
         let elapsed = self.start.elapsed(self.rt)?;
-        let since_1970 = match SystemTime::now(self.rt)?.duration_since(UNIX_EPOCH) {
-            Ok(time) => time,
-            Err(_) => Duration::ZERO,
-        };
+        let now = SystemTime::now(self.rt)?;
+        let since_1970 = now.duration_since(UNIX_EPOCH).unwrap_or(Duration::ZERO);
         Ok(Moment {
             elapsed: millis_of(elapsed),
             utc: millis_of(since_1970),

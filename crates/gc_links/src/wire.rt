@@ -55,9 +55,9 @@ pub fn wire_on<'a, R: Files<File = File>>(
 }
 
 impl<'a, R: Clock> Wire<'a, R> {
-    /// Reads as `read` does, but waits no longer than about `millis` milliseconds, where 0 counts as 1. `None`: nothing came in that
-    /// time, or a read over TCP was interrupted. The first look at a device is at once, and there is one every 2 milliseconds; what
-    /// comes after the last look is left for the next read.
+    /// Reads as `read` does, but waits no longer than about `millis` milliseconds, where 0 counts as 1. `None`: nothing came in
+    /// that time, or a read over TCP was interrupted. The first look at a device is at once, and there is one every 2
+    /// milliseconds; what comes after the last look is left for the next read.
     pub fn read_within(&self, buf: &mut [u8], millis: u64) -> io::Result<Option<usize>>
         ensures { GivesAtMost result buf.new }
     {
@@ -127,8 +127,8 @@ pub fn read_stream_within(
     read
 }
 
-// Reads what has come over a device, and rests for about `millis` milliseconds at most until something has. `None`: nothing had come
-// by the last look, after which it rested once more. A device that was pulled out is at its end.
+// Reads what has come over a device, and rests for about `millis` milliseconds at most until something has. `None`: nothing had
+// come by the last look, after which it rested once more. A device that was pulled out is at its end.
 fn read_device_within<R: Clock>(
     rt: &R,
     file: &File,

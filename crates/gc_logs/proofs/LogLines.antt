@@ -1,6 +1,6 @@
 -- The lines that a log has of more and more bytes, what is pending after these, and the bytes that the lines stand for
--- (`wire`). `TakesUnlessFailed` says that a log's sink, if it hasn't failed, took a text: a, b and c are what is seen of the sink at first,
--- then and at last; so they are of where the lines go for `TakesEntries`. `p` is what is pending.
+-- (`wire`). `TakesUnlessFailed` says that a log's sink, if it hasn't failed, took a text: a, b and c are what is seen of the sink
+-- at first, then and at last; for `TakesEntries` they are what is seen of the place where the lines go. `p` is what is pending.
 use Rattle.std.proofs.Common.{◌≡◌, ℕ, ◌+◌, ◌-◌, ◌<◌, ◌==◌, ◌&&◌, true, inl, inr, not, List, [], ◌∷◌, ◌++◌, length, take, get_or, refl, sym, ap, subst, ◌∙◌, arith, append_assoc, append-nil}
 use Rattle.std.specs.Prelude.{nat_lt}
 use Rattle.std.proofs.lemmas.Bool.{cases_Bool, cond_both, eqb-true, ltb-true, and_parts}
@@ -37,14 +37,14 @@ takes_both_texts {a} {b} {c} xs ys one next = record {
   stood = λ stands. one.stood (next.stood stands);
 }
 
--- if a log took the lines of one list, and then those of another, written at an equal moment, it took those of both
+-- if a log took the lines of one list, and then those of another, written at the same moment, it took those of both
 pub takes_both_lists : {a b c : Taken} (utc now : ℕ) (es fs : List Entry) → now ≡ utc
     → TakesUnlessFailed a b (log_text_of utc es) → TakesUnlessFailed b c (log_text_of now fs) → TakesUnlessFailed a c (log_text_of utc (es ++ fs))
 takes_both_lists {a} {b} {c} utc now es fs same one next =
     subst (TakesUnlessFailed a c) (sym (flat_map-append (λ (e : Entry). log_line utc e.mark e.bytes) es fs))
     (takes_both_texts (log_text_of utc es) (log_text_of utc fs) one (subst (λ u. TakesUnlessFailed b c (log_text_of u fs)) same next))
 
--- if where the lines of a log go took those of one list, and then those of another, it took those of both
+-- if the place where a log's lines go took those of one list (`TakesEntries`), and then those of another, it took those of both
 pub takes_both : {K : Type 0} {of_sink : Sink K} {a b c : Lines K} (es fs : List Entry)
     → TakesEntries of_sink a b es → TakesEntries of_sink b c fs → TakesEntries of_sink a c (es ++ fs)
 takes_both {K} {of_sink} {a} {b} {c} es fs one next =
@@ -67,7 +67,7 @@ module _ (p q : Unwritten) (bs : List ℕ) (i : ℕ) (within : i < length bs) (b
   pub pending_at_next : (r : Unwritten) → r ≡ pending_at q (get_or bs i 0) → r ≡ pending_behind p (take (i + 1) bs)
   pending_at_next r next = next ∙ ap (λ z. pending_at z (get_or bs i 0)) behind ∙ sym (ap (pending_behind p) (take_more bs i 0 within) ∙ pending_more p (take i bs) (get_or bs i 0))
 
--- bytes that end in a CR are the bytes before the CR, and the CR
+-- bytes that end in a CR are those before it, and then the CR
 last_return : (bytes : List ℕ) → ends_in_return bytes ≡ true → bytes ≡ take (length bytes - 1) bytes ++ 13 ∷ []
 last_return bytes e =
     let some : 0 < length bytes = ltb-true 0 (length bytes) (and_parts (nat_lt 0 (length bytes)) _ e).0 in

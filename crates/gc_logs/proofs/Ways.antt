@@ -12,41 +12,41 @@ use Rattle.gc_logs.specs.declared.logging.Direction.{Direction}
 use Rattle.gc_logs.specs.declared.logging.Direction.TheVariants.{Went, Came}
 
 -- a whole line is marked by its direction
-line_signed : (way : Direction) (bytes : List ℕ) → IsSigned (sign_of way) (entry (line_mark way) bytes)
-line_signed Went bytes = ([], refl)
-line_signed Came bytes = ([], refl)
+whole_line_signed : (way : Direction) (bytes : List ℕ) → IsSigned (sign_of way) (entry (line_mark way) bytes)
+whole_line_signed Went bytes = ([], refl)
+whole_line_signed Came bytes = ([], refl)
 
 -- a part is marked by its direction
 part_signed : (way : Direction) (bytes : List ℕ) → IsSigned (sign_of way) (entry (part_mark way) bytes)
 part_signed Went bytes = (124 ∷ [], refl)
 part_signed Came bytes = (124 ∷ [], refl)
 
--- what a line feed ends is marked by its direction
-end_signed : (way : Direction) (p : Unwritten) → IsSigned (sign_of way) (entry_of_line way p)
-end_signed way p =
+-- the line that a line feed makes of what is pending is marked by its direction
+ended_line_signed : (way : Direction) (p : Unwritten) → IsSigned (sign_of way) (entry_of_line way p)
+ended_line_signed way p =
     let line = take (length p.bytes.items - 1) p.bytes.items in
     let part = p.bytes.items ++ 10 ∷ [] in
     cond_both (not p.is_long && ends_in_return p.bytes.items) (entry (line_mark way) line) (entry (part_mark way) part) (IsSigned (sign_of way))
-    (λ _. line_signed way line) (λ _. part_signed way part)
+    (λ _. whole_line_signed way line) (λ _. part_signed way part)
 
 -- the lines that one more byte gives are marked by their direction
-at_signed : (way : Direction) (p : Unwritten) (b : ℕ) → AllByRecursion (IsSigned (sign_of way)) (entries_at way p b)
-at_signed way p b =
+byte_signed : (way : Direction) (p : Unwritten) (b : ℕ) → AllByRecursion (IsSigned (sign_of way)) (entries_at way p b)
+byte_signed way p b =
     let part = entry (part_mark way) p.bytes.items ∷ [] in
     let is_short = nat_lt (length p.bytes.items) 513 in
-    cond_both (b == 10) (entry_of_line way p ∷ []) (cond is_short [] part) (AllByRecursion (IsSigned (sign_of way))) (λ _. (end_signed way p, tt))
+    cond_both (b == 10) (entry_of_line way p ∷ []) (cond is_short [] part) (AllByRecursion (IsSigned (sign_of way))) (λ _. (ended_line_signed way p, tt))
     (λ _. cond_both is_short [] part (AllByRecursion (IsSigned (sign_of way))) (λ _. tt) (λ _. (part_signed way p.bytes.items, tt)))
 
 -- the lines that bytes give are marked by their direction
 lines_signed : (way : Direction) (p : Unwritten) (bytes : List ℕ) → AllByRecursion (IsSigned (sign_of way)) (entries way p bytes)
 lines_signed way p [] = tt
-lines_signed way p (b ∷ bs) = all_append (IsSigned (sign_of way)) (entries_at way p b) (entries way (pending_at p b) bs) (at_signed way p b) (lines_signed way (pending_at p b) bs)
+lines_signed way p (b ∷ bs) = all_append (IsSigned (sign_of way)) (entries_at way p b) (entries way (pending_at p b) bs) (byte_signed way p b) (lines_signed way (pending_at p b) bs)
 
--- the line of what is pending at a close is marked by its direction
-cut_signed : (way : Direction) (bytes : List ℕ) → AllByRecursion (IsSigned (sign_of way)) (entries_of_pending way bytes)
-cut_signed way [] = tt
-cut_signed way (b ∷ bs) = (part_signed way (b ∷ bs), tt)
+-- the line that a close makes of what is pending is marked by its direction
+pending_signed : (way : Direction) (bytes : List ℕ) → AllByRecursion (IsSigned (sign_of way)) (entries_of_pending way bytes)
+pending_signed way [] = tt
+pending_signed way (b ∷ bs) = (part_signed way (b ∷ bs), tt)
 
 -- the law: each line is marked by its direction
 pub tell_the_way : MarksTellTheWay
-tell_the_way = record { lines = lines_signed; cut = cut_signed }
+tell_the_way = record { lines = lines_signed; cut = pending_signed }

@@ -165,7 +165,7 @@ came_behind came Closed = nothing
 came_behind came _ = came
 
 -- a log took these lines, at the moment that it had and keeps, and these are pending then of the sent and of the received bytes
-pub record TakesLines (old new : LogSeen) (es : List Entry) (sent received : Unwritten) : Type 0 where
+pub record LogsEntries (old new : LogSeen) (es : List Entry) (sent received : Unwritten) : Type 0 where
   pub took : TakesUnlessFailed old.sink new.sink (log_text_of old.utc es)
   pub went : new.went ≡ sent
   pub came : new.came ≡ received
@@ -174,4 +174,4 @@ pub record TakesLines (old new : LogSeen) (es : List Entry) (sent received : Unw
 -- a log took the lines of an act, at its moment (`utc_of`), and keeps what is then pending
 abbrev pub Logs : (old new : LogSeen) → Act → Type 0
 Logs old new act =
-    TakesLines (record old { utc = utc_of old.utc act }) new (entries_of_act old.went old.came act) (went_behind old.went act) (came_behind old.came act)
+    LogsEntries (record old { utc = utc_of old.utc act }) new (entries_of_act old.went old.came act) (went_behind old.went act) (came_behind old.came act)

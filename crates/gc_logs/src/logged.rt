@@ -1,7 +1,7 @@
 //! Any link, with a log of what is on it.
 
 ghost use Rattle.std.specs.Prelude.{◌≡◌, ◌<◌, [], ◌∷◌, length};
-ghost use Rattle.gc_links.specs.Acts.{AddsActs, Closed, clock_act, read_act, put_act, open_act, CameWithin, IsPart};
+ghost use Rattle.gc_links.specs.Acts.{AddsActs, Closed, clock_act, read_act, put_act, open_act, CameWithin, IsPartIfErr};
 ghost use Rattle.gc_logs.specs.Bounds.{sink_of};
 ghost use Rattle.gc_logs.specs.Logging.{Logs, log_seen};
 
@@ -101,7 +101,7 @@ impl<L: Link, K: Sink> Link for Logged<L, K> {
     fn put(&mut self, bytes: &[u8]) -> Result<(), usize>
         requires { 0 < length bytes.now }
         ensures tells { AddsActs (L.acts self.old.link) (L.acts self.new.link) (put_act result bytes.now ∷ []) }
-        ensures part { IsPart result bytes.now }
+        ensures part { IsPartIfErr result bytes.now }
         ensures logs { Logs (log_seen K.Sink self.old.log) (log_seen K.Sink self.new.log) (put_act result bytes.now) }
     {
         let put = self.link.put(bytes);

@@ -2,7 +2,7 @@
 //! written into the log yet are pending.
 
 ghost use Rattle.std.specs.Prelude.{◌≡◌, ◌++◌, ◌≤◌, [], ◌∷◌, length, codes};
-ghost use Rattle.gc_logs.specs.Logging.{entry, line_mark, part_mark, nothing, entry_of_line, entries_at, pending_at, entries, pending_behind, entries_of_pending, link_entry, log_seen, TakesEntries, TakesLines};
+ghost use Rattle.gc_logs.specs.Logging.{entry, line_mark, part_mark, nothing, entry_of_line, entries_at, pending_at, entries, pending_behind, entries_of_pending, link_entry, log_seen, TakesEntries, LogsEntries};
 ghost use Rattle.gc_texts.specs.Logs.{log_line};
 ghost use Rattle.gc_logs.specs.declared.logging.Direction.TheVariants.{Went, Came};
 
@@ -179,7 +179,7 @@ impl<K: Sink> Log<K> {
     // Logs sent bytes, as `Unwritten::add_all` says: writes the lines that end in them, and full parts of longer ones. The
     // rest is pending then.
     pub(crate) fn add_sent(&mut self, bytes: &[u8])
-        ensures { TakesLines (log_seen K.Sink self.old) (log_seen K.Sink self.new)
+        ensures { LogsEntries (log_seen K.Sink self.old) (log_seen K.Sink self.new)
             (entries Went self.old.went bytes.now) (pending_behind self.old.went bytes.now) self.old.came }
     {
         self.went.add_all(&mut self.lines, Direction::Went, bytes);
@@ -188,7 +188,7 @@ impl<K: Sink> Log<K> {
     // Logs received bytes, as `Unwritten::add_all` says: writes the lines that end in them, and full parts of longer ones. The
     // rest is pending then.
     pub(crate) fn add_received(&mut self, bytes: &[u8])
-        ensures { TakesLines (log_seen K.Sink self.old) (log_seen K.Sink self.new)
+        ensures { LogsEntries (log_seen K.Sink self.old) (log_seen K.Sink self.new)
             (entries Came self.old.came bytes.now) self.old.went (pending_behind self.old.came bytes.now) }
     {
         self.came.add_all(&mut self.lines, Direction::Came, bytes);
@@ -197,7 +197,7 @@ impl<K: Sink> Log<K> {
     // Writes the pending bytes of both directions, the sent ones first, each as a part of a line; of a direction without pending
     // bytes it writes nothing. Nothing is pending after that.
     pub(crate) fn flush(&mut self)
-        ensures { TakesLines (log_seen K.Sink self.old) (log_seen K.Sink self.new)
+        ensures { LogsEntries (log_seen K.Sink self.old) (log_seen K.Sink self.new)
             (entries_of_pending Went self.old.went.bytes.items ++ entries_of_pending Came self.old.came.bytes.items) nothing nothing }
     {
         self.went.flush(&mut self.lines, Direction::Went);
@@ -207,7 +207,7 @@ impl<K: Sink> Log<K> {
     // Writes a line that says, in these words of at most 514 bytes, what became of the connection.
     pub(crate) fn add_word(&mut self, word: &[u8])
         requires { length word.now ≤ 514 }
-        ensures { TakesLines (log_seen K.Sink self.old) (log_seen K.Sink self.new) (link_entry word.now ∷ []) self.old.went self.old.came }
+        ensures { LogsEntries (log_seen K.Sink self.old) (log_seen K.Sink self.new) (link_entry word.now ∷ []) self.old.went self.old.came }
     {
         self.lines.write_entry(LogMark::Link, word);
     }

@@ -3,7 +3,7 @@
 use Rattle.std.specs.Prelude.{◌≡◌, ℕ, Bool, true, ◌⊎◌, List, [], ◌++◌, if◌then◌else◌, Option, Result, Ok, Err, codes}
 use Rattle.std.specs.Fmt.{decimal}
 use Rattle.std.specs.Io.KnownBytes.{Consumes, Appends}
-use Rattle.gc_texts.specs.WholeTexts.{Input, Gave}
+use Rattle.gc_texts.specs.WholeTexts.{Input, GaveBytes}
 use Rattle.gc_measuring.specs.Choices.{plan_of}
 use Rattle.gc_measuring.specs.Stops.{stop_text, end_of_run}
 use Rattle.gc_measuring.specs.TaskTexts.{GivesTasks, RefusesTasks}
@@ -13,9 +13,10 @@ use Rattle.gc_measuring.specs.declared.stop.Stop.{Stop}
 use Rattle.gc_measuring.specs.declared.stop.Stop.TheVariants.{Text, Empty, Line, Run}
 use Rattle.gc_lines.specs.Ports.{TakesFront}
 use Rattle.gc_links.specs.Acts.{Act}
-use Rattle.gc_station.specs.Keeping.{Snapshot, KeepsUpForReadings, close_at_output}
+use Rattle.gc_station.specs.Keeping.{Snapshot, KeepsUpBy, close_at_output}
 use Rattle.gc_station.specs.Records.{Record}
-use Rattle.gc_station.specs.Runs.{RunSeen, RanForReadings, LastUnlessFailed}
+use Rattle.gc_station.specs.Runs.{RunSeen, RanBy, LastUnlessFailed}
+use Rattle.gc_station.specs.Scopes.{ForReadings}
 use Rattle.gc_station.specs.declared.plan.Plan.{Plan}
 use Rattle.gc_station.specs.declared.tally.Tally.{Tally}
 use Rattle.gc_texts.specs.Names.{name_text}
@@ -75,17 +76,17 @@ abbrev pub survey_of : Settings → (max_turns : ℕ) → TasksSeen → Survey
 survey_of station max_turns all =
     record { plan = plan_of station.choice all.setup all.tasks; tasks = all.tasks; max_turns = max_turns; layout = station.layout; names = all.names }
 
--- what is seen of the link and the book of a run that measures this survey, whose ports have been seen so
+-- what is seen of the link and the book of a run that measures this survey, by what is seen of its ports
 abbrev pub run_in : Survey → PortsSeen → RunSeen
 run_in survey seen = record { acts = seen.acts; text = text_by survey; taken = seen.taken }
 
--- a run over a link wrote the records that its acts give of the tasks into a sink, and ended with `end` (`RanForReadings`); and
--- at each act all that the acts before it settled was recorded, and lasted (`KeepsUpForReadings`). If the sink failed the
--- connection was closed at the end (`close_at_output`)
+-- a run over a link wrote the records that its acts give of the tasks into a sink, and ended with `end` (`RanBy`); and at each
+-- act all that the acts before it settled was recorded, and lasted (`KeepsUpBy`). If the sink failed the connection was closed at
+-- the end (`close_at_output`)
 pub record RunsSurvey (survey : Survey) (old new : PortsSeen) (end : Result Tally RunFault) : Type 0 where
-  pub ran : RanForReadings survey.plan survey.tasks survey.max_turns (run_in survey old) (run_in survey new) end
-  pub keeps :
-      KeepsUpForReadings survey.plan survey.tasks survey.max_turns (run_in survey old) (run_in survey new) old.turns new.turns (close_at_output end)
+  pub ran : ForReadings (RanBy survey.plan survey.tasks survey.max_turns (run_in survey old) (run_in survey new) end)
+  pub keeps : ForReadings (KeepsUpBy survey.plan survey.tasks survey.max_turns (run_in survey old) (run_in survey new)
+      old.turns new.turns (close_at_output end))
 
 -- the sink took what comes before the records, and then what a run over the link records of the tasks (`RunsSurvey`). `between`
 -- is what the sink had taken before the records
@@ -114,7 +115,7 @@ Measures given station max_turns old new result =
 -- a source gave bytes, by at most one read for each and one for the end, and of these `Measures` holds, in at most `max_turns`
 -- acts
 abbrev pub MeasuresText : Settings → (max_turns : ℕ) → (old new : PortsSeen) → Result Tally Stop → Type 0
-MeasuresText station max_turns old new result = Gave old.input new.input (λ given. Measures given station max_turns old new result)
+MeasuresText station max_turns old new result = GaveBytes old.input new.input (λ given. Measures given station max_turns old new result)
 
 -- as many acts as a u64 counts
 abbrev pub most_turns : ℕ
@@ -135,11 +136,11 @@ pub record IsMeasured (station : Settings) (old new : PortsSeen) : Type 0 where
   pub ran : RunsAfterFront (survey_of station most_turns all) old new (Ok tally)
 
 -- if the text was refused nothing was done over the link, and nothing written
-abbrev pub IsUntouched : (old new : PortsSeen) → Result Tally Stop → Type 0
-IsUntouched old new (Err (Text fault)) = IsUnused old new
-IsUntouched old new (Err Empty) = IsUnused old new
-IsUntouched old new (Err (Line n trouble)) = IsUnused old new
-IsUntouched old new _ = Unit {0}
+abbrev pub IsUnusedIfRefused : (old new : PortsSeen) → Result Tally Stop → Type 0
+IsUnusedIfRefused old new (Err (Text fault)) = IsUnused old new
+IsUnusedIfRefused old new (Err Empty) = IsUnused old new
+IsUnusedIfRefused old new (Err (Line n trouble)) = IsUnused old new
+IsUnusedIfRefused old new _ = Unit {0}
 
 -- all records last, as `is_durable` says; nothing is said where the text was refused or the sink failed
 abbrev pub AllLast : (is_durable : Bool) → Result Tally Stop → Type 0

@@ -43,7 +43,7 @@ opened_lines copied torn = copied_line copied ++ torn_line torn
 abbrev pub IsOpenedFor : {F : Type 0} {D : Ghosts F} → Settings → (sync : Bool) → RowsFile F D → Type 0
 IsOpenedFor station sync file = IsOpenedAs (head_text (form_of_rows station.layout.form)) (form_sign (form_of_rows station.layout.form)) sync file
 
--- the messages, which were `old` and are now `new`, got a report of the file's opening, if it could be written (`told`): how many
--- rows were copied, and how many bytes of a torn row were cut off
+-- the messages, which were `old` and are now `new`, got a report of the file's opening, if it could be written (`told`): a
+-- number of copied rows, of which no more is said, and how many bytes of a torn row were cut off
 abbrev pub ReportsOpening : {F : Type 0} {D : Ghosts F} {A E : Type 0} → RowsFile F D → (told : Result A E) → (old new : Option (List ℕ)) → Type 0
 ReportsOpening file told old new = (copied : ℕ) × OnOk told (Appends old new (opened_lines copied (torn_in file)))

@@ -6,7 +6,7 @@ use Rattle.gc_measuring.specs.declared.stop.Stop.TheVariants.{Text, Empty, Line}
 use Rattle.gc_texts.specs.LineForms.{line_at}
 use Rattle.gc_texts.specs.Tasks.{TasksSeen, IsTasks, TaskFault, tasks_seen}
 use Rattle.gc_texts.specs.Troubles.{IsTrouble}
-use Rattle.gc_texts.specs.WholeTexts.{Input, Gave, WasRead, RefusesText}
+use Rattle.gc_texts.specs.WholeTexts.{Input, GaveBytes, WasRead, RefusesText}
 use Rattle.gc_texts.specs.declared.fault.RunFault.{RunFault}
 use Rattle.gc_texts.specs.declared.fault.RunFault.TheVariants.{Schedule}
 use Rattle.gc_texts.specs.declared.tasks.Tasks.{Tasks}
@@ -43,12 +43,12 @@ pub record GivesTasks (given : List ℕ) (old new : Input) (choice : Choice) (al
 
 -- reading took a source from `old` to `new`, and gave the tasks of a station's text, which has the defaults of this choice
 abbrev pub ReadsTasks : (old new : Input) → Choice → Tasks → Type 0
-ReadsTasks old new choice all = Gave old new (λ given. GivesTasks given old new choice (tasks_seen all))
+ReadsTasks old new choice all = GaveBytes old new (λ given. GivesTasks given old new choice (tasks_seen all))
 
 -- reading took a source from `old` to `new`, and gave no tasks, for the reason that this stop says
 abbrev pub ReadsNoTasks : (old new : Input) → Stop → Type 0
-ReadsNoTasks old new stop = Gave old new (λ given. RefusesTasks given old new stop)
+ReadsNoTasks old new stop = GaveBytes old new (λ given. RefusesTasks given old new stop)
 
 -- a source gave a text that a station with this choice can measure
 abbrev pub IsCheckable : Choice → (old new : Input) → Type 0
-IsCheckable choice old new = Gave old new (λ given. (all : TasksSeen) × GivesTasks given old new choice all)
+IsCheckable choice old new = GaveBytes old new (λ given. (all : TasksSeen) × GivesTasks given old new choice all)

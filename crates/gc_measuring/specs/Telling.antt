@@ -171,8 +171,8 @@ pub record HoldsOfFiled {S F K E : Type 0} (sink : Sink F) (whole : AppendingRun
   pub filed : IsFiled sink whole begun ended
   pub holds : Holds (stage begun whole.before.acts whole.before.turns) (stage ended whole.after.acts whole.after.turns)
 
--- a run that appends to a file is reported after what was written of the file's opening, and the file has the rows of what was
--- measured
+-- the end of a run that appends to a file is reported, as `ReportsAtSite` says of the run's own streams. What had been written on
+-- its messages before it began, of the file's opening, isn't said
 abbrev pub ReportsAppended : {S F K E : Type 0} → Views S F E → (has_log : Bool) → Settings → AppendingRun S F K E → (status : ℕ) → Type 0
 ReportsAppended views has_log station whole status = HoldsOfFiled views.sink whole (λ old new. ReportsAtSite views has_log (for_file station) old new status)
 

@@ -1,11 +1,13 @@
 //! A station's text that is only read: what a station would do with it is written on the output, and what looks wrong in it is
 //! reported on the messages. Nothing is connected to.
 
-ghost use Rattle.std.specs.Prelude.{◌≡◌, ◌≤◌, IfOk};
+ghost use Rattle.std.specs.Prelude.{◌≡◌, IfOk};
 ghost use Rattle.std.specs.Process.{exit_status};
 ghost use Rattle.gc_measuring.specs.TaskTexts.{IsCheckable};
 ghost use Rattle.gc_texts.specs.WholeTexts.{input_of};
+ghost use Rattle.gc_messages.specs.Statuses.{IsStatusUpTo};
 
+use crate::counts::report_end_of_run;
 use crate::plan::commands_per_cycle;
 use crate::stop::Stop;
 use crate::task_text::read_task_text;
@@ -31,7 +33,7 @@ pub fn check_task_text<S: Source, K: Sink, E: Write>(
     choice: Choice,
     mut streams: Streams<S, K, E>,
 ) -> (Streams<S, K, E>, io::Result<ExitCode>)
-    ensures bound { IfOk result.1 (λ status. exit_status status ≤ 1) }
+    ensures bound { IsStatusUpTo 1 result.1 }
 
     // Status 0 only if the source gave a text that a station with this choice measures.
     ensures done { IfOk result.1 (λ status. exit_status status ≡ 0
@@ -46,10 +48,7 @@ pub fn check_task_text<S: Source, K: Sink, E: Write>(
     };
     let status = match end {
         Ok(()) => Ok(ExitCode::SUCCESS),
-        Err(stop) => match stop.report(&mut streams.messages) {
-            Ok(()) => Ok(ExitCode::from(1)),
-            Err(failed) => Err(failed),
-        },
+        Err(stop) => report_end_of_run(Err(stop), &mut streams.messages),
     };
     (streams, status)
 }

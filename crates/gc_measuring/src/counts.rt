@@ -1,10 +1,11 @@
 //! How the end of a station's run is reported: by its counts if it is done or its end was asked for, else by the fault for which
 //! it stopped.
 
-ghost use Rattle.std.specs.Prelude.{◌≤◌, IfOk};
+ghost use Rattle.std.specs.Prelude.{IfOk};
 ghost use Rattle.std.specs.Process.{exit_status};
 ghost use Rattle.gc_lines.specs.Ports.{WritesIfOk};
 ghost use Rattle.gc_measuring.specs.Measuring.{ReportsEndOfRun, main_counts_text, other_counts_text, repeats_text, tally_line};
+ghost use Rattle.gc_messages.specs.Statuses.{IsStatusUpTo};
 
 use crate::stop::Stop;
 use gc_station::Tally;
@@ -18,7 +19,7 @@ pub(crate) fn report_end_of_run<E: Write>(
     messages: &mut E,
 ) -> io::Result<ExitCode>
     ensures told { IfOk result (λ status. ReportsEndOfRun end (exit_status status) (E.contents messages.old) (E.contents messages.new)) }
-    ensures bound { IfOk result (λ status. exit_status status ≤ 1) }
+    ensures bound { IsStatusUpTo 1 result }
 {
     match end {
         Ok(tally) => {

@@ -1,12 +1,13 @@
 //! The log of a station: what was on its link, written into a file.
 
-ghost use Rattle.std.specs.Prelude.{◌≡◌, ◌≤◌, true, None, IfOk, IfErr};
+ghost use Rattle.std.specs.Prelude.{◌≡◌, true, None, IfOk, IfErr};
 ghost use Rattle.std.specs.Option.{is_some};
 ghost use Rattle.std.specs.Process.{exit_status};
 ghost use Rattle.gc_texts.specs.declared.fault.RunFault.{RunFault};
 ghost use Rattle.gc_measuring.specs.Logging.{ReportsLoss};
 ghost use Rattle.gc_measuring.specs.Telling.{ReportsLogged, MeasuresAll, stage, views_by};
 ghost use Rattle.gc_logs.specs.Bounds.{has_ended, sink_of};
+ghost use Rattle.gc_messages.specs.Statuses.{IsStatusUpTo};
 
 use crate::spot::Spot;
 use crate::station::measure_over;
@@ -176,7 +177,7 @@ pub(crate) fn measure_logged<L: Link, G: Sink, S: Source, K: Durable, E: Write>(
     ensures done { IfOk result.1 (λ status. exit_status status ≡ 0
         → MeasuresAll (views_by S.Source K.Sink K.is_durable E.contents) spot.entry.station
         (stage streams (L.acts logged.old.link) kept.old.turns) (stage result.0 (L.acts logged.new.link) kept.new.turns)) }
-    ensures bound { IfOk result.1 (λ status. exit_status status ≤ 1) }
+    ensures bound { IsStatusUpTo 1 result.1 }
 {
     let (mut streams, ended) = measure_over(alloc, logged, spot, streams, kept);
     let ended = report_loss(ended, logged.has_lost_its_log(), &mut streams.messages);

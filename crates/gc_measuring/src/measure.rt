@@ -1,7 +1,7 @@
 //! A station's text, read from a source, measured over a link, and its records written into a sink, all in one form.
 
 ghost use Rattle.std.specs.Prelude.{◌≡◌, ◌+◌, ◌≤◌};
-ghost use Rattle.gc_measuring.specs.Measuring.{text_in, front_text, survey_of, RunsSurvey, MeasuresText, IsUntouched, AllLast};
+ghost use Rattle.gc_measuring.specs.Measuring.{text_in, front_text, survey_of, RunsSurvey, MeasuresText, IsUnusedIfRefused, AllLast};
 ghost use Rattle.gc_measuring.specs.Stops.{with_fault};
 ghost use Rattle.gc_measuring.specs.Telling.{ports_seen};
 ghost use Rattle.gc_lines.specs.Ports.{FailsWith, TakesText};
@@ -67,7 +67,7 @@ pub fn run_station_text<L: Link, S: Source, K: Durable, E: Write>(
     ensures bounded { S.reads result.0.input ≤ S.reads streams.input + (TEXT_LIMIT + 1) }
 
     // If the text was refused nothing was done over the link, and nothing written.
-    ensures untouched { IsUntouched
+    ensures untouched { IsUnusedIfRefused
         (ports_seen S.Source K.Sink E.contents streams (L.acts link.old) kept.old.turns)
         (ports_seen S.Source K.Sink E.contents result.0 (L.acts link.new) kept.new.turns)
         result.1 }

@@ -1,6 +1,6 @@
 //! A station that appends its records, as rows, to a file that outlasts the program.
 
-ghost use Rattle.std.specs.Prelude.{◌≡◌, ◌≤◌, [], IfOk, OnErr};
+ghost use Rattle.std.specs.Prelude.{◌≡◌, [], IfOk, OnErr};
 ghost use Rattle.std.specs.Io.KnownBytes.{Appends};
 ghost use Rattle.std.specs.Option.{is_some};
 ghost use Rattle.std.specs.Process.{exit_status};
@@ -9,6 +9,7 @@ ghost use Rattle.gc_measuring.specs.Recording.{IsOpenedFor, ReportsOpening, faul
 ghost use Rattle.gc_measuring.specs.Appending.{appending_run};
 ghost use Rattle.gc_measuring.specs.Telling.{AppendsAll, ReportsAppending, views_by};
 ghost use Rattle.gc_files.specs.Sinks.{steps_in};
+ghost use Rattle.gc_messages.specs.Statuses.{IsStatusUpTo};
 
 use crate::counts::report_end_of_run;
 use crate::spot::Spot;
@@ -153,7 +154,7 @@ pub fn append_at<
 
     // Nothing is written on the output.
     ensures output { result.0.output ≡ streams.output }
-    ensures bound { IfOk result.1 (λ status. exit_status status ≤ 1) }
+    ensures bound { IsStatusUpTo 1 result.1 }
 {
     match open_records(rt, alloc, recording, spot.station, &mut streams.messages) {
         // If the messages on the opening can't be written, the station measures all the same.

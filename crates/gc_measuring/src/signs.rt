@@ -107,8 +107,7 @@ impl Signs {
         self.watch != Watch::Nobody
     }
 
-    /// Counts a record by its ending, and notes its cycle, whether a command was answered or skipped, and whether the setup isn't
-    /// done.
+    /// Counts a record by its ending, and notes what it says of the run (`note`).
     pub(crate) fn count(&mut self, stamp: Stamp, ending: Ending<'_>)
         ensures { self.new.counts ≡ counted (ending_seen ending.entry) self.old.counts }
     {
@@ -176,7 +175,8 @@ impl Signs {
         let before = self.health;
         self.note_health(health, moment);
         if moment.utc != 0 {
-            self.report_troubles(before, is_lost, moment, messages)?;
+            self.wanted.look(health, moment);
+            self.report_troubles(before, is_lost, messages)?;
         }
         self.report_skipped_once_over(messages)?;
         self.show(messages)
@@ -192,17 +192,15 @@ impl Signs {
         self.elapsed = moment.elapsed;
     }
 
-    // Notes whether an answer is wanted, and writes the lines that are due, each kind at most once a minute: on a missing
-    // connection, on a setup that isn't done, on a line that isn't quiet, on an answer that doesn't come, and on the end of such
-    // a trouble. `before` is the health of the link at the look before this one, and `is_lost` as in `see`.
+    // Writes the lines on troubles that are due, each kind at most once a minute: on a missing connection, on a setup that isn't
+    // done, on a line that isn't quiet, on an answer that doesn't come, and on the end of such a trouble. `before` is the health
+    // of the link at the look before this one, and `is_lost` as in `see`.
     fn report_troubles<E: Write>(
         &mut self,
         before: LinkHealth,
         is_lost: bool,
-        moment: Moment,
         messages: &mut E,
     ) -> io::Result<()> {
-        self.wanted.look(self.health, moment);
         self.report_connection(before, is_lost, messages)?;
         self.report_unprepared(messages)?;
         self.report_unquiet(messages)?;
@@ -259,10 +257,7 @@ impl Signs {
             return Ok(());
         }
         self.answers_again = false;
-        if !is_lost || before == LinkHealth::Idle {
-            return Ok(());
-        }
-        if !self.unconnected.claim(self.elapsed, MINUTE) {
+        if !is_lost || before == LinkHealth::Idle || !self.unconnected.claim(self.elapsed, MINUTE) {
             return Ok(());
         }
         self.report_since(self.since.utc, "no connection", messages)
@@ -283,10 +278,8 @@ impl Signs {
     fn report_unquiet<E: Write>(&mut self, messages: &mut E) -> io::Result<()> {
         if self.health != LinkHealth::Unquiet
             || !has_lasted(self.since.elapsed, self.elapsed, LASTING)
+            || !self.unquiet.claim(self.elapsed, MINUTE)
         {
-            return Ok(());
-        }
-        if !self.unquiet.claim(self.elapsed, MINUTE) {
             return Ok(());
         }
         self.report_since(self.since.utc, "line not quiet", messages)
@@ -295,16 +288,14 @@ impl Signs {
     // Reports at most once a minute that no answer comes, once that has lasted for `LASTING`, whatever became of connections
     // meanwhile. From then on the want is overdue, also if no line of this kind may be written yet.
     fn report_unanswered<E: Write>(&mut self, messages: &mut E) -> io::Result<()> {
-        match self.wanted.lasting(self.elapsed, LASTING) {
-            Some(since) => {
-                self.wanted.overdue = true;
-                if !self.unanswered.claim(self.elapsed, MINUTE) {
-                    return Ok(());
-                }
-                self.report_since(since.utc, "no answer", messages)
-            }
-            None => Ok(()),
+        let Some(since) = self.wanted.lasting(self.elapsed, LASTING) else {
+            return Ok(());
+        };
+        self.wanted.overdue = true;
+        if !self.unanswered.claim(self.elapsed, MINUTE) {
+            return Ok(());
         }
+        self.report_since(since.utc, "no answer", messages)
     }
 
     /// Reports, of a run that ended because it is stale, since when no answer of a good quality came. `since` is in milliseconds

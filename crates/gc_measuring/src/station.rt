@@ -1,10 +1,11 @@
 //! A station at a place: it opens its log and its link, measures, and reports how that ended.
 
-ghost use Rattle.std.specs.Prelude.{◌≡◌, ◌≤◌, [], Some, IfOk, IfErr};
+ghost use Rattle.std.specs.Prelude.{◌≡◌, [], Some, IfOk, IfErr};
 ghost use Rattle.std.specs.Option.{is_some};
 ghost use Rattle.std.specs.Process.{exit_status};
 ghost use Rattle.gc_measuring.specs.Stops.{fault_without_link, IsFaultWithoutLink};
 ghost use Rattle.gc_measuring.specs.Telling.{ReportsMeasuring, MeasuresAll, ReportsAtSite, MeasuresAllAtLink, CannotBegin, acts_of, stage, views_by};
+ghost use Rattle.gc_messages.specs.Statuses.{IsStatusUpTo};
 
 use crate::counts::report_end_of_run;
 use crate::logging::{LogSink, log_at, measure_logged};
@@ -63,7 +64,7 @@ pub fn measure_at<
     ensures done { IfOk result.1 (λ status. exit_status status ≡ 0
         → MeasuresAllAtLink (views_by S.Source K.Sink K.is_durable E.contents) spot.entry.station
         (stage streams (Some []) kept.old.turns) (stage result.0 (acts_of result.2) kept.new.turns)) }
-    ensures bound { IfOk result.1 (λ status. exit_status status ≤ 1) }
+    ensures bound { IsStatusUpTo 1 result.1 }
 {
     let Opened { link, moment, log } = match open_link_and_log(rt, spot) {
         Ok(opened) => opened,
@@ -164,7 +165,7 @@ pub(crate) fn measure_over<L: Link, S: Source, K: Durable, E: Write>(
     ensures done { IfOk result.1 (λ status. exit_status status ≡ 0
         → MeasuresAll (views_by S.Source K.Sink K.is_durable E.contents) spot.entry.station
         (stage streams (L.acts link.old) kept.old.turns) (stage result.0 (L.acts link.new) kept.new.turns)) }
-    ensures bound { IfOk result.1 (λ status. exit_status status ≤ 1) }
+    ensures bound { IsStatusUpTo 1 result.1 }
 {
     let (mut streams, end) = run_station_text(alloc, link, spot, streams, u64::MAX, kept);
     note_stop(spot, end);

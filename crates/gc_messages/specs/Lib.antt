@@ -1,4 +1,5 @@
 pub mod Following
 pub mod Refusals
 pub mod Repairs
+pub mod Statuses
 pub mod Streams

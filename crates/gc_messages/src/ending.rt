@@ -1,10 +1,11 @@
 //! How an end is reported: the exit status, and a line for a refusal or a fault.
 
-ghost use Rattle.std.specs.Prelude.{◌≤◌, IfOk};
+ghost use Rattle.std.specs.Prelude.{IfOk};
 ghost use Rattle.std.specs.Process.{exit_status};
 ghost use Rattle.gc_lines.specs.Answering.{serve_fault_text};
 ghost use Rattle.gc_texts.specs.Faults.{run_fault_text, Tells};
 ghost use Rattle.gc_messages.specs.Refusals.{Refuses, refusal_line, range_line, stale_line, place_line};
+ghost use Rattle.gc_messages.specs.Statuses.{IsStatusUpTo};
 
 use gc_lines::{ServeFault, Served};
 use gc_links::Place;
@@ -59,7 +60,7 @@ pub fn refuse_place<E: Write>(serves: bool, messages: &mut E) -> io::Result<Exit
 /// written.
 pub fn report_end<E: Write>(end: Result<(), RunFault>, messages: &mut E) -> io::Result<ExitCode>
     ensures told { IfOk result (λ status. Tells run_fault_text end (exit_status status) (E.contents messages.old) (E.contents messages.new)) }
-    ensures bound { IfOk result (λ status. exit_status status ≤ 1) }
+    ensures bound { IsStatusUpTo 1 result }
 {
     match end {
         Ok(()) => Ok(ExitCode::SUCCESS),
@@ -77,7 +78,7 @@ pub fn report_end_at<E: Write>(
     end: Result<(), RunFault>,
     messages: &mut E,
 ) -> io::Result<ExitCode>
-    ensures { IfOk result (λ status. exit_status status ≤ 1) }
+    ensures { IsStatusUpTo 1 result }
 {
     let ended = report_end(end, messages);
     if let Err(fault) = end {

@@ -1,9 +1,10 @@
 //! The three standard streams: which of them are open, and what takes the places of those that aren't. A socket that is opened
 //! while a stream is closed may take that stream's place, and gets then what is written to the stream.
 
-ghost use Rattle.std.specs.Prelude.{◌≡◌, ◌≤◌, IfOk};
+ghost use Rattle.std.specs.Prelude.{◌≡◌, IfOk};
 ghost use Rattle.std.specs.Process.{exit_status};
 ghost use Rattle.gc_messages.specs.Streams.{are_open, ReportsClosed};
+ghost use Rattle.gc_messages.specs.Statuses.{IsStatusUpTo};
 
 use gc_texts::RunFault;
 use std::fs::{Files, OpenOptions};
@@ -56,7 +57,7 @@ impl Standard {
     /// `Err`: that line couldn't be written.
     pub fn report_closed<E: Write>(self, messages: &mut E) -> io::Result<ExitCode>
         ensures told { IfOk result (λ status. ReportsClosed self (exit_status status) (E.contents messages.old) (E.contents messages.new)) }
-        ensures bound { IfOk result (λ status. exit_status status ≤ 1) }
+        ensures bound { IsStatusUpTo 1 result }
     {
         if self.messages {
             RunFault::StreamClosed.tell(messages)?;

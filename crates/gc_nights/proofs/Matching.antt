@@ -8,29 +8,30 @@ use Rattle.gc_nights.specs.Claims.{SpeaksOf, IsTrueAt, MatchesNext, AreTrue}
 use Rattle.gc_nights.specs.declared.claim.Claim.{Claim}
 use Rattle.gc_rehearsal.specs.declared.truth.Truth.{Truth}
 
--- rows are also true by one reply more in front
+-- rows that are true by replies are also true by these with one more reply before them
 true_by_one_more : (claims : List Claim) (truth : Truth) (truths : List Truth) → AreTrue claims truths → AreTrue claims (truth ∷ truths)
 true_by_one_more [] truth truths are = tt
 true_by_one_more (c ∷ cs) truth truths are = inr are
 
--- rows are also true without the first of them
+-- rows that are true by replies are also true without the first row
 true_without_first : (claim : Claim) (claims : List Claim) (truths : List Truth) → AreTrue (claim ∷ claims) truths → AreTrue claims truths
 true_without_first claim claims [] are = absurd are
 true_without_first claim claims (t ∷ ts) (inl both) = true_by_one_more claims t ts both.1
 true_without_first claim claims (t ∷ ts) (inr later) = true_by_one_more claims t ts (true_without_first claim claims ts later)
 
--- rows are true by replies: those after the first row are, by those after the first reply
+-- if rows are true by replies, the rows after the first one are true by the replies after the first one
 true_behind : (claim : Claim) (claims : List Claim) (truth : Truth) (truths : List Truth) → AreTrue (claim ∷ claims) (truth ∷ truths) → AreTrue claims truths
 true_behind claim claims truth truths (inl both) = both.1
 true_behind claim claims truth truths (inr later) = true_without_first claim claims truths later
 
--- rows, the first of which doesn't speak of the first reply, are true by the replies after that one
+-- if rows are true by replies, and the first row doesn't speak of the first reply, the rows are true by the replies after it
 true_later : (claim : Claim) (claims : List Claim) (truth : Truth) (truths : List Truth) → (SpeaksOf claim truth → ⊥)
     → AreTrue (claim ∷ claims) (truth ∷ truths) → AreTrue (claim ∷ claims) truths
 true_later claim claims truth truths not (inl both) = absurd (not both.0)
 true_later claim claims truth truths not (inr later) = later
 
--- where no row is there, or the first doesn't speak of the first reply, rows are true with that reply exactly if they are without it
+-- if there is no row, or the first row doesn't speak of the first reply, rows are true with that reply exactly if they are true
+-- without it
 unmatched : (claims : List Claim) (truth : Truth) (truths : List Truth)
     → ((claim : Claim) (others : List Claim) → claims ≡ claim ∷ others → SpeaksOf claim truth → ⊥)
     → AreTrue claims (truth ∷ truths) ↔ AreTrue claims truths
@@ -94,7 +95,7 @@ pub all_matched : (claims : List Claim) (truths : List Truth) (matched seen : �
 all_matched claims truths matched seen so_far all =
     so_far.1 (subst (λ cs. AreTrue cs (drop seen truths)) (sym (drop_all matched claims all)) tt)
 
--- where a row is left, and no reply is, the rows aren't true
+-- if a row is left, and no reply is left, the rows aren't all true
 pub one_unmatched : (claims : List Claim) (truths : List Truth) (matched seen : ℕ) (claim : Claim) → HasMatched claims truths matched seen
     → slice_get claims matched ≡ Some claim → length truths ≤ seen → AreTrue claims truths → ⊥
 one_unmatched claims truths matched seen claim so_far there all are =

@@ -47,7 +47,7 @@ AreTrue (claim ∷ claims) (truth ∷ truths) = (SpeaksOf claim truth × AreTrue
 abbrev pub IsAmong : List Claim → Claim → Type 0
 IsAmong claims claim = (place : ℕ) × (slice_get claims place ≡ Some claim)
 
--- the row of a claim
+-- the row of a claim, as it is named if the claim isn't true
 abbrev pub false_row_of : Claim → FalseRow
 false_row_of claim = record { row = claim.row; stamp = claim.stamp; target = claim.target }
 

@@ -1,7 +1,7 @@
 //! A rehearsal: its texts are read, its nights are rehearsed, and how that ended is reported.
 
-ghost use Rattle.std.specs.Prelude.{[], ◌≡◌, ◌≤◌, IfOk};
-ghost use Rattle.std.specs.Process.{exit_status};
+ghost use Rattle.std.specs.Prelude.{[], ◌≡◌};
+ghost use Rattle.gc_messages.specs.Statuses.{IsStatusUpTo};
 
 use crate::book::{RunBook, Seen};
 use crate::deadlines::Deadlines;
@@ -43,7 +43,7 @@ pub fn rehearse<R: Files, S: Source, K: Sink + Drop, E: Write>(
     rehearsal: Rehearsal<'_>,
     streams: Streams<S, K, E>,
 ) -> (Streams<S, K, E>, io::Result<ExitCode>)
-    ensures { IfOk result.1 (λ status. exit_status status ≤ 1) }
+    ensures { IsStatusUpTo 1 result.1 }
 {
     let Streams {
         mut input,
@@ -65,7 +65,7 @@ pub fn rehearse<R: Files, S: Source, K: Sink + Drop, E: Write>(
 
 // Reports how a rehearsal ended: with status 0, or with status 1 and the lines of its fault. It fails if these can't be written.
 fn report<E: Write>(end: Result<(), Halt>, messages: &mut E) -> io::Result<ExitCode>
-    ensures { IfOk result (λ status. exit_status status ≤ 1) }
+    ensures { IsStatusUpTo 1 result }
 {
     match end {
         Ok(()) => Ok(ExitCode::SUCCESS),

@@ -6,14 +6,17 @@
 //!     do shut, leave           the last caller writes no more, or goes away
 //!     do serve 2 9             so many callers are served, in that many reads each
 //!     do keep 3                so many callers are served at a kept port, which closes on one that is idle for a second
-//!     do slow drop 5003 200    a caller is served by an instrument whose reply to this procedure takes this many milliseconds, and
-//!                              that drops what comes meanwhile, or queues it (`queue`)
-//!     do hear 0                what this caller, counted from 0, has heard at the end of its connection, or `it waits` if no end comes
+//!     do slow drop 5003 200    a caller is served by an instrument whose reply to this procedure takes this many milliseconds,
+//!                              and that drops what comes meanwhile, or queues it (`queue`)
+//!     do hear 0                what this caller, counted from 0, has heard at the end of its connection, or `it waits` if no end
+//!                              comes
 //!     do ask 9 7 5003\n        these commands are asked at the port, in that many reads
 //!     do accept                the connection that `ask` or `at` made is accepted, and its end here is one more caller
-//!     do listen [::1]          another port, of this address or of 127.0.0.2; where [::1] can't be listened at, `at` reports `done`
+//!     do listen [::1]          another port, of this address or of 127.0.0.2; where [::1] can't be listened at, `at` reports
+//!                              `done`
 //!     do at [::1]              a text without commands is asked there
-//!     do port 7                a text without commands is asked at this port, by its number and as a place, and the port is served
+//!     do port 7                a text without commands is asked at this port, by its number and as a place, and the port is
+//!                              served
 //!     do ends, cut_ends        in ends.rt
 
 ghost use Rattle.std.specs.Prelude.{◌≤◌};
@@ -86,8 +89,8 @@ impl<'a> Rows for PortRows<'a> {
     }
 }
 
-// Reports how asking or serving ended. Of a write that failed, the number of replies before it is reported as `+` if there were any,
-// because it isn't known how many the system takes.
+// Reports how asking or serving ended. Of a write that failed, the number of replies before it is reported as `+` if there were
+// any, because it isn't known how many the system takes.
 fn tell_end(end: Result<(), RunFault>, came: &mut Told) {
     match end {
         Ok(()) => came.text("done"),
@@ -98,8 +101,8 @@ fn tell_end(end: Result<(), RunFault>, came: &mut Told) {
     }
 }
 
-// Reports these lines, with `+` for the number between the first ` reply ` and the ` byte ` after it, because it isn't known how many
-// replies the system takes. Lines without a ` reply ` are reported as they are.
+// Reports these lines, with `+` for the number between the first ` reply ` and the ` byte ` after it, because it isn't known how
+// many replies the system takes. Lines without a ` reply ` are reported as they are.
 fn tell_uncounted(lines: &str, came: &mut Told) {
     let Some((front, behind)) = lines.split_once(" reply ") else {
         return came.text(lines);
@@ -110,12 +113,12 @@ fn tell_uncounted(lines: &str, came: &mut Told) {
 }
 
 impl<'a> PortRows<'a> {
-    // Plays a row in which a caller does something, or in which another port is listened at, and reports what can't be done, or that the
-    // word is unknown.
+    // Plays a row in which a caller does something, or in which another port is listened at, and reports what can't be done, or
+    // that the word is unknown.
     fn prepare(&mut self, row: Row<'_>, came: &mut Told) {
         match row.word {
             "call" => tell_done(self.call(row.bytes), came),
-            "again" => self.write_times(row, came),
+            "again" => tell_done(self.write_times(row, came), came),
             "shut" => tell_done(self.shut(), came),
             "leave" => drop(self.callers.pop()),
             "accept" => tell_done(self.accept(), came),
@@ -130,15 +133,15 @@ impl<'a> PortRows<'a> {
         self.add_caller(stream) && self.write(bytes)
     }
 
-    // Accepts the connection that `ask` or `ask_at` made, and returns whether its end here is one more caller now. It waits for ever if
-    // none was made.
+    // Accepts the connection that `ask` or `ask_at` made, and returns whether its end here is one more caller now. It waits for
+    // ever if none was made.
     fn accept(&mut self) -> bool {
         let stream = accepted(&self.listener);
         self.add_caller(stream)
     }
 
-    // Adds the end of a connection to the callers, as the last one. Returns whether that could be done: `false` if there is no connection,
-    // or memory ran out.
+    // Adds the end of a connection to the callers, as the last one. Returns whether that could be done: `false` if there is no
+    // connection, or memory ran out.
     fn add_caller(&mut self, stream: io::Result<TcpStream>) -> bool {
         match stream {
             Ok(stream) => self.callers.push(stream).is_ok(),
@@ -146,15 +149,16 @@ impl<'a> PortRows<'a> {
         }
     }
 
-    // The last caller writes the bytes that the row has after a number (`Row::cut_bytes`), as many times as the number says. At
-    // the first write that fails it stops, and reports that.
-    fn write_times(&mut self, row: Row<'_>, came: &mut Told) {
+    // The last caller writes the bytes that the row has after a number (`Row::cut_bytes`), as many times as the number says, up
+    // to the first write that fails. Returns whether none failed.
+    fn write_times(&mut self, row: Row<'_>, came: &mut Told) -> bool {
         let (times, bytes) = row.cut_bytes();
         for _ in 0..came.number_in::<u64>(times) {
             if !self.write(bytes) {
-                return tell_done(false, came);
+                return false;
             }
         }
+        true
     }
 
     // The last caller writes these bytes. Returns whether that could be done; also `true` without a caller, where
@@ -174,8 +178,8 @@ impl<'a> PortRows<'a> {
         }
     }
 
-    // Listens at a free port of this address from now on, which is 127.0.0.2 or [::1]. Returns whether that could be done. Where [::1]
-    // can't be listened at, as on a machine without it, that counts as done, and `is_absent` is true.
+    // Listens at a free port of this address from now on, which is 127.0.0.2 or [::1]. Returns whether that could be done. Where
+    // [::1] can't be listened at, as on a machine without it, that counts as done, and `is_absent` is true.
     fn listen(&mut self, what: &str) -> bool {
         match what {
             "127.0.0.2" => {
@@ -193,7 +197,8 @@ impl<'a> PortRows<'a> {
         }
     }
 
-    // Listens by this listener from now on, if there is one, and returns whether there is. Without one the listener from before stays.
+    // Listens by this listener from now on, if there is one, and returns whether there is. Without one the listener from before
+    // stays.
     fn listen_by(&mut self, listener: io::Result<TcpListener>) -> bool {
         match listener {
             Ok(listener) => {
@@ -287,8 +292,8 @@ impl<'a> PortRows<'a> {
         tell_end(self.ask_place(Place::Host(text_of(name.as_bytes()))), came)
     }
 
-    // Asks a text without commands at the port that `what` says, by its number and as a place, then serves that port, and reports how
-    // each of these ended; or `no port` if `what` is no number from 1 to 65535.
+    // Asks a text without commands at the port that `what` says, by its number and as a place, then serves that port, and reports
+    // how each of these ended; or `no port` if `what` is no number from 1 to 65535.
     fn ask_port(&mut self, what: &str, came: &mut Told) {
         let port = came.number_in::<u16>(what);
         if port == 0 {
@@ -331,7 +336,8 @@ impl<'a> PortRows<'a> {
     }
 }
 
-// An instrument without rules whose reply to one procedure takes time, and that drops what comes meanwhile (`drops`), or queues it.
+// An instrument without rules whose reply to one procedure takes time, and that drops what comes meanwhile (`drops`), or queues
+// it.
 fn slow_instrument(delay: Delay, drops: bool) -> SlowInstrument {
     let mut delays = ArrayVec::new();
     delays.push(delay);
@@ -371,8 +377,8 @@ fn connected(rt: &HostRuntime, listener: &TcpListener) -> io::Result<TcpStream> 
     bounded(TcpStream::connect(rt, address)?)
 }
 
-// Reports whether all lines on the faults of a kept port's callers were written (`all`), and these lines, `messages`, as `tell_uncounted`
-// does.
+// Reports whether all lines on the faults of a kept port's callers were written (`all`), and these lines, `messages`, as
+// `tell_uncounted` does.
 fn tell_kept(all: bool, messages: &[u8], came: &mut Told) {
     came.text(written_word(all));
     came.text(": ");

@@ -13,8 +13,8 @@ use std::os::unix::net::UnixStream;
 use std::time::Duration;
 use std::{io, thread};
 
-/// Reports what the link of the row with this word comes to: `device`, `pulled`, `second_address` or `own_connection`. Any other word is
-/// reported as unknown.
+/// Reports what the link of the row with this word comes to: `device`, `pulled`, `second_address` or `own_connection`. Any other
+/// word is reported as unknown.
 pub fn tell_outcome(rt: &HostRuntime, word: &str, came: &mut Told) {
     match word {
         "device" => tell_device(rt, came),
@@ -25,14 +25,22 @@ pub fn tell_outcome(rt: &HostRuntime, word: &str, came: &mut Told) {
     }
 }
 
-// A terminal that nobody reads or writes at the other end, opened for writing, and with `reads` for reading, too. `None`: this
-// machine has none, or it can't be opened.
-fn terminal(rt: &HostRuntime, reads: bool) -> Option<File> {
+// The path by whose opening the system makes a pseudo terminal, and gives its controlling end.
+const TERMINAL: &str = "/dev/ptmx";
+
+// A terminal that nobody reads or writes at the other end, opened for reading and writing. `None`: this machine has none, or it
+// can't be opened.
+fn terminal(rt: &HostRuntime) -> Option<File> {
     OpenOptions::new()
-        .read(reads)
+        .read(true)
         .write(true)
-        .open(rt, "/dev/ptmx")
+        .open(rt, TERMINAL)
         .ok()
+}
+
+// Such a terminal, opened for writing alone, so that each read of it fails.
+fn unreadable_terminal(rt: &HostRuntime) -> Option<File> {
+    OpenOptions::new().write(true).open(rt, TERMINAL).ok()
 }
 
 // What a link came to.
@@ -90,14 +98,14 @@ fn tell_device(rt: &HostRuntime, came: &mut Told) {
 // the device, a read takes its time if nothing comes, and a put is cut once the system takes no more. Where no two such devices
 // can be opened, as on a machine without them, that counts as right.
 fn device_outcome(rt: &HostRuntime, much: &[u8]) -> Outcome {
-    match (terminal(rt, true), terminal(rt, true)) {
+    match (terminal(rt), terminal(rt)) {
         (Some(one), Some(other)) => opened_twice_outcome(rt, [one, other].as_slice(), much),
         _ => Outcome::Device,
     }
 }
 
-// What a link comes to over a device that was opened twice (`devices`): `Held` if it can't be had, `Shared` if a second link, over the
-// other opening, isn't refused then, and otherwise what the first link's acts come to.
+// What a link comes to over a device that was opened twice (`devices`): `Held` if none can be had, `Shared` if a second link,
+// over the other opening, isn't refused then, and otherwise what the first link's acts come to.
 fn opened_twice_outcome(rt: &HostRuntime, devices: &[File], much: &[u8]) -> Outcome {
     let done = RefCell::new(Done::nothing());
     let rig = rigged(devices, &[], &done);
@@ -112,10 +120,10 @@ fn opened_twice_outcome(rt: &HostRuntime, devices: &[File], much: &[u8]) -> Outc
 
 // Whether a link over a rig's second opening of a device is refused as held, while another link has the first opening.
 fn is_held(rig: &CaseRuntime<Rig<'_, '_, '_>>) -> bool {
-    match PlacedLink::new(rig, Place::Device("/dev/1")) {
-        Err(Some(unusable)) => unusable == Unusable::Held,
-        _ => false,
-    }
+    matches!(
+        PlacedLink::new(rig, Place::Device("/dev/1")),
+        Err(Some(Unusable::Held))
+    )
 }
 
 // What an opening of this link, reads until it is silent, and a put of the bytes `much` come to: `Device` if all is as it should
@@ -134,8 +142,8 @@ fn device_acts_outcome<L: Link>(link: &mut L, much: &[u8]) -> Outcome {
     Outcome::Device
 }
 
-// A link to the first device of a rig. All such terminals have one lock, so another run of these cases may hold it for a moment: it is
-// tried every 20 milliseconds. `None`: none could be had within four seconds.
+// A link to the first device of a rig. All such terminals have one lock, so another run of these cases may hold it for a moment:
+// it is tried every 20 milliseconds. `None`: none could be had within four seconds.
 fn device_link<'a, 'b, 'c, 'd>(
     rt: &HostRuntime,
     rig: &'a CaseRuntime<Rig<'b, 'c, 'd>>,
@@ -152,7 +160,7 @@ fn device_link<'a, 'b, 'c, 'd>(
 // What a link comes to over a device of which each read fails, as of one that was pulled out. It should be `Failure`. Where no
 // such device can be opened, as on a machine without them, that counts as right.
 fn pulled_outcome(rt: &HostRuntime) -> Outcome {
-    let Some(device) = terminal(rt, false) else {
+    let Some(device) = unreadable_terminal(rt) else {
         return Outcome::Failure;
     };
     let devices = [device];
@@ -164,7 +172,8 @@ fn pulled_outcome(rt: &HostRuntime) -> Outcome {
     }
 }
 
-// Opens this link, and reads. Returns `Failure` if the read fails, `NoFailure` if it doesn't, and `Shut` if the link can't be opened.
+// Opens this link, and reads. Returns `Failure` if the read fails, `NoFailure` if it doesn't, and `Shut` if the link can't be
+// opened.
 fn failure_outcome<L: Link>(link: &mut L) -> Outcome {
     if link.open().is_err() {
         return Outcome::Shut;
@@ -185,8 +194,8 @@ fn opening_outcome<L: Link>(link: &mut L) -> Outcome {
     Outcome::Open
 }
 
-// What a link to a name with two addresses comes to, if its attempts to connect make these connections, in their order. `Nothing`: the
-// link can't be made.
+// What a link to a name with two addresses comes to, if its attempts to connect make these connections, in their order.
+// `Nothing`: the link can't be made.
 fn named_outcome(connections: &[Option<TcpStream>]) -> Outcome {
     let done = RefCell::new(Done::nothing());
     let rig = rigged(&[], connections, &done);
@@ -196,8 +205,8 @@ fn named_outcome(connections: &[Option<TcpStream>]) -> Outcome {
     }
 }
 
-// What a link comes to whose name has a first address that doesn't answer and a second one that does. It should be `Open`. `Nothing`: there
-// are no sockets for it, or no link.
+// What a link comes to whose name has a first address that doesn't answer and a second one that does. It should be `Open`.
+// `Nothing`: there are no sockets for it, or no link.
 fn second_address_outcome(rt: &HostRuntime) -> Outcome {
     match UnixStream::pair(rt) {
         Ok((near, _far)) => {
@@ -207,8 +216,8 @@ fn second_address_outcome(rt: &HostRuntime) -> Outcome {
     }
 }
 
-// What a link comes to whose first connection leads to itself, and whose name has no other that can be made. It should be `Shut`, because
-// such a connection counts as none. `Nothing`: there is no such connection, or no link.
+// What a link comes to whose first connection leads to itself, and whose name has no other that can be made. It should be `Shut`,
+// because such a connection counts as none. `Nothing`: there is no such connection, or no link.
 fn own_connection_outcome(rt: &HostRuntime) -> Outcome {
     match own_socket(rt) {
         Ok(own) => named_outcome([Some(TcpStream::from(OwnedFd::from(own)))].as_slice()),

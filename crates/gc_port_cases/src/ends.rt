@@ -38,8 +38,8 @@ impl Callers for Ends {
     }
 }
 
-/// Serves eight callers, whose first seven connections end as `FIRST_ENDS` says, and the eighth well. Reports how many were served,
-/// whether the lines of all faults were written, and these lines.
+/// Serves eight callers, whose first seven connections end as `FIRST_ENDS` says, and the eighth well. Reports how many were
+/// served, whether the lines of all faults were written, and these lines.
 pub fn tell_ends(came: &mut Told) {
     let mut ends = Ends { at: 0 };
     let mut messages = Vec::new(came.alloc);
@@ -49,8 +49,8 @@ pub fn tell_ends(came: &mut Told) {
     came.bytes(messages.as_slice());
 }
 
-/// Serves the same eight callers with room for forty bytes of messages, which is less than the lines of their faults have. Reports how many
-/// were served, and whether all of these lines were written.
+/// Serves the same eight callers with room for forty bytes of messages, which is less than the lines of their faults have.
+/// Reports how many were served, and whether all of these lines were written.
 pub fn tell_cut_ends(came: &mut Told) {
     let mut ends = Ends { at: 0 };
     let mut room = [0; 40];

@@ -44,7 +44,8 @@ impl Player for LinksPlayer {
     }
 }
 
-// Plays a case whose link leads to this listener, or to the port that the case names. If there is no such link, only that is reported.
+// Plays a case whose link leads to this listener, or to the port that the case names. If there is no such link, only that is
+// reported.
 fn play_at(rt: &HostRuntime, listener: TcpListener, case: &Case<'_>, wrong: &mut Told) {
     match link_of(rt, &listener, case) {
         Some(link) => play_over(rt, listener, link, case, wrong),
@@ -117,7 +118,8 @@ impl<'a> Rows for LinkRows<'a> {
 }
 
 impl<'a> LinkRows<'a> {
-    // Puts bytes on the link, and reports whether all were sent, or after how many bytes the put was cut; or that there is nothing to put.
+    // Puts bytes on the link, and reports whether all were sent, or after how many bytes the put was cut; or that there is
+    // nothing to put.
     fn put(&mut self, bytes: &[u8], came: &mut Told) {
         if bytes.is_empty() {
             return came.text("nothing to put");
@@ -137,9 +139,9 @@ impl<'a> LinkRows<'a> {
         }
     }
 
-    // Puts `much`, more than a connection takes while nobody reads, and stores in `sent` how many of its bytes were sent. If that is a
-    // part of it, and the put took less than two seconds, reports `a part, in its time`; else how many bytes were sent in how many
-    // milliseconds. If the clock can't be read, it reports `no clock`.
+    // Puts `much`, more than a connection takes while nobody reads, and stores in `sent` how many of its bytes were sent. If that
+    // is a part of it, and the put took less than two seconds, reports `a part, in its time`; else how many bytes were sent in
+    // how many milliseconds. If the clock can't be read, it reports `no clock`.
     fn put_much(&mut self, much: &[u8], came: &mut Told) {
         let begun = elapsed(&mut self.link);
         let sent = put_counted(&mut self.link, much);
@@ -203,8 +205,8 @@ fn write_all(far: &mut Option<TcpStream>, bytes: &[u8]) -> bool {
     }
 }
 
-// Reads what the far end hears until its connection is shut, and reports it as `tell_far_bytes` says. `sent` is how many bytes the
-// stalled put sent.
+// Reads what the far end hears until its connection is shut, and reports it as `tell_far_bytes` says. `sent` is how many bytes
+// the stalled put sent.
 fn tell_far_heard(far: &mut TcpStream, sent: usize, came: &mut Told) {
     let mut bytes = Vec::new(came.alloc);
     let is_end = hear(far, &mut bytes);
@@ -212,7 +214,7 @@ fn tell_far_heard(far: &mut TcpStream, sent: usize, came: &mut Told) {
 }
 
 // Reports what a far end heard: `bytes` until its connection was shut, or `open` if it wasn't heard to that end (`is_end` is
-// false). Of a hundred bytes or more only the number is reported, and as "that part" if it is `sent`, how many bytes the stalled
+// false). Of a hundred bytes or more only the number is reported, or `that part` if the number is `sent`, as many as the stalled
 // put sent.
 fn tell_far_bytes(is_end: bool, bytes: &[u8], sent: usize, came: &mut Told) {
     if !is_end {
@@ -252,8 +254,8 @@ pub fn put_counted<L: Link>(link: &mut L, bytes: &[u8]) -> usize {
     }
 }
 
-// Reports what a read into `buf` came to, `read`: the bytes that came, or, if their moment isn't after `YEAR_2023`, that moment;
-// and if no bytes came, a word.
+// Reports the result `read` of a read into `buf`: the bytes that came, or their moment if that isn't after `YEAR_2023`; if none
+// came, a word.
 fn tell_came(read: Came, buf: &[u8], came: &mut Told) {
     match read {
         Came::Bytes(n, moment) if moment.utc > YEAR_2023 => {

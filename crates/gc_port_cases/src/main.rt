@@ -1,5 +1,5 @@
-//! Cases of real connections, played: no part of the product. What a link reports of a socket and of a device, and how callers are
-//! served.
+//! Cases of real connections, played: no part of the product. What a link reports of a socket and of a device, and how callers
+//! are served.
 #![tactic(auto)]
 
 mod callers;

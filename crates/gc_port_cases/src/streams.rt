@@ -6,8 +6,8 @@ use std::io::{self, Read};
 use std::net::{TcpListener, TcpStream};
 use std::time::Duration;
 
-/// Listens at 1024, the lowest port that any user may listen at. A call that took 1024 in place of a lower port would then connect, where
-/// the case expects a failure. `Err`: the system doesn't let it listen there, as where another program does.
+/// Listens at 1024, the lowest port that any user may listen at. A call that took 1024 in place of a lower port would then
+/// connect, where the case expects a failure. `Err`: the system doesn't let it listen there, as where another program does.
 pub fn listener_at_1024(rt: &HostRuntime) -> io::Result<TcpListener> {
     listen(rt, 1024)
 }
@@ -21,15 +21,15 @@ pub fn bounded(stream: TcpStream) -> io::Result<TcpStream> {
     Ok(stream)
 }
 
-/// Accepts the next connection to this listener, and returns its end here, of which each read waits for at most `READ_PATIENCE`. It waits
-/// for ever if none is made. `Err`: the system can't accept one, or can't bound its reads.
+/// Accepts the next connection to this listener, and returns its end here, of which each read waits for at most `READ_PATIENCE`.
+/// It waits for ever if none is made. `Err`: the system can't accept one, or can't bound its reads.
 pub fn accepted(listener: &TcpListener) -> io::Result<TcpStream> {
     let (stream, _) = listener.accept()?;
     bounded(stream)
 }
 
-/// Appends the bytes that a stream gives until its end, and returns whether the end came: `false` if a read failed or gave nothing in its
-/// time, or memory ran out. The bytes that came before that may be appended.
+/// Appends the bytes that a stream gives until its end, and returns whether the end came: `false` if a read failed or gave
+/// nothing in its time, or memory ran out. The bytes that came before that may be appended.
 pub fn hear(stream: &mut TcpStream, bytes: &mut Vec<u8>) -> bool {
     stream.read_to_end(bytes).is_ok()
 }

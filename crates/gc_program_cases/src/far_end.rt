@@ -51,9 +51,9 @@ impl Seen {
     }
 }
 
-/// Makes a connection, and returns both ends, the station's first. They are a pair of Unix sockets, because what is written to one
-/// can be read at the other at once. No read of either waits. `Err`: the system gives no pair, or can't set an end so that no read
-/// of it waits.
+/// Makes a connection, and returns both ends, the station's first. They are a pair of Unix sockets, because what is written to
+/// one can be read at the other at once. No read of either waits. `Err`: the system gives no pair, or can't set an end so that no
+/// read of it waits.
 pub fn paired_ends(net: &impl Net) -> io::Result<(TcpStream, TcpStream)> {
     let (near, far) = UnixStream::pair(net)?;
     near.set_nonblocking(true)?;
@@ -84,8 +84,8 @@ pub struct FarEnd<'a, 'b> {
 }
 
 impl<'a, 'b> FarEnd<'a, 'b> {
-    // How long the station waits in its read, in milliseconds, by the time-out that it set; 0 if it set none. `Err`: the system doesn't
-    // say.
+    // How long the station waits in its read, in milliseconds, by the time-out that it set; 0 if it set none. `Err`: the system
+    // doesn't say.
     fn patience(&self) -> io::Result<u64> {
         let Some(wait) = self.ends.0.read_timeout()? else {
             return Ok(0);
@@ -142,8 +142,8 @@ impl<'a, 'b> FarEnd<'a, 'b> {
         }
     }
 
-    // Notes a piece that came, and answers it, which takes the time of an answer. If nothing is answered, or not any more (`silent`),
-    // `millis` milliseconds pass, the station's whole wait.
+    // Notes a piece that came, and answers it, which takes the time of an answer. If nothing is answered, or not any more
+    // (`silent`), `millis` milliseconds pass, the station's whole wait.
     fn hear(&self, piece: &[u8], seen: &mut Seen, millis: u64) {
         seen.heard.bytes(piece);
         seen.heard.text(">");
@@ -188,8 +188,8 @@ impl<'a, 'b> StandIn for FarEnd<'a, 'b> {
         }
     }
 
-    // The moment at which the clock began (`BEGIN`), plus the time that has passed since. No wait is played, and `until` doesn't count.
-    // `Err`: `seen` is in use.
+    // The moment at which the clock began (`BEGIN`), plus the time that has passed since. No wait is played, and `until` doesn't
+    // count. `Err`: `seen` is in use.
     fn since_1970(&self) -> io::Result<Duration> {
         match self.seen.try_borrow() {
             Ok(seen) => Ok(Duration::from_millis(BEGIN.saturating_add(seen.elapsed))),

@@ -1,5 +1,5 @@
-//! Cases of the program, played: tests that are data, and no part of the product. The files of the folder it runs in are played, which
-//! has the scenes that their words name, too.
+//! Cases of the program, played: tests that are data, and no part of the product. The files of the folder it runs in are played,
+//! which has the scenes that their words name, too.
 #![tactic(auto)]
 
 mod far_end;

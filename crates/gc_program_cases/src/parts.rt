@@ -1,4 +1,5 @@
-//! The parts of the output and of the messages that a case asks for. What isn't as the case has it is reported, with the messages.
+//! The parts of the output and of the messages that a case asks for. What isn't as the case has it is reported, with the
+//! messages.
 //!
 //!     has TEXT         the output has this text
 //!     tells TEXT       the messages have this text
@@ -45,7 +46,8 @@ struct Missing<'a> {
 }
 
 impl<'a> Missing<'a> {
-    // Adds each part that the case asks for and that the output or the messages lack, and, if there is any, the messages after them.
+    // Adds each part that the case asks for and that the output or the messages lack, and, if there is any, the messages after
+    // them.
     fn add_all(&mut self, output: &str, messages: &str) {
         self.add_texts("has", output);
         self.add_texts("tells", messages);
@@ -57,8 +59,8 @@ impl<'a> Missing<'a> {
         }
     }
 
-    // Adds each value under `key` whose text doesn't occur in what came, or under `counts` not as often as the value says. If memory
-    // runs out for one, `parts` notes that it lacks a part.
+    // Adds each value under `key` whose text doesn't occur in what came, or under `counts` not as often as the value says. If
+    // memory runs out for one, `parts` notes that it lacks a part.
     fn add_texts(&mut self, key: &str, came: &str) {
         for place in 0..MOST_PARTS {
             let Some(value) = self.case.value_at(key, place) else {
@@ -103,8 +105,8 @@ impl<'a> Missing<'a> {
         Ok(count_in(bytes.as_slice(), came))
     }
 
-    // Adds `begins` if the messages begin otherwise than the case says, and `ends` if they end otherwise. If memory runs out for one
-    // of these texts, `parts` notes that it lacks a part, and neither is added.
+    // Adds `begins` if the messages begin otherwise than the case says, and `ends` if they end otherwise. If memory runs out for
+    // one of these texts, `parts` notes that it lacks a part, and neither is added.
     fn add_ends(&mut self, messages: &[u8]) {
         let Ok(begin) = bytes_of(self.parts.alloc, self.case.value("begins")) else {
             return self.parts.lack();

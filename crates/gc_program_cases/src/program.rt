@@ -35,7 +35,8 @@ const HOUR: u64 = 3_600_000;
 pub struct Program;
 
 impl Player for Program {
-    // Plays a case with a port that was free, and is held meanwhile unless the case wants it free. `Err`: no port could be listened at.
+    // Plays a case with a port that was free, and is held meanwhile unless the case wants it free. `Err`: no port could be
+    // listened at.
     fn play(&self, rt: &HostRuntime, case: &Case<'_>, wrong: &mut Told) -> io::Result<()> {
         let listener = listen(rt, 0)?;
         let port = port_of(&listener);
@@ -145,7 +146,8 @@ impl<'a, 'b> Run<'a, 'b> {
         }
     }
 
-    // The program's name, and after it these words, which have spaces between, the port in place of `PORT`. `Err`: memory ran out.
+    // The program's name, and after it these words, which have spaces between, the port in place of `PORT`. `Err`: memory ran
+    // out.
     fn split_words(&self, words: &str) -> Result<Args, AllocError> {
         let mut all = Vec::new(self.alloc);
         push_word(self.alloc, "geocom", &mut all)?;

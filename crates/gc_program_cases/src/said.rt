@@ -1,8 +1,8 @@
 //! What came of a run of the program, and what a case asks of it: its `status`, the `output` and the `messages`; of a far end
-//! what was `heard` there, how often a connection was tried (`opened`), the milliseconds that `elapsed`, and the `files` that were to be
-//! opened. A `status` of `any` takes each exit status, and an `output` of `any` whatever came. If a case has `has`, its output
-//! isn't compared whole, and if it has `tells`, `begins`, `ends` or `counts`, its messages aren't. Of a far end only what the
-//! case has is compared.
+//! what was `heard` there, how often a connection was tried (`opened`), the milliseconds that `elapsed`, and the `files` that
+//! were to be opened. A `status` of `any` takes each exit status, and an `output` of `any` whatever came. If a case has `has`,
+//! its output isn't compared whole, and if it has `tells`, `begins`, `ends` or `counts`, its messages aren't. Of a far end only
+//! what the case has is compared.
 
 use crate::far_end::Seen;
 use crate::parts::{asks_for_parts, tell_parts};
@@ -67,8 +67,8 @@ impl Said {
         }
     }
 
-    // Appends the messages to `told`: of a case without a far end with `PORT` for the port; of one with a far end without the lines that
-    // end in `WAITS`, or, if it has a terminal, as they are. Messages that aren't UTF-8 are `no text`.
+    // Appends the messages to `told`: of a case without a far end with `PORT` for the port; of one with a far end without the
+    // lines that end in `WAITS`, or, if it has a terminal, as they are. Messages that aren't UTF-8 are `no text`.
     fn append_messages(&self, case: &Case<'_>, port: &str, told: &mut Told) {
         let messages = text_of(self.messages.as_slice());
         if !case.has("far") {

@@ -227,9 +227,9 @@ moment_found (Some utc) time cycle place = (refl, refl)
 
 -- of the five results of a search in a record's object only the fourth one (`o`), among the members on when and where, may have
 -- found something: then `later_or` of all five is that one
-pub moments_found : (o : Option json.Json) → later_or (later_or (later_or (later_or None None) None) o) None ≡ o
-moments_found None = refl
-moments_found (Some j) = refl
+pub only_fourth_found : (o : Option json.Json) → later_or (later_or (later_or (later_or None None) None) o) None ≡ o
+only_fourth_found None = refl
+only_fourth_found (Some j) = refl
 
 -- when a request was sent is found under `sent` among the members on when and where; if it wasn't sent, nothing is
 pub sent_found : (sent : Option ℕ) (time cycle place : List ℕ) → text_of (find (codes "sent") (moment_members sent time cycle place)) ≡ moment_text sent

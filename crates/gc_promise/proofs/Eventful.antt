@@ -35,21 +35,22 @@ use Rattle.gc_field.specs.Field.{ArePossible, Move, moved, moves, seen}
 use Rattle.gc_field.specs.Instrument.{IsAnInstrument, AnyState, never_kept}
 use Rattle.gc_field.specs.Shown.{AreShownAs, shown}
 use Rattle.gc_field.specs.Witness.{at, replies}
-use Rattle.gc_field.proofs.Witness.{asked_each, units, none_here}
-use Rattle.gc_promise.specs.Eventful.{IsEventful, acts, anew_acts, anew_turns, at_start, begins_acts, begins_turns, breaks_acts, breaks_moves}
-use Rattle.gc_promise.specs.Eventful.{chain_acts, chain_moves, commands, executed_moves, first_stretch, given_up, heard_moves, last_stretch, left_by_first, plan, pointed_reply, records, reporting, runs, scope, sent_moves, tally}
+use Rattle.gc_field.proofs.Witness.{asked_each, units, zeros_lack_the_word}
+use Rattle.gc_promise.specs.Eventful.{IsEventful, acts, acts_until_anew, anew_acts, anew_turns, at_start, commands, executed_moves, first_acts, first_moves}
+use Rattle.gc_promise.specs.Eventful.{first_stretch, heard_moves, last_acts, last_moves, last_stretch, left_by_first, plan, pointed_reply, records, reporting}
+use Rattle.gc_promise.specs.Eventful.{runs, scope, sent_moves, sync_acts, sync_turns, tally}
 use Rattle.gc_promise.proofs.TrueReadings.{patched, patched_same}
 use Rattle.gc_field.proofs.Instruments.{keeps_none}
 
 -- `reporting` is an instrument
-reporting_is : IsAnInstrument reporting AnyState never_kept
-reporting_is = keeps_none (List ℕ) reporting (λ line. refl) (λ s id call good small. reply_heard 0 id 0 s (lit< tt) small (lit< tt)) (λ s id call. refl)
+reporting_is_instrument : IsAnInstrument reporting AnyState never_kept
+reporting_is_instrument = keeps_none (List ℕ) reporting (λ line. refl) (λ s id call good small. reply_heard 0 id 0 s (lit< tt) small (lit< tt)) (λ s id call. refl)
 
 -- What the station sees of the line.
 
 -- what the turns of the first synchronization show to the station
-abbrev begins_shown : List part.SyncStep
-begins_shown = part.Asks ∷ part.Hears (codes "%R1Q,0,6:") ∷ part.Hears (codes "%R1P,0,0:0,4") ∷ asked_each replies
+abbrev sync_shown : List part.SyncStep
+sync_shown = part.Asks ∷ part.Hears (codes "%R1Q,0,6:") ∷ part.Hears (codes "%R1P,0,0:0,4") ∷ asked_each replies
 
 -- what the turns of the second synchronization show to the station
 abbrev anew_shown : List part.SyncStep
@@ -73,27 +74,27 @@ part_of_cycle cycle sync_steps steps sent =
 -- the parts of the run: until it resynchronizes, from there on, and after its end
 abbrev all_parts : List Part
 all_parts =
-    part_of_cycle 1 begins_shown (seen breaks_moves) (Some (0, 40) ∷ None ∷ (map (λ place. Some (place, 95)) (2 ∷ 3 ∷ 4 ∷ 5 ∷ 6 ∷ []) ++ None ∷ None ∷ []))
-    ∷ part_of_cycle 3 anew_shown (seen chain_moves) (Some (0, 385) ∷ (map (λ place. Some (place, 390)) (1 ∷ 2 ∷ 3 ∷ 4 ∷ 5 ∷ 6 ∷ []) ++ None ∷ []))
+    part_of_cycle 1 sync_shown (seen first_moves) (Some (0, 40) ∷ None ∷ (map (λ place. Some (place, 95)) (2 ∷ 3 ∷ 4 ∷ 5 ∷ 6 ∷ []) ++ None ∷ None ∷ []))
+    ∷ part_of_cycle 3 anew_shown (seen last_moves) (Some (0, 385) ∷ (map (λ place. Some (place, 390)) (1 ∷ 2 ∷ 3 ∷ 4 ∷ 5 ∷ 6 ∷ []) ++ None ∷ []))
     ∷ idle_part
     ∷ []
 
--- what happens in the first synchronization (`begins_turns`) shows the station the turns `begins_shown`
-begins_are : shown reporting begins_turns (begins at_start) ≡ begins_shown
+-- what happens in the first synchronization (`sync_turns`) shows the station the turns `sync_shown`
+sync_turns_show : shown reporting sync_turns (begins at_start) ≡ sync_shown
 unfolding is_elsewhere is_near header_at reply_at digits rounded
-begins_are = refl
+sync_turns_show = refl
 
 -- what happens in the second synchronization (`anew_turns`) shows the station the turns `anew_shown`
-anew_are : shown reporting anew_turns (begins left_by_first) ≡ anew_shown
+anew_turns_show : shown reporting anew_turns (begins left_by_first) ≡ anew_shown
 unfolding is_elsewhere is_near header_at reply_at digits rounded
-anew_are = refl
+anew_turns_show = refl
 
 -- What happens on the line is possible.
 
 -- the turns of the first synchronization are possible
-begins_possible : AreTurns reporting AnyState never_kept begins_turns (begins at_start)
+sync_possible : AreTurns reporting AnyState never_kept sync_turns (begins at_start)
 unfolding is_elsewhere is_near header_at reply_at digits rounded
-begins_possible = (tt, (refl, (tt, (tt, (tt, (tt, (tt, (tt, (tt, (tt, (tt, (tt, ((tt, refl), units 24)))))))))))))
+sync_possible = (tt, (refl, (tt, (tt, (tt, (tt, (tt, (tt, (tt, (tt, (tt, (tt, ((tt, refl), units 24)))))))))))))
 
 -- the turns of the second synchronization are possible
 anew_possible : AreTurns reporting AnyState never_kept anew_turns (begins left_by_first)
@@ -105,39 +106,59 @@ abbrev PossibleFrom : World (ById Asked) (List ℕ) → List (Move (List ℕ)) �
 PossibleFrom w ms = ArePossible reporting AnyState never_kept (by_ids WINDOW reporting) ms w
 
 -- possible moves, with moves after them that are possible in the world that they leave, are possible as one list
-possible_on : (w : World (ById Asked) (List ℕ)) (earlier later : List (Move (List ℕ))) → PossibleFrom w earlier → PossibleFrom (moved reporting (by_ids WINDOW reporting) earlier w) later
+possible_append : (w : World (ById Asked) (List ℕ)) (earlier later : List (Move (List ℕ))) → PossibleFrom w earlier → PossibleFrom (moved reporting (by_ids WINDOW reporting) earlier w) later
     → PossibleFrom w (earlier ++ later)
-possible_on w [] later h g = g
-possible_on w (m ∷ earlier) later h g = (h.0, possible_on (moves reporting (by_ids WINDOW reporting) w m) earlier later h.1 g)
+possible_append w [] later h g = g
+possible_append w (m ∷ earlier) later h g = (h.0, possible_append (moves reporting (by_ids WINDOW reporting) w m) earlier later h.1 g)
 
 -- the moves of the first cycle are possible
-breaks_possible : PossibleFrom (ids_begun first_stretch.from) breaks_moves
+first_possible : PossibleFrom (ids_begun first_stretch.from) first_moves
 unfolding is_elsewhere is_near header_at reply_at digits rounded
-breaks_possible = (tt, (tt, (tt, (tt, (tt, (tt, (tt, (tt, (tt, (tt, ((9, _, refl), (tt, ((tt, refl), units 28)))))))))))))
+first_possible = (tt, (tt, (tt, (tt, (tt, (tt, (tt, (tt, (tt, (tt, ((9, _, refl), (tt, ((tt, refl), units 28)))))))))))))
 
 -- the moves of the third cycle are possible
-chain_possible : PossibleFrom (ids_begun last_stretch.from) chain_moves
+last_possible : PossibleFrom (ids_begun last_stretch.from) last_moves
 unfolding is_elsewhere is_near header_at reply_at digits rounded
-chain_possible =
-    possible_on (ids_begun last_stretch.from) sent_moves (executed_moves ++ heard_moves)
+last_possible =
+    possible_append (ids_begun last_stretch.from) sent_moves (executed_moves ++ heard_moves)
     (tt, (tt, (tt, (tt, (tt, (tt, (tt, (tt, (tt, (tt, (tt, (tt, (tt, (tt, (tt, ((8, _, refl), units 11))))))))))))))))
-    (possible_on (moved reporting (by_ids WINDOW reporting) sent_moves (ids_begun last_stretch.from)) executed_moves heard_moves
-    ((tt, refl), (tt, ((tt, refl), (tt, ((tt, refl), (tt, (tt, (tt, (tt, (tt, (tt, (tt, (tt, (tt, tt))))))))))))))
-    (refl, ((8, _, refl), ((9, _, refl), ((10, _, refl), ((11, _, refl), ((11, _, refl), ((12, _, refl), (tt, (tt, (tt, ((tt, refl), (tt, (tt, (tt, (tt, ((13, _, refl), ((15, _, refl), tt))))))))))))))))))
+    (possible_append (moved reporting (by_ids WINDOW reporting) sent_moves (ids_begun last_stretch.from)) executed_moves heard_moves
+    ((tt, refl), (tt, ((tt, refl), (tt, ((tt, refl), (tt, (tt, (tt, (tt, (tt, (tt, (tt, (tt, (tt, tt)))))))))))))) (
+      refl,
+      (
+        (8, _, refl),
+        (
+          (9, _, refl),
+          (
+            (10, _, refl),
+            (
+              (11, _, refl),
+              (
+                (11, _, refl),
+                (
+                  (12, _, refl),
+                  (tt, (tt, (tt, ((tt, refl), (tt, (tt, (tt, (tt, ((13, _, refl), ((15, _, refl), tt)))))))))),
+                ),
+              ),
+            ),
+          ),
+        ),
+      ),
+    ))
 
 -- What the run shows.
 
 -- command 1 is chained to command 0
-chained : AreChained commands 0 1
-chained zero above upto = absurd (omega (arith, above))
-chained (suc zero) above upto = refl
-chained (suc (suc p)) above upto = absurd (omega (arith, upto))
+command_1_is_chained : AreChained commands 0 1
+command_1_is_chained zero above upto = absurd (omega (arith, above))
+command_1_is_chained (suc zero) above upto = refl
+command_1_is_chained (suc (suc p)) above upto = absurd (omega (arith, upto))
 
 -- the reply to command 0 in the first cycle was made on executing the request of command 0, which is request 8, the client's
 -- first one, and reaches the instrument at the fourth move
-made : WasMadeOn WINDOW reporting first_stretch.from breaks_moves 8 points pointed_reply
+pointed_reply_was_made : WasMadeOn WINDOW reporting first_stretch.from first_moves 8 points pointed_reply
 unfolding is_elsewhere is_near header_at reply_at digits rounded
-made = record { front = take 3 breaks_moves; later = drop 4 breaks_moves; split = refl; id = 0; rest = []; reaches = refl; executed = refl; reply = refl }
+pointed_reply_was_made = record { front = take 3 first_moves; later = drop 4 first_moves; split = refl; id = 0; rest = []; reaches = refl; executed = refl; reply = refl }
 
 -- The station's part.
 
@@ -151,50 +172,50 @@ module _ (reads : Asked → List ℕ → Reading) where
   RunsAfter earlier later = Runs plan commands (state_after plan commands patched_scope earlier) later
 
   -- the acts until the second connection is made are a run
-  begins_runs : RunsAfter [] (take 16 begins_acts)
+  sync_runs : RunsAfter [] (take 16 sync_acts)
   unfolding is_elsewhere is_near header_at reply_at digits rounded
-  begins_runs = (tt, (tt, (tt, (tt, (refl, (tt, (refl, (tt, (tt, (tt, (refl, (tt, (tt, (tt, (refl, (tt, tt))))))))))))))))
+  sync_runs = (tt, (tt, (tt, (tt, (refl, (tt, (refl, (tt, (tt, (tt, (refl, (tt, (tt, (tt, (refl, (tt, tt))))))))))))))))
 
   -- after the acts until the second connection is made, those by which all eight null procedures are answered are a run
-  answers_eight : RunsAfter (take 16 begins_acts) (drop 16 begins_acts)
+  answers_eight : RunsAfter (take 16 sync_acts) (drop 16 sync_acts)
   unfolding is_elsewhere is_near header_at reply_at digits rounded
   answers_eight =
       (refl, (tt, (tt, (refl, (tt, (tt, (refl, (tt, (tt, (refl, (tt, (tt, (refl, (tt, (tt, (refl, (tt, (tt, (refl, (tt, (tt, (refl, (tt, (tt, tt))))))))))))))))))))))))
 
   -- after the synchronization, the acts until command 1 is skipped are a run
-  breaks_runs : RunsAfter begins_acts (take 8 breaks_acts)
+  first_runs : RunsAfter sync_acts (take 8 first_acts)
   unfolding is_elsewhere is_near header_at reply_at digits rounded
-  breaks_runs = (tt, (refl, (tt, (tt, (refl, (tt, (tt, (tt, tt))))))))
+  first_runs = (tt, (refl, (tt, (tt, (refl, (tt, (tt, (tt, tt))))))))
 
   -- after the acts until command 1 is skipped, those until seven requests have timed out are a run
-  gives_up_runs : RunsAfter (begins_acts ++ take 8 breaks_acts) (drop 8 breaks_acts)
+  gives_up_runs : RunsAfter (sync_acts ++ take 8 first_acts) (drop 8 first_acts)
   unfolding is_elsewhere is_near header_at reply_at digits rounded
   gives_up_runs =
       (refl, (tt, (refl, (tt, (refl, (tt, (refl, (tt, (refl, (tt, (tt, (refl, (tt, (tt, (refl, (tt, (tt, (refl, (tt, (tt, (tt, (refl, (tt, (tt, (tt, tt)))))))))))))))))))))))))
 
   -- after the acts until seven requests have timed out, those until the fourth connection is made are a run
-  anew_runs : RunsAfter given_up (take 16 anew_acts)
+  anew_runs : RunsAfter acts_until_anew (take 16 anew_acts)
   unfolding is_elsewhere is_near header_at reply_at digits rounded
   anew_runs = (tt, (refl, (tt, (tt, (refl, (tt, (tt, (refl, (tt, (tt, (refl, (tt, (tt, (tt, (refl, (tt, tt))))))))))))))))
 
   -- after the acts until the fourth connection is made, those by which the other six null procedures are answered are a run
-  answers_six : RunsAfter (given_up ++ take 16 anew_acts) (drop 16 anew_acts)
+  answers_six : RunsAfter (acts_until_anew ++ take 16 anew_acts) (drop 16 anew_acts)
   unfolding is_elsewhere is_near header_at reply_at digits rounded
   answers_six = (refl, (tt, (tt, (refl, (tt, (tt, (refl, (tt, (tt, (refl, (tt, (tt, (refl, (tt, (tt, (refl, (tt, (tt, tt))))))))))))))))))
 
   -- after the new synchronization, the acts by which the second cycle is missed and the third begins are a run
-  misses_runs : RunsAfter (given_up ++ anew_acts) (take 9 chain_acts)
+  misses_runs : RunsAfter (acts_until_anew ++ anew_acts) (take 9 last_acts)
   unfolding is_elsewhere is_near header_at reply_at digits rounded
   misses_runs = (tt, (tt, (tt, (tt, (tt, (tt, (tt, (tt, (tt, tt)))))))))
 
   -- after the acts with which the third cycle begins, those until its last request is cut are a run
-  answers_runs : RunsAfter (given_up ++ (anew_acts ++ take 9 chain_acts)) (take 14 (drop 9 chain_acts))
+  answers_runs : RunsAfter (acts_until_anew ++ (anew_acts ++ take 9 last_acts)) (take 14 (drop 9 last_acts))
   unfolding is_elsewhere is_near header_at reply_at digits rounded
   answers_runs =
       (refl, (tt, (tt, (refl, (tt, (refl, (tt, (refl, (tt, (refl, (tt, (refl, (tt, ((refl, lit< tt), tt))))))))))))))
 
   -- after the acts until the last request is cut, those until the end are a run
-  late_runs : RunsAfter (given_up ++ (anew_acts ++ take 23 chain_acts)) (drop 23 chain_acts)
+  late_runs : RunsAfter (acts_until_anew ++ (anew_acts ++ take 23 last_acts)) (drop 23 last_acts)
   unfolding is_elsewhere is_near header_at reply_at digits rounded
   late_runs = (refl, (tt, (tt, (tt, (refl, (tt, (tt, (tt, (tt, (refl, (tt, (tt, (refl, tt)))))))))))))
 
@@ -202,14 +223,15 @@ module _ (reads : Asked → List ℕ → Reading) where
   pub all_run : RunsAfter [] acts
   unfolding is_elsewhere is_near header_at reply_at digits rounded
   all_run =
-      runs-append plan commands (opening plan patched_scope) given_up (anew_acts ++ chain_acts)
-      (runs-append plan commands (opening plan patched_scope) begins_acts breaks_acts
-      (runs-append plan commands (opening plan patched_scope) (take 16 begins_acts) (drop 16 begins_acts) begins_runs answers_eight)
-      (runs-append plan commands (state_after plan commands patched_scope begins_acts) (take 8 breaks_acts) (drop 8 breaks_acts) breaks_runs gives_up_runs))
-      (runs-append plan commands (state_after plan commands patched_scope given_up) anew_acts chain_acts
-      (runs-append plan commands (state_after plan commands patched_scope given_up) (take 16 anew_acts) (drop 16 anew_acts) anew_runs answers_six)
-      (runs-append plan commands (state_after plan commands patched_scope (given_up ++ anew_acts)) (take 9 chain_acts) (drop 9 chain_acts) misses_runs
-      (runs-append plan commands (state_after plan commands patched_scope (given_up ++ (anew_acts ++ take 9 chain_acts))) (take 14 (drop 9 chain_acts)) (drop 23 chain_acts) answers_runs late_runs)))
+      runs-append plan commands (opening plan patched_scope) acts_until_anew (anew_acts ++ last_acts)
+      (runs-append plan commands (opening plan patched_scope) sync_acts first_acts
+      (runs-append plan commands (opening plan patched_scope) (take 16 sync_acts) (drop 16 sync_acts) sync_runs answers_eight)
+      (runs-append plan commands (state_after plan commands patched_scope sync_acts) (take 8 first_acts) (drop 8 first_acts) first_runs gives_up_runs))
+      (runs-append plan commands (state_after plan commands patched_scope acts_until_anew) anew_acts last_acts
+      (runs-append plan commands (state_after plan commands patched_scope acts_until_anew) (take 16 anew_acts) (drop 16 anew_acts) anew_runs answers_six)
+      (runs-append plan commands (state_after plan commands patched_scope (acts_until_anew ++ anew_acts)) (take 9 last_acts) (drop 9 last_acts) misses_runs
+      (runs-append plan commands (state_after plan commands patched_scope (acts_until_anew ++ (anew_acts ++ take 9 last_acts))) (take 14 (drop 9 last_acts))
+      (drop 23 last_acts) answers_runs late_runs)))
 
   -- the parts of the run are `all_parts`
   parts_are : parts_of plan commands (opening plan patched_scope) acts ≡ all_parts
@@ -221,31 +243,31 @@ module _ (reads : Asked → List ℕ → Reading) where
   unfolding is_elsewhere is_near header_at reply_at digits rounded
   written = refl
 
-  -- after the acts `given_up`, by which seven requests have timed out, the next act, which reads the moment 345, makes the
+  -- after the acts `acts_until_anew`, by which seven requests have timed out, the next act, which reads the moment 345, makes the
   -- station resynchronize
-  begins_anew : IsResynchronizing plan commands patched_scope given_up (Told (at 345))
+  begins_anew : IsResynchronizing plan commands patched_scope acts_until_anew (Told (at 345))
   unfolding is_elsewhere is_near header_at reply_at digits rounded
   begins_anew = record { resynchronizes = record { renews = refl; moment = at 345; told = refl; seven = refl; given_up = refl }; word = refl; client = refl }
 
   -- with the patched readings the run is eventful
-  computed : IsEventful (patched reads)
+  patched_is_eventful : IsEventful (patched reads)
   unfolding is_elsewhere is_near header_at reply_at digits rounded
-  computed =
+  patched_is_eventful =
       record {
-        is_instrument = reporting_is;
+        is_instrument = reporting_is_instrument;
         field =
             record {
               runs = all_run;
               lines = record { ids = (lit< tt, tt); good = tt };
-              none = none_here;
-              shown = subst (AreShownAs reporting at_start runs) (sym parts_are) (begins_are, refl, (anew_are, refl, (refl, refl, tt)));
-              possible = ((begins_possible, breaks_possible), ((anew_possible, chain_possible), ((tt, refl), tt)));
+              none = zeros_lack_the_word;
+              shown = subst (AreShownAs reporting at_start runs) (sym parts_are) (sync_turns_show, refl, (anew_turns_show, refl, (refl, refl, tt)));
+              possible = ((sync_possible, first_possible), ((anew_possible, last_possible), ((tt, refl), tt)));
             };
         over = refl;
         written = written;
         counted = refl;
-        chained = chained;
-        made = made;
+        chained = command_1_is_chained;
+        made = pointed_reply_was_made;
         begins_anew = begins_anew;
         up = refl;
         down = refl;
@@ -255,18 +277,18 @@ module _ (reads : Asked → List ℕ → Reading) where
 
   -- with the patched readings the acts are a whole run, which ends as done with this tally, and of which the texts of these
   -- records were taken
-  computed_run : (text : Record → List ℕ) → RanTo plan commands (scope (patched reads)) text (Some []) (Some acts) (Some []) (Some (texts_of text records)) Done tally
+  patched_run : (text : Record → List ℕ) → RanTo plan commands (scope (patched reads)) text (Some []) (Some acts) (Some []) (Some (texts_of text records)) Done tally
   unfolding is_elsewhere is_near header_at reply_at digits rounded
-  computed_run text =
+  patched_run text =
       record { acts = acts; tells = refl; runs = all_run; stops = refl; took = ap (texts_of text) (sym written); counts = ap tally_of (sym written) }
 
 -- the run is eventful with every function that gives what replies say
 pub eventful : (reads : Asked → List ℕ → Reading) → AreReadings reads → IsEventful reads
-eventful reads are = subst IsEventful (patched_same reads are) (computed reads)
+eventful reads are = subst IsEventful (patched_same reads are) (patched_is_eventful reads)
 
 -- with every function that gives what replies say, the acts are a whole run, which ends as done with this tally, and of which the
 -- texts of these records were taken
 pub ran_whole : (text : Record → List ℕ) (reads : Asked → List ℕ → Reading) → AreReadings reads
     → RanTo plan commands (scope reads) text (Some []) (Some acts) (Some []) (Some (texts_of text records)) Done tally
 ran_whole text reads are =
-    subst (λ r. RanTo plan commands (scope r) text (Some []) (Some acts) (Some []) (Some (texts_of text records)) Done tally) (patched_same reads are) (computed_run reads text)
+    subst (λ r. RanTo plan commands (scope r) text (Some []) (Some acts) (Some []) (Some (texts_of text records)) Done tally) (patched_same reads are) (patched_run reads text)

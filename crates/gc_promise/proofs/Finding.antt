@@ -34,15 +34,15 @@ use Rattle.gc_rows.specs.JsonLines.{Member, Text, ending_members, item_members, 
 use Rattle.gc_rows.specs.Items.{split_items}
 use Rattle.gc_rows.specs.Laws.{record_read}
 use Rattle.gc_rows.specs.Quantities.{column_of, quantity_names, quantity_text}
-use Rattle.gc_rows.specs.Rows.{code_of, com_of, moment_text, procedure_of, values_of}
+use Rattle.gc_rows.specs.Rows.{code_of, com_of, moment_text, procedure_of, value_texts, values_of}
 use Rattle.gc_rows.specs.ProcedureQuantities.{names_from}
 use Rattle.gc_rows.specs.declared.when.When.{When}
 use Rattle.gc_rows.proofs.ProcedureQuantities.{quantities_under_their_names}
 use Rattle.gc_promise.specs.Fields.{IsQuantity, quantity_in, under}
 use Rattle.gc_promise.specs.Objects.{text_of}
-use Rattle.gc_promise.proofs.Names.{IsAnswerTo, of_quantity, value_texts, word_plain}
+use Rattle.gc_promise.proofs.Names.{IsAnswerTo, of_quantity, word_plain}
 use Rattle.gc_promise.proofs.Plain.{NeedsNoEscape, decimal_plain, digits_plain, plain_both}
-use Rattle.gc_promise.proofs.Apart.{find, later_none, find_both, LacksAll, early_names, quantities_apart, quality_apart, quality_without, lacks_both, attempt_apart, attempt_without, items_without, quality_found, moment_unqualified, ending_apart, ending_without, command_apart, command_without, moment_without, moment_found, moments_found, sent_found, command_found, outcome_found, line_found}
+use Rattle.gc_promise.proofs.Apart.{find, later_none, find_both, LacksAll, early_names, quantities_apart, quality_apart, quality_without, lacks_both, attempt_apart, attempt_without, items_without, quality_found, moment_unqualified, ending_apart, ending_without, command_apart, command_without, moment_without, moment_found, only_fourth_found, sent_found, command_found, outcome_found, line_found}
 
 -- A code without its zeros is the same number.
 
@@ -100,14 +100,14 @@ under_plain name (n ∷ names) (t ∷ texts) are =
 
 -- The quantities of an answer.
 
--- what is under a name in an answer's members is what is under that name among the answer's texts. `came` are the
+-- what is under a name in an answer's members is what is under that name among the answer's texts, not escaped. `came` are the
 -- parameters of the reply, as its line has them
-abbrev AreUnder : Call → Answer → (came name : List ℕ) → Type 0
-AreUnder call answer came name =
+abbrev IsUnderPlain : Call → Answer → (came name : List ℕ) → Type 0
+IsUnderPlain call answer came name =
     text_of (find name (values_members (column_of call answer) (answer_fields answer).values came)) ≡ under name (names_from (column_of call answer) (answer_fields answer).values) (value_texts answer)
 
--- `AreUnder` holds of a whole number, under each name of a quantity
-long_under : (call : Call) (n : ℤ) (came : List ℕ) → AllByRecursion (AreUnder call (Long n) came) quantity_names
+-- `IsUnderPlain` holds of a whole number, under each name of a quantity
+long_under : (call : Call) (n : ℤ) (came : List ℕ) → AllByRecursion (IsUnderPlain call (Long n) came) quantity_names
 long_under GetFace n came =
     (refl, (refl, (refl, (refl, (refl, (refl, (refl, (refl, (refl, (refl, (refl, (refl, (refl, (refl, (refl, (refl, (refl, (refl, (refl, (refl, (refl, (refl, (refl, (refl, tt))))))))))))))))))))))))
 long_under GetPrism n came =
@@ -115,8 +115,8 @@ long_under GetPrism n came =
 long_under call n came =
     (refl, (refl, (refl, (refl, (refl, (refl, (refl, (refl, (refl, (refl, (refl, (refl, (refl, (refl, (refl, (refl, (refl, (refl, (refl, (refl, (refl, (refl, (refl, (refl, tt))))))))))))))))))))))))
 
--- `AreUnder` holds of each answer that isn't an instrument's name, under each name of a quantity
-answer_under : (call : Call) (answer : Answer) (came : List ℕ) → ((name : List ℕ) → answer ≡ Name name → ⊥) → AllByRecursion (AreUnder call answer came) quantity_names
+-- `IsUnderPlain` holds of each answer that isn't an instrument's name, under each name of a quantity
+answer_under : (call : Call) (answer : Answer) (came : List ℕ) → ((name : List ℕ) → answer ≡ Name name → ⊥) → AllByRecursion (IsUnderPlain call answer came) quantity_names
 answer_under call Nothing came other =
     (refl, (refl, (refl, (refl, (refl, (refl, (refl, (refl, (refl, (refl, (refl, (refl, (refl, (refl, (refl, (refl, (refl, (refl, (refl, (refl, (refl, (refl, (refl, (refl, tt))))))))))))))))))))))))
 answer_under call (Long n) came other = long_under call n came
@@ -140,8 +140,8 @@ answer_under call (Measured hz v distance) came other =
 answer_under call (MeasuredMode hz v distance mode) came other =
     (refl, (refl, (refl, (refl, (refl, (refl, (refl, (refl, (refl, (refl, (refl, (refl, (refl, (refl, (refl, (refl, (refl, (refl, (refl, (refl, (refl, (refl, (refl, (refl, tt))))))))))))))))))))))))
 
--- under `instrument` the members for an instrument's name have its bytes, escaped; under each other name of a quantity they
--- have nothing
+-- under `instrument`, the name of column 17, the members for an instrument's name have its bytes, escaped; under each other
+-- name of a quantity they have nothing
 name_under : (bytes came : List ℕ)
     → AllByRecursion (λ (name : List ℕ). text_of (find name (values_members 17 (value.Text bytes ∷ []) came)) ≡ escaped (under name (codes "instrument" ∷ []) (bytes ∷ []))) quantity_names
 name_under bytes came =
@@ -166,40 +166,40 @@ texts_plain (MeasuredMode hz v distance mode) other = (double_plain hz, (double_
 module _ (call : Call) (name : List ℕ) (is : IsQuantity name) where
   -- under this name of a quantity, the members of an answer have what its texts have, escaped. `came` are the parameters of
   -- the reply, as its line has them
-  abbrev IsUnder : Answer → List ℕ → Type 0
-  IsUnder answer came =
+  abbrev IsUnderEscaped : Answer → List ℕ → Type 0
+  IsUnderEscaped answer came =
       text_of (find name (values_members (column_of call answer) (answer_fields answer).values came))
       ≡ escaped (under name (names_from (column_of call answer) (answer_fields answer).values) (value_texts answer))
 
-  -- `IsUnder` holds of each answer that isn't an instrument's name
-  number_under : (answer : Answer) (came : List ℕ) → ((bytes : List ℕ) → answer ≡ Name bytes → ⊥) → IsUnder answer came
-  number_under answer came other =
-      of_quantity (AreUnder call answer came) (answer_under call answer came other) name is
+  -- `IsUnderEscaped` holds of each answer that isn't an instrument's name
+  escaped_unless_name : (answer : Answer) (came : List ℕ) → ((bytes : List ℕ) → answer ≡ Name bytes → ⊥) → IsUnderEscaped answer came
+  escaped_unless_name answer came other =
+      of_quantity (IsUnderPlain call answer came) (answer_under call answer came other) name is
       ∙ under_plain name (names_from (column_of call answer) (answer_fields answer).values) (value_texts answer) (texts_plain answer other)
 
-  -- `IsUnder` holds of each answer
-  is_under : (answer : Answer) (came : List ℕ) → IsUnder answer came
-  is_under (Name bytes) came =
+  -- `IsUnderEscaped` holds of each answer
+  each_escaped : (answer : Answer) (came : List ℕ) → IsUnderEscaped answer came
+  each_escaped (Name bytes) came =
       of_quantity (λ (n : List ℕ). text_of (find n (values_members 17 (value.Text bytes ∷ []) came)) ≡ escaped (under n (codes "instrument" ∷ []) (bytes ∷ [])))
       (name_under bytes came) name is
-  is_under Nothing came = number_under Nothing came (λ bytes e. cc)
-  is_under (Short n) came = number_under (Short n) came (λ bytes e. cc)
-  is_under (Version release version subversion) came = number_under (Version release version subversion) came (λ bytes e. cc)
-  is_under (Long n) came = number_under (Long n) came (λ bytes e. cc)
-  is_under (Date d) came = number_under (Date d) came (λ bytes e. cc)
-  is_under (Temperature t) came = number_under (Temperature t) came (λ bytes e. cc)
-  is_under (Place s) came = number_under (Place s) came (λ bytes e. cc)
-  is_under (Height h) came = number_under (Height h) came (λ bytes e. cc)
-  is_under (Angles hz v) came = number_under (Angles hz v) came (λ bytes e. cc)
-  is_under (Measured hz v distance) came = number_under (Measured hz v distance) came (λ bytes e. cc)
-  is_under (MeasuredMode hz v distance mode) came = number_under (MeasuredMode hz v distance mode) came (λ bytes e. cc)
+  each_escaped Nothing came = escaped_unless_name Nothing came (λ bytes e. cc)
+  each_escaped (Short n) came = escaped_unless_name (Short n) came (λ bytes e. cc)
+  each_escaped (Version release version subversion) came = escaped_unless_name (Version release version subversion) came (λ bytes e. cc)
+  each_escaped (Long n) came = escaped_unless_name (Long n) came (λ bytes e. cc)
+  each_escaped (Date d) came = escaped_unless_name (Date d) came (λ bytes e. cc)
+  each_escaped (Temperature t) came = escaped_unless_name (Temperature t) came (λ bytes e. cc)
+  each_escaped (Place s) came = escaped_unless_name (Place s) came (λ bytes e. cc)
+  each_escaped (Height h) came = escaped_unless_name (Height h) came (λ bytes e. cc)
+  each_escaped (Angles hz v) came = escaped_unless_name (Angles hz v) came (λ bytes e. cc)
+  each_escaped (Measured hz v distance) came = escaped_unless_name (Measured hz v distance) came (λ bytes e. cc)
+  each_escaped (MeasuredMode hz v distance mode) came = escaped_unless_name (MeasuredMode hz v distance mode) came (λ bytes e. cc)
 
 -- where `answer` is one to what was asked (`IsAnswerTo`), the members for quantities of a command that was answered with it
 -- have, under the name of a quantity, the answer's quantity of that name, escaped
 pub member_stands : (asked : Asked) (name : List ℕ) → IsQuantity name → (quality : Quality) (answer : Answer) (line : List ℕ) → IsAnswerTo asked answer
     → text_of (find name (quantity_members asked (Answered quality (Some answer) line))) ≡ escaped (quantity_in asked (Answers answer) name)
 member_stands (Table call) name is quality answer line of =
-    is_under call name is answer (values_of line) ∙ ap (λ (names : List (List ℕ)). escaped (under name names (value_texts answer))) (quantities_under_their_names call answer of)
+    each_escaped call name is answer (values_of line) ∙ ap (λ (names : List (List ℕ)). escaped (under name names (value_texts answer))) (quantities_under_their_names call answer of)
 member_stands (Raw raw) name is quality answer line of =
     let items = item_members (split_items (values_of line)) in
     ap text_of (of_quantity (λ (n : List ℕ). find n items ≡ None) (items_without (split_items (values_of line))) name is)
@@ -269,7 +269,7 @@ module _ (when : When) (text : List ℕ) (command : Wish) (end : End) where
   pub member_sent : at_member (codes "sent") ≡ moment_text when.stamp.sent
   member_sent =
       found_at (codes "sent") None None None (find (codes "sent") moments) apart.1.1.1.1.1.1.1.1.0 (ending_apart end).1.1.1.1.0 (command_apart command text).1.1.0 refl
-      ∙ ap text_of (moments_found (find (codes "sent") moments))
+      ∙ ap text_of (only_fourth_found (find (codes "sent") moments))
       ∙ sent_found when.stamp.sent (stamp_text when.stamp.utc) (decimal when.stamp.cycle) (decimal when.stamp.turn.place)
 
   -- under `cycle` the object has the record's cycle

@@ -34,17 +34,17 @@ use Rattle.std.proofs.lemmas.Option.{same_Some}
 use Rattle.gc_promise.specs.Lasting.{HasRunOfFile, AppendsAreRuns, RunMoment, IsRunMoment, rows_by, AreLeft, OpensFile, RowsOutlastCrashes, doubted_by, RunEnd, Stopped, Unsynced, MayEnd, sides_ended, doubt_of, life_begun, sides_begun, RowsOutlastFailures}
 use Rattle.gc_promise.specs.Tables.{scope_of}
 use Rattle.gc_promise.proofs.Ended.{text_whole}
-use Rattle.gc_promise.proofs.Pieces.{pieces, rows_left, whole_rest}
+use Rattle.gc_promise.proofs.Pieces.{all_pieces, rows_left, whole_rest}
 use Rattle.gc_promise.proofs.Seen.{IsKeptAt, kept_at, seen_at, Fronted, fronted, texts_whole}
 use Rattle.gc_promise.proofs.Taken.{appended_to_known}
-use Rattle.gc_promise.proofs.Staying.{run_by, is_run, happen_two, life_two, splits_at_run, cuts_first, occur_two, sides_two, runs_two}
+use Rattle.gc_promise.proofs.Staying.{run_by, is_run, happen_append, life_append, splits_at_run, cuts_first, occur_append, sides_append, runs_of_append}
 use Rattle.std.proofs.lemmas.Bool.{not-true}
 
 -- What the clauses say.
 
 -- nothing comes before the rows of a file whose header is there already
-between_is : (survey : Survey) (between : Option (List ℕ)) → survey.layout.headed ≡ true → Appends (Some []) between (front_text survey.layout) → between ≡ Some []
-between_is survey between headed front =
+nothing_between : (survey : Survey) (between : Option (List ℕ)) → survey.layout.headed ≡ true → Appends (Some []) between (front_text survey.layout) → between ≡ Some []
+nothing_between survey between headed front =
     let none : front_text survey.layout ≡ [] = rw (headed) refl in
     appended_to_known [] (front_text survey.layout) between front ∙ ap (λ (l : List ℕ). Some l) none
 
@@ -52,12 +52,12 @@ between_is survey between headed front =
 
 -- if a station whose output has its header already (`headed`) measured over a link that had recorded no acts, into a file that
 -- had taken no bytes, and then had taken those of `file`, either no act was made, or there is a run of that file (`HasRunOfFile`)
-found : {R : Type 0} (station : Settings) (given : List ℕ) (old new : PortsSeen) (end : Result Tally Stop) (told : List Act) (file : Followed R)
+run_or_no_act : {R : Type 0} (station : Settings) (given : List ℕ) (old new : PortsSeen) (end : Result Tally Stop) (told : List Act) (file : Followed R)
     → station.layout.headed ≡ true → old.acts ≡ Some [] → new.acts ≡ Some told → old.taken ≡ Some [] → new.taken ≡ Some (bytes_in file)
     → Measures given station most_turns old new end → (new.turns ≡ old.turns) ⊎ HasRunOfFile file new.acts old.turns new.turns
-found station given old new end told file headed none acts fresh took (inl (stop, is, refuses, unused)) = inl unused.turns
-found station given old new end told file headed none acts fresh took (inr (all, gives, inl front)) = inl front.turns
-found station given old new end told file headed none acts fresh took (inr (all, gives, inr behind)) = inr (record {
+run_or_no_act station given old new end told file headed none acts fresh took (inl (stop, is, refuses, unused)) = inl unused.turns
+run_or_no_act station given old new end told file headed none acts fresh took (inr (all, gives, inl front)) = inl front.turns
+run_or_no_act station given old new end told file headed none acts fresh took (inr (all, gives, inr behind)) = inr (record {
   run = record { survey = survey_of station most_turns all; old = old; new = new; result = end; recorded = told };
   is = record { is_run = record { none = none; acts = acts; ran = behind }; headed = headed; fresh = fresh; took = took };
   by_acts = acts;
@@ -71,7 +71,7 @@ pub appends_are_runs : {S R : Type 0} (source : Source S) (sink : Sink (Followed
 appends_are_runs source sink K E taken lasts shown has_log station whole file status none left tells = elim tells.holds.ran [
   | inl ran ↦
       let it = same_Some file tells.ended.output (sym left ∙ tells.filed.left) in
-      found (begun_at ran.run (words.for_file station)) ran.measured.0 _ _ tells.holds.end ran.told file refl none ran.is tells.filed.fresh
+      run_or_no_act (begun_at ran.run (words.for_file station)) ran.measured.0 _ _ tells.holds.end ran.told file refl none ran.is tells.filed.fresh
       (subst (λ f. sink.taken f ≡ Some (bytes_in file)) it (taken file)) ran.measured.2
   | inr unbegun ↦ inl unbegun.turns
 ]
@@ -91,7 +91,7 @@ module _ {R : Type 0} (m : RunMoment R) (is : IsRunMoment m) (reads : Asked → 
 
   -- no bytes came before the run's rows
   none_between : ran.between ≡ Some []
-  none_between = between_is m.run.survey ran.between is.run.headed (subst (λ (t : Option (List ℕ)). Appends t ran.between (front_text m.run.survey.layout)) is.run.fresh ran.front)
+  none_between = nothing_between m.run.survey ran.between is.run.headed (subst (λ (t : Option (List ℕ)). Appends t ran.between (front_text m.run.survey.layout)) is.run.fresh ran.front)
 
   -- the run kept up: at each of its turns, what the acts before it settled was kept
   keeps : KeepsUp m.run.survey.plan m.run.survey.tasks scope text (Some []) (Some m.run.recorded) (Some []) m.run.old.turns m.run.new.turns (close_at_output ran.end)
@@ -171,7 +171,7 @@ module _ {R : Type 0} (m : RunMoment R) (is : IsRunMoment m) (reads : Asked → 
       m.was.rows.kept (not-true m.was.rows.unkept isnt)
 
   -- `AreLeft` holds of the first `count` lines of `taken` and `rest`, if these are at least as many as the lines of `taken`
-  left_of : (count : ℕ) → feeds taken ≤ count → AreLeft m reads (row_lines (take count (pieces (taken ++ rest))))
+  left_of : (count : ℕ) → feeds taken ≤ count → AreLeft m reads (row_lines (take count (all_pieces (taken ++ rest))))
   left_of count least =
       let l = rows_left taken rest count taken_whole rest_whole least in
       record {
@@ -195,8 +195,8 @@ module _ {R : Type 0} (m : RunMoment R) (is : IsRunMoment m) (reads : Asked → 
   run steps = run_by steps m.calls taken (taken ++ rest)
 
   -- with the calls of an opening of a file that held these bytes, `run` is a run as the laws on files of rows have one
-  runs_so : (head held : List ℕ) (steps : List Step) → OpensFile head held steps → IsRun head held (run steps)
-  runs_so head held steps opens =
+  run_is_run : (head held : List ℕ) (steps : List Step) → OpensFile head held steps → IsRun head held (run steps)
+  run_is_run head held steps opens =
       let none : cuts_none ((steps_in m.was.rows ++ since) ++ is.reached.rest) ≡ true = subst (λ (l : List Step). cuts_none l ≡ true) calls_are m.file.rows.only_appends in
       subst (λ (calls : List Step). IsRun head held (run_by steps calls taken (taken ++ rest))) (sym is.reached.begins)
       (is_run head held steps (steps_in m.was.rows) since rest opens kept taken_whole rest_whole (cuts_first (steps_in m.was.rows ++ since) is.reached.rest none)
@@ -211,9 +211,9 @@ module _ {R : Type 0} (m : RunMoment R) (is : IsRunMoment m) (reads : Asked → 
 pub rows_outlast_crashes : {R : Type 0} → RowsOutlastCrashes R
 rows_outlast_crashes m is reads are x was =
     let one_run : Run = run m is reads are x.opening in
-    let now = runs_so m is reads are x.head (content (life_begun x)) x.opening was.opens in
-    let all = happen_two x.head (settled x.first) x.earlier (one_run ∷ []) was.happened (now, tt, tt) in
-    let there = subst (λ (l : Life). MayBeLeft l x.found) (sym (life_two (settled x.first) x.earlier (one_run ∷ []))) was.is_found in
+    let now = run_is_run m is reads are x.head (content (life_begun x)) x.opening was.opens in
+    let all = happen_append x.head (settled x.first) x.earlier (one_run ∷ []) was.happened (now, tt, tt) in
+    let there = subst (λ (l : Life). MayBeLeft l x.found) (sym (life_append (settled x.first) x.earlier (one_run ∷ []))) was.is_found in
     let p = splits_at_run x.head (opened_table x.head x.first) x.found x.earlier [] one_run (tables_last x.head x.first was.is_head (x.earlier ++ one_run ∷ []) all x.found there) in
     (p.counts, row_lines (take p.count one_run.rows), p.first, left_of m is reads are p.count p.least, p.is ∙ no_rows_of_none p.counts' p.others _)
   where
@@ -235,15 +235,15 @@ rows_outlast_failures m is reads are x was =
     let sides = sides_begun x in
     let one_run : Run = run m is reads are x.opening in
     let event = event_of one_run x.ending in
-    let now = runs_so m is reads are x.head (content sides.read) x.opening was.opens in
+    let now = run_is_run m is reads are x.head (content sides.read) x.opening was.opens in
     let behind = occurs x.head sides (doubted_by false x.earlier) one_run x.ending x.later was.trusted now was.ends was.occurs in
-    let all = occur_two x.head (same_sides (settled x.first)) false x.earlier (event ∷ x.later) was.occurred behind in
+    let all = occur_append x.head (same_sides (settled x.first)) false x.earlier (event ∷ x.later) was.occurred behind in
     let there =
-    subst (λ (s : Sides). IsFound s x.found) (sym (sides_two (same_sides (settled x.first)) x.earlier (event ∷ x.later) ∙ event_sides sides one_run x.ending x.later)) was.is_found in
+    subst (λ (s : Sides). IsFound s x.found) (sym (sides_append (same_sides (settled x.first)) x.earlier (event ∷ x.later) ∙ event_sides sides one_run x.ending x.later)) was.is_found in
     let has = tables_outlast_failures x.head x.first was.is_head (x.earlier ++ event ∷ x.later) all x.found there in
     let p = splits_at_run x.head (opened_table x.head x.first) x.found (runs_of x.earlier) (runs_of x.later) one_run
     (subst (λ (rs : List Run). HasRows x.head (opened_table x.head x.first) rs x.found)
-    (runs_two x.earlier (event ∷ x.later) ∙ ap (λ (rs : List Run). runs_of x.earlier ++ rs) (event_runs one_run x.ending x.later)) has) in
+    (runs_of_append x.earlier (event ∷ x.later) ∙ ap (λ (rs : List Run). runs_of x.earlier ++ rs) (event_runs one_run x.ending x.later)) has) in
     (p.counts, row_lines (take p.count one_run.rows), p.counts', p.first, left_of m is reads are p.count p.least, p.others, p.is)
   where
     -- a run that ends in this way, in a file that isn't in doubt, and events that may occur after that, may occur as events

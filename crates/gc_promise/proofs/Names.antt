@@ -22,9 +22,9 @@ use Rattle.gc_texts.specs.Stamps.{stamp_text}
 use Rattle.gc_texts.specs.declared.wish.Wish.{Wish}
 use Rattle.gc_texts.specs.declared.quality.Quality.{Quality}
 use Rattle.gc_texts.specs.declared.quality.Quality.TheVariants as quality
-use Rattle.gc_rows.specs.Quantities.{column_of, quantity_names, quantity_text}
+use Rattle.gc_rows.specs.Quantities.{column_of, quantity_names}
 use Rattle.gc_rows.specs.Records.{header, last_names}
-use Rattle.gc_rows.specs.Rows.{row_fields, moment_text, when_fields, command_fields, fault_field, reply_fields, fields_after_ending, quantity_fields, last_fields, com_of, code_of, values_of, spread, answer_columns, procedure_of}
+use Rattle.gc_rows.specs.Rows.{row_fields, moment_text, when_fields, command_fields, fault_field, reply_fields, fields_after_ending, quantity_fields, last_fields, com_of, code_of, values_of, spread, value_texts, answer_columns, procedure_of}
 use Rattle.gc_rows.specs.ProcedureQuantities.{names_from}
 use Rattle.gc_rows.specs.declared.when.When.{When}
 use Rattle.gc_rows.proofs.ProcedureQuantities.{quantities_under_their_names, quantities_fill}
@@ -99,8 +99,8 @@ all_among : AllByRecursion (λ key. IsAmong key quantity_names) quantity_names
 all_among = none_missing quantity_names quantity_names refl
 
 -- the quantities of a row have as many fields as names
-filled : (call : Asked) (end : End) → length (map escaped (quantity_fields call end)) ≡ length quantity_names
-filled call end = length-map (quantity_fields call end) escaped ∙ quantities_fill call end
+as_many_as_names : (call : Asked) (end : End) → length (map escaped (quantity_fields call end)) ≡ length quantity_names
+as_many_as_names call end = length-map (quantity_fields call end) escaped ∙ quantities_fill call end
 
 module _ (when : When) (name : List ℕ) (command : Wish) (end : End) where
   -- the field of this row under a name
@@ -147,49 +147,49 @@ module _ (when : When) (name : List ℕ) (command : Wish) (end : End) where
       → under key (quantity_names ++ last_names) (map escaped (quantity_fields command.call end ++ last_fields when end)) ≡ under key last_names (map escaped (last_fields when end))
   behind_quantities key other =
       ap (under key (quantity_names ++ last_names)) (map-append escaped (quantity_fields command.call end) (last_fields when end))
-      ∙ under_behind key quantity_names (map escaped (quantity_fields command.call end)) last_names (map escaped (last_fields when end)) (filled command.call end) other
+      ∙ under_behind key quantity_names (map escaped (quantity_fields command.call end)) last_names (map escaped (last_fields when end)) (as_many_as_names command.call end) other
 
   -- in a row without quantities, the word of the quality is under `quality`, and the attempt under `attempt`, both escaped
-  last_alone : (line : Option (List ℕ)) → (under (codes "quality") (header false) (map escaped (by_line false line)) ≡ escaped (quality_text (quality_of end)))
+  last_without_quantities : (line : Option (List ℕ)) → (under (codes "quality") (header false) (map escaped (by_line false line)) ≡ escaped (quality_text (quality_of end)))
       × (under (codes "attempt") (header false) (map escaped (by_line false line)) ≡ escaped (decimal when.stamp.turn.attempt))
-  last_alone None = (refl, refl)
-  last_alone (Some line) = (refl, refl)
+  last_without_quantities None = (refl, refl)
+  last_without_quantities (Some line) = (refl, refl)
 
   -- in a row with quantities, what is under the name of a last column is under it in the quantities and the last fields
-  last_behind : (line : Option (List ℕ)) → AllByRecursion (λ (key : List ℕ). under key (header true) (map escaped (by_line true line))
+  last_behind_quantities : (line : Option (List ℕ)) → AllByRecursion (λ (key : List ℕ). under key (header true) (map escaped (by_line true line))
       ≡ under key (quantity_names ++ last_names) (map escaped (quantity_fields command.call end ++ last_fields when end))) last_names
-  last_behind None = (refl, (refl, tt))
-  last_behind (Some line) = (refl, (refl, tt))
+  last_behind_quantities None = (refl, (refl, tt))
+  last_behind_quantities (Some line) = (refl, (refl, tt))
 
   -- under `quality` a row has the word of the answer's quality; nothing if the record has no quality
   pub under_quality : (columns : Bool) → row_at columns (codes "quality") ≡ quality_text (quality_of end)
-  under_quality false = (last_alone (line_of end)).0 ∙ quality_plain (quality_of end)
-  under_quality true = (last_behind (line_of end)).0 ∙ behind_quantities (codes "quality") refl ∙ quality_plain (quality_of end)
+  under_quality false = (last_without_quantities (line_of end)).0 ∙ quality_plain (quality_of end)
+  under_quality true = (last_behind_quantities (line_of end)).0 ∙ behind_quantities (codes "quality") refl ∙ quality_plain (quality_of end)
 
   -- under `attempt` a row has the attempt of the record's chain
   pub under_attempt : (columns : Bool) → row_at columns (codes "attempt") ≡ decimal when.stamp.turn.attempt
-  under_attempt false = (last_alone (line_of end)).1 ∙ decimal_plain when.stamp.turn.attempt
-  under_attempt true = (last_behind (line_of end)).1.0 ∙ behind_quantities (codes "attempt") refl ∙ decimal_plain when.stamp.turn.attempt
+  under_attempt false = (last_without_quantities (line_of end)).1 ∙ decimal_plain when.stamp.turn.attempt
+  under_attempt true = (last_behind_quantities (line_of end)).1.0 ∙ behind_quantities (codes "attempt") refl ∙ decimal_plain when.stamp.turn.attempt
 
   module _ (line : List ℕ) (is : line_of end ≡ Some line) where
     -- under any name a row has what it has with the line that ended the command
-    on_line : (columns : Bool) (key : List ℕ) → row_at columns key ≡ under key (header columns) (map escaped (by_line columns (Some line)))
-    on_line columns key = ap (λ (o : Option (List ℕ)). under key (header columns) (map escaped (by_line columns o))) is
+    same_by_line : (columns : Bool) (key : List ℕ) → row_at columns key ≡ under key (header columns) (map escaped (by_line columns (Some line)))
+    same_by_line columns key = ap (λ (o : Option (List ℕ)). under key (header columns) (map escaped (by_line columns o))) is
 
     -- under `rc_com` a row has the communication code of the line that ended the command, escaped
     pub under_rc_com : (columns : Bool) → row_at columns (codes "rc_com") ≡ escaped (com_of line)
-    under_rc_com false = on_line false (codes "rc_com")
-    under_rc_com true = on_line true (codes "rc_com")
+    under_rc_com false = same_by_line false (codes "rc_com")
+    under_rc_com true = same_by_line true (codes "rc_com")
 
     -- under `rc` a row has the return code of the line that ended the command, escaped
     pub under_rc : (columns : Bool) → row_at columns (codes "rc") ≡ escaped (code_of line)
-    under_rc false = on_line false (codes "rc")
-    under_rc true = on_line true (codes "rc")
+    under_rc false = same_by_line false (codes "rc")
+    under_rc true = same_by_line true (codes "rc")
 
     -- under `values` a row has the values of the line that ended the command, escaped
     pub under_values : (columns : Bool) → row_at columns (codes "values") ≡ escaped (values_of line)
-    under_values false = on_line false (codes "values")
-    under_values true = on_line true (codes "values")
+    under_values false = same_by_line false (codes "values")
+    under_values true = same_by_line true (codes "values")
 
 -- Quantities.
 
@@ -228,19 +228,15 @@ module _ (when : When) (text : List ℕ) (command : Wish) where
   behind_others Skipped = by_parts (codes "skipped") [] [] [] [] (replicate 24 [] ++ [] ∷ decimal when.stamp.turn.attempt ∷ [])
   behind_others Missed = by_parts (codes "missed") [] [] [] [] (replicate 24 [] ++ [] ∷ decimal when.stamp.turn.attempt ∷ [])
 
--- the texts of an answer's values, in order
-abbrev pub value_texts : Answer → List (List ℕ)
-value_texts answer = map quantity_text (answer_fields answer).values
-
 -- where the texts of an answer to this call are put into the columns of quantities, the field under `name` is the text, escaped,
 -- that has this name among the answer's quantities; it is empty if none has
-abbrev AreUnderTheirNames : Call → Answer → (name : List ℕ) → Type 0
-AreUnderTheirNames call answer name =
+abbrev IsUnderItsName : Call → Answer → (name : List ℕ) → Type 0
+IsUnderItsName call answer name =
     under name quantity_names (map escaped (spread (column_of call answer) (value_texts answer)))
     ≡ escaped (under name (names_from (column_of call answer) (answer_fields answer).values) (value_texts answer))
 
--- `AreUnderTheirNames` holds of a whole number that answers this call, with each name of a quantity
-long_under_its_name : (call : Call) (n : ℤ) → AllByRecursion (AreUnderTheirNames call (Long n)) quantity_names
+-- `IsUnderItsName` holds of a whole number that answers this call, with each name of a quantity
+long_under_its_name : (call : Call) (n : ℤ) → AllByRecursion (IsUnderItsName call (Long n)) quantity_names
 long_under_its_name GetFace n =
     (refl, (refl, (refl, (refl, (refl, (refl, (refl, (refl, (refl, (refl, (refl, (refl, (refl, (refl, (refl, (refl, (refl, (refl, (refl, (refl, (refl, (refl, (refl, (refl, tt))))))))))))))))))))))))
 long_under_its_name GetPrism n =
@@ -248,8 +244,8 @@ long_under_its_name GetPrism n =
 long_under_its_name call n =
     (refl, (refl, (refl, (refl, (refl, (refl, (refl, (refl, (refl, (refl, (refl, (refl, (refl, (refl, (refl, (refl, (refl, (refl, (refl, (refl, (refl, (refl, (refl, (refl, tt))))))))))))))))))))))))
 
--- `AreUnderTheirNames` holds of each answer to each call, with each name of a quantity
-answer_under_its_names : (call : Call) (answer : Answer) → AllByRecursion (AreUnderTheirNames call answer) quantity_names
+-- `IsUnderItsName` holds of each answer to each call, with each name of a quantity
+answer_under_its_names : (call : Call) (answer : Answer) → AllByRecursion (IsUnderItsName call answer) quantity_names
 answer_under_its_names call Nothing =
     (refl, (refl, (refl, (refl, (refl, (refl, (refl, (refl, (refl, (refl, (refl, (refl, (refl, (refl, (refl, (refl, (refl, (refl, (refl, (refl, (refl, (refl, (refl, (refl, tt))))))))))))))))))))))))
 answer_under_its_names call (Short n) =
@@ -275,17 +271,17 @@ answer_under_its_names call (MeasuredMode hz v distance mode) =
     (refl, (refl, (refl, (refl, (refl, (refl, (refl, (refl, (refl, (refl, (refl, (refl, (refl, (refl, (refl, (refl, (refl, (refl, (refl, (refl, (refl, (refl, (refl, (refl, tt))))))))))))))))))))))))
 
 -- if all fields of quantities are empty, the field under each name of a quantity is empty
-blank : AllByRecursion (λ (name : List ℕ). under name quantity_names (map escaped (replicate 24 [])) ≡ []) quantity_names
-blank =
+each_blank : AllByRecursion (λ (name : List ℕ). under name quantity_names (map escaped (replicate 24 [])) ≡ []) quantity_names
+each_blank =
     (refl, (refl, (refl, (refl, (refl, (refl, (refl, (refl, (refl, (refl, (refl, (refl, (refl, (refl, (refl, (refl, (refl, (refl, (refl, (refl, (refl, (refl, (refl, (refl, tt))))))))))))))))))))))))
 
 -- what holds of each name of a quantity holds of this one
 pub of_quantity : (P : List ℕ → Type 0) → AllByRecursion P quantity_names → (name : List ℕ) → IsQuantity name → P name
 of_quantity P each name is = all_at P quantity_names is.0 name each is.1
 
--- `blank`, of the name of one quantity
+-- if all fields of quantities are empty, the field under this name of a quantity is empty
 blank_under : (name : List ℕ) → IsQuantity name → under name quantity_names (map escaped (replicate 24 [])) ≡ []
-blank_under = of_quantity (λ (n : List ℕ). under n quantity_names (map escaped (replicate 24 [])) ≡ []) blank
+blank_under = of_quantity (λ (n : List ℕ). under n quantity_names (map escaped (replicate 24 [])) ≡ []) each_blank
 
 -- the answer is one to what was asked; each answer is, where a procedure was asked that isn't in the table
 abbrev pub IsAnswerTo : Asked → Answer → Type 0
@@ -301,7 +297,7 @@ answer_to (Raw raw) fields answer says = tt
 columns_told : (asked : Asked) (answer : Answer) (name : List ℕ) → IsQuantity name → IsAnswerTo asked answer
     → under name quantity_names (map escaped (answer_columns asked answer)) ≡ escaped (quantity_in asked (Value answer) name)
 columns_told (Table call) answer name is of =
-    of_quantity (AreUnderTheirNames call answer) (answer_under_its_names call answer) name is
+    of_quantity (IsUnderItsName call answer) (answer_under_its_names call answer) name is
     ∙ ap (λ (names : List (List ℕ)). escaped (under name names (value_texts answer))) (quantities_under_their_names call answer of)
 columns_told (Raw raw) answer name is of = blank_under name is
 
@@ -311,7 +307,7 @@ module _ (when : When) (text : List ℕ) (command : Wish) (name : List ℕ) (is 
   quantities_under end =
       of_quantity (IsBehind when text command end) (behind_others when text command end) name is
       ∙ ap (under name (quantity_names ++ last_names)) (map-append escaped (quantity_fields command.call end) (last_fields when end))
-      ∙ under_front name quantity_names (map escaped (quantity_fields command.call end)) last_names (map escaped (last_fields when end)) (filled command.call end)
+      ∙ under_front name quantity_names (map escaped (quantity_fields command.call end)) last_names (map escaped (last_fields when end)) (as_many_as_names command.call end)
       (of_quantity (λ key. IsAmong key quantity_names) all_among name is)
 
   -- where `answer` is one to what the command asks (`IsAnswerTo`), the row of the command, answered with it, has under this
@@ -325,11 +321,11 @@ module _ (when : When) (text : List ℕ) (command : Wish) (name : List ℕ) (is 
   none_answered quality line = quantities_under (Answered quality None line) ∙ blank_under name is
 
   -- the row of a command that didn't end as `Answered` has nothing under this name of a quantity
-  pub none_else : (end : End) → ((quality : Quality) (answer : Option Answer) (line : List ℕ) → end ≡ Answered quality answer line → ⊥) → row_at when text command end true name ≡ []
-  none_else (Answered quality answer line) other = absurd (other quality answer line refl)
-  none_else (Unreadable line fault) other = quantities_under (Unreadable line fault) ∙ blank_under name is
-  none_else (Elsewhere line) other = quantities_under (Elsewhere line) ∙ blank_under name is
-  none_else Late other = quantities_under Late ∙ blank_under name is
-  none_else Lost other = quantities_under Lost ∙ blank_under name is
-  none_else Skipped other = quantities_under Skipped ∙ blank_under name is
-  none_else Missed other = quantities_under Missed ∙ blank_under name is
+  pub none_unanswered : (end : End) → ((quality : Quality) (answer : Option Answer) (line : List ℕ) → end ≡ Answered quality answer line → ⊥) → row_at when text command end true name ≡ []
+  none_unanswered (Answered quality answer line) other = absurd (other quality answer line refl)
+  none_unanswered (Unreadable line fault) other = quantities_under (Unreadable line fault) ∙ blank_under name is
+  none_unanswered (Elsewhere line) other = quantities_under (Elsewhere line) ∙ blank_under name is
+  none_unanswered Late other = quantities_under Late ∙ blank_under name is
+  none_unanswered Lost other = quantities_under Lost ∙ blank_under name is
+  none_unanswered Skipped other = quantities_under Skipped ∙ blank_under name is
+  none_unanswered Missed other = quantities_under Missed ∙ blank_under name is

@@ -1,7 +1,7 @@
 -- Lines of JSON that a station wrote of a run in the field: their members are their own, that is, what is in the line of an
 -- answer was made by the instrument on executing the very request of the line's cycle and place.
 use Rattle.std.proofs.Common.{◌≡◌, ℕ, ◌<◌, true, List, [], ◌∷◌, ◌++◌, map, Option, Some, None, if◌then◌else◌, refl, sym, ap, ◌∙◌, subst, append-nil}
-use Rattle.std.specs.Prelude.{codes, slice_get, All, Bool, false, ◌==◌}
+use Rattle.std.specs.Prelude.{codes, slice_get, Bool, false, ◌==◌}
 use Rattle.std.specs.List.{AllByRecursion, flat_map}
 use Rattle.std.proofs.lemmas.Bool.{cond_both}
 use Rattle.std.proofs.lemmas.List.Elements.{All-from_recursion}
@@ -15,7 +15,7 @@ use Rattle.gc_catalogue.specs.declared.asked.Asked.{Asked}
 use Rattle.gc_instrument.specs.State.{KeptReply}
 use Rattle.gc_texts.specs.Cuts.{Lacks}
 use Rattle.gc_texts.specs.Endings.{End, Answered, Unreadable, Elsewhere, Late, Lost, Skipped, Missed, word_of}
-use Rattle.gc_texts.specs.Logs.{escaped}
+use Rattle.gc_texts.specs.Logs.{AreBytes, escaped}
 use Rattle.gc_texts.specs.Names.{name_text}
 use Rattle.gc_texts.specs.Stamps.{stamp_text}
 use Rattle.gc_texts.specs.declared.wish.Wish.{Wish}
@@ -38,7 +38,7 @@ use Rattle.gc_field.specs.World.{Ends}
 use Rattle.gc_field.specs.Instrument.{IsAnInstrument, AnyState}
 use Rattle.gc_promise.specs.Fields.{IsQuantity, quantity_in}
 use Rattle.gc_files.specs.Runs as rows
-use Rattle.gc_promise.specs.Objects.{AreOfBytes, AreOwnObjects, IsOwnObject, IsTyped, ObjectsAreTheirOwn}
+use Rattle.gc_promise.specs.Objects.{AreTyped, AreOwnObjects, IsOwnObject, IsTyped, ObjectsAreTheirOwn}
 use Rattle.gc_promise.specs.Tables.{FieldRun, IsFieldRun, acts_in_field, records_in}
 use Rattle.gc_promise.proofs.Finding.{at_member, member_attempt, member_cycle, member_outcome, member_place, member_procedure, member_quality, member_quantity, member_rc, member_rc_com, member_sent, member_stands, member_target, member_values, zeros_gone}
 use Rattle.gc_promise.proofs.Judged.{no_value_if_none, value_if_some}
@@ -46,7 +46,7 @@ use Rattle.gc_promise.proofs.Names.{answer_to}
 use Rattle.gc_values.proofs.Every.{every_front as all_front}
 use Rattle.gc_promise.proofs.Tabled.{nothing_in}
 use Rattle.gc_promise.proofs.Taken.{run_took}
-use Rattle.gc_promise.proofs.Unbroken.{line_unbroken}
+use Rattle.gc_promise.proofs.Unbroken.{line_text, line_unbroken}
 use Rattle.gc_promise.proofs.Written.{HasItsTexts, all_written, one_for_one, target_in, when_in, written_own}
 
 -- Quantities.
@@ -112,10 +112,6 @@ module _ (survey : Survey) (r : Record) where
 
 -- Lines.
 
--- the line of a record without its line feed
-abbrev line_text : When → List ℕ → Wish → End → List ℕ
-line_text when text command end = (codes "{\"run\":" ++ string_text (stamp_text when.run)) ++ (members_text (members_after_run when text command end) ++ codes "}")
-
 -- the text of a record is its line and a line feed
 line_ends : (when : When) (text : List ℕ) (command : Wish) (end : End) → record_text Json when text command end ≡ line_text when text command end ++ 10 ∷ []
 line_ends when text command end = feed_apart (codes "{\"run\":" ++ string_text (stamp_text when.run)) (members_text (members_after_run when text command end))
@@ -126,10 +122,10 @@ each_line says_text line one [] = refl
 each_line says_text line one (x ∷ xs) = ap (λ (l : List ℕ). l ++ flat_map says_text xs) (one x) ∙ ap (λ (l : List ℕ). (line x ++ 10 ∷ []) ++ l) (each_line says_text line one xs)
 
 -- where all names are bytes, so is the name of a target, which is empty if it has none
-name_bytes : (target : ℕ) (names : List Name) → AllByRecursion (λ (name : Name). All (λ b. b < 256) name.text.items) names → All (λ b. b < 256) (name_text target names)
+name_bytes : (target : ℕ) (names : List Name) → AllByRecursion (λ (name : Name). AreBytes name.text.items) names → AreBytes (name_text target names)
 name_bytes target [] are = All-from_recursion (λ (b : ℕ). b < 256) [] tt
 name_bytes target (name ∷ names) are =
-    cond_both (name.target == target) name.text.items (name_text target names) (All (λ b. b < 256)) (λ _. are.0) (λ _. name_bytes target names are.1)
+    cond_both (name.target == target) name.text.items (name_text target names) AreBytes (λ _. are.0) (λ _. name_bytes target names are.1)
 
 -- nothing comes before lines of JSON
 no_front : (headed : Bool) (form : Form) → form ≡ Json → (if headed then [] else head_text form) ≡ []
@@ -137,7 +133,7 @@ no_front true form is = refl
 no_front false form is = ap head_text is
 
 module _ {State : Type 0} (ends : Ends State) (kept : State → Option KeptReply) (is : IsAnInstrument ends AnyState kept) (reads : Asked → List ℕ → Reading) (are : AreReadings reads)
-    (x : FieldRun State) (was : IsFieldRun ends kept reads x) (form : x.run.survey.layout.form ≡ Json) (small : AreOfBytes x.run.survey (records_in x.run.survey reads (acts_in_field x))) where
+    (x : FieldRun State) (was : IsFieldRun ends kept reads x) (form : x.run.survey.layout.form ≡ Json) (small : AreTyped x.run.survey (records_in x.run.survey reads (acts_in_field x))) where
   -- what the run measures
   abbrev survey : Survey
   survey = x.run.survey

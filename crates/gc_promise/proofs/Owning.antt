@@ -18,7 +18,7 @@ use Rattle.gc_rows.specs.Records.{record_text}
 use Rattle.gc_rows.specs.Rows.{row_of, row_fields, com_of, code_of, values_of}
 use Rattle.gc_rows.specs.declared.when.When.{When}
 use Rattle.gc_rows.proofs.Columns.{reply_columns}
-use Rattle.gc_rows.proofs.Rows.{read_back}
+use Rattle.gc_rows.proofs.Rows.{rows_read_back}
 use Rattle.gc_station.specs.Answers.{AnswerIsJustified}
 use Rattle.gc_station.specs.Records.{Record}
 use Rattle.gc_station.proofs.Answers.{answers_true}
@@ -35,8 +35,8 @@ use Rattle.gc_promise.specs.Tables.{table_form}
 use Rattle.gc_promise.proofs.Names.{by_line}
 
 -- a line from which an id is heard (`heard`) reads as a reply
-pub a_reply : (line : List ℕ) (id : ℕ) → heard line ≡ Some id → (r : ReplyFields) × IsReply line r
-a_reply line id h = by_read (reply_at line) refl where
+pub heard_is_reply : (line : List ℕ) (id : ℕ) → heard line ≡ Some id → (r : ReplyFields) × IsReply line r
+heard_is_reply line id h = by_read (reply_at line) refl where
   -- the lemma above, by what the line reads as
   by_read : (read : Result ReplyFields LineFault) → reply_at line ≡ read → (r : ReplyFields) × IsReply line r
   by_read (Ok r) e = (r, reply_found line r e)
@@ -48,8 +48,8 @@ module _ (columns : Bool) (when : When) (name : List ℕ) (command : Wish) (end 
   two_fields = omega arith
 
   -- under any name a row has what it has with the line that ended the command
-  on_line : (key line : List ℕ) → line_of end ≡ Some line → column key (row_fields columns when name command end) ≡ column key (by_line when name command end columns (Some line))
-  on_line key line e = ap (λ o. column key (by_line when name command end columns o)) e
+  same_by_line : (key line : List ℕ) → line_of end ≡ Some line → column key (row_fields columns when name command end) ≡ column key (by_line when name command end columns (Some line))
+  same_by_line key line e = ap (λ o. column key (by_line when name command end columns o)) e
 
 -- the text of a record in a table is the row of its fields
 pub in_table : (columns : Bool) (when : When) (name : List ℕ) (command : Wish) (end : End)
@@ -63,15 +63,15 @@ record_fields layout columns names r = row_fields columns (when_of layout.run r)
 
 -- if this line, a reply, ended the record's command in time, the fields of the record's row say what the record and the line
 -- say
-says : (layout : Layout) (columns : Bool) (names : List Name) (r : Record) (line : List ℕ) → line_of r.end ≡ Some line
+fields_say : (layout : Layout) (columns : Bool) (names : List Name) (r : Record) (line : List ℕ) → line_of r.end ≡ Some line
     → (reply : ReplyFields) × IsReply line reply → FieldsSay (record_fields layout columns names r) r line
-says layout columns names r line answered reply =
+fields_say layout columns names r line answered reply =
     let when = when_of layout.run r in
     let name = name_text r.command.target names in
     let said = reply_columns line reply.0 reply.1 in
-    let rc_com : column (codes "rc_com") (row_fields columns when name r.command r.end) ≡ com_of line = on_line columns when name r.command r.end (codes "rc_com") line answered in
-    let rc : column (codes "rc") (row_fields columns when name r.command r.end) ≡ code_of line = on_line columns when name r.command r.end (codes "rc") line answered in
-    let values : column (codes "values") (row_fields columns when name r.command r.end) ≡ values_of line = on_line columns when name r.command r.end (codes "values") line answered in
+    let rc_com : column (codes "rc_com") (row_fields columns when name r.command r.end) ≡ com_of line = same_by_line columns when name r.command r.end (codes "rc_com") line answered in
+    let rc : column (codes "rc") (row_fields columns when name r.command r.end) ≡ code_of line = same_by_line columns when name r.command r.end (codes "rc") line answered in
+    let values : column (codes "values") (row_fields columns when name r.command r.end) ≡ values_of line = same_by_line columns when name r.command r.end (codes "values") line answered in
     record {
       command = record { sent = refl; cycle = refl; place = refl; target = refl; procedure = refl; outcome = refl };
       says = record {
@@ -104,8 +104,8 @@ module _ {State : Type 0} (ends : Ends State) (kept : State → Option KeptReply
       record {
         fields = fields;
         row = row;
-        reads_back = λ behind. rw row (read_back.row fields (two_fields columns (when_of layout.run r) (name_text r.command.target names) r.command r.end) behind);
-        says = says layout columns names r line answered (a_reply line _ justified.reply.id);
+        reads_back = λ behind. rw row (rows_read_back.row fields (two_fields columns (when_of layout.run r) (name_text r.command.target names) r.command r.end) behind);
+        says = fields_say layout columns names r line answered (heard_is_reply line _ justified.reply.id);
         own = own line answered;
       }
 

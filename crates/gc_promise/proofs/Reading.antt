@@ -15,7 +15,7 @@ use Rattle.csv.specs.declared.parser.Terminator.{Terminator}
 use Rattle.csv.specs.declared.parser.Terminator.TheVariants as term
 use Rattle.gc_texts.specs.Logs.{escaped}
 use Rattle.gc_rows.specs.Rows.{row_of}
-use Rattle.gc_rows.proofs.Rows.{read_back}
+use Rattle.gc_rows.proofs.Rows.{rows_read_back}
 use Rattle.std.proofs.lemmas.Option.{same_Some}
 use Rattle.gc_promise.specs.Tables.{AreReadAs}
 use Rattle.gc_values.specs.Boolean.{number_of}
@@ -69,19 +69,19 @@ abbrev reads_left : State → List ℕ → ℕ
 reads_left s xs = length xs + number_of (ends_at_end s)
 
 -- the number of a truth value is at most 1
-few_if : (b : Bool) → number_of b < 2
-few_if true = omega arith
-few_if false = omega arith
+truth_below_two : (b : Bool) → number_of b < 2
+truth_below_two true = omega arith
+truth_below_two false = omega arith
 
 -- after a read that gives a record, `reads_left` is smaller than before it
-takes_some : (cfg : Config) (s : State) (fields : List (List ℕ)) (field xs : List ℕ) (p : Read) → next_record cfg s fields field xs ≡ Some p → reads_left p.1 p.2 < reads_left s xs
+reads_left_falls : (cfg : Config) (s : State) (fields : List (List ℕ)) (field xs : List ℕ) (p : Read) → next_record cfg s fields field xs ≡ Some p → reads_left p.1 p.2 < reads_left s xs
 unfolding next_record
-takes_some cfg s fields field [] p = at_end (ends_at_end s) where
+reads_left_falls cfg s fields field [] p = at_end (ends_at_end s) where
   -- the lemma above at the end of the input, by whether that ends a record (`b`)
   at_end : (b : Bool) → cond b (Some (fields ++ (field ∷ []), st.StartRecord, [])) None ≡ Some p → reads_left p.1 p.2 < 0 + number_of b
   at_end true e = subst (λ (x : Read). reads_left x.1 x.2 < 1) (same_Some _ p e) (omega arith)
   at_end false e = cc
-takes_some cfg s fields field (c ∷ rest) p = at_byte (is_end (step cfg s c).1) refl (takes_some cfg (step cfg s c).0 _ _ rest p) where
+reads_left_falls cfg s fields field (c ∷ rest) p = at_byte (is_end (step cfg s c).1) refl (reads_left_falls cfg (step cfg s c).0 _ _ rest p) where
   -- the read after a step that leads to this state, with this action
   goes_on : State × Action → Option Read
   goes_on x = next_record cfg x.0 (fields_after x.1 fields field) (field_after x.1 c field) rest
@@ -94,19 +94,19 @@ takes_some cfg s fields field (c ∷ rest) p = at_byte (is_end (step cfg s c).1)
   at_byte true is more e =
       subst (λ (x : Read). reads_left x.1 x.2 < suc (length rest) + number_of (ends_at_end s)) (same_Some _ p e)
       (let none = ap number_of (step_between cfg s c is) in omega (arith, none))
-  at_byte false is more e = let less = more e in let few = few_if (ends_at_end (step cfg s c).0) in omega (arith, less, few)
+  at_byte false is more e = let less = more e in let few = truth_below_two (ends_at_end (step cfg s c).0) in omega (arith, less, few)
 
 -- reading at most m records, or at most n, gives the same, where both are above `reads_left`
-enough : (cfg : Config) (m n : ℕ) (s : State) (xs : List ℕ) → reads_left s xs < m → reads_left s xs < n → records_from cfg m s xs ≡ records_from cfg n s xs
+enough_reads : (cfg : Config) (m n : ℕ) (s : State) (xs : List ℕ) → reads_left s xs < m → reads_left s xs < n → records_from cfg m s xs ≡ records_from cfg n s xs
 unfolding records_from
-enough cfg zero n s xs few many = absurd (omega (arith, few))
-enough cfg (suc m) zero s xs few many = absurd (omega (arith, many))
-enough cfg (suc m) (suc n) s xs few many = by_read (enough cfg m n) (next_record cfg s [] [] xs) refl where
+enough_reads cfg zero n s xs few many = absurd (omega (arith, few))
+enough_reads cfg (suc m) zero s xs few many = absurd (omega (arith, many))
+enough_reads cfg (suc m) (suc n) s xs few many = by_read (enough_reads cfg m n) (next_record cfg s [] [] xs) refl where
   -- the lemma above with m + 1 and n + 1, by the first read, if the lemma holds with m and n
   by_read : ((t : State) (ys : List ℕ) → reads_left t ys < m → reads_left t ys < n → records_from cfg m t ys ≡ records_from cfg n t ys)
       → (o : Option Read) → next_record cfg s [] [] xs ≡ o → records_next (records_from cfg m) o ≡ records_next (records_from cfg n) o
   by_read more None e = refl
-  by_read more (Some p) e = let less = takes_some cfg s [] [] xs p e in ap (λ l. p.0 ∷ l) (more p.1 p.2 (omega (arith, less, few)) (omega (arith, less, many)))
+  by_read more (Some p) e = let less = reads_left_falls cfg s [] [] xs p e in ap (λ l. p.0 ∷ l) (more p.1 p.2 (omega (arith, less, few)) (omega (arith, less, many)))
 
 -- Texts that are read.
 
@@ -116,15 +116,15 @@ one_read : (xs behind : List ℕ) (row : List (List ℕ)) → next_record defaul
     → records default_config xs ≡ row ∷ records default_config behind
 unfolding records_from
 one_read xs behind row e =
-    let less = takes_some default_config st.StartRecord [] [] xs (row, st.StartRecord, behind) e in
+    let less = reads_left_falls default_config st.StartRecord [] [] xs (row, st.StartRecord, behind) e in
     let counted : length xs + 1 ≡ suc (length xs) = omega arith in
     ap (λ n. records_from default_config n st.StartRecord xs) counted
     ∙ ap (λ o. records_next (records_from default_config (length xs)) o) e
-    ∙ ap (λ l. row ∷ l) (enough default_config (length xs) (length behind + 1) st.StartRecord behind (omega (arith, less)) (omega arith))
+    ∙ ap (λ l. row ∷ l) (enough_reads default_config (length xs) (length behind + 1) st.StartRecord behind (omega (arith, less)) (omega arith))
 
 -- a row of more than one field is read as its fields, `escaped`
 pub row_reads : (fields : List (List ℕ)) → 1 < length fields → AreReadAs (row_of fields) (map escaped fields ∷ [])
-row_reads fields many behind = one_read (row_of fields ++ behind) behind (map escaped fields) (read_back.row fields many behind)
+row_reads fields many behind = one_read (row_of fields ++ behind) behind (map escaped fields) (rows_read_back.row fields many behind)
 
 -- the empty text is read as no rows
 pub none_read : AreReadAs [] []

@@ -75,11 +75,11 @@ module _ (plan : Plan) (commands : List Task) (scope : Scope) (text : Record →
       }
 
   -- a run with these acts, from none on, whose book took these bytes, and which ended with this result
-  abbrev RanSo : List Act → List ℕ → Result Tally RunFault → Type 0
-  RanSo told bytes end = Ran plan commands scope text (Some []) (Some told) (Some []) (Some bytes) end
+  abbrev RanFromNone : List Act → List ℕ → Result Tally RunFault → Type 0
+  RanFromNone told bytes end = Ran plan commands scope text (Some []) (Some told) (Some []) (Some bytes) end
 
   -- what a run took, whatever its end, is `Fronted`
-  pub fronted : (told : List Act) (bytes : List ℕ) (end : Result Tally RunFault) → RanSo told bytes end → Fronted told bytes
+  pub fronted : (told : List Act) (bytes : List ℕ) (end : Result Tally RunFault) → RanFromNone told bytes end → Fronted told bytes
   fronted told bytes (Ok tally) ran = record { acts = ran.1.acts; others = []; all = ran.1.tells ∙ sym (append-nil ran.1.acts); own = same_front _ _ ran.1.took }
   fronted told bytes (Err Output) (inl broke) = record {
     acts = broke.acts ++ broke.last ∷ [];

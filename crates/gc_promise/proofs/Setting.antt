@@ -15,8 +15,8 @@ use Rattle.std.proofs.lemmas.Option.{same_Some}
 use Rattle.gc_promise.specs.Fields.{IsSetTo}
 
 -- a command that sets the clock (`now`), sent at the moment `utc`, asks for the date and time of that moment
-set_at : (task : Task) (utc : ℕ) → task.now ≡ true → (command_sent (Some utc) task).call ≡ Table (SetDate (date_time utc))
-set_at task utc is = ap (λ (b : Bool). if b then Table (SetDate (date_time utc)) else task.command.call) is
+clock_is_set : (task : Task) (utc : ℕ) → task.now ≡ true → (command_sent (Some utc) task).call ≡ Table (SetDate (date_time utc))
+clock_is_set task utc is = ap (λ (b : Bool). if b then Table (SetDate (date_time utc)) else task.command.call) is
 
 module _ (at : List ℕ → List ℕ) (commands : List Task) (r : Record) (of : IsOfItsTask commands r) (stands : at (codes "sent") ≡ moment_text r.sent) where
   -- if the record's command sets the clock, and the command's request was sent, the request asked for the moment that is under
@@ -31,7 +31,7 @@ module _ (at : List ℕ → List ℕ) (commands : List Task) (r : Record) (of : 
         record {
           utc = utc;
           sent = stands ∙ ap moment_text is;
-          asked = ap (λ (w : Wish). w.call) (of.command ∙ ap (λ (o : Option ℕ). command_sent o of.task) is) ∙ set_at of.task utc (ap (λ (t : Task). t.now) own ∙ now);
+          asked = ap (λ (w : Wish). w.call) (of.command ∙ ap (λ (o : Option ℕ). command_sent o of.task) is) ∙ clock_is_set of.task utc (ap (λ (t : Task). t.now) own ∙ now);
         }
 
   -- if no request was sent, nothing is under `sent`

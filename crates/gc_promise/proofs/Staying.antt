@@ -6,29 +6,28 @@ use Rattle.std.proofs.lemmas.Bool.{cases_Bool}
 use Rattle.gc_files.specs.Failing.{Sides, Event, Ran, Failed, Copied, Crashed, feeds, settled, same_sides, done_by, sides_after, runs_of, Occur, IsTrusted}
 use Rattle.gc_files.specs.Files.{Step, Append, Cut, Sync, Life, has_sync, content}
 use Rattle.gc_files.specs.Rows.{whole, opened_table, head_written, mended, cuts_none, appended, IsFront}
-use Rattle.gc_files.specs.Rows as opening
 use Rattle.gc_files.specs.Runs.{synced, Run, row_lines, IsRun, WereKept, OpensAndWrites, Happen, life_after, life_once_ended, rows_of, AreRowCounts, HasRows}
-use Rattle.gc_files.proofs.Killing.{calls_opened}
-use Rattle.gc_files.proofs.Moments.{two_steps, mend_synced, no_sync}
+use Rattle.gc_files.proofs.Killing.{openings_are_runs}
+use Rattle.gc_files.proofs.Moments.{mended_by_two_steps, mend_synced, none_synced}
 use Rattle.gc_files.proofs.Whole.{whole_more}
-use Rattle.gc_promise.specs.Lasting.{doubted_by}
-use Rattle.gc_promise.proofs.Pieces.{pieces, pieces_rows, pieces_whole, pieces_fit, pieces_front}
+use Rattle.gc_promise.specs.Lasting.{doubted_by, OpensFile}
+use Rattle.gc_promise.proofs.Pieces.{all_pieces, pieces_rows, pieces_whole, pieces_fit, pieces_front}
 
 -- What was synced.
 
 -- if there is a sync among the steps `xs`, there is one among `xs` and `ys` together
-has_first : (xs ys : List Step) → has_sync xs ≡ true → has_sync (xs ++ ys) ≡ true
-has_first [] ys some = let wrong : false ≡ true = some in cc
-has_first (Append bytes ∷ xs) ys some = has_first xs ys some
-has_first (Cut size ∷ xs) ys some = has_first xs ys some
-has_first (Sync ∷ xs) ys some = refl
+has_sync_first : (xs ys : List Step) → has_sync xs ≡ true → has_sync (xs ++ ys) ≡ true
+has_sync_first [] ys some = let wrong : false ≡ true = some in cc
+has_sync_first (Append bytes ∷ xs) ys some = has_sync_first xs ys some
+has_sync_first (Cut size ∷ xs) ys some = has_sync_first xs ys some
+has_sync_first (Sync ∷ xs) ys some = refl
 
 -- if there is a sync among the steps `ys`, there is one among `xs` and `ys` together
-has_behind : (xs ys : List Step) → has_sync ys ≡ true → has_sync (xs ++ ys) ≡ true
-has_behind [] ys some = some
-has_behind (Append bytes ∷ xs) ys some = has_behind xs ys some
-has_behind (Cut size ∷ xs) ys some = has_behind xs ys some
-has_behind (Sync ∷ xs) ys some = refl
+has_sync_behind : (xs ys : List Step) → has_sync ys ≡ true → has_sync (xs ++ ys) ≡ true
+has_sync_behind [] ys some = some
+has_sync_behind (Append bytes ∷ xs) ys some = has_sync_behind xs ys some
+has_sync_behind (Cut size ∷ xs) ys some = has_sync_behind xs ys some
+has_sync_behind (Sync ∷ xs) ys some = refl
 
 -- the empty list is a front of any bytes
 front_nil : (all : List ℕ) → IsFront [] all
@@ -42,7 +41,7 @@ front_behind xs front all f = record { rest = f.rest; split = ap (λ (l : List �
 synced_more : (xs ys : List Step) → IsFront (synced xs) (synced (xs ++ ys))
 synced_more [] ys = front_nil (synced ys)
 synced_more (Append bytes ∷ xs) ys = elim (cases_Bool (has_sync xs)) [
-  | inl some ↦ rw (some, has_first xs ys some) (front_behind bytes (synced xs) (synced (xs ++ ys)) (synced_more xs ys))
+  | inl some ↦ rw (some, has_sync_first xs ys some) (front_behind bytes (synced xs) (synced (xs ++ ys)) (synced_more xs ys))
   | inr isnt ↦ rw (isnt) (front_nil (synced (Append bytes ∷ (xs ++ ys))))
 ]
 synced_more (Cut size ∷ xs) ys = synced_more xs ys
@@ -53,7 +52,7 @@ synced_more (Sync ∷ xs) ys = synced_more xs ys
 synced_behind : (xs ys : List Step) → has_sync ys ≡ true → synced (xs ++ ys) ≡ appended xs ++ synced ys
 synced_behind [] ys some = refl
 synced_behind (Append bytes ∷ xs) ys some =
-    rw (has_behind xs ys some) (ap (λ (l : List ℕ). bytes ++ l) (synced_behind xs ys some) ∙ sym (append_assoc bytes (appended xs) (synced ys)))
+    rw (has_sync_behind xs ys some) (ap (λ (l : List ℕ). bytes ++ l) (synced_behind xs ys some) ∙ sym (append_assoc bytes (appended xs) (synced ys)))
 synced_behind (Cut size ∷ xs) ys some = synced_behind xs ys some
 synced_behind (Sync ∷ xs) ys some = synced_behind xs ys some
 
@@ -69,9 +68,9 @@ cuts_first (Cut size ∷ xs) ys none = let wrong : false ≡ true = none in cc
 -- a run of the file that no crash ends. `steps` are those of its opening, and `calls` those after that. `all` are all rows that
 -- it may append; of these the rows of `taken`, which it had appended by a sync, count as kept
 abbrev pub run_by : (steps calls : List Step) (taken all : List ℕ) → Run
-run_by steps calls taken all = record { rows = pieces all; steps = steps ++ calls; kept = feeds taken; left = None }
+run_by steps calls taken all = record { rows = all_pieces all; steps = steps ++ calls; kept = feeds taken; left = None }
 
-module _ (head held : List ℕ) (steps was since : List Step) (rest : List ℕ) (opened : opening.MendedAndPut held steps (head_written head held))
+module _ (head held : List ℕ) (steps was since : List Step) (rest : List ℕ) (opened : OpensFile head held steps)
     (kept : synced was ≡ appended was) (is_whole : whole (appended was) ≡ appended was) where
   -- if a sync is among the calls `was`, what was at the start and all that these calls appended is a front of what is synced,
   -- whatever calls follow
@@ -79,17 +78,17 @@ module _ (head held : List ℕ) (steps was since : List Step) (rest : List ℕ) 
   synced_all some =
       let all : synced (steps ++ (was ++ since)) ≡ head_written head held ++ synced (was ++ since) =
       ap (λ (xs : List Step). synced (xs ++ (was ++ since))) opened.split ∙ ap synced (append_assoc (mended held) opened.later (was ++ since))
-      ∙ ap (λ (xs : List Step). synced (xs ++ (opened.later ++ (was ++ since)))) (sym (two_steps held)) ∙ mend_synced held 2 (opened.later ++ (was ++ since))
-      ∙ synced_behind opened.later (was ++ since) (has_first was since some) ∙ ap (λ (l : List ℕ). l ++ synced (was ++ since)) opened.puts.all in
+      ∙ ap (λ (xs : List Step). synced (xs ++ (opened.later ++ (was ++ since)))) (sym (mended_by_two_steps held)) ∙ mend_synced held 2 (opened.later ++ (was ++ since))
+      ∙ synced_behind opened.later (was ++ since) (has_sync_first was since some) ∙ ap (λ (l : List ℕ). l ++ synced (was ++ since)) opened.puts.all in
       subst (λ (l : List ℕ). IsFront (head_written head held ++ appended was) l) (sym all)
       (front_behind (head_written head held) (appended was) (synced (was ++ since)) (subst (λ (l : List ℕ). IsFront l (synced (was ++ since))) kept (synced_more was since)))
 
   -- all rows that the calls `was` appended count as kept
-  were_kept : WereKept head held (pieces (appended was ++ rest)) (feeds (appended was)) (steps ++ (was ++ since))
+  were_kept : WereKept head held (all_pieces (appended was ++ rest)) (feeds (appended was)) (steps ++ (was ++ since))
   were_kept = elim (cases_Bool (has_sync was)) [
     | inl some ↦
         inr (subst (λ (l : List ℕ). IsFront (head_written head held ++ l) (synced (steps ++ (was ++ since)))) (sym (pieces_front (appended was) rest is_whole)) (synced_all some))
-    | inr isnt ↦ inl (ap feeds (sym kept ∙ no_sync was isnt))
+    | inr isnt ↦ inl (ap feeds (sym kept ∙ none_synced was isnt))
   ]
 
   -- if the rows that may follow (`rest`) are whole, no call cuts the file, and what the calls appended is a front of all rows,
@@ -109,19 +108,19 @@ module _ (head held : List ℕ) (steps was since : List Step) (rest : List ℕ) 
         puts = record { none_cut = none; all = refl };
         is_front = subst (λ (l : List ℕ). IsFront (appended (was ++ since)) l) (sym (pieces_whole all all_whole)) front;
       } in
-      calls_opened head held run did (pieces_rows all) (pieces_fit (appended was) rest is_whole) were_kept
+      openings_are_runs head held run did (pieces_rows all) (pieces_fit (appended was) rest is_whole) were_kept
 
 -- After other runs and events.
 
 -- runs that may happen, and then others that may happen after them, may happen as one list
-pub happen_two : (head : List ℕ) (life : Life) (xs ys : List Run) → Happen head life xs → Happen head (life_after life xs) ys → Happen head life (xs ++ ys)
-happen_two head life [] ys first second = second
-happen_two head life (run ∷ xs) ys first second = (first.0, first.1, happen_two head (life_once_ended life run run.left) xs ys first.2 second)
+pub happen_append : (head : List ℕ) (life : Life) (xs ys : List Run) → Happen head life xs → Happen head (life_after life xs) ys → Happen head life (xs ++ ys)
+happen_append head life [] ys first second = second
+happen_append head life (run ∷ xs) ys first second = (first.0, first.1, happen_append head (life_once_ended life run run.left) xs ys first.2 second)
 
 -- the life of a file after two lists of runs is what the second makes of the life after the first
-pub life_two : (life : Life) (xs ys : List Run) → life_after life (xs ++ ys) ≡ life_after (life_after life xs) ys
-life_two life [] ys = refl
-life_two life (run ∷ xs) ys = life_two (life_once_ended life run run.left) xs ys
+pub life_append : (life : Life) (xs ys : List Run) → life_after life (xs ++ ys) ≡ life_after (life_after life xs) ys
+life_append life [] ys = refl
+life_append life (run ∷ xs) ys = life_append (life_once_ended life run run.left) xs ys
 
 -- a table with the rows of runs, split at one of them: what was there before all runs (`before`), and rows of the earlier ones;
 -- the first of its own rows, at least those that it kept; and rows of the later runs
@@ -165,30 +164,30 @@ splits_at_run head before found (r ∷ earlier) later run (n ∷ counts, cs, is)
     }
 
 -- the sides of a file after two lists of events are what the second makes of the sides after the first
-pub sides_two : (sides : Sides) (xs ys : List Event) → sides_after sides (xs ++ ys) ≡ sides_after (sides_after sides xs) ys
-sides_two sides [] ys = refl
-sides_two sides (Ran run ∷ xs) ys = sides_two (done_by run.steps sides) xs ys
-sides_two sides (Failed run read disk ∷ xs) ys = sides_two (record { read = settled read; disk = settled disk }) xs ys
-sides_two sides (Copied true ∷ xs) ys = sides_two (same_sides (settled (content sides.read))) xs ys
-sides_two sides (Copied false ∷ xs) ys = sides_two (record { read = settled (content sides.read); disk = sides.disk }) xs ys
-sides_two sides (Crashed left ∷ xs) ys = sides_two (same_sides (settled left)) xs ys
+pub sides_append : (sides : Sides) (xs ys : List Event) → sides_after sides (xs ++ ys) ≡ sides_after (sides_after sides xs) ys
+sides_append sides [] ys = refl
+sides_append sides (Ran run ∷ xs) ys = sides_append (done_by run.steps sides) xs ys
+sides_append sides (Failed run read disk ∷ xs) ys = sides_append (record { read = settled read; disk = settled disk }) xs ys
+sides_append sides (Copied true ∷ xs) ys = sides_append (same_sides (settled (content sides.read))) xs ys
+sides_append sides (Copied false ∷ xs) ys = sides_append (record { read = settled (content sides.read); disk = sides.disk }) xs ys
+sides_append sides (Crashed left ∷ xs) ys = sides_append (same_sides (settled left)) xs ys
 
 -- the runs of two lists of events are those of the first and then those of the second
-pub runs_two : (xs ys : List Event) → runs_of (xs ++ ys) ≡ runs_of xs ++ runs_of ys
-runs_two [] ys = refl
-runs_two (Ran run ∷ xs) ys = ap (λ (rs : List Run). run ∷ rs) (runs_two xs ys)
-runs_two (Failed run read disk ∷ xs) ys = ap (λ (rs : List Run). run ∷ rs) (runs_two xs ys)
-runs_two (Copied named ∷ xs) ys = runs_two xs ys
-runs_two (Crashed left ∷ xs) ys = runs_two xs ys
+pub runs_of_append : (xs ys : List Event) → runs_of (xs ++ ys) ≡ runs_of xs ++ runs_of ys
+runs_of_append [] ys = refl
+runs_of_append (Ran run ∷ xs) ys = ap (λ (rs : List Run). run ∷ rs) (runs_of_append xs ys)
+runs_of_append (Failed run read disk ∷ xs) ys = ap (λ (rs : List Run). run ∷ rs) (runs_of_append xs ys)
+runs_of_append (Copied named ∷ xs) ys = runs_of_append xs ys
+runs_of_append (Crashed left ∷ xs) ys = runs_of_append xs ys
 
 -- events that may occur, and then others that may occur after them, may occur as one list
-pub occur_two : (head : List ℕ) (sides : Sides) (doubted : Bool) (xs ys : List Event) → Occur IsTrusted head sides doubted xs
+pub occur_append : (head : List ℕ) (sides : Sides) (doubted : Bool) (xs ys : List Event) → Occur IsTrusted head sides doubted xs
     → Occur IsTrusted head (sides_after sides xs) (doubted_by doubted xs) ys → Occur IsTrusted head sides doubted (xs ++ ys)
-occur_two head sides doubted [] ys first second = second
-occur_two head sides doubted (Ran run ∷ xs) ys first second = (first.0, first.1, occur_two head (done_by run.steps sides) doubted xs ys first.2 second)
-occur_two head sides doubted (Failed run read disk ∷ xs) ys first second =
-    (first.0, first.1, first.2, first.3, occur_two head (record { read = settled read; disk = settled disk }) true xs ys first.4 second)
-occur_two head sides doubted (Copied true ∷ xs) ys first second = occur_two head (same_sides (settled (content sides.read))) false xs ys first second
-occur_two head sides doubted (Copied false ∷ xs) ys first second =
-    occur_two head (record { read = settled (content sides.read); disk = sides.disk }) true xs ys first second
-occur_two head sides doubted (Crashed left ∷ xs) ys first second = (first.0, occur_two head (same_sides (settled left)) false xs ys first.1 second)
+occur_append head sides doubted [] ys first second = second
+occur_append head sides doubted (Ran run ∷ xs) ys first second = (first.0, first.1, occur_append head (done_by run.steps sides) doubted xs ys first.2 second)
+occur_append head sides doubted (Failed run read disk ∷ xs) ys first second =
+    (first.0, first.1, first.2, first.3, occur_append head (record { read = settled read; disk = settled disk }) true xs ys first.4 second)
+occur_append head sides doubted (Copied true ∷ xs) ys first second = occur_append head (same_sides (settled (content sides.read))) false xs ys first second
+occur_append head sides doubted (Copied false ∷ xs) ys first second =
+    occur_append head (record { read = settled (content sides.read); disk = sides.disk }) true xs ys first second
+occur_append head sides doubted (Crashed left ∷ xs) ys first second = (first.0, occur_append head (same_sides (settled left)) false xs ys first.1 second)

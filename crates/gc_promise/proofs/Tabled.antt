@@ -28,7 +28,7 @@ use Rattle.gc_field.specs.Instrument.{IsAnInstrument, AnyState}
 use Rattle.gc_promise.specs.Fields.{IsQuantity, quantity_in, under}
 use Rattle.gc_promise.specs.Tables.{AreReadAs, FieldRun, IsFieldRun, IsOwnIn, IsOwnTable, TablesAreTheirOwn, acts_in_field, head_rows, records_in, table_form}
 use Rattle.gc_promise.proofs.Judged.{no_value_if_none, value_if_some}
-use Rattle.gc_promise.proofs.Names.{answer_to, none_answered, none_else, quantity_stands, under_attempt, under_cycle, under_outcome, under_place, under_procedure, under_quality, under_rc, under_rc_com, under_sent, under_target, under_values, row_at}
+use Rattle.gc_promise.proofs.Names.{answer_to, none_answered, none_unanswered, quantity_stands, under_attempt, under_cycle, under_outcome, under_place, under_procedure, under_quality, under_rc, under_rc_com, under_sent, under_target, under_values, row_at}
 use Rattle.gc_promise.proofs.Owning.{record_fields, in_table, two_fields}
 use Rattle.gc_promise.proofs.Plain.{number_plain}
 use Rattle.gc_promise.proofs.Reading.{both_read, each_reads, none_read, row_reads}
@@ -81,7 +81,7 @@ module _ (survey : Survey) (columns : Bool) (r : Record) where
   no_quantity_at : (b : Bool) → b ≡ true → (word_of r.end ≡ codes "answered" → ⊥) → (name : List ℕ) → IsQuantity name
       → row_at (when_in survey r) (target_in survey r) r.command r.end b name ≡ []
   no_quantity_at true shows other name quantity =
-      none_else (when_in survey r) (target_in survey r) r.command name quantity r.end (λ quality answer line e. other (ap word_of e))
+      none_unanswered (when_in survey r) (target_in survey r) r.command name quantity r.end (λ quality answer line e. other (ap word_of e))
   no_quantity_at false shows other name quantity = absurd (false≢true shows)
 
   -- under the names of the header the record's row has what `HasItsTexts` says

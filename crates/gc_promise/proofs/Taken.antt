@@ -59,23 +59,23 @@ module _ (text : Record → List ℕ) where
 
   module _ (plan : Plan) (commands : List Task) (scope : Scope) (told : List Act) (start : List ℕ) (has : Option (List ℕ)) where
     -- if the texts of all records of these acts were written, `Took` holds
-    took_of : (acts measured : List Act) (result : Result Tally Stop) → measured ≡ acts → Appends (Some start) has (texts_of text (state_after plan commands scope acts).records)
+    took_records : (acts measured : List Act) (result : Result Tally Stop) → measured ≡ acts → Appends (Some start) has (texts_of text (state_after plan commands scope acts).records)
         → Took (state_after plan commands scope measured).records result start has
-    took_of acts measured result e took =
+    took_records acts measured result e took =
         subst (λ (xs : List Act). Took (state_after plan commands scope xs).records result start has) (sym e) (took_all (state_after plan commands scope acts).records result start has took)
 
     -- `Took` holds of a run, whatever its end
     ran_took : (end : Result Tally RunFault) → Ran plan commands scope text (Some []) (Some told) (Some start) has end
         → Took (state_after plan commands scope (acts_measured (end_of_run end) told)).records (end_of_run end) start has
-    ran_took (Ok tally) r = took_of r.1.acts told (Ok tally) r.1.tells r.1.took
+    ran_took (Ok tally) r = took_records r.1.acts told (Ok tally) r.1.tells r.1.took
     ran_took (Err Output) (inl r) =
         let whole : told ≡ (r.acts ++ r.last ∷ []) ++ Closed ∷ [] = r.tells ∙ sym (append_assoc r.acts (r.last ∷ []) (Closed ∷ [])) in
         let measured : acts_measured (Err (Run Output)) told ≡ r.acts ++ r.last ∷ [] = ap (acts_measured (Err (Run Output))) whole ∙ without_last (r.acts ++ r.last ∷ []) Closed in
         subst (λ (acts : List Act). Took (state_after plan commands scope acts).records (Err (Run Output)) start has) (sym measured)
         (took_part (state_after plan commands scope r.acts).records (state_after plan commands scope (r.acts ++ r.last ∷ [])).records start has r.took)
     ran_took (Err Output) (inr r) =
-        took_of r.acts (acts_measured (Err (Run Output)) told) (Err (Run Output)) (ap (acts_measured (Err (Run Output))) r.tells ∙ without_last r.acts Closed) r.took
-    ran_took (Err fault) r = took_of r.2.acts told (Err (Run fault)) r.2.tells r.2.took
+        took_records r.acts (acts_measured (Err (Run Output)) told) (Err (Run Output)) (ap (acts_measured (Err (Run Output))) r.tells ∙ without_last r.acts Closed) r.took
+    ran_took (Err fault) r = took_records r.2.acts told (Err (Run fault)) r.2.tells r.2.took
 
 -- what a sink took of a run in the field is what was written of its records, after what the sink had and what comes before the
 -- records

@@ -13,39 +13,39 @@ use Rattle.gc_rows.specs.Laws.{IsEndOfBytes, IsReplyOfBytes}
 use Rattle.gc_rows.specs.declared.record.Form.TheVariants.{Json}
 use Rattle.gc_station.specs.Records.{Record}
 use Rattle.gc_promise.specs.Eventful.{chained_record, elsewhere_reply, empty_reply, measured_reply, number_record, numbered_reply, pointed_reply, points_record, records}
-use Rattle.gc_promise.specs.Objects.{AreOfBytes, IsTyped}
+use Rattle.gc_promise.specs.Objects.{AreTyped, IsTyped}
 use Rattle.gc_promise.specs.Witness.{survey}
 use Rattle.gc_promise.proofs.TrueReadings.{replied}
 
 -- a line of bytes that reads as a reply with both codes 0 is a reply of bytes
-of_bytes : (line params : List ℕ) (id : ℕ) → reply_at line ≡ Ok (replied id params) → list_all (λ b. nat_lt b 256) line ≡ true → IsReplyOfBytes line
-of_bytes line params id reads small =
+reply_of_bytes : (line params : List ℕ) (id : ℕ) → reply_at line ≡ Ok (replied id params) → list_all (λ b. nat_lt b 256) line ≡ true → IsReplyOfBytes line
+reply_of_bytes line params id reads small =
     (replied id params, reply_found line (replied id params) reads, λ k d within. ltb-true _ 256 (AllPass-from_list_all (λ b. nat_lt b 256) line small k d within))
 
 -- the reply to command 0 is of bytes
 pointed_of_bytes : IsReplyOfBytes pointed_reply
 unfolding header_at reply_at digits
-pointed_of_bytes = of_bytes pointed_reply [] 0 refl refl
+pointed_of_bytes = reply_of_bytes pointed_reply [] 0 refl refl
 
 -- the reply to command 1 is of bytes
 measured_of_bytes : IsReplyOfBytes measured_reply
 unfolding header_at reply_at digits
-measured_of_bytes = of_bytes measured_reply (codes "2.25,1.625,110.0625") 1 refl refl
+measured_of_bytes = reply_of_bytes measured_reply (codes "2.25,1.625,110.0625") 1 refl refl
 
 -- the reply to command 2 is of bytes
 elsewhere_of_bytes : IsReplyOfBytes elsewhere_reply
 unfolding header_at reply_at digits
-elsewhere_of_bytes = of_bytes elsewhere_reply (codes "0.5,1.5,87.25") 2 refl refl
+elsewhere_of_bytes = reply_of_bytes elsewhere_reply (codes "0.5,1.5,87.25") 2 refl refl
 
 -- the reply to command 3 is of bytes
 numbered_of_bytes : IsReplyOfBytes numbered_reply
 unfolding header_at reply_at digits
-numbered_of_bytes = of_bytes numbered_reply (codes "31") 3 refl refl
+numbered_of_bytes = reply_of_bytes numbered_reply (codes "31") 3 refl refl
 
 -- the reply to command 4 is of bytes
 empty_of_bytes : IsReplyOfBytes empty_reply
 unfolding header_at reply_at digits
-empty_of_bytes = of_bytes empty_reply [] 4 refl refl
+empty_of_bytes = reply_of_bytes empty_reply [] 4 refl refl
 
 -- the ending of command 0 is of bytes (`IsEndOfBytes`)
 points_end : IsEndOfBytes points_record.end
@@ -83,9 +83,9 @@ sent_below None e = tt
 sent_below (Some utc) e = ltb-true utc (2 ^ 64) e
 
 -- records of a run that began at moment 0 are `IsTyped` where their numbers are small and their ends are of bytes
-typed : (rs : List Record) → are_small rs ≡ true → AllByRecursion (λ (r : Record). IsEndOfBytes r.end) rs → AllByRecursion (IsTyped 0) rs
-typed [] e h = tt
-typed (r ∷ rs) e h =
+all_typed : (rs : List Record) → are_small rs ≡ true → AllByRecursion (λ (r : Record). IsEndOfBytes r.end) rs → AllByRecursion (IsTyped 0) rs
+all_typed [] e h = tt
+all_typed (r ∷ rs) e h =
     let target = is_small r.command.target in
     let attempt = is_small r.turn.attempt && target in
     let place = is_small r.turn.place && attempt in
@@ -108,9 +108,9 @@ typed (r ∷ rs) e h =
         ltb-true r.command.target (2 ^ 64) of_attempt.1,
         h.0,
       ),
-      typed rs all.1 h.1,
+      all_typed rs all.1 h.1,
     )
 
 -- the records of the eventful run are of bytes and of numbers of 64 bits
-pub of_types : AreOfBytes (survey Json) records
-of_types = record { run = lit< tt; names = tt; each = typed records refl all_of_bytes }
+pub records_are_typed : AreTyped (survey Json) records
+records_are_typed = record { run = lit< tt; names = tt; each = all_typed records refl all_of_bytes }

@@ -129,9 +129,9 @@ when_plain : (when : When) → AllByRecursion HasPlainDigits (when_members when)
 when_plain when = all_append HasPlainDigits (sent_members when.stamp.sent) _ (sent_plain when.stamp.sent) (tt, (decimal_plain when.stamp.cycle, (decimal_plain when.stamp.turn.place, tt)))
 
 -- the members on a command have plain digits
-command_members_plain : (command : Wish) (name : List ℕ) → AllByRecursion HasPlainDigits (command_members command name)
-command_members_plain command [] = (decimal_plain command.target, (decimal_plain (procedure_of command.call), tt))
-command_members_plain command (b ∷ bs) = (decimal_plain command.target, (tt, (decimal_plain (procedure_of command.call), tt)))
+command_digits_plain : (command : Wish) (name : List ℕ) → AllByRecursion HasPlainDigits (command_members command name)
+command_digits_plain command [] = (decimal_plain command.target, (decimal_plain (procedure_of command.call), tt))
+command_digits_plain command (b ∷ bs) = (decimal_plain command.target, (tt, (decimal_plain (procedure_of command.call), tt)))
 
 -- the members on a reply of bytes have plain digits
 reply_plain : (line : List ℕ) → IsReplyOfBytes line → AllByRecursion HasPlainDigits (reply_members (Some line))
@@ -204,13 +204,17 @@ members_plain : (when : When) (name : List ℕ) (command : Wish) (end : End) →
 members_plain when name command end is =
     let rest = ending_members end ++ members_after_ending when command.call end in
     all_append HasPlainDigits (when_members when) (command_members command name ++ rest) (when_plain when)
-    (all_append HasPlainDigits (command_members command name) rest (command_members_plain command name)
+    (all_append HasPlainDigits (command_members command name) rest (command_digits_plain command name)
     (all_append HasPlainDigits (ending_members end) (members_after_ending when command.call end) (ending_plain end is)
     (all_append HasPlainDigits (quantity_members command.call end) (last_members when end) (quantities_plain command.call end) (last_plain when end))))
 
--- if a record's ending is of bytes, and its members are plain, its line, without the line feed at its end, has no line feed
+-- the line of a record without its line feed
+abbrev pub line_text : When → List ℕ → Wish → End → List ℕ
+line_text when name command end = (codes "{\"run\":" ++ string_text (stamp_text when.run)) ++ (members_text (members_after_run when name command end) ++ codes "}")
+
+-- if a record's ending is of bytes, and its members are plain, its line (`line_text`) has no line feed
 pub line_unbroken : (when : When) (name : List ℕ) (command : Wish) (end : End) → IsEndOfBytes end → ArePlainMembers (members_after_run when name command end)
-    → Lacks 10 ((codes "{\"run\":" ++ string_text (stamp_text when.run)) ++ (members_text (members_after_run when name command end) ++ codes "}"))
+    → Lacks 10 (line_text when name command end)
 line_unbroken when name command end is are =
     let front : Lacks 10 (codes "{\"run\":") =
     ((λ e. omega (arith, e)), ((λ e. omega (arith, e)), ((λ e. omega (arith, e)), ((λ e. omega (arith, e)), ((λ e. omega (arith, e)), ((λ e. omega (arith, e)), ((λ e. omega (arith, e)), tt))))))) in

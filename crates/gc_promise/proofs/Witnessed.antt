@@ -18,18 +18,18 @@ use Rattle.gc_field.specs.Instrument.{AnyState, never_kept}
 use Rattle.gc_promise.specs.Eventful.{acts, at_start, elsewhere_reply, empty_reply, measured_reply, numbered_reply, pointed_reply, program, tally, reporting}
 use Rattle.gc_promise.specs.Rows.{IsOwnIfAnswered}
 use Rattle.gc_promise.specs.Tables.{IsFieldRun, table_form}
-use Rattle.gc_promise.specs.Witness.{HasOwnRows, SomeRowIsItsOwn, survey, in_a_table, layout_in, ports_at, run_in, taken}
+use Rattle.gc_promise.specs.Witness.{HasOwnRows, SomeRowIsItsOwn, survey, table_layout, layout_in, ports_at, run_in, taken}
 use Rattle.gc_promise.proofs.Eventful.{eventful, ran_whole}
 use Rattle.gc_promise.proofs.Owning.{rows_own}
 use Rattle.gc_promise.proofs.Tabled.{tables_own}
 use Rattle.gc_promise.proofs.Turned.{keeps_whole, turns}
-use Rattle.gc_promise.proofs.Typed.{of_types}
+use Rattle.gc_promise.proofs.Typed.{records_are_typed}
 use Rattle.gc_promise.proofs.Objected.{objects_own}
-use Rattle.gc_promise.specs.Objects.{AreOfBytes}
+use Rattle.gc_promise.specs.Objects.{AreTyped}
 
 -- the row of each of these records whose command a reply in time ended is its own
-abbrev HaveOwnRows : (Asked → List ℕ → Reading) → List Record → Type 0
-HaveOwnRows reads = AllByRecursion (IsOwnIfAnswered reporting AnyState never_kept in_a_table [] at_start (program reads))
+abbrev EachHasOwnRow : (Asked → List ℕ → Reading) → List Record → Type 0
+EachHasOwnRow reads = AllByRecursion (IsOwnIfAnswered reporting AnyState never_kept table_layout [] at_start (program reads))
 
 -- what is seen at each act of the eventful run, where its records are written in this form
 abbrev turns_in : Form → List Snapshot
@@ -58,8 +58,8 @@ own_rows : (reads : Asked → List ℕ → Reading) → AreReadings reads → Ha
 unfolding digits days_after
 own_rows reads are =
     let run = eventful reads are in
-    let all = rows_own reporting never_kept run.is_instrument in_a_table false [] refl at_start (program reads) run.field in
-    let each = subst (HaveOwnRows reads) run.written all in
+    let all = rows_own reporting never_kept run.is_instrument table_layout false [] refl at_start (program reads) run.field in
+    let each = subst (EachHasOwnRow reads) run.written all in
     let answers = each.1.1.1.1.1.1.1.1.1.1.1.1.1.1 in
     record {
       run = run;
@@ -71,7 +71,8 @@ own_rows reads are =
       turns = turns_in;
       tables = λ columns.
           tables_own reporting never_kept run.is_instrument reads are (run_in (table_form columns) (turns_in (table_form columns))) (is_field_run reads are (table_form columns)) columns refl;
-      objects = objects_own reporting never_kept run.is_instrument reads are (run_in Json (turns_in Json)) (is_field_run reads are Json) refl (subst (AreOfBytes (survey Json)) (sym run.written) of_types);
+      objects = objects_own reporting never_kept run.is_instrument reads are (run_in Json (turns_in Json)) (is_field_run reads are Json) refl
+          (subst (AreTyped (survey Json)) (sym run.written) records_are_typed);
     }
 
 -- the eventful run meets all that the law on rows asks, and its rows are their own

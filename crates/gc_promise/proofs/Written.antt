@@ -29,7 +29,7 @@ use Rattle.gc_station.specs.Tasked.{IsOfItsTask}
 use Rattle.gc_station.proofs.Answers.{answers_true}
 use Rattle.gc_station.proofs.EachRun.{of_tasks}
 use Rattle.gc_station.proofs.Lists.{all_at}
-use Rattle.gc_station.proofs.Nearly.{as_listed}
+use Rattle.gc_station.proofs.Nearly.{qualities_as_listed}
 use Rattle.gc_measuring.specs.Measuring.{Survey, when_of}
 use Rattle.gc_field.specs.World.{Ends}
 use Rattle.gc_field.specs.Begin.{UnderWay}
@@ -44,7 +44,7 @@ use Rattle.std.proofs.lemmas.Option.{same_Some}
 use Rattle.gc_promise.specs.Fields.{IsOwn, IsQuantity, IsRowOf, IsOutcomeOfReply, HasReply, quality_in, quantity_in, quantity_source}
 use Rattle.gc_promise.specs.Tables.{AreOneForOne, parts_in, program_of, records_in, scope_of}
 use Rattle.gc_promise.proofs.Judged.{IsJudged, judged}
-use Rattle.gc_promise.proofs.Owning.{a_reply}
+use Rattle.gc_promise.proofs.Owning.{heard_is_reply}
 use Rattle.gc_promise.proofs.Setting.{never_sent, set_to}
 
 -- the moments, the cycle, the place and the turn of a record of this survey
@@ -58,14 +58,15 @@ target_in survey r = name_text r.command.target survey.names
 -- Words.
 
 -- the first letter of a word
-abbrev pub first_of : List ℕ → ℕ
-first_of word = get_or word 0 0
+abbrev pub first_letter : List ℕ → ℕ
+first_letter word = get_or word 0 0
 
--- a word that begins with none of the letters a, u and e is no outcome of a reply
-pub no_outcome_of_reply : (word : List ℕ) → (first_of word ≡ 97 → ⊥) → (first_of word ≡ 117 → ⊥) → (first_of word ≡ 101 → ⊥) → IsOutcomeOfReply word → ⊥
-no_outcome_of_reply word a u e (inl is) = a (ap first_of is)
-no_outcome_of_reply word a u e (inr (inl is)) = u (ap first_of is)
-no_outcome_of_reply word a u e (inr (inr is)) = e (ap first_of is)
+-- a word with the first letter of none of a reply's three outcomes is no outcome of a reply
+pub no_outcome_of_reply : (word : List ℕ) → (first_letter word ≡ first_letter (codes "answered") → ⊥) → (first_letter word ≡ first_letter (codes "unreadable") → ⊥)
+    → (first_letter word ≡ first_letter (codes "elsewhere") → ⊥) → IsOutcomeOfReply word → ⊥
+no_outcome_of_reply word a u e (inl is) = a (ap first_letter is)
+no_outcome_of_reply word a u e (inr (inl is)) = u (ap first_letter is)
+no_outcome_of_reply word a u e (inr (inr is)) = e (ap first_letter is)
 
 -- if the outcome is that of a reply, a reply in time ended the command
 pub reply_ended : (end : End) → IsOutcomeOfReply (word_of end) → (line : List ℕ) × (line_of end ≡ Some line)
@@ -77,9 +78,9 @@ reply_ended Lost is = absurd (no_outcome_of_reply (codes "lost") (λ e. omega (a
 reply_ended Skipped is = absurd (no_outcome_of_reply (codes "skipped") (λ e. omega (arith, e)) (λ e. omega (arith, e)) (λ e. omega (arith, e)) is)
 reply_ended Missed is = absurd (no_outcome_of_reply (codes "missed") (λ e. omega (arith, e)) (λ e. omega (arith, e)) (λ e. omega (arith, e)) is)
 
--- a word that doesn't begin with the letter a isn't `answered`
-pub not_answered : (word : List ℕ) → (first_of word ≡ 97 → ⊥) → word ≡ codes "answered" → ⊥
-not_answered word other is = other (ap first_of is)
+-- a word with another first letter than `answered` isn't `answered`
+pub not_answered : (word : List ℕ) → (first_letter word ≡ first_letter (codes "answered") → ⊥) → word ≡ codes "answered" → ⊥
+not_answered word other is = other (ap first_letter is)
 
 -- a command whose outcome is `answered` ended as `Answered`, with a quality and maybe with values
 pub is_answered : (end : End) → word_of end ≡ codes "answered" → (quality : Quality) × (values : Option Answer) × (line : List ℕ) × (end ≡ Answered quality values line)
@@ -180,7 +181,7 @@ module _ (survey : Survey) (reads : Asked → List ℕ → Reading) (are : AreRe
         replied = λ is.
             let replied = reply_ended r.end (subst IsOutcomeOfReply has.is_of.command.outcome is) in
             let justified = came replied.0 replied.1 in
-            (replied.0, says replied.0 replied.1 (a_reply replied.0 _ justified.reply.id) listed, own replied.0 replied.1);
+            (replied.0, says replied.0 replied.1 (heard_is_reply replied.0 _ justified.reply.id) listed, own replied.0 replied.1);
         without = λ shows other name quantity. has.none shows (λ answers. other (has.is_of.command.outcome ∙ answers)) name quantity;
         unqualified = λ other. has.quality ∙ without_quality r.end (λ answers. other (has.is_of.command.outcome ∙ answers));
       }
@@ -199,5 +200,5 @@ module _ {State : Type 0} (ends : Ends State) (kept : State → Option KeptReply
       (all_written (AnswerIsJustified survey.plan survey.tasks (scope_of survey reads) acts) (records_in survey reads acts) written others order
       (answers_true survey.plan survey.tasks (scope_of survey reads) acts there.runs) n r got)
       (all_written (λ (x : Record). IsAsListed reads survey.tasks x) (records_in survey reads acts) written others order
-      (as_listed survey.plan survey.tasks (scope_of survey reads) acts) n r got)
+      (qualities_as_listed survey.plan survey.tasks (scope_of survey reads) acts) n r got)
       (all_written (IsOfItsTask survey.tasks) (records_in survey reads acts) written others order (of_tasks survey.plan survey.tasks (scope_of survey reads) acts) n r got)

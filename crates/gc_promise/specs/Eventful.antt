@@ -18,8 +18,6 @@ use Rattle.gc_catalogue.specs.declared.call.Call.TheVariants.{InstrumentNo, Null
 use Rattle.gc_client.specs.declared.window.TheConstants.{WINDOW}
 use Rattle.gc_texts.specs.Endings as end
 use Rattle.gc_texts.specs.Endings.{End}
-use Rattle.gc_texts.specs.Again.{no_again}
-use Rattle.gc_texts.specs.Codes.{no_codes}
 use Rattle.gc_texts.specs.declared.near.Near.{Near}
 use Rattle.gc_texts.specs.declared.quality.Quality.TheVariants.{Fine}
 use Rattle.gc_texts.specs.declared.tasks.Task.{Task}
@@ -42,9 +40,10 @@ use Rattle.gc_field.specs.ChainWitness.{hz, v, points, reads_all, first_reply}
 use Rattle.gc_field.specs.Drifting.{tells_its_state}
 use Rattle.gc_field.specs.Field.{Move, Sends, Tells, Comes, Foreign, OnLine, Anew, Changes}
 use Rattle.gc_field.specs.Instrument.{IsAnInstrument, AnyState, never_kept}
+use Rattle.gc_field.specs.Plain.{plain_task}
 use Rattle.gc_field.specs.Runs.{IsInField, NoActFollows, Program, program_records, world}
 use Rattle.gc_field.specs.Shown.{Stretch}
-use Rattle.gc_field.specs.Witness.{null_lines, at, eight_answered, exchanged, replies, run_and_end}
+use Rattle.gc_field.specs.Witness.{null_lines, at, eight_answered, exchanged, plan_of_width, replies, run_and_end}
 
 -- The instrument.
 
@@ -58,7 +57,7 @@ reporting = tells_its_state {State = List ℕ} (λ text. text) []
 -- the plan of this run: at most seven requests at a time, a deadline of 100 ms for null procedures, three cycles, one of which
 -- is due every 150 ms, a quiet time of 10 ms, and at most three reconnects in a row
 abbrev pub plan : Plan
-plan = record { width = 7; deadline = 100; every = 150; cycles = 3; quiet = 10; retries = 3; setup = 0; stale = 0; watched = false }
+plan = record (plan_of_width 7) { every = 150; cycles = 3; retries = 3 }
 
 -- the turn of a command at this place, in the first attempt: a command that is chained is the second of its chain, and any other
 -- the first
@@ -68,18 +67,7 @@ turn_of_place place chained = record { place = place; attempt = 1; link = if cha
 -- a command with a deadline of 50 ms, whose chain isn't sent again: its place, its target, what it asks, whether it is chained to
 -- the one before it, and where its target is, if its answer is compared with that
 abbrev pub task : (place target : ℕ) → Asked → Bool → Option Near → Task
-task place target call chained near =
-    record {
-      command = record { target = target; call = call };
-      deadline = 50;
-      chained = chained;
-      near = near;
-      accepted = no_codes;
-      again = no_again;
-      turn = turn_of_place place chained;
-      others = 0;
-      now = false;
-    }
+task place target call chained near = record (plain_task target call 50 chained) { near = near; turn = turn_of_place place chained }
 
 -- where a target is: in this direction, within a hundredth of a radian
 abbrev pub near_place : ℕ → (hz v : Decimal) → Option Near
@@ -163,11 +151,11 @@ sends_all now deadline targets = send_all now deadline targets []
 abbrev pub at_start : UnderWay (List ℕ)
 at_start = record { up = record { id = 0; call = Table InstrumentNo } ∷ []; down = codes "%R1P,0,0:0,4" ∷ []; state = codes "5" }
 
--- an attempt to connect fails. The first connection is made, and the first null procedure is sent over it. The null procedure's
--- echo and the old reply come in one piece. The connection breaks. The second connection is made. Over it all eight null
--- procedures are sent and answered
-abbrev pub begins_acts : List Act
-begins_acts =
+-- the acts: an attempt to connect fails. The first connection is made, and the first null procedure is sent over it. The null
+-- procedure's echo and the old reply come in one piece. The connection breaks. The second connection is made. Over it all eight
+-- null procedures are sent and answered
+abbrev pub sync_acts : List Act
+sync_acts =
     Unopened
     ∷ Told (at 0)
     ∷ Silent (at 10)
@@ -180,10 +168,11 @@ begins_acts =
     ∷ connects_again 15 35
     ++ exchanged 40 null_lines replies []
 
--- the line repeats the old request: one copy reaches the instrument, and the other is lost. The line repeats the reply to the
--- first copy, and both replies are lost; so is the reply to the first null procedure. The instrument starts again
-abbrev pub begins_turns : List (SyncTurn (List ℕ))
-begins_turns =
+-- what happens meanwhile: the line repeats the old request, of which one copy reaches the instrument, and the other is lost. The
+-- line repeats the reply to the first copy, and both replies are lost; so is the reply to the first null procedure. The
+-- instrument starts again
+abbrev pub sync_turns : List (SyncTurn (List ℕ))
+sync_turns =
     Asks
     ∷ turn.Foreign (null_line 6)
     ∷ turn.Comes
@@ -201,12 +190,12 @@ begins_turns =
 
 -- The first cycle.
 
--- command 0 is sent, and no reply to it comes until its deadline. A null procedure is sent, and its reply settles command 0 as
--- lost. Command 1, which is chained to command 0, is skipped. Commands 2 to 6 are sent. After their deadline a null procedure is
--- sent, and after its deadline another one. No reply comes to any of these seven requests, and the line is dead. The second
--- connection is closed, and the third is made. The last of the seven requests times out
-abbrev pub breaks_acts : List Act
-breaks_acts =
+-- the acts: command 0 is sent, and no reply to it comes until its deadline. A null procedure is sent, and its reply settles
+-- command 0 as lost. Command 1, which is chained to command 0, is skipped. Commands 2 to 6 are sent. After their deadline a null
+-- procedure is sent, and after its deadline another one. No reply comes to any of these seven requests, and the line is dead. The
+-- second connection is closed, and the third is made. The last of the seven requests times out
+abbrev pub first_acts : List Act
+first_acts =
     Told (at 40)
     ∷ puts 40 (point_line ∷ [])
     ++ Silent (at 90)
@@ -224,11 +213,11 @@ breaks_acts =
     ∷ Silent (at 345)
     ∷ []
 
--- command 0 is executed, and its reply is lost. Command 2 is executed, and its reply stays in flight. The requests of commands 3
--- to 5 are lost, and so is that of the first of the two null procedures; the requests of command 6 and of the other one stay in
--- flight
-abbrev pub breaks_moves : List (Move (List ℕ))
-breaks_moves =
+-- what happens meanwhile: command 0 is executed, and its reply is lost. Command 2 is executed, and its reply stays in flight. The
+-- requests of commands 3 to 5 are lost, and so is that of the first of the two null procedures; the requests of command 6 and of
+-- the other one stay in flight
+abbrev pub first_moves : List (Move (List ℕ))
+first_moves =
     Tells 40
     ∷ Sends 7 points 90
     ∷ Tells 40
@@ -260,11 +249,11 @@ breaks_moves =
 
 -- The station resynchronizes.
 
--- the first null procedure is sent. The replies to commands 2 and 6 of the first cycle come; the one to command 6 has the id of
--- the first null procedure, and so answers it. The second null procedure is sent. Three replies come in one piece: one to the
--- last null procedure of the first cycle, which has the id 0; one to the first null procedure; and one to the second. The third
--- null procedure is sent. The third connection ends, and the fourth is made. Over it the null procedures from the third on are
--- sent and answered
+-- the acts: the first null procedure is sent. The replies to commands 2 and 6 of the first cycle come; the one to command 6 has
+-- the id of the first null procedure, and so answers it. The second null procedure is sent. Three replies come in one piece: one
+-- to the last null procedure of the first cycle, which has the id 0; one to the first null procedure; and one to the second. The
+-- third null procedure is sent. The third connection ends, and the fourth is made. Over it the null procedures from the third on
+-- are sent and answered
 abbrev pub anew_acts : List Act
 anew_acts =
     Told (at 345)
@@ -277,7 +266,8 @@ anew_acts =
     ∷ connects_again 355 375
     ++ exchanged 380 (drop 2 null_lines) (drop 2 replies) []
 
--- both requests of before reach the instrument. The request of the third null procedure is lost, and is sent again
+-- what happens meanwhile: both requests of before reach the instrument. The request of the third null procedure is lost, and is
+-- sent again
 abbrev pub anew_turns : List (SyncTurn (List ℕ))
 anew_turns =
     Asks
@@ -294,13 +284,13 @@ anew_turns =
 
 -- The second cycle, and the third.
 
--- the clock is read nine times: the second cycle begins and is missed, its seven commands are left out, and the third cycle
--- begins. Command 0 is sent and answered. Commands 1 to 6 are sent; the request of command 6 is cut after five bytes. The fourth
--- connection is closed, and the fifth is made. Over it noise comes, then a second reply to command 0, and then the replies to
--- commands 1 to 4, the one to command 3 twice. Commands 5 and 6 time out. A null procedure is sent. The reply to command 5 comes,
--- late. The reply to the null procedure comes, and settles command 6 as lost. The fifth connection is closed
-abbrev pub chain_acts : List Act
-chain_acts =
+-- the acts: the clock is read nine times: the second cycle begins and is missed, its seven commands are left out, and the third
+-- cycle begins. Command 0 is sent and answered. Commands 1 to 6 are sent; the request of command 6 is cut after five bytes. The
+-- fourth connection is closed, and the fifth is made. Over it noise comes, then a second reply to command 0, and then the replies
+-- to commands 1 to 4, the one to command 3 twice. Commands 5 and 6 time out. A null procedure is sent. The reply to command 5
+-- comes, late. The reply to the null procedure comes, and settles command 6 as lost. The fifth connection is closed
+abbrev pub last_acts : List Act
+last_acts =
     map (λ now. Told (at now)) (replicate 9 385)
     ++ puts 385 (point_line ∷ [])
     ++ gave 390 (pointed_reply ∷ [])
@@ -315,7 +305,7 @@ chain_acts =
     ∷ Closed
     ∷ []
 
--- the seven commands are sent; the line repeats the request of command 0, which is executed twice
+-- what happens meanwhile, first: the seven commands are sent; the line repeats the request of command 0, which is executed twice
 abbrev pub sent_moves : List (Move (List ℕ))
 sent_moves =
     map Tells (replicate 9 385)
@@ -332,8 +322,8 @@ sent_moves =
     ++ Sends 4 (Table InstrumentNo) 440
     ∷ []
 
--- the instrument changes by itself before it executes commands 1, 2 and 3, as by a hand that turns it, and starts again before it
--- executes command 4; the line repeats the reply to command 3
+-- then: the instrument changes by itself before it executes commands 1, 2 and 3, as by a hand that turns it, and starts again
+-- before it executes command 4; the line repeats the reply to command 3
 abbrev pub executed_moves : List (Move (List ℕ))
 executed_moves =
     flat_map (λ text. Changes text ∷ OnLine Up_deliver ∷ []) (codes "2.25,1.625,110.0625" ∷ codes "0.5,1.5,87.25" ∷ codes "31" ∷ [])
@@ -342,8 +332,8 @@ executed_moves =
     ∷ OnLine Up_deliver
     ∷ map Tells (390 ∷ 400 ∷ 400 ∷ 410 ∷ 415 ∷ [])
 
--- the replies come, behind a line that is none; a null procedure is sent. The instrument changes before it executes command 5,
--- and the line loses the request of command 6
+-- and at last: the replies come, behind a line that is none; a null procedure is sent. The instrument changes before it executes
+-- command 5, and the line loses the request of command 6
 abbrev pub heard_moves : List (Move (List ℕ))
 heard_moves =
     Foreign (codes "?")
@@ -356,27 +346,27 @@ heard_moves =
     ++ Tells 445
     ∷ map Comes (codes "%R1P,0,5:0,31" ∷ codes "%R1P,0,7:0,31" ∷ [])
 
--- what happens on the line, and at the instrument, during `chain_acts`
-abbrev pub chain_moves : List (Move (List ℕ))
-chain_moves = sent_moves ++ (executed_moves ++ heard_moves)
+-- all that happens during `last_acts`
+abbrev pub last_moves : List (Move (List ℕ))
+last_moves = sent_moves ++ (executed_moves ++ heard_moves)
 
 -- The whole run.
 
 -- the acts until seven requests have timed out
-abbrev pub given_up : List Act
-given_up = begins_acts ++ breaks_acts
+abbrev pub acts_until_anew : List Act
+acts_until_anew = sync_acts ++ first_acts
 
 -- all acts of the run
 abbrev pub acts : List Act
-acts = given_up ++ (anew_acts ++ chain_acts)
+acts = acts_until_anew ++ (anew_acts ++ last_acts)
 
 -- what happens until the station resynchronizes
 abbrev pub first_run : Run (List ℕ)
-first_run = record { turns = begins_turns; moves = breaks_moves }
+first_run = record { turns = sync_turns; moves = first_moves }
 
 -- the run in its parts: until the station resynchronizes; from there on; and after its end, where nothing happens
 abbrev pub runs : List (Run (List ℕ))
-runs = first_run ∷ run_and_end anew_turns chain_moves
+runs = first_run ∷ run_and_end anew_turns last_moves
 
 -- the run as a program
 abbrev pub program : (Asked → List ℕ → Reading) → Program (List ℕ)
@@ -388,11 +378,11 @@ left_by_first = left_by_run WINDOW reporting at_start first_run
 
 -- the stretch of the first cycle
 abbrev pub first_stretch : Stretch (List ℕ)
-first_stretch = record { from = left_by_turns reporting begins_turns at_start; moves = breaks_moves }
+first_stretch = record { from = left_by_turns reporting sync_turns at_start; moves = first_moves }
 
 -- the stretch of the second cycle, which is missed, and of the third
 abbrev pub last_stretch : Stretch (List ℕ)
-last_stretch = record { from = left_by_turns reporting anew_turns left_by_first; moves = chain_moves }
+last_stretch = record { from = left_by_turns reporting anew_turns left_by_first; moves = last_moves }
 
 -- The records of the run.
 
@@ -486,7 +476,7 @@ pub record IsEventful (reads : Asked → List ℕ → Reading) : Type 0 where
   -- a reply is lost: in the first cycle, too, the instrument made this line on executing the request of command 0
   pub made : WasMadeOn WINDOW reporting first_stretch.from first_stretch.moves 8 points pointed_reply
   -- the station resynchronizes where seven requests wait that have all timed out. Two requests and a reply are in flight then
-  pub begins_anew : IsResynchronizing plan commands (scope reads) given_up (Told (at 345))
+  pub begins_anew : IsResynchronizing plan commands (scope reads) acts_until_anew (Told (at 345))
   pub up : left_by_first.up ≡ record { id = 6; call = Table InstrumentNo } ∷ record { id = 0; call = Table NullProc } ∷ []
   pub down : left_by_first.down ≡ codes "%R1P,0,2:0,27" ∷ []
   -- the instrument starts again in the third cycle, after five executions

@@ -1,12 +1,11 @@
 -- What is in a row of a table, or in an object, under each name: this project's own. Both are given by the function from a name
 -- to the text under it, so that one definition serves both. A part is what a station sees of its run from one synchronization
 -- to the next, and a stretch what happens on the line meanwhile, once it has synchronized.
-use Rattle.std.specs.Prelude.{◌≡◌, ◌⊎◌, ℕ, Bool, true, false, List, [], ◌∷◌, map, Some, nat_eq, if◌then◌else◌, slice_get, codes, Option}
+use Rattle.std.specs.Prelude.{◌≡◌, ◌⊎◌, ℕ, Bool, true, false, List, [], ◌∷◌, Some, nat_eq, if◌then◌else◌, slice_get, codes, Option}
 use Rattle.std.specs.Cmp.Lexicographic.{pointwise}
 use Rattle.std.specs.Fmt.{decimal}
 use Rattle.gc_lines.specs.Numbers.{IsSmallNumber}
 use Rattle.gc_lines.specs.Replies.{ReplyFields, IsReply}
-use Rattle.gc_catalogue.specs.Answers.{answer_fields}
 use Rattle.gc_catalogue.specs.Calls.{call_fields}
 use Rattle.gc_catalogue.specs.Asked.{IsAskedReading}
 use Rattle.gc_catalogue.specs.declared.answer.Reading.{Reading}
@@ -25,8 +24,8 @@ use Rattle.gc_texts.specs.declared.codes.Codes.{Codes}
 use Rattle.gc_texts.specs.declared.quality.Quality.{Quality}
 use Rattle.gc_texts.specs.declared.quality.Quality.TheVariants.{Fine, Warning, Refused}
 use Rattle.gc_texts.specs.declared.tasks.Task.{Task}
-use Rattle.gc_rows.specs.Rows.{moment_text, procedure_of}
-use Rattle.gc_rows.specs.Quantities.{quantity_names, quantity_text}
+use Rattle.gc_rows.specs.Rows.{moment_text, procedure_of, value_texts}
+use Rattle.gc_rows.specs.Quantities.{quantity_names}
 use Rattle.gc_rows.specs.ProcedureQuantities.{quantities_returned}
 use Rattle.gc_station.specs.Parts.{Part, went_out}
 use Rattle.gc_station.specs.Qualities.{accepted_at}
@@ -82,7 +81,7 @@ IsQuantity name = (k : ℕ) × (slice_get quantity_names k ≡ Some name)
 -- the text of the quantity of this name in an answer to what was asked: an answer to a call of the table has the quantities of
 -- its call, in the manual's order. Empty if it has no such quantity; a procedure that isn't in the table has none
 abbrev pub quantity_of : Asked → Answer → List ℕ → List ℕ
-quantity_of (Table call) answer name = under name (quantities_returned (call_fields call).number) (map quantity_text (answer_fields answer).values)
+quantity_of (Table call) answer name = under name (quantities_returned (call_fields call).number) (value_texts answer)
 quantity_of (Raw raw) answer name = []
 
 -- the text of the quantity of this name in a reply to what was asked, by what the reply says. Empty if it is no answer

@@ -1,6 +1,6 @@
 -- What is left of the rows of a run that was killed, over crashes of the machine, or after a sync that failed: this project's
 -- own.
-use Rattle.std.specs.Prelude.{◌≡◌, ◌⊎◌, ℕ, Bool, true, false, List, [], ◌∷◌, ◌++◌, Option, Some}
+use Rattle.std.specs.Prelude.{◌≡◌, ◌⊎◌, ℕ, Bool, true, false, List, [], ◌∷◌, ◌++◌, Option, Some, not}
 use Rattle.gc_catalogue.specs.declared.answer.Reading.{Reading}
 use Rattle.gc_catalogue.specs.declared.asked.Asked.{Asked}
 use Rattle.gc_files.specs.Failing.{Sides, Event, Ran, Failed, Copied, Crashed, settled, same_sides, done_by, Loses, sides_after, runs_of, Occur, IsFound, IsTrusted}
@@ -146,8 +146,7 @@ abbrev pub doubted_by : Bool → List Event → Bool
 doubted_by doubted [] = doubted
 doubted_by doubted (Ran run ∷ events) = doubted_by doubted events
 doubted_by doubted (Failed run read disk ∷ events) = doubted_by true events
-doubted_by doubted (Copied true ∷ events) = doubted_by false events
-doubted_by doubted (Copied false ∷ events) = doubted_by true events
+doubted_by doubted (Copied named ∷ events) = doubted_by (not named) events
 doubted_by doubted (Crashed left ∷ events) = doubted_by false events
 
 -- how a run ends: its calls are done, and no more; or one more was a sync that failed, after which a read returns `read` and

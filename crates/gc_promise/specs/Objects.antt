@@ -26,7 +26,7 @@ abbrev pub IsTyped : (run : ℕ) → Record → Type 0
 IsTyped run r = FitsIn64Bits (when_of run r) × (r.command.target < 2 ^ 64) × IsEndOfBytes r.end
 
 -- the records of a run of this survey are in the types of the program (`IsTyped`), and so are the run's beginning and its names
-pub record AreOfBytes (survey : Survey) (records : List Record) : Type 0 where
+pub record AreTyped (survey : Survey) (records : List Record) : Type 0 where
   pub run : survey.layout.run < 2 ^ 64
   pub names : AllByRecursion (λ (name : Name). AreBytes name.text.items) survey.names
   pub each : AllByRecursion (IsTyped survey.layout.run) records
@@ -58,8 +58,8 @@ module _ {State : Type 0} (ends : Ends State) (Good : State → Type 0) (kept : 
       pub one_for_one : AreOneForOne IsOwnObject lines are.written
 
 -- what a sink took of a run in the field are the run's own objects, of each run that is written as lines of JSON
--- (`OfEachFieldRun`), if its records are in the types of the program (`AreOfBytes`)
+-- (`OfEachFieldRun`), if its records are in the types of the program (`AreTyped`)
 abbrev pub ObjectsAreTheirOwn : Type 0 → Type 0
 ObjectsAreTheirOwn State =
     OfEachFieldRun {State = State} (λ ends kept reads x.
-    x.run.survey.layout.form ≡ Json → AreOfBytes x.run.survey (records_in x.run.survey reads (acts_in_field x)) → AreOwnObjects ends AnyState kept reads x)
+    x.run.survey.layout.form ≡ Json → AreTyped x.run.survey (records_in x.run.survey reads (acts_in_field x)) → AreOwnObjects ends AnyState kept reads x)

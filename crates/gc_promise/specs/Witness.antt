@@ -17,31 +17,31 @@ use Rattle.gc_promise.specs.Rows.{IsRowOfLine}
 use Rattle.gc_promise.specs.Objects.{AreOwnObjects}
 use Rattle.gc_promise.specs.Tables.{FieldRun, IsOwnTable, table_form}
 
--- records in this form, of a run that began at moment 0, for an output that has its header already
+-- the layout of records in this form, of a run that began at moment 0, for an output that has its header already
 abbrev pub layout_in : Form → Layout
 layout_in form = record { form = form; headed = true; run = 0 }
 
--- a table whose header is there already
-abbrev pub in_a_table : Layout
-in_a_table = layout_in Csv
+-- the layout of a table whose header is there already
+abbrev pub table_layout : Layout
+table_layout = layout_in Csv
 
--- the row of command 0 in the third cycle, in `in_a_table`
+-- the row of command 0 in the third cycle, in `table_layout`
 abbrev pub points_row : List ℕ
 points_row = codes "1970-01-01T00:00:00.000Z,1970-01-01T00:00:00.385Z,1970-01-01T00:00:00.390Z,3,0,7,,9027,answered,,0,0,,ok,1\n"
 
--- the row of command 1 in the third cycle, in `in_a_table`
+-- the row of command 1 in the third cycle, in `table_layout`
 abbrev pub chained_row : List ℕ
 chained_row = codes "1970-01-01T00:00:00.000Z,1970-01-01T00:00:00.390Z,1970-01-01T00:00:00.415Z,3,1,7,,2108,answered,,0,0,\"2.25,1.625,110.0625\",ok,1\n"
 
--- the row of command 2 in the third cycle, in `in_a_table`
+-- the row of command 2 in the third cycle, in `table_layout`
 abbrev pub elsewhere_row : List ℕ
 elsewhere_row = codes "1970-01-01T00:00:00.000Z,1970-01-01T00:00:00.390Z,1970-01-01T00:00:00.415Z,3,2,8,,2108,elsewhere,,0,0,\"0.5,1.5,87.25\",,1\n"
 
--- the row of command 3 in the third cycle, in `in_a_table`
+-- the row of command 3 in the third cycle, in `table_layout`
 abbrev pub number_row : List ℕ
 number_row = codes "1970-01-01T00:00:00.000Z,1970-01-01T00:00:00.390Z,1970-01-01T00:00:00.415Z,3,3,1,,5003,answered,,0,0,31,ok,1\n"
 
--- the row of command 4 in the third cycle, in `in_a_table`
+-- the row of command 4 in the third cycle, in `table_layout`
 abbrev pub unreadable_row : List ℕ
 unreadable_row = codes "1970-01-01T00:00:00.000Z,1970-01-01T00:00:00.390Z,1970-01-01T00:00:00.415Z,3,4,2,,5003,unreadable,15,0,0,,,1\n"
 
@@ -73,8 +73,8 @@ module _ (reads : Asked → List ℕ → Reading) where
   -- the row of a record is this text, and its own, with this line as its reply
   abbrev pub IsOwnText : Record → (row line : List ℕ) → Type 0
   IsOwnText r row line =
-      (text_in in_a_table [] r ≡ row)
-      × IsRowOfLine reporting AnyState never_kept in_a_table [] at_start (program reads) r line
+      (text_in table_layout [] r ≡ row)
+      × IsRowOfLine reporting AnyState never_kept table_layout [] at_start (program reads) r line
 
   -- the run is eventful, and the row of each command that a reply in time settled is its own: of both commands of the chain, of
   -- the one that was measured elsewhere, of a number, and of one whose values don't read

@@ -12,22 +12,22 @@ use Rattle.gc_rehearsal.specs.declared.carried.Traffic.{Traffic}
 use Rattle.gc_rehearsal.specs.declared.flight.Flight.{Flight}
 
 -- where the events `hs` lead from `l` to `m`, and one more leads from `m` to `n`, all of them lead from `l` to `n`
-lead_on : (hs : List Happening) (h : Happening) (l m n : Lines) → LeadAll l hs m → Leads m h n → LeadAll l (hs ++ h ∷ []) n
-lead_on [] h l m n all one = (n, subst (λ x. Leads x h n) all one, refl)
-lead_on (g ∷ hs) h l m n all one = (all.0, all.1, lead_on hs h all.0 m n all.2 one)
+lead_one_more : (hs : List Happening) (h : Happening) (l m n : Lines) → LeadAll l hs m → Leads m h n → LeadAll l (hs ++ h ∷ []) n
+lead_one_more [] h l m n all one = (n, subst (λ x. Leads x h n) all one, refl)
+lead_one_more (g ∷ hs) h l m n all one = (all.0, all.1, lead_one_more hs h all.0 m n all.2 one)
 
 -- the acts of events and one more are those of the events, and then that of the last, if it is an act
-acts_on : (hs : List Happening) (h : Happening) → acts_of (hs ++ h ∷ []) ≡ acts_of hs ++ acts_of (h ∷ [])
-acts_on [] h = refl
-acts_on (Acts act ∷ hs) h = ap (λ l. act ∷ l) (acts_on hs h)
-acts_on (Reaches ∷ hs) h = acts_on hs h
-acts_on (Restarts ∷ hs) h = acts_on hs h
-acts_on (Passes moment ∷ hs) h = acts_on hs h
-acts_on (Repeats_up ∷ hs) h = acts_on hs h
-acts_on (Repeats_down ∷ hs) h = acts_on hs h
-acts_on (Loses_up ∷ hs) h = acts_on hs h
-acts_on (Loses_down ∷ hs) h = acts_on hs h
-acts_on (Loses_front ∷ hs) h = acts_on hs h
+acts_of_one_more : (hs : List Happening) (h : Happening) → acts_of (hs ++ h ∷ []) ≡ acts_of hs ++ acts_of (h ∷ [])
+acts_of_one_more [] h = refl
+acts_of_one_more (Acts act ∷ hs) h = ap (λ l. act ∷ l) (acts_of_one_more hs h)
+acts_of_one_more (Reaches ∷ hs) h = acts_of_one_more hs h
+acts_of_one_more (Restarts ∷ hs) h = acts_of_one_more hs h
+acts_of_one_more (Passes moment ∷ hs) h = acts_of_one_more hs h
+acts_of_one_more (Repeats_up ∷ hs) h = acts_of_one_more hs h
+acts_of_one_more (Repeats_down ∷ hs) h = acts_of_one_more hs h
+acts_of_one_more (Loses_up ∷ hs) h = acts_of_one_more hs h
+acts_of_one_more (Loses_down ∷ hs) h = acts_of_one_more hs h
+acts_of_one_more (Loses_front ∷ hs) h = acts_of_one_more hs h
 
 -- these lines in flight, up and down, and the instrument in this state
 abbrev pub lines : (up down : List (List ℕ)) → SceneState → Lines
@@ -41,8 +41,8 @@ one_more_happened acts h l m c one = record {
   start = c.start;
   happened = c.happened ++ h ∷ [];
   none = c.none;
-  acts_are = acts_on c.happened h ∙ ap (λ x. x ++ acts_of (h ∷ [])) c.acts_are;
-  leads = lead_on c.happened h (lines [] [] c.start) l m c.leads one;
+  acts_are = acts_of_one_more c.happened h ∙ ap (λ x. x ++ acts_of (h ∷ [])) c.acts_are;
+  leads = lead_one_more c.happened h (lines [] [] c.start) l m c.leads one;
 }
 
 -- where acts have come to the lines `l`, and one more event, which is no act, leads from these to `m`, the same acts have come to
@@ -62,8 +62,8 @@ quiet_leads (Gave bytes moment) l q = absurd q
 quiet_leads act l q = refl
 
 -- where acts have come to the lines `l`, these acts, and a quiet one after them, have come to `l`
-pub noted : (acts : List Act) (act : Act) (l : Lines) → IsQuiet act → HasComeTo acts l → HasComeTo (acts ++ act ∷ []) l
-noted acts act l q c = one_more_happened acts (Acts act) l l c (quiet_leads act l q)
+pub quiet_act_noted : (acts : List Act) (act : Act) (l : Lines) → IsQuiet act → HasComeTo acts l → HasComeTo (acts ++ act ∷ []) l
+quiet_act_noted acts act l q c = one_more_happened acts (Acts act) l l c (quiet_leads act l q)
 
 -- where acts have come to the lines `l`, these acts, and a write after them whose bytes don't arrive, have come to `l`
 pub put_lost : (acts : List Act) (bytes : List ℕ) (l : Lines) → HasComeTo acts l → HasComeTo (acts ++ Put bytes ∷ []) l
@@ -108,22 +108,22 @@ loses_down acts up down down' state none c =
     one_more_unseen acts Loses_down (lines up down state) (lines up down' state) refl c (ap (λ q. lines up q state) none)
 
 -- acts that have come to lines have also come to those with the instrument restarted
-pub restarts : (acts : List Act) (up down : List (List ℕ)) (state state' : SceneState)
+pub restarts_instrument : (acts : List Act) (up down : List (List ℕ)) (state state' : SceneState)
     → state' ≡ scene_restarted state → HasComeTo acts (lines up down state) → HasComeTo acts (lines up down state')
-restarts acts up down state state' is c =
+restarts_instrument acts up down state state' is c =
     one_more_unseen acts Restarts (lines up down state) (lines up down state') refl c (ap (λ s. lines up down s) is)
 
 -- acts that have come to lines have also come to those with the instrument's clock set to a moment
-pub passes : (acts : List Act) (moment : ℕ) (up down : List (List ℕ)) (state state' : SceneState) → state' ≡ at_moment moment state
+pub sets_clock : (acts : List Act) (moment : ℕ) (up down : List (List ℕ)) (state state' : SceneState) → state' ≡ at_moment moment state
     → HasComeTo acts (lines up down state) → HasComeTo acts (lines up down state')
-passes acts moment up down state state' is c =
+sets_clock acts moment up down state state' is c =
     one_more_unseen acts (Passes moment) (lines up down state) (lines up down state') refl c (ap (λ s. lines up down s) is)
 
 -- acts that have come to lines have also come to those in which the request in front may have been handed to the instrument
 -- (`MayHandOver`)
-pub reaches : (acts : List Act) (old new : Traffic) → MayHandOver old new → HasComeTo acts (lines_of old) → HasComeTo acts (lines_of new)
-reaches acts old new (inl same) c = subst (HasComeTo acts) (sym same) c
-reaches acts old new (inr x) c =
+pub hands_front_over : (acts : List Act) (old new : Traffic) → MayHandOver old new → HasComeTo acts (lines_of old) → HasComeTo acts (lines_of new)
+hands_front_over acts old new (inl same) c = subst (HasComeTo acts) (sym same) c
+hands_front_over acts old new (inr x) c =
     one_more_unseen acts Reaches (lines_of old) (lines_of new) refl c
     (record { line = x.request.line.items; front = ap texts x.front; plays = x.plays })
 
@@ -136,10 +136,10 @@ loses_front acts up down down' flight state front c =
 
 -- where acts have come to lines, the acts and a read of the reply in front, whole with its CR LF, have come to the lines without
 -- that reply
-pub gives : (acts : List Act) (bytes : List ℕ) (moment : Moment)
+pub gives_front : (acts : List Act) (bytes : List ℕ) (moment : Moment)
     (up : List (List ℕ)) (down down' : List Flight) (flight : Flight) (state : SceneState)
     → down ≡ flight ∷ down' → bytes ≡ with_end flight.line.items
     → HasComeTo acts (lines up (texts down) state) → HasComeTo (acts ++ Gave bytes moment ∷ []) (lines up (texts down') state)
-gives acts bytes moment up down down' flight state front is c =
+gives_front acts bytes moment up down down' flight state front is c =
     one_more_happened acts (Acts (Gave bytes moment)) (lines up (texts down) state) (lines up (texts down') state) c
     (flight.line.items, is, record { front = ap texts front; others = refl })

@@ -15,20 +15,20 @@ line_found bytes line ends is =
     sym (take-append-drop n bytes) ∙ ap (λ d. take n bytes ++ d) (same_text (drop n bytes) (13 ∷ 10 ∷ []) (sym ends)) ∙ ap (λ l. l ++ 13 ∷ 10 ∷ []) (sym is)
 
 -- a queue that isn't empty is what is before its last line, and that line
-last_of : (flights : List Flight) (last : Flight) → 0 < length flights → last ≡ get_or flights (length flights - 1) last
+front_and_last : (flights : List Flight) (last : Flight) → 0 < length flights → last ≡ get_or flights (length flights - 1) last
     → flights ≡ take (length flights - 1) flights ++ last ∷ []
-last_of flights last some is =
+front_and_last flights last some is =
     let n = length flights - 1 in
     let all : suc n ≡ length flights = omega (arith, some) in
     sym (take-length flights) ∙ ap (λ k. take k flights) (sym all) ∙ take-suc flights n last (omega (arith, some)) ∙ ap (λ x. take n flights ++ x ∷ []) (sym is)
 
 -- where a copy of the last line of a queue that isn't empty may have been put at its back, the queue is the same, or has its last
 -- line twice
-pub repeated : (old new : List Flight) (last again : Flight) → 0 < length old → last ≡ get_or old (length old - 1) last
+pub adds_copy : (old new : List Flight) (last again : Flight) → 0 < length old → last ≡ get_or old (length old - 1) last
     → again.line.items ≡ last.line.items → MayAdd old again new
     → MayRepeat old new
-repeated old new last again some is same (inl none) = inl none
-repeated old new last again some is same (inr more) =
+adds_copy old new last again some is same (inl none) = inl none
+adds_copy old new last again some is same (inr more) =
     let front = take (length old - 1) old in
     let text : Flight → List ℕ = λ (f : Flight). f.line.items in
-    inr (texts front, last.line.items, ap texts (last_of old last some is) ∙ map_push text front last, ap texts more ∙ map_push text old again ∙ ap (λ x. texts old ++ x ∷ []) same)
+    inr (texts front, last.line.items, ap texts (front_and_last old last some is) ∙ map_push text front last, ap texts more ∙ map_push text old again ∙ ap (λ x. texts old ++ x ∷ []) same)

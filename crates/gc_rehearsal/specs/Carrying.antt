@@ -1,6 +1,6 @@
--- What happens on a line that keeps order, this project's own: requests up to an instrument and replies down from it, each the line
--- without its CR LF. Each line arrives whole or not at all, and after those that were sent before it; one that comes twice comes
--- the second time directly after the first.
+-- What happens on a line that keeps order, this project's own: requests go up to an instrument, and replies down from it, each
+-- the line without its CR LF. Each line arrives whole or not at all, and after those that were sent before it; one that comes
+-- twice comes the second time directly after the first.
 use Rattle.std.specs.Prelude.{◌≡◌, ◌⊎◌, ℕ, ◌≤◌, List, [], ◌∷◌, ◌++◌, length, Option, Some, None}
 use Rattle.gc_lines.specs.Lines.{IsPlain, with_end}
 use Rattle.gc_links.specs.Acts.{Act, Put, Gave}
@@ -32,8 +32,8 @@ pub data Happening : Type 0 where
   -- the reply in front is lost
   Loses_front : Happening
 
--- a write of these bytes leads from the lines `l` to the lines `m`: nothing of them arrives, or they are a line with its CR LF, which is
--- sent up
+-- a write of these bytes leads from the lines `l` to the lines `m`: nothing of them arrives, or they are a line with its CR LF,
+-- which is sent up
 abbrev pub PutLeads : (l : Lines) → (bytes : List ℕ) → (m : Lines) → Type 0
 PutLeads l bytes m = (m ≡ l) ⊎ ((line : List ℕ) × (bytes ≡ with_end line) × (m ≡ record l { up = l.up ++ line ∷ [] }))
 
@@ -46,8 +46,8 @@ pub record TakesReply (l : Lines) (line : List ℕ) (m : Lines) : Type 0 where
 abbrev pub GiveLeads : (l : Lines) → (bytes : List ℕ) → (m : Lines) → Type 0
 GiveLeads l bytes m = (line : List ℕ) × (bytes ≡ with_end line) × TakesReply l line m
 
--- an act of the link leads from the lines `l` to the lines `m`: a whole write by `PutLeads`, a read of bytes by `GiveLeads`, and any
--- other act changes nothing
+-- an act of the link leads from the lines `l` to the lines `m`: a whole write by `PutLeads`, a read of bytes by `GiveLeads`, and
+-- any other act changes nothing
 abbrev pub ActLeads : (l : Lines) → Act → (m : Lines) → Type 0
 ActLeads l (Put bytes) m = PutLeads l bytes m
 ActLeads l (Gave bytes moment) m = GiveLeads l bytes m
@@ -63,17 +63,17 @@ IsQuiet other = Unit {0}
 abbrev pub IsOneLine : List ℕ → Type 0
 IsOneLine line = IsPlain line × (length line ≤ 512)
 
--- the replies in flight after the instrument made `reply` (`None`: it made none) are `new`: as before, or with the reply at the back, if
--- it is one line
-abbrev pub MaySendOut : (down : List (List ℕ)) → Option (List ℕ) → (new : List (List ℕ)) → Type 0
-MaySendOut down None new = new ≡ down
-MaySendOut down (Some line) new = (new ≡ down) ⊎ (IsOneLine line × (new ≡ down ++ line ∷ []))
+-- the reply that an instrument made, if it made one, was sent or lost: the replies in flight were `down`, and are `new`, as
+-- before, or with the reply at the back, if it is one line
+abbrev pub IsSentOrLost : (down : List (List ℕ)) → Option (List ℕ) → (new : List (List ℕ)) → Type 0
+IsSentOrLost down None new = new ≡ down
+IsSentOrLost down (Some line) new = (new ≡ down) ⊎ (IsOneLine line × (new ≡ down ++ line ∷ []))
 
 -- the instrument played this request (`IsPlayed`); its reply, if it made one, was sent or lost
 pub record HasPlayed (line : List ℕ) (l m : Lines) : Type 0 where
   pub reply : Option (List ℕ)
   pub played : IsPlayed l.state line m.state reply
-  pub sends : MaySendOut l.down reply m.down
+  pub sends : IsSentOrLost l.down reply m.down
 
 -- the request in front reached the instrument, which played it (`HasPlayed`)
 pub record HasReached (l m : Lines) : Type 0 where
@@ -108,8 +108,8 @@ acts_of [] = []
 acts_of (Acts act ∷ hs) = act ∷ acts_of hs
 acts_of (other ∷ hs) = acts_of hs
 
--- these acts are those of a line that keeps order, on which nothing was in flight at first, and whose instrument stored no reply then; it
--- has now come to these lines
+-- these acts are those of a line that keeps order, on which nothing was in flight at first, and whose instrument stored no reply
+-- then; it has now come to these lines
 pub record HasComeTo (acts : List Act) (lines : Lines) : Type 0 where
   pub start : SceneState
   pub happened : List Happening

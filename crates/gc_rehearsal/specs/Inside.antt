@@ -15,4 +15,4 @@ lines_in c = lines_of c.traffic
 
 -- the acts so far have led to the lines that are in flight now (`HasComeTo`)
 abbrev pub KeepsToLine : Inside → Type 0
-KeepsToLine c = HasComeTo c.history.acts (lines_in c)
+KeepsToLine c = HasComeTo (acts_in c) (lines_in c)

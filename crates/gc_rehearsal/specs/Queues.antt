@@ -1,7 +1,7 @@
 -- Not cited by theorems: what the functions of a queue do to the lines in it, the one that was sent first in front.
 use Rattle.std.specs.Prelude.{◌≡◌, ◌⊎◌, ℕ, List, [], ◌∷◌, ◌++◌, map, Some}
 use Rattle.gc_lines.specs.Lines.{with_end}
-use Rattle.gc_rehearsal.specs.Carrying.{HasPlayed, IsRepeated, Lines, MaySendOut}
+use Rattle.gc_rehearsal.specs.Carrying.{HasPlayed, IsRepeated, Lines, IsSentOrLost}
 use Rattle.gc_rehearsal.specs.declared.carried.Traffic.{Traffic}
 use Rattle.gc_rehearsal.specs.declared.flight.Flight.{Flight}
 
@@ -23,7 +23,7 @@ MayRepeat old new = (new ≡ old) ⊎ IsRepeated (texts old) (texts new)
 
 -- the lines of the queue are the same, or have this reply at their back, if it is one line
 abbrev pub MaySend : (old : List Flight) → (reply : List ℕ) → (new : List Flight) → Type 0
-MaySend old reply new = MaySendOut (texts old) (Some reply) (texts new)
+MaySend old reply new = IsSentOrLost (texts old) (Some reply) (texts new)
 
 -- the lines in flight, and the instrument
 abbrev pub lines_of : Traffic → Lines

@@ -3,7 +3,8 @@ use Rattle.std.specs.Prelude.{◌≡◌, ℕ, List, [], ◌∷◌, ◌++◌, Opt
 use Rattle.gc_links.specs.Acts.{Act, CameWithin, read_act}
 use Rattle.gc_links.specs.declared.link.Came.{Came}
 
--- a read with this result adds one act to those before. If it gave bytes, they are at least one, and no more than `buf` has room for
+-- a read with this result adds one act to those before. If it gave bytes, they are at least one, and no more than `buf` has room
+-- for
 pub record Reads (old new : List Act) (came : Came) (buf : List ℕ) : Type 0 where
   pub tells : new ≡ old ++ read_act came buf ∷ []
   pub within : CameWithin came buf

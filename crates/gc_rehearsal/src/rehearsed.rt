@@ -1,7 +1,7 @@
 //! The line of a rehearsal as a link: which decisions each call takes from the chance, and what it returns.
 
 ghost use Rattle.std.specs.Prelude.{◌≡◌, ℕ, ◌<◌, ◌++◌, ◌∷◌, [], List, length};
-ghost use Rattle.gc_links.specs.Acts.{Cut, IsPart, Put, put_act};
+ghost use Rattle.gc_links.specs.Acts.{Cut, IsPartIfErr, Put, put_act};
 ghost use Rattle.gc_rehearsal.specs.Carrying.{IsOfLine};
 ghost use Rattle.gc_rehearsal.specs.Reading.{MayRead, Reads};
 
@@ -224,7 +224,7 @@ impl<C: Chance> Rehearsed<C> {
     fn put_request(&mut self, bytes: &[u8]) -> Result<(), usize>
         requires { 0 < length bytes.now }
         ensures tells { self.new.carried ≡ self.old.carried ++ put_act result bytes.now ∷ [] }
-        ensures part { IsPart result bytes.now }
+        ensures part { IsPartIfErr result bytes.now }
     {
         let fate = self.chance.fate();
         if fate.closes {

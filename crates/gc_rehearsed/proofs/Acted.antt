@@ -1,10 +1,10 @@
 -- One act of a rehearsed line: what it is to the station, and what it does to the line, are turns of a synchronization, or
 -- moves of a client that has synchronized.
 use Rattle.std.proofs.Common.{◌≡◌, ◌⊎◌, inl, inr, ℕ, zero, ◌+◌, ◌<◌, false, List, [], ◌∷◌, ◌++◌, length, map, Some, refl, sym, ◌∙◌, ap, subst, arith, length-append}
-use Rattle.std.specs.List.{filter_map, AllByRecursion}
+use Rattle.std.specs.List.{AllByRecursion}
 use Rattle.std.proofs.lemmas.List.{append_cancel_right, map-append}
 use Rattle.gc_lines.proofs.Plain.{plain_line}
-use Rattle.gc_lines.specs.Frames.{line_in, rest_behind}
+use Rattle.gc_lines.specs.Frames.{rest_behind}
 use Rattle.gc_lines.specs.Lines.{with_end}
 use Rattle.gc_catalogue.specs.Asked.{IsAskedFitting, asked_line}
 use Rattle.gc_catalogue.specs.Texts.{request_line}
@@ -26,10 +26,10 @@ use Rattle.gc_station.specs.Model.{lines_completed}
 use Rattle.gc_station.specs.Parts as part
 use Rattle.gc_station.specs.Parts.{client_after, course_at}
 use Rattle.gc_world.specs.Clients.{by_ids}
-use Rattle.gc_field.specs.Asking.{IsAskedFor, IsHeardOrDiscarded, MeansSyncSteps}
+use Rattle.gc_field.specs.Asking.{IsNullOrLineFeed, IsHeardOrDiscarded, MeansSyncSteps}
 use Rattle.gc_field.specs.Begin as begin
 use Rattle.gc_field.specs.Begin.{InFlight, SyncModel, leaves, turns}
-use Rattle.gc_field.specs.Beginnings.{on_line}
+use Rattle.gc_field.specs.Beginnings.{under_way_on}
 use Rattle.gc_field.specs.Field as field
 use Rattle.gc_field.specs.Meaning.{IsHeard, IsDiscarded}
 use Rattle.gc_field.specs.SceneField.{scene_ends}
@@ -39,14 +39,15 @@ use Rattle.gc_rehearsal.specs.Carrying.{Lines, ActLeads, GiveLeads, IsOneLine, P
 use Rattle.gc_rehearsed.proofs.Courses.{BeginIsAt, FromBegin, FromClient, Sequel, WorldIsAt, after_move, move_first, steps_move, steps_turn, turn_first}
 use Rattle.gc_rehearsed.proofs.Sides.{SceneWorld}
 use Rattle.gc_rehearsed.proofs.Steps.{Holds, IsLineOf, Lose_down, Lose_up, under_way, holds_one_less, holds_one_more, without_last, holds_dropped}
-use Rattle.gc_field.proofs.BeginJoin.{IsSmall, small_left}
+use Rattle.gc_field.proofs.BeginJoin.{AreSmall, small_left}
 use Rattle.gc_field.proofs.BeginWords.{cons_not_nil}
+use Rattle.gc_instrument.proofs.HeardFrames.{lines_of}
 
 -- Lines of bytes.
 
 -- one line with its CR LF, read from the start of a line on, is that line
 pub one_line : (line : List ℕ) → IsOneLine line → lines_completed [] (with_end line) ≡ line ∷ []
-one_line line one = ap (λ fs. filter_map line_in fs) (plain_line line one.0 one.1).0
+one_line line one = ap lines_of (plain_line line one.0 one.1).0
 
 -- one line with its CR LF, read from the start of a line on, leaves no bytes of an unfinished line
 pub no_rest : (line : List ℕ) → IsOneLine line → rest_behind [] (with_end line) ≡ []
@@ -77,9 +78,9 @@ MayArrive l line n = (n ≡ l) ⊎ (n ≡ record l { up = l.up ++ line ∷ [] })
 -- While the station synchronizes.
 
 -- where all ids of a word are below 8, so are those that lines leave unanswered
-pub ids_left : (word : List ℕ) (lines : List (List ℕ)) → IsSmall word → IsSmall (unanswered_after word lines)
-ids_left word [] ids = ids
-ids_left word (line ∷ others) ids = ids_left (left_by word (heard line)) others (small_left word (heard line) ids)
+pub left_ids_are_small : (word : List ℕ) (lines : List (List ℕ)) → AreSmall word → AreSmall (unanswered_after word lines)
+left_ids_are_small word [] ids = ids
+left_ids_are_small word (line ∷ others) ids = left_ids_are_small (left_by word (heard line)) others (small_left word (heard line) ids)
 
 -- what an act comes to while the station synchronizes: from the state b the turns of the act lead to one with these lines in
 -- flight and these ids unanswered (`BeginIsAt`), and whatever follows from there follows from b after these turns
@@ -102,7 +103,7 @@ once_asked b id = record b { up = b.up ++ record { old = false; line = asked_nex
 
 -- where all unanswered ids are below 8, an act that sends the null procedure of the first of them comes to the turn `Asks`,
 -- whether the line loses the request or not
-turns_asks : (b : SyncModel SceneState) (asked : ℕ) (rest : List ℕ) (line : List ℕ) (l n : Lines) → BeginIsAt b (asked ∷ rest) l → IsSmall (asked ∷ rest)
+turns_asks : (b : SyncModel SceneState) (asked : ℕ) (rest : List ℕ) (line : List ℕ) (l n : Lines) → BeginIsAt b (asked ∷ rest) l → AreSmall (asked ∷ rest)
     → line ≡ request_line (Some asked) NullProc → MayArrive l line n → TurnsTo b (part.Asks ∷ []) (asked ∷ rest) n
 turns_asks b asked rest line l n at ids is came show steps coming on =
     turn_first b begin.Asks show steps coming tt (subst (λ (x : SyncModel SceneState). FromBegin x show steps coming) (sym out) (by_came came)) where
@@ -122,7 +123,7 @@ turns_asks b asked rest line l n at ids is came show steps coming on =
       lost : without (length (leaves b).up) (leaves (once_asked b asked)).up ≡ (leaves b).up
       lost = ap (without (length (leaves b).up)) up_is ∙ without_last (leaves b).up (asked_next asked)
 
-      -- the lemma above from there on, by whether the request is lost or is in flight
+      -- from there on `FromBegin` holds, whether the request is lost or is in flight
       by_came : MayArrive l line n → FromBegin (once_asked b asked) show steps coming
       by_came (inl same) =
           steps_turn (Lose_up (length (leaves b).up) ∷ []) (once_asked b asked) show steps coming (tt, tt)
@@ -131,9 +132,10 @@ turns_asks b asked rest line l n at ids is came show steps coming on =
           on (once_asked b asked)
           (at.0, subst (λ q. Holds (under_way q (leaves b).down b.state) n) (sym up_is) (holds_one_more (leaves b) l n (asked_next asked) line at.1 of_line more))
 
--- an act that puts bytes, whole or in part, while the station synchronizes comes to the steps that the act means (`IsAskedFor`)
-turns_put : (b : SyncModel SceneState) (word : List ℕ) (bytes : List ℕ) (ts : List part.SyncStep) (l n : Lines) → BeginIsAt b word l → IsSmall word
-    → IsAskedFor word bytes ts → PutLeads l bytes n → (word ≡ [] → ⊥) → TurnsTo b ts word n
+-- an act that puts bytes, whole or in part, while the station synchronizes comes to the turns that these bytes mean
+-- (`IsNullOrLineFeed`)
+turns_put : (b : SyncModel SceneState) (word : List ℕ) (bytes : List ℕ) (ts : List part.SyncStep) (l n : Lines) → BeginIsAt b word l → AreSmall word
+    → IsNullOrLineFeed word bytes ts → PutLeads l bytes n → (word ≡ [] → ⊥) → TurnsTo b ts word n
 turns_put b word bytes ts l n at ids (inl feed) (inl same) some = subst (λ (t : List part.SyncStep). TurnsTo b t word n) (sym feed.1) (turns_none b word l n at same)
 turns_put b word bytes ts l n at ids (inl feed) (inr sent) some = absurd (feed_no_line sent.0 (sym feed.0 ∙ sent.1))
 turns_put b [] bytes ts l n at ids (inr asks) put some = absurd (some refl)
@@ -203,18 +205,18 @@ turns_quiet b word ts behind rest l n at means empty same =
     (means.1 ∙ empty, subst (λ (t : List part.SyncStep). TurnsTo b t (unanswered_after word (heard_in t)) n) (sym means.0) (turns_none b word l n at same))
 
 -- bytes that are put leave all ids of the word unanswered
-put_left : (word bytes : List ℕ) (ts : List part.SyncStep) → IsAskedFor word bytes ts → unanswered_after word (heard_in ts) ≡ word
-put_left word bytes ts (inl feed) = ap (λ (t : List part.SyncStep). unanswered_after word (heard_in t)) feed.1
-put_left word bytes ts (inr asks) = ap (λ (t : List part.SyncStep). unanswered_after word (heard_in t)) asks.1
+put_answers_none : (word bytes : List ℕ) (ts : List part.SyncStep) → IsNullOrLineFeed word bytes ts → unanswered_after word (heard_in ts) ≡ word
+put_answers_none word bytes ts (inl feed) = ap (λ (t : List part.SyncStep). unanswered_after word (heard_in t)) feed.1
+put_answers_none word bytes ts (inr asks) = ap (λ (t : List part.SyncStep). unanswered_after word (heard_in t)) asks.1
 
 -- an act while the station synchronizes leaves no bytes of an unfinished line if there were none, and comes to the turns that
 -- the act means (`MeansSyncSteps`)
-pub turns_act : (b : SyncModel SceneState) (word : List ℕ) (act : Act) (ts : List part.SyncStep) (behind : List ℕ) (l n : Lines) → BeginIsAt b word l → IsSmall word
+pub turns_act : (b : SyncModel SceneState) (word : List ℕ) (act : Act) (ts : List part.SyncStep) (behind : List ℕ) (l n : Lines) → BeginIsAt b word l → AreSmall word
     → (word ≡ [] → ⊥) → MeansSyncSteps word [] act ts behind → ActLeads l act n → (behind ≡ []) × TurnsTo b ts (unanswered_after word (heard_in ts)) n
 turns_act b word (Put bytes) ts behind l n at ids some means does =
-    (means.1, subst (λ w. TurnsTo b ts w n) (sym (put_left word bytes ts means.0)) (turns_put b word bytes ts l n at ids means.0 does some))
+    (means.1, subst (λ w. TurnsTo b ts w n) (sym (put_answers_none word bytes ts means.0)) (turns_put b word bytes ts l n at ids means.0 does some))
 turns_act b word (Cut bytes count) ts behind l n at ids some means does =
-    (means.1, subst (λ w. TurnsTo b ts w n) (sym (put_left word bytes ts means.0)) (turns_put b word bytes ts l n at ids means.0 (inl does) some))
+    (means.1, subst (λ w. TurnsTo b ts w n) (sym (put_answers_none word bytes ts means.0)) (turns_put b word bytes ts l n at ids means.0 (inl does) some))
 turns_act b word (Gave piece moment) ts behind l n at ids some means does = turns_gave b word piece ts behind l n at means does
 turns_act b word (Told moment) ts behind l n at ids some means does = turns_quiet b word ts behind [] l n at means refl does
 turns_act b word Untold ts behind l n at ids some means does = turns_quiet b word ts behind [] l n at means refl does
@@ -281,14 +283,14 @@ moves_comes w c (x ∷ q) line l n is at takes steps coming on =
       client_next = ap (λ y. (hears y x.line (heard x.line)).client) at.0 ∙ ap (λ z. (hears c z (heard z)).client) lines_are.0
 
       -- what is in flight then is what is in flight on the line
-      holds_next : Holds (on_line (once_heard w x q).wire) n
-      holds_next = holds_one_less (on_line w.wire) (map (λ (y : Numbered (List ℕ)). y.line) q) l line n at.1 takes lines_are.1
+      holds_next : Holds (under_way_on (once_heard w x q).wire) n
+      holds_next = holds_one_less (under_way_on w.wire) (map (λ (y : Numbered (List ℕ)). y.line) q) l line n at.1 takes lines_are.1
 
 -- a reply that comes, and is discarded, comes to no step: the line loses it
 moves_drops : (w : SceneWorld) (c : ById Asked) (line : List ℕ) (l n : Lines) → WorldIsAt w c l → TakesReply l line n → MovesTo w [] c n
 moves_drops w c line l n at takes steps coming on =
     steps_move (Lose_down zero ∷ []) w steps coming (tt, tt)
-    (λ v e k. on v (k ∙ at.0, subst (λ u. Holds u n) (sym e) (holds_dropped (on_line w.wire) l line n at.1 takes)))
+    (λ v e k. on v (k ∙ at.0, subst (λ u. Holds u n) (sym e) (holds_dropped (under_way_on w.wire) l line n at.1 takes)))
 
 -- a read that gave bytes, of which the client hears the lines or which the station discards, leaves no bytes of an unfinished
 -- line if there were none, and comes to the steps that the read means
@@ -331,7 +333,7 @@ moves_sends w c target call deadline line l n at room digit fits text came steps
       out = ap (λ o. requested w target call o) (ap (λ x. sends 7 x target call deadline) at.0 ∙ sends_with_room c target call deadline room)
 
       -- the requests in flight then are those before, and this one
-      up_is : (on_line (once_sent w c target call deadline).wire).up ≡ (on_line w.wire).up ++ (sent_next w c call).line ∷ []
+      up_is : (under_way_on (once_sent w c target call deadline).wire).up ≡ (under_way_on w.wire).up ++ (sent_next w c call).line ∷ []
       up_is = map-append (λ (x : Numbered Request). x.line) w.wire.up (sent_next w c call ∷ [])
 
       -- the line is that of the request
@@ -339,22 +341,25 @@ moves_sends w c target call deadline line l n at room digit fits text came steps
       of_line = record { text = text; id = digit; fits = fits }
 
       -- once its last request is lost, the requests in flight are those before
-      lost : without (length (on_line w.wire).up) (on_line (once_sent w c target call deadline).wire).up ≡ (on_line w.wire).up
-      lost = ap (without (length (on_line w.wire).up)) up_is ∙ without_last (on_line w.wire).up (sent_next w c call).line
+      lost : without (length (under_way_on w.wire).up) (under_way_on (once_sent w c target call deadline).wire).up ≡ (under_way_on w.wire).up
+      lost = ap (without (length (under_way_on w.wire).up)) up_is ∙ without_last (under_way_on w.wire).up (sent_next w c call).line
 
       -- the client then is the one that has sent the request
       client_is : (once_sent w c target call deadline).client ≡ client_after c (client.Send target call deadline ∷ [])
       client_is = sym (ap (λ o. (client.sent_on (course_at c) target call o).client) (sends_with_room c target call deadline room))
 
-      -- the lemma above from there on, by whether the request is lost or is in flight
+      -- from there on `FromClient` holds, whether the request is lost or is in flight
       by_came : MayArrive l line n → FromClient (once_sent w c target call deadline) steps coming
       by_came (inl same) =
-          steps_move (Lose_up (length (on_line w.wire).up) ∷ []) (once_sent w c target call deadline) steps coming (tt, tt)
+          steps_move (Lose_up (length (under_way_on w.wire).up) ∷ []) (once_sent w c target call deadline) steps coming (tt, tt)
           (λ v e k. on v (
             k ∙ client_is,
             subst (λ u. Holds u n) (sym e)
-                (subst (λ q. Holds (under_way q (on_line w.wire).down w.wire.state) n) (sym lost) (subst (Holds (on_line w.wire)) (sym same) at.1)),
+                (subst (λ q. Holds (under_way q (under_way_on w.wire).down w.wire.state) n) (sym lost) (subst (Holds (under_way_on w.wire)) (sym same) at.1)),
           ))
       by_came (inr more) =
-          on (once_sent w c target call deadline)
-          (client_is, subst (λ q. Holds (under_way q (on_line w.wire).down w.wire.state) n) (sym up_is) (holds_one_more (on_line w.wire) l n (sent_next w c call).line line at.1 of_line more))
+          on (once_sent w c target call deadline) (
+            client_is,
+            subst (λ q. Holds (under_way q (under_way_on w.wire).down w.wire.state) n) (sym up_is)
+                (holds_one_more (under_way_on w.wire) l n (sent_next w c call).line line at.1 of_line more),
+          )

@@ -12,7 +12,7 @@ use Rattle.gc_station.specs.Parts.{Part, idle_part}
 use Rattle.gc_world.specs.Clients.{by_ids}
 use Rattle.gc_field.specs.Begin as begin
 use Rattle.gc_field.specs.Begin.{AreTurns, IsTurn, SyncModel, UnderWay, begins, leaves, turned, turns}
-use Rattle.gc_field.specs.Beginnings.{ArePossibleIf, AreRuns, Run, killed_if, left_by_run, left_by_runs, left_if, on_line}
+use Rattle.gc_field.specs.Beginnings.{ArePossibleIf, AreRuns, Run, killed_if, left_by_run, left_by_runs, left_if, under_way_on}
 use Rattle.gc_field.specs.Begun.{ids_begun}
 use Rattle.gc_field.specs.Field.{Move, ArePossible, IsPossible, moved, moves, seen}
 use Rattle.gc_field.specs.InARow.{AreFewKilledWithTurns, killed_by, killed_over}
@@ -21,7 +21,7 @@ use Rattle.gc_field.specs.SceneField.{KeptReplyReads, scene_ends, scene_kept}
 use Rattle.gc_field.specs.Shown.{AreShownAs, shown, shows}
 use Rattle.gc_field.specs.World.{Numbered}
 use Rattle.gc_rehearsal.specs.Carrying.{Lines}
-use Rattle.gc_rehearsed.proofs.Sides.{SceneWorld, client_move, is_move, is_turn, leaves_turn, left_turn, line_move, move_of, seen_none, shows_none, turn_of}
+use Rattle.gc_rehearsed.proofs.Sides.{SceneWorld, client_move, is_move, is_turn, leaves_turn, turn_answers_none, line_move, move_of, seen_none, shows_none, turn_of}
 use Rattle.gc_rehearsed.proofs.Steps.{AreSteps, Holds, Step, all_stepped, under_way}
 use Rattle.gc_field.proofs.InARow.{same_lines, run}
 use Rattle.gc_field.proofs.InTime.{seen_append}
@@ -33,7 +33,7 @@ BeginIsAt b word l = (b.left ≡ word) × Holds (leaves b) l
 
 -- the world w has this client, and these lines in flight
 abbrev pub WorldIsAt : SceneWorld → ById Asked → Lines → Type 0
-WorldIsAt w c l = (w.client ≡ c) × Holds (on_line w.wire) l
+WorldIsAt w c l = (w.client ≡ c) × Holds (under_way_on w.wire) l
 
 -- the world after a move, with a client's window of seven
 abbrev pub after_move : SceneWorld → Move SceneState → SceneWorld
@@ -88,7 +88,7 @@ pub record FromClient (w : SceneWorld) (steps : List (client.Step Asked)) (comin
   pub rs : List (Run SceneState)
   pub see : seen ms ≡ steps
   pub may : ArePossible scene_ends KeptReplyReads scene_kept (by_ids WINDOW scene_ends) ms w
-  pub later : Later (on_line (after_moves ms w).wire) rs coming
+  pub later : Later (under_way_on (after_moves ms w).wire) rs coming
 
 -- One thing more before what follows.
 
@@ -119,7 +119,7 @@ steps_turn (x ∷ xs) b show steps coming are on =
     subst (λ l. FromBegin b (l ++ show) steps coming) (shows_none b x)
     (turn_first b (turn_of x) show steps coming (is_turn b x are.0)
     (steps_turn xs (turns scene_ends b (turn_of x)) show steps coming (subst (AreSteps xs) (sym one) are.1)
-    (λ c e l. on c (e ∙ ap (all_stepped xs) one) (l ∙ left_turn b x))))
+    (λ c e l. on c (e ∙ ap (all_stepped xs) one) (l ∙ turn_answers_none b x))))
 
 -- if x is a possible move in the world w, and `FromClient` holds from the world after x, it holds from w, with what the client
 -- sees of x before the other steps
@@ -129,8 +129,8 @@ move_first w x steps coming is f = record { ms = x ∷ f.ms; rs = f.rs; see = se
 
 -- if `xs` are possible steps from what w has in flight, and `FromClient` holds from each world with what they leave in flight
 -- and with the client of w, it holds from w: the client sees nothing of the steps
-pub steps_move : (xs : List Step) (w : SceneWorld) (steps : List (client.Step Asked)) (coming : Sequel) → AreSteps xs (on_line w.wire)
-    → ((v : SceneWorld) → on_line v.wire ≡ all_stepped xs (on_line w.wire) → v.client ≡ w.client → FromClient v steps coming) → FromClient w steps coming
+pub steps_move : (xs : List Step) (w : SceneWorld) (steps : List (client.Step Asked)) (coming : Sequel) → AreSteps xs (under_way_on w.wire)
+    → ((v : SceneWorld) → under_way_on v.wire ≡ all_stepped xs (under_way_on w.wire) → v.client ≡ w.client → FromClient v steps coming) → FromClient w steps coming
 steps_move [] w steps coming are on = on w refl refl
 steps_move (x ∷ xs) w steps coming are on =
     let one = line_move w x in
@@ -146,12 +146,12 @@ without_number : {Line : Type 0} (xs : List Line) → map (λ (x : Numbered Line
 without_number xs = map-map _ _ xs ∙ map-id xs
 
 -- a client that has just synchronized has in flight what the synchronization left
-pub begun_line : (u : UnderWay SceneState) → on_line (ids_begun u).wire ≡ u
-begun_line u = ap (λ q. under_way q (on_line (ids_begun u).wire).down u.state) (without_number u.up) ∙ ap (λ q. under_way u.up q u.state) (without_number u.down)
+pub begun_in_flight : (u : UnderWay SceneState) → under_way_on (ids_begun u).wire ≡ u
+begun_in_flight u = ap (λ q. under_way q (under_way_on (ids_begun u).wire).down u.state) (without_number u.up) ∙ ap (λ q. under_way u.up q u.state) (without_number u.down)
 
 -- a synchronization starts over what is in flight
-pub begins_line : (u : UnderWay SceneState) → leaves (begins u) ≡ u
-begins_line u = ap (λ q. under_way q (leaves (begins u)).down u.state) (same_lines u.up) ∙ ap (λ q. under_way u.up q u.state) (same_lines u.down)
+pub begins_in_flight : (u : UnderWay SceneState) → leaves (begins u) ≡ u
+begins_in_flight u = ap (λ q. under_way q (leaves (begins u)).down u.state) (same_lines u.up) ∙ ap (λ q. under_way u.up q u.state) (same_lines u.down)
 
 -- if all ids are answered, `FromClient` of the client that has synchronized gives `FromBegin`, which shows no further turns
 pub begun_from : (b : SyncModel SceneState) (show : List part.SyncStep) (steps : List (client.Step Asked)) (coming : Sequel) → b.left ≡ [] → show ≡ []
@@ -180,8 +180,8 @@ killed_first n u r (asked ∷ word) (t ∷ ts) done rs e same rest =
     let one : killed_by scene_ends n u r (t ∷ ts) ≡ n + 1 = ap (λ l. killed_if l n) (ap (λ xs. (turned scene_ends xs (begins u)).left) same ∙ e) in
     inr (rest.0, rest.1, omega (arith, one))
 
--- if `unbegun n coming.begun` is at most five, then in the runs from a synchronization on, before which `n` in a row were killed
--- while they synchronized, at most five in a row are killed so, counted with those `n`, and at the end at most
+-- where the `n` runs before a synchronization were killed while they synchronized, and `unbegun n coming.begun` is at most five:
+-- of these and the runs from the synchronization on, at most five in a row are killed so, and at the end at most
 -- `unbegun n coming.begun`
 pub few_from : (n : ℕ) (u : UnderWay SceneState) (show : List part.SyncStep) (steps : List (client.Step Asked)) (coming : Sequel)
     → (f : FromBegin (begins u) show steps coming) → unbegun n coming.begun ≤ 5
@@ -197,7 +197,7 @@ few_from n u show steps coming f small = by_end (killed_first n u (run f.ts f.ms
   by_done true h = h
   by_done false h = omega (arith, h)
 
-  -- the lemma above, by whether the first run has synchronized
+  -- the claim of `few_from`, by whether the first run has synchronized
   by_end : (((turned scene_ends f.ts (begins u)).left ≡ []) × (killed_by scene_ends n u (run f.ts f.ms) f.ts ≡ 0))
       ⊎ ((f.rs ≡ []) × (coming.begun ≡ false) × (killed_by scene_ends n u (run f.ts f.ms) f.ts ≤ n + 1))
       → AreFewKilledWithTurns scene_ends n u ((run f.ts f.ms) ∷ f.rs) × (killed_over scene_ends n u ((run f.ts f.ms) ∷ f.rs) ≤ unbegun n coming.begun)
@@ -215,16 +215,16 @@ few_from n u show steps coming f small = by_end (killed_first n u (run f.ts f.ms
       )
 
 -- one station, killed or not, counts as at most five in a row
-one_few : (done : Bool) → unbegun 0 done ≤ 5
-one_few true = omega arith
-one_few false = omega arith
+one_station_is_few : (done : Bool) → unbegun 0 done ≤ 5
+one_station_is_few true = omega arith
+one_station_is_few false = omega arith
 
 -- `FromBegin` of a synchronization over what is in flight in the world w, which shows the part p and then a sequel, gives
 -- `FromClient` from w, with no steps, and with p in front of the sequel's parts
-pub ended_from : (w : SceneWorld) (p : Part) (coming : Sequel) → FromBegin (begins (on_line w.wire)) p.sync_steps p.steps coming
+pub ended_from : (w : SceneWorld) (p : Part) (coming : Sequel) → FromBegin (begins (under_way_on w.wire)) p.sync_steps p.steps coming
     → FromClient w [] (sequel (p ∷ coming.parts) coming.lines coming.begun)
 ended_from w p coming f =
-    let few = few_from 0 (on_line w.wire) p.sync_steps p.steps coming f (one_few coming.begun) in
+    let few = few_from 0 (under_way_on w.wire) p.sync_steps p.steps coming f (one_station_is_few coming.begun) in
     record {
       ms = [];
       rs = run f.ts f.ms ∷ f.rs;
@@ -233,14 +233,14 @@ ended_from w p coming f =
       later = record { show = (f.show, f.see, f.later.show); may = ((f.are, f.may), f.later.may); holds = f.later.holds; few = few.0; ends = few.1 };
     }
 
--- no number of killed stations is below 0
-none_below : (done : Bool) → 0 ≤ unbegun 0 done
-none_below true = omega arith
-none_below false = omega arith
+-- where no run follows, 0 count as killed in a row, which is at most what `unbegun` gives
+none_killed_in_no_runs : (done : Bool) → 0 ≤ unbegun 0 done
+none_killed_in_no_runs true = omega arith
+none_killed_in_no_runs false = omega arith
 
 -- where the lines m are in flight, `FromClient` holds with no steps and one further part, in which nothing happens
-pub ended_over : (w : SceneWorld) (m : Lines) (done : Bool) → Holds (on_line w.wire) m → FromClient w [] (sequel (idle_part ∷ []) m done)
-ended_over w m done holds =
+pub ends_client_idly : (w : SceneWorld) (m : Lines) (done : Bool) → Holds (under_way_on w.wire) m → FromClient w [] (sequel (idle_part ∷ []) m done)
+ends_client_idly w m done holds =
     record {
       ms = [];
       rs = record { turns = []; moves = [] } ∷ [];
@@ -249,15 +249,15 @@ ended_over w m done holds =
       later = record {
         show = (refl, refl, tt);
         may = ((tt, refl), tt);
-        holds = subst (λ u. Holds u m) (sym (begins_line (on_line w.wire))) holds;
+        holds = subst (λ u. Holds u m) (sym (begins_in_flight (under_way_on w.wire))) holds;
         few = (omega arith, tt);
-        ends = none_below done;
+        ends = none_killed_in_no_runs done;
       };
     }
 
 -- where the lines m are in flight, `FromClient` holds with no steps and no further parts
-pub ends_client : (w : SceneWorld) (m : Lines) (done : Bool) → Holds (on_line w.wire) m → FromClient w [] (sequel [] m done)
-ends_client w m done holds = record { ms = []; rs = []; see = refl; may = tt; later = record { show = tt; may = tt; holds = holds; few = tt; ends = none_below done } }
+pub ends_client : (w : SceneWorld) (m : Lines) (done : Bool) → Holds (under_way_on w.wire) m → FromClient w [] (sequel [] m done)
+ends_client w m done holds = record { ms = []; rs = []; see = refl; may = tt; later = record { show = tt; may = tt; holds = holds; few = tt; ends = none_killed_in_no_runs done } }
 
 -- where some ids aren't answered, and the lines m are in flight, `FromBegin` holds with no turns, no steps and no further parts,
 -- and with a station that hasn't synchronized at the end

@@ -23,10 +23,10 @@ use Rattle.gc_field.proofs.SceneField.{scene_is_an_instrument}
 use Rattle.gc_field.proofs.BeginJoin.{word_small}
 use Rattle.gc_rehearsal.specs.Carrying.{Lines, Happening, Acts, ActLeads, IsQuiet, LeadAll, acts_of}
 use Rattle.gc_rehearsed.specs.Rehearsals.{FewEndUnbegun, RunsAndStops, RehearsalsInARowAreFaithful, RehearsedStation, has_begun_at_its_end, programs, acts_of_all, unbegun}
-use Rattle.gc_rehearsed.proofs.Courses.{BeginIsAt, FromBegin, Sequel, begins_line, few_from, sequel, steps_turn}
+use Rattle.gc_rehearsed.proofs.Courses.{BeginIsAt, FromBegin, Sequel, begins_in_flight, few_from, sequel, steps_turn}
 use Rattle.gc_rehearsed.proofs.Rehearsed.{OnBegin, first_and_others, first_part, none_kept, other_parts, shows_the_run}
 use Rattle.gc_station.proofs.PartFronts.{some_parts}
-use Rattle.gc_rehearsed.proofs.Steps.{Holds, happens}
+use Rattle.gc_rehearsed.proofs.Steps.{Holds, happens_by_steps}
 use Rattle.gc_field.proofs.BeginWords.{cons_not_nil}
 
 -- Cutting what happened.
@@ -42,11 +42,11 @@ record CutHappenings (hs : List Happening) (xs ys : List Act) (l m : Lines) : Ty
   later : LeadAll middle back m
 
 -- what happened can be cut after its first acts
-cut : (hs : List Happening) (xs ys : List Act) (l m : Lines) → acts_of hs ≡ xs ++ ys → LeadAll l hs m → CutHappenings hs xs ys l m
-cut hs [] ys l m e all = record { front = []; back = hs; middle = l; fronts = refl; backs = e; leads = refl; later = all }
-cut [] (x ∷ xs) ys l m e all = absurd (cons_not_nil x (xs ++ ys) (sym e))
-cut (Acts act ∷ hs) (x ∷ xs) ys l m e all =
-    let rest = cut hs xs ys all.0 m (cons_tail act x (acts_of hs) (xs ++ ys) e) all.2 in
+cut_after_acts : (hs : List Happening) (xs ys : List Act) (l m : Lines) → acts_of hs ≡ xs ++ ys → LeadAll l hs m → CutHappenings hs xs ys l m
+cut_after_acts hs [] ys l m e all = record { front = []; back = hs; middle = l; fronts = refl; backs = e; leads = refl; later = all }
+cut_after_acts [] (x ∷ xs) ys l m e all = absurd (cons_not_nil x (xs ++ ys) (sym e))
+cut_after_acts (Acts act ∷ hs) (x ∷ xs) ys l m e all =
+    let rest = cut_after_acts hs xs ys all.0 m (cons_tail act x (acts_of hs) (xs ++ ys) e) all.2 in
     record {
       front = Acts act ∷ rest.front;
       back = rest.back;
@@ -56,8 +56,8 @@ cut (Acts act ∷ hs) (x ∷ xs) ys l m e all =
       leads = (all.0, all.1, rest.leads);
       later = rest.later;
     }
-cut (h ∷ hs) (x ∷ xs) ys l m e all =
-    let rest = cut hs (x ∷ xs) ys all.0 m e all.2 in
+cut_after_acts (h ∷ hs) (x ∷ xs) ys l m e all =
+    let rest = cut_after_acts hs (x ∷ xs) ys all.0 m e all.2 in
     record { front = h ∷ rest.front; back = rest.back; middle = rest.middle; fronts = rest.fronts; backs = rest.backs; leads = (all.0, all.1, rest.leads); later = rest.later }
 
 -- Between two stations.
@@ -77,7 +77,7 @@ idle_first [] b l n show steps coming quiet holds all on = on b (refl, subst (Ho
 idle_first (Acts act ∷ hs) b l n show steps coming quiet holds all on =
     idle_first hs b all.0 n show steps coming quiet.1 (subst (Holds (leaves b)) (sym (quiet_same act l all.0 quiet.0 all.1)) holds) all.2 on
 idle_first (h ∷ hs) b l n show steps coming quiet holds all on =
-    let xs = happens (leaves b) l all.0 h (λ act e. cc) holds all.1 in
+    let xs = happens_by_steps (leaves b) l all.0 h (λ act e. cc) holds all.1 in
     steps_turn xs.steps b show steps coming xs.are
     (λ c e k. idle_first hs c all.0 n show steps coming quiet (subst (λ u. Holds u all.0) (sym e) xs.holds) all.2 (λ d at. on d (subst (λ word. BeginIsAt d word n) k at)))
 
@@ -91,10 +91,10 @@ record AreInTheField (n : ℕ) (u : UnderWay SceneState) (xs : List RehearsedSta
 
 -- if `FewEndUnbegun` holds of stations before which `n` in a row ended while they synchronized, it holds with k in place of n,
 -- where k is at most n
-fewer : (k n : ℕ) (xs : List RehearsedStation) → k ≤ n → FewEndUnbegun n xs → FewEndUnbegun k xs
-fewer k n [] less few = tt
-fewer k n (x ∷ xs) less few = let one = fewer_one (has_begun_at_its_end x) in
-    ((let f = few.0 in omega (arith, one, f)), fewer (unbegun k (has_begun_at_its_end x)) (unbegun n (has_begun_at_its_end x)) xs one few.1) where
+few_end_with_fewer_before : (k n : ℕ) (xs : List RehearsedStation) → k ≤ n → FewEndUnbegun n xs → FewEndUnbegun k xs
+few_end_with_fewer_before k n [] less few = tt
+few_end_with_fewer_before k n (x ∷ xs) less few = let one = fewer_one (has_begun_at_its_end x) in
+    ((let f = few.0 in omega (arith, one, f)), few_end_with_fewer_before (unbegun k (has_begun_at_its_end x)) (unbegun n (has_begun_at_its_end x)) xs one few.1) where
       -- after k stations in a row that ended while they synchronized, one station more makes at most as many in a row as after
       -- n
       fewer_one : (b : Bool) → unbegun k b ≤ unbegun n b
@@ -110,18 +110,18 @@ goes_in_a_row n (x ∷ xs) hs before u l m quiet holds all told lives few =
     let s = opening x.plan x.scope in
     let ps = parts_of x.plan x.commands s x.acts in
     let done = has_begun_at_its_end x in
-    let one = cut hs before (acts_of_all (x ∷ xs)) l m told all in
-    let two = cut one.back x.acts (x.after_run ++ acts_of_all xs) one.middle m one.backs one.later in
+    let one = cut_after_acts hs before (acts_of_all (x ∷ xs)) l m told all in
+    let two = cut_after_acts one.back x.acts (x.after_run ++ acts_of_all xs) one.middle m one.backs one.later in
     let f : OnBegin (begins u) two.middle ps done =
     idle_first one.front (begins u) l one.middle (first_part ps).sync_steps (first_part ps).steps (sequel (other_parts ps) two.middle done) (subst (AllByRecursion IsQuiet) (sym one.fronts) quiet)
-    (subst (λ v. Holds v l) (sym (begins_line u)) holds) one.leads
+    (subst (λ v. Holds v l) (sym (begins_in_flight u)) holds) one.leads
     (λ c at. subst (λ acts. OnBegin c two.middle (parts_of x.plan x.commands s acts) (has_begun (after_all x.plan x.commands s acts).progress)) two.fronts
     ((shows_the_run x.plan x.commands lives.0.askable two.front two.middle).0 s c one.middle (invariant_opening x.plan x.commands x.scope) refl refl at
     word_small two.leads (subst (Runs x.plan x.commands s) (sym two.fronts) lives.0.runs))) in
     let rs = run f.ts f.ms ∷ f.rs in
     let killed = few_from n u (first_part ps).sync_steps (first_part ps).steps (sequel (other_parts ps) two.middle done) f few.0 in
     let rest = goes_in_a_row (killed_over scene_ends n u rs) xs two.back x.after_run (left_by_runs WINDOW scene_ends u rs) two.middle m lives.0.quiet f.later.holds two.later two.backs lives.1
-    (fewer (killed_over scene_ends n u rs) (unbegun n done) xs killed.1 few.1) in
+    (few_end_with_fewer_before (killed_over scene_ends n u rs) (unbegun n done) xs killed.1 few.1) in
     record {
       runs = rs ∷ rest.runs;
       each = ap suc rest.each;
@@ -137,8 +137,8 @@ goes_in_a_row n (x ∷ xs) hs before u l m quiet holds all told lives few =
     }
 
 -- where nothing is in flight, `HasRisingIds` holds
-none_rising : (state : SceneState) → HasRisingIds (none_under_way state)
-none_rising state = record { low = 1; numbers = []; some = omega arith; rising = tt; few = tt; ids = refl }
+rising_where_empty : (state : SceneState) → HasRisingIds (none_under_way state)
+rising_where_empty state = record { low = 1; numbers = []; some = omega arith; rising = tt; few = tt; ids = refl }
 
 -- stations in a row over a rehearsed line, as the law has them, are stations in a row in the field, and each is faithful
 pub stations_are_faithful : RehearsalsInARowAreFaithful
@@ -153,5 +153,5 @@ stations_are_faithful xs of_line lives few =
       runs = goes.runs;
       each = goes.each;
       field = goes.field;
-      faithful = in_a_row scene_ends KeptReplyReads scene_kept scene_is_an_instrument.instrument u (record { ids = tt; good = good }) (none_rising c.start) (programs xs goes.runs) goes.field;
+      faithful = in_a_row scene_ends KeptReplyReads scene_kept scene_is_an_instrument.instrument u (record { ids = tt; good = good }) (rising_where_empty c.start) (programs xs goes.runs) goes.field;
     }

@@ -15,21 +15,21 @@ use Rattle.gc_station.specs.Deciding.{has_begun, is_none_left}
 use Rattle.gc_station.specs.Model.{Model, Performs, Runs, action_at, after, after_all, losing, moved, opening, waiting_of, with_progress}
 use Rattle.gc_station.specs.Parts.{MarksAsk, MarkAsks, Part, sync_part, client_part, in_front, idle_part, parts_of, put_part, client_after, course_at}
 use Rattle.gc_station.specs.Progressing.{is_over, loses_all, turned}
-use Rattle.gc_station.proofs.Asked.{FirstHasNoSyncSteps, goes_begun, no_sync_steps, word_empty}
+use Rattle.gc_station.proofs.Asked.{FirstHasNoSyncSteps, begun_if_nothing_lost, first_part_no_sync_steps, word_empty}
 use Rattle.gc_station.proofs.Booking.{sends_with_room, sent_by}
 use Rattle.gc_station.proofs.EachRun.{invariant_after, invariant_opening}
 use Rattle.gc_station.proofs.Facts.{action_for}
 use Rattle.gc_station.proofs.Invariant.{Invariant}
-use Rattle.gc_station.proofs.Meant.{IsPutByClient, put_is}
+use Rattle.gc_station.proofs.Meant.{IsPutByClient, put_by_client}
 use Rattle.gc_station.proofs.PartFronts.{HasSome, some_parts}
-use Rattle.gc_station.proofs.Parting.{keeps_action, leads}
+use Rattle.gc_station.proofs.Parting.{keeps_new_client, leads}
 use Rattle.gc_station.proofs.Turns.{no_act_once_over}
 use Rattle.gc_station.proofs.Lists.{all_at}
 use Rattle.gc_station.proofs.Beginnings.{word_if_resynchronizing}
 use Rattle.gc_field.specs.Begin as begin
 use Rattle.gc_field.specs.Begin.{begins, leaves, none_under_way}
 use Rattle.gc_field.specs.Asking.{MeansSyncSteps}
-use Rattle.gc_field.specs.Beginnings.{on_line}
+use Rattle.gc_field.specs.Beginnings.{under_way_on}
 use Rattle.gc_field.specs.Begun.{ids_begun}
 use Rattle.gc_field.specs.Runs.{IsInField, IsMeant}
 use Rattle.gc_field.specs.Meaning.{IsHeard, IsDiscarded}
@@ -39,14 +39,14 @@ use Rattle.gc_field.specs.Shown.{AreShownAs}
 use Rattle.gc_field.proofs.Joining.{run_faithful}
 use Rattle.gc_field.proofs.Meant.{is_meant}
 use Rattle.gc_field.proofs.SceneField.{scene_is_an_instrument}
-use Rattle.gc_field.proofs.BeginJoin.{IsSmall, word_small}
+use Rattle.gc_field.proofs.BeginJoin.{AreSmall, word_small}
 use Rattle.gc_field.proofs.BeginWords.{cons_not_nil}
 use Rattle.gc_rehearsal.specs.Carrying.{Lines, Happening, Acts, ActLeads, PutLeads, LeadAll, acts_of}
 use Rattle.gc_rehearsed.specs.Rehearsals.{AreAskable, IsAskable, RehearsalsAreFaithful, as_program}
-use Rattle.gc_rehearsed.proofs.Acted.{MovesTo, TurnsTo, feed_no_line, ids_left, moves_gave, moves_moment, moves_none, moves_sends, same_line, turns_act}
-use Rattle.gc_rehearsed.proofs.Courses.{BeginIsAt, FromBegin, FromClient, Sequel, WorldIsAt, begins_line, begun_from, begun_line, ended_from, ended_over, ends_begin, ends_client, sequel, steps_move, steps_turn}
+use Rattle.gc_rehearsed.proofs.Acted.{MovesTo, TurnsTo, feed_no_line, left_ids_are_small, moves_gave, moves_moment, moves_none, moves_sends, same_line, turns_act}
+use Rattle.gc_rehearsed.proofs.Courses.{BeginIsAt, FromBegin, FromClient, Sequel, WorldIsAt, begins_in_flight, begun_from, begun_in_flight, ended_from, ends_client_idly, ends_begin, ends_client, sequel, steps_move, steps_turn}
 use Rattle.gc_rehearsed.proofs.Sides.{SceneWorld}
-use Rattle.gc_rehearsed.proofs.Steps.{Holds, happens}
+use Rattle.gc_rehearsed.proofs.Steps.{Holds, happens_by_steps}
 use Rattle.gc_field.proofs.InARow.{run}
 
 -- The parts of acts, by the first one and the others.
@@ -75,8 +75,8 @@ abbrev pub OnClient : SceneWorld → Lines → List Part → Bool → Type 0
 OnClient w m ps done = FromClient w (first_part ps).steps (sequel (other_parts ps) m done)
 
 -- if an act comes to the steps of the synchronization in its part p (`TurnsTo`), which has no steps of the client, and `OnBegin`
--- holds of the later parts from each state that these steps may lead to, it holds from b of the later parts with p as the front of
--- the first one (`in_front`)
+-- holds of the later parts from each state that these steps may lead to, it holds from b of the later parts with p as the front
+-- of the first one (`in_front`)
 begin_first : (b : begin.SyncModel SceneState) (p : Part) (word : List ℕ) (n m : Lines) (ps : List Part) (done : Bool) → HasSome ps → p.steps ≡ [] → TurnsTo b p.sync_steps word n
     → ((c : begin.SyncModel SceneState) → BeginIsAt c word n → OnBegin c m ps done) → OnBegin b m (in_front p false ps) done
 begin_first b p word n m [] done some none to on = absurd some
@@ -93,13 +93,13 @@ client_first w p c n m (q ∷ ps) done some to on = to q.steps (sequel ps m done
 -- if an act comes to the steps of its part p (`MovesTo`), which ends with the act, and `FromClient` holds from each world that
 -- these steps may lead to, with no steps and with the later parts, `OnClient` holds from w of p and then the later parts
 client_last : (w : SceneWorld) (p : Part) (c : ById Asked) (n m : Lines) (ps : List Part) (done : Bool) → MovesTo w p.steps c n
-    → ((v : SceneWorld) → Holds (on_line v.wire) n → FromClient v [] (sequel ps m done)) → OnClient w m (in_front p true ps) done
+    → ((v : SceneWorld) → Holds (under_way_on v.wire) n → FromClient v [] (sequel ps m done)) → OnClient w m (in_front p true ps) done
 client_last w p c n m ps done to on =
     subst (λ (ss : List (client.Step Asked)). FromClient w ss (sequel ps m done)) (append-nil p.steps) (to [] (sequel ps m done) (λ v at. on v at.1))
 
 -- where a part has ended with the world v, and `OnBegin` holds of the later parts from a synchronization over what is in flight
 -- in v, `FromClient` holds from v with no steps and with the later parts
-client_anew : (v : SceneWorld) (m : Lines) (ps : List Part) (done : Bool) → HasSome ps → OnBegin (begins (on_line v.wire)) m ps done → FromClient v [] (sequel ps m done)
+client_anew : (v : SceneWorld) (m : Lines) (ps : List Part) (done : Bool) → HasSome ps → OnBegin (begins (under_way_on v.wire)) m ps done → FromClient v [] (sequel ps m done)
 client_anew v m [] done some f = absurd some
 client_anew v m (q ∷ ps) done some f = ended_from v q (sequel ps m done) f
 
@@ -162,11 +162,11 @@ module _ (plan : Plan) (commands : List Task) (askable : AreAskable commands) wh
       × MovesTo w (client_part plan commands s (action_at plan s) act).steps (client_after s.client (client_part plan commands s (action_at plan s) act).steps) n
   moves_act s (Put bytes) w l n fine obeys begun rest at does = (
     (is_meant plan commands s (Put bytes) true begun fine obeys).1.1 ∙ rest,
-    moves_put s bytes w l n fine at (sends_of s (Put bytes) fine obeys begun) (put_is plan commands s (Put bytes) bytes fine obeys refl begun) does,
+    moves_put s bytes w l n fine at (sends_of s (Put bytes) fine obeys begun) (put_by_client plan commands s (Put bytes) bytes fine obeys refl begun) does,
   )
   moves_act s (Cut bytes count) w l n fine obeys begun rest at does = (
     (is_meant plan commands s (Cut bytes count) true begun fine obeys).1.1 ∙ rest,
-    moves_put s bytes w l n fine at (sends_of s (Cut bytes count) fine obeys begun) (put_is plan commands s (Cut bytes count) bytes fine obeys refl begun) (inl does),
+    moves_put s bytes w l n fine at (sends_of s (Cut bytes count) fine obeys begun) (put_by_client plan commands s (Cut bytes count) bytes fine obeys refl begun) (inl does),
   )
   moves_act s (Gave piece moment) w l n fine obeys begun rest at does =
       let p = client_part plan commands s (action_at plan s) (Gave piece moment) in
@@ -210,7 +210,7 @@ module _ (plan : Plan) (commands : List Task) (askable : AreAskable commands) wh
   client_new s act fine obeys begins = by_loss (loses_all (moved_by s act).progress) where
     -- the act itself leaves the client new
     kept : (moved_by s act).client ≡ fresh
-    kept = (keeps_action plan commands s (action_at plan s) act (action_for plan s.progress (waiting_of s)) obeys begins (fine.begins begins)).0
+    kept = (keeps_new_client plan commands s (action_at plan s) act (action_for plan s.progress (waiting_of s)) obeys begins (fine.begins begins)).0
 
     -- the client is new whether what is outstanding is lost (`b`) or not
     by_loss : (b : Bool) → (losing b (moved_by s act)).client ≡ fresh
@@ -224,12 +224,12 @@ module _ (plan : Plan) (commands : List Task) (askable : AreAskable commands) wh
 
   -- if what happens on the line has no acts, and `FromClient` holds from each world with the lines that this leads to in flight
   -- and with the client of w, it holds from w
-  goes_idly : (hs : List Happening) (w : SceneWorld) (l m : Lines) (steps : List (client.Step Asked)) (coming : Sequel) → acts_of hs ≡ [] → Holds (on_line w.wire) l → LeadAll l hs m
-      → ((v : SceneWorld) → Holds (on_line v.wire) m → FromClient v steps coming) → FromClient w steps coming
-  goes_idly [] w l m steps coming none holds all on = on w (subst (Holds (on_line w.wire)) (sym all) holds)
+  goes_idly : (hs : List Happening) (w : SceneWorld) (l m : Lines) (steps : List (client.Step Asked)) (coming : Sequel) → acts_of hs ≡ [] → Holds (under_way_on w.wire) l → LeadAll l hs m
+      → ((v : SceneWorld) → Holds (under_way_on v.wire) m → FromClient v steps coming) → FromClient w steps coming
+  goes_idly [] w l m steps coming none holds all on = on w (subst (Holds (under_way_on w.wire)) (sym all) holds)
   goes_idly (Acts act ∷ hs) w l m steps coming none holds all on = absurd (cons_not_nil act (acts_of hs) none)
   goes_idly (h ∷ hs) w l m steps coming none holds all on =
-      let xs = happens (on_line w.wire) l all.0 h (λ act e. cc) holds all.1 in
+      let xs = happens_by_steps (under_way_on w.wire) l all.0 h (λ act e. cc) holds all.1 in
       steps_move xs.steps w steps coming xs.are (λ v e k. goes_idly hs v all.0 m steps coming none (subst (λ u. Holds u all.0) (sym e) xs.holds) all.2 on)
 
   -- From a synchronization and from a client on.
@@ -249,7 +249,7 @@ module _ (plan : Plan) (commands : List Task) (askable : AreAskable commands) wh
   abbrev FromBeginOf : List Happening → Lines → Type 0
   FromBeginOf hs m =
       (s : Model) (b : begin.SyncModel SceneState) (l : Lines) → Invariant plan commands s → s.rest ≡ [] → has_begun s.progress ≡ false → BeginIsAt b s.progress.word l
-      → IsSmall s.progress.word → LeadAll l hs m → Runs plan commands s (acts_of hs)
+      → AreSmall s.progress.word → LeadAll l hs m → Runs plan commands s (acts_of hs)
       → OnBegin b m (parts_of plan commands s (acts_of hs)) (has_begun (after_all plan commands s (acts_of hs)).progress)
 
   -- from each world w of a client on that agrees with the station's model s, which has synchronized, and with the line: what
@@ -285,14 +285,14 @@ module _ (plan : Plan) (commands : List Task) (askable : AreAskable commands) wh
             → OnBegin c m (parts_of plan commands (after plan commands s act) (acts_of hs)) (has_begun (after_all plan commands (after plan commands s act) (acts_of hs)).progress)
         next c later false e =
             later_begin (after plan commands s act) c all.0 (invariant_after plan commands s act fine) to.0 e later
-            (subst IsSmall (sym means.2) (ids_left s.progress.word (heard_in (sync_part s (action_at plan s) act).sync_steps) ids)) all.2 runs.1
+            (subst AreSmall (sym means.2) (left_ids_are_small s.progress.word (heard_in (sync_part s (action_at plan s) act).sync_steps) ids)) all.2 runs.1
         next c later true e =
             let u = after plan commands s act in
             let ps = parts_of plan commands u (acts_of hs) in
             begun_from c (first_part ps).sync_steps (first_part ps).steps (sequel (other_parts ps) m (has_begun (after_all plan commands u (acts_of hs)).progress))
-            (later.0 ∙ word_empty u.progress.word e) (first_none ps (no_sync_steps plan commands u (acts_of hs) e))
+            (later.0 ∙ word_empty u.progress.word e) (first_none ps (first_part_no_sync_steps plan commands u (acts_of hs) e))
             (later_client u (ids_begun (leaves c)) all.0 (invariant_after plan commands s act fine) to.0 e
-            (sym (client_new s act fine runs.0 begins), subst (λ v. Holds v all.0) (sym (begun_line (leaves c))) later.1) all.2 runs.1)
+            (sym (client_new s act fine runs.0 begins), subst (λ v. Holds v all.0) (sym (begun_in_flight (leaves c))) later.1) all.2 runs.1)
 
   -- if what happens later is `FromBeginOf` and `FromClientOf`, it is `FromClientOf` with one more act before it
   act_client : (act : Act) (hs : List Happening) (m : Lines) → FromBeginOf hs m → FromClientOf hs m → FromClientOf (Acts act ∷ hs) m
@@ -314,22 +314,22 @@ module _ (plan : Plan) (commands : List Task) (askable : AreAskable commands) wh
 
         -- what happens later, where the part has ended, by whether the station has synchronized after the act (`x`); if it has,
         -- the run is over
-        anew : (v : SceneWorld) → Holds (on_line v.wire) all.0 → loses_all (after plan commands s act).progress ≡ true → (x : Bool) → has_begun (after plan commands s act).progress ≡ x
+        anew : (v : SceneWorld) → Holds (under_way_on v.wire) all.0 → loses_all (after plan commands s act).progress ≡ true → (x : Bool) → has_begun (after plan commands s act).progress ≡ x
             → FromClient v [] (sequel (parts_of plan commands (after plan commands s act) (acts_of hs)) m (has_begun (after_all plan commands (after plan commands s act) (acts_of hs)).progress))
         anew v h lost false e =
             let u = after plan commands s act in
             let word = word_if_resynchronizing plan commands s act runs.0 begun e in
             client_anew v m (parts_of plan commands u (acts_of hs)) (has_begun (after_all plan commands u (acts_of hs)).progress) (some_parts plan commands u (acts_of hs))
-            (later_begin u (begins (on_line v.wire)) all.0 (invariant_after plan commands s act fine) to.0 e
-            (sym word, subst (λ q. Holds q all.0) (sym (begins_line (on_line v.wire))) h) (subst IsSmall (sym word) word_small) all.2 runs.1)
+            (later_begin u (begins (under_way_on v.wire)) all.0 (invariant_after plan commands s act fine) to.0 e
+            (sym word, subst (λ q. Holds q all.0) (sym (begins_in_flight (under_way_on v.wire))) h) (subst AreSmall (sym word) word_small) all.2 runs.1)
         anew v h lost true e =
             let u = after plan commands s act in
             let none = none_over u (acts_of hs) (over_of e lost) runs.1 in
             subst (λ acts. FromClient v [] (sequel (parts_of plan commands u acts) m (has_begun (after_all plan commands u (acts_of hs)).progress))) (sym none)
             (goes_idly hs v all.0 m [] (sequel (idle_part ∷ []) m (has_begun (after_all plan commands u (acts_of hs)).progress)) none h all.2
-            (λ x g. ended_over x m (has_begun (after_all plan commands u (acts_of hs)).progress) g))
+            (λ x g. ends_client_idly x m (has_begun (after_all plan commands u (acts_of hs)).progress) g))
 
-        -- the lemma above, by whether the part ends with the act (`x`)
+        -- `OnClient` holds from w with the act, whether the part ends with it (`x` is true) or goes on
         by_loss : (x : Bool) → loses_all (after plan commands s act).progress ≡ x
             → OnClient w m (in_front (client_part plan commands s (action_at plan s) act) x (parts_of plan commands (after plan commands s act) (acts_of hs)))
             (has_begun (after_all plan commands (after plan commands s act) (acts_of hs)).progress)
@@ -338,7 +338,7 @@ module _ (plan : Plan) (commands : List Task) (askable : AreAskable commands) wh
             let p = client_part plan commands s (action_at plan s) act in
             client_first w p (client_after s.client p.steps) all.0 m (parts_of plan commands u (acts_of hs)) (has_begun (after_all plan commands u (acts_of hs)).progress)
             (some_parts plan commands u (acts_of hs)) to.1
-            (λ v later. later_client u v all.0 (invariant_after plan commands s act fine) to.0 (goes_begun u e)
+            (λ v later. later_client u v all.0 (invariant_after plan commands s act fine) to.0 (begun_if_nothing_lost u e)
             (subst (λ c. WorldIsAt v c all.0) (sym (client_on s act fine runs.0 begun e)) later) all.2 runs.1)
         by_loss true e =
             let u = after plan commands s act in
@@ -351,17 +351,17 @@ module _ (plan : Plan) (commands : List Task) (askable : AreAskable commands) wh
   shows_the_run [] m = (
     λ s b l fine rest begins at ids all runs.
         subst (λ d. FromBegin b [] [] (sequel [] m d)) (sym begins) (ends_begin b m (λ e. some_left s.progress.word begins (sym at.0 ∙ e)) (subst (Holds (leaves b)) (sym all) at.1)),
-    λ s w l fine rest begun at all runs. ends_client w m (has_begun s.progress) (subst (Holds (on_line w.wire)) (sym all) at.1),
+    λ s w l fine rest begun at all runs. ends_client w m (has_begun s.progress) (subst (Holds (under_way_on w.wire)) (sym all) at.1),
   )
   shows_the_run (Acts act ∷ hs) m = let later = shows_the_run hs m in (act_begin act hs m later.0 later.1, act_client act hs m later.0 later.1)
   shows_the_run (h ∷ hs) m =
       let later = shows_the_run hs m in (
         λ s b l fine rest begins at ids all runs.
-            let xs = happens (leaves b) l all.0 h (λ act e. cc) at.1 all.1 in
+            let xs = happens_by_steps (leaves b) l all.0 h (λ act e. cc) at.1 all.1 in
             steps_turn xs.steps b _ _ _ xs.are
             (λ c e k. later.0 s c all.0 fine rest begins (k ∙ at.0, subst (λ u. Holds u all.0) (sym e) xs.holds) ids all.2 runs),
         λ s w l fine rest begun at all runs.
-            let xs = happens (on_line w.wire) l all.0 h (λ act e. cc) at.1 all.1 in
+            let xs = happens_by_steps (under_way_on w.wire) l all.0 h (λ act e. cc) at.1 all.1 in
             steps_move xs.steps w _ _ xs.are
             (λ v e k. later.1 s v all.0 fine rest begun (k ∙ at.0, subst (λ u. Holds u all.0) (sym e) xs.holds) all.2 runs),
       )
@@ -371,8 +371,8 @@ pub none_kept : (state : SceneState) → state.base.kept ≡ None → KeptReplyR
 none_kept state none = subst ReadsWithItsId (sym none) tt
 
 -- a run over a rehearsed line is one in the field, and faithful
-pub rehearsed : RehearsalsAreFaithful
-rehearsed x of_line askable runs =
+pub rehearsed_runs_are_faithful : RehearsalsAreFaithful
+rehearsed_runs_are_faithful x of_line askable runs =
     let c = of_line.1 in
     let u = none_under_way c.start in
     let start : Lines = record { up = []; down = []; state = c.start } in

@@ -11,7 +11,7 @@ use Rattle.gc_world.specs.Clients.{by_ids}
 use Rattle.gc_world.proofs.Queues.{without_map, doubled_map, without_past, doubled_past}
 use Rattle.gc_field.specs.Begin as begin
 use Rattle.gc_field.specs.Begin.{InFlight, SyncModel, IsTurn, leaves, turns}
-use Rattle.gc_field.specs.Beginnings.{on_line}
+use Rattle.gc_field.specs.Beginnings.{under_way_on}
 use Rattle.gc_field.specs.Field as field
 use Rattle.gc_field.specs.Field.{Move, IsPossible, moves, seen}
 use Rattle.gc_field.specs.SceneField.{KeptReplyReads, scene_ends, scene_handed, scene_kept}
@@ -62,14 +62,14 @@ shows_none b Start = refl
 shows_none b (Change state) = refl
 
 -- the turn of a step answers no id
-pub left_turn : (b : SyncModel SceneState) (x : Step) → (turns scene_ends b (turn_of x)).left ≡ b.left
-left_turn b Reach = left_reaches scene_ends b b.up
-left_turn b (Lose_up k) = refl
-left_turn b (Repeat_up k) = refl
-left_turn b (Lose_down k) = refl
-left_turn b (Repeat_down k) = refl
-left_turn b Start = refl
-left_turn b (Change state) = refl
+pub turn_answers_none : (b : SyncModel SceneState) (x : Step) → (turns scene_ends b (turn_of x)).left ≡ b.left
+turn_answers_none b Reach = left_reaches scene_ends b b.up
+turn_answers_none b (Lose_up k) = refl
+turn_answers_none b (Repeat_up k) = refl
+turn_answers_none b (Lose_down k) = refl
+turn_answers_none b (Repeat_down k) = refl
+turn_answers_none b Start = refl
+turn_answers_none b (Change state) = refl
 
 -- the turn of a possible step is possible
 pub is_turn : (b : SyncModel SceneState) (x : Step) → IsStep (leaves b) x → IsTurn KeptReplyReads scene_kept b (turn_of x)
@@ -98,7 +98,7 @@ move_of Start = field.Anew
 move_of (Change state) = field.Changes state
 
 -- what is in flight once the front request, if there is one, reached the instrument, by `reached`
-line_reach : (w : Wire SceneState) (q : List (Numbered Request)) → on_line (up_delivered scene_ends w q) ≡ reached (on_line w) (map (λ x. x.line) q)
+line_reach : (w : Wire SceneState) (q : List (Numbered Request)) → under_way_on (up_delivered scene_ends w q) ≡ reached (under_way_on w) (map (λ x. x.line) q)
 line_reach w [] = refl
 line_reach w (x ∷ rest) =
     let h = scene_handed w.state x.line.id x.line.call in
@@ -107,35 +107,35 @@ line_reach w (x ∷ rest) =
 
 -- after a change of the requests, which are q then, q is in flight, with the replies and the state as before; q must be the old
 -- requests if the change isn't possible (b is false)
-line_up : (w : Wire SceneState) (q : List (Numbered Request)) (b : Bool) → (b ≡ false → q ≡ w.up) → on_line (with_up w q b) ≡ under_way (map (λ x. x.line) q) (on_line w).down w.state
+line_up : (w : Wire SceneState) (q : List (Numbered Request)) (b : Bool) → (b ≡ false → q ≡ w.up) → under_way_on (with_up w q b) ≡ under_way (map (λ x. x.line) q) (under_way_on w).down w.state
 line_up w q true same = refl
-line_up w q false same = ap (λ (l : List (Numbered Request)). under_way (map (λ x. x.line) l) (on_line w).down w.state) (sym (same refl))
+line_up w q false same = ap (λ (l : List (Numbered Request)). under_way (map (λ x. x.line) l) (under_way_on w).down w.state) (sym (same refl))
 
 -- after a change of the replies, which are q then, q is in flight, with the requests and the state as before; q must be the old
 -- replies if the change isn't possible (b is false)
-line_down : (w : Wire SceneState) (q : List (Numbered (List ℕ))) (b : Bool) → (b ≡ false → q ≡ w.down) → on_line (with_down w q b) ≡ under_way (on_line w).up (map (λ x. x.line) q) w.state
+line_down : (w : Wire SceneState) (q : List (Numbered (List ℕ))) (b : Bool) → (b ≡ false → q ≡ w.down) → under_way_on (with_down w q b) ≡ under_way (under_way_on w).up (map (λ x. x.line) q) w.state
 line_down w q true same = refl
-line_down w q false same = ap (λ (l : List (Numbered (List ℕ))). under_way (on_line w).up (map (λ x. x.line) l) w.state) (sym (same refl))
+line_down w q false same = ap (λ (l : List (Numbered (List ℕ))). under_way (under_way_on w).up (map (λ x. x.line) l) w.state) (sym (same refl))
 
 -- a step leaves in flight what its move leaves
-pub line_move : (w : SceneWorld) (x : Step) → on_line (moves scene_ends (by_ids WINDOW scene_ends) w (move_of x)).wire ≡ stepped (on_line w.wire) x
+pub line_move : (w : SceneWorld) (x : Step) → under_way_on (moves scene_ends (by_ids WINDOW scene_ends) w (move_of x)).wire ≡ stepped (under_way_on w.wire) x
 line_move w Reach = line_reach w.wire w.wire.up
 line_move w (Lose_up k) =
     let q = w.wire.up in
     line_up w.wire (without k q) (nat_lt k (length q)) (λ no. without_past k q (ltb-false k (length q) no))
-    ∙ ap (λ l. under_way l (on_line w.wire).down w.wire.state) (sym (without_map (λ (y : Numbered Request). y.line) k q))
+    ∙ ap (λ l. under_way l (under_way_on w.wire).down w.wire.state) (sym (without_map (λ (y : Numbered Request). y.line) k q))
 line_move w (Repeat_up k) =
     let q = w.wire.up in
     line_up w.wire (doubled k q) (nat_lt k (length q)) (λ no. doubled_past k q (ltb-false k (length q) no))
-    ∙ ap (λ l. under_way l (on_line w.wire).down w.wire.state) (sym (doubled_map (λ (y : Numbered Request). y.line) k q))
+    ∙ ap (λ l. under_way l (under_way_on w.wire).down w.wire.state) (sym (doubled_map (λ (y : Numbered Request). y.line) k q))
 line_move w (Lose_down k) =
     let q = w.wire.down in
     line_down w.wire (without k q) (nat_lt k (length q)) (λ no. without_past k q (ltb-false k (length q) no))
-    ∙ ap (λ l. under_way (on_line w.wire).up l w.wire.state) (sym (without_map (λ (y : Numbered (List ℕ)). y.line) k q))
+    ∙ ap (λ l. under_way (under_way_on w.wire).up l w.wire.state) (sym (without_map (λ (y : Numbered (List ℕ)). y.line) k q))
 line_move w (Repeat_down k) =
     let q = w.wire.down in
     line_down w.wire (doubled k q) (nat_lt k (length q)) (λ no. doubled_past k q (ltb-false k (length q) no))
-    ∙ ap (λ l. under_way (on_line w.wire).up l w.wire.state) (sym (doubled_map (λ (y : Numbered (List ℕ)). y.line) k q))
+    ∙ ap (λ l. under_way (under_way_on w.wire).up l w.wire.state) (sym (doubled_map (λ (y : Numbered (List ℕ)). y.line) k q))
 line_move w Start = refl
 line_move w (Change state) = refl
 
@@ -150,7 +150,7 @@ client_move w Start = refl
 client_move w (Change state) = refl
 
 -- the move of a possible step is possible
-pub is_move : (w : SceneWorld) (x : Step) → IsStep (on_line w.wire) x → IsPossible KeptReplyReads scene_kept w (move_of x)
+pub is_move : (w : SceneWorld) (x : Step) → IsStep (under_way_on w.wire) x → IsPossible KeptReplyReads scene_kept w (move_of x)
 is_move w Reach is = tt
 is_move w (Lose_up k) is = tt
 is_move w (Repeat_up k) is = tt

@@ -14,7 +14,8 @@ use Rattle.gc_field.specs.Instrument.{MayBecome}
 use Rattle.gc_field.specs.SceneField.{KeptReplyReads, scene_handed, scene_kept}
 use Rattle.gc_field.specs.World.{Request, without, doubled}
 use Rattle.gc_field.proofs.SceneField.{scene_is_an_instrument}
-use Rattle.gc_rehearsal.specs.Carrying.{Lines, Happening, Acts, Reaches, Restarts, Passes, Repeats_up, Repeats_down, Loses_up, Loses_down, Loses_front, HasReached, IsOneLine, Leads, MaySendOut, TakesReply}
+use Rattle.gc_rehearsal.specs.Carrying.{Lines, Happening, Acts, Reaches, Restarts, Passes, Repeats_up, Repeats_down, Loses_up, Loses_down, Loses_front}
+use Rattle.gc_rehearsal.specs.Carrying.{HasReached, IsOneLine, IsSentOrLost, Leads, TakesReply}
 use Rattle.gc_lines.proofs.Lists.{all_append}
 use Rattle.gc_values.proofs.Every.{every_behind as all_behind}
 
@@ -60,7 +61,7 @@ pub data Step : Type 0 where
   -- the instrument's state becomes this one
   Change : (state : SceneState) → Step
 
--- what is in flight once the front request reached the instrument
+-- what is in flight once the front one of these requests, if there is one, reached the instrument
 abbrev pub reached : UnderWay SceneState → List Request → UnderWay SceneState
 reached u [] = u
 reached u (r ∷ rest) = under_way rest (u.down ++ (scene_handed u.state r.id r.call).reply ∷ []) (scene_handed u.state r.id r.call).state
@@ -109,18 +110,18 @@ doubled_last [] x = refl
 doubled_last (y ∷ xs) x = ap (λ l. y ∷ l) (doubled_last xs x)
 
 -- the lines of requests, and of one more, are those of the longer list
-pub lines_on : (rs : List Request) (lines : List (List ℕ)) (r : Request) (line : List ℕ) → AreLinesOf rs lines → IsLineOf r line → AreLinesOf (rs ++ r ∷ []) (lines ++ line ∷ [])
-lines_on [] [] r line all one = (one, tt)
-lines_on [] (x ∷ lines) r line all one = absurd all
-lines_on (s ∷ rs) [] r line all one = absurd all
-lines_on (s ∷ rs) (x ∷ lines) r line all one = (all.0, lines_on rs lines r line all.1 one)
+pub lines_one_more : (rs : List Request) (lines : List (List ℕ)) (r : Request) (line : List ℕ) → AreLinesOf rs lines → IsLineOf r line → AreLinesOf (rs ++ r ∷ []) (lines ++ line ∷ [])
+lines_one_more [] [] r line all one = (one, tt)
+lines_one_more [] (x ∷ lines) r line all one = absurd all
+lines_one_more (s ∷ rs) [] r line all one = absurd all
+lines_one_more (s ∷ rs) (x ∷ lines) r line all one = (all.0, lines_one_more rs lines r line all.1 one)
 
 -- what is in flight in the field is what is in flight on the line (`Holds`), also once one more request is, in both
 pub holds_one_more : (u : UnderWay SceneState) (l n : Lines) (r : Request) (line : List ℕ) → Holds u l → IsLineOf r line → n ≡ record l { up = l.up ++ line ∷ [] }
     → Holds (under_way (u.up ++ r ∷ []) u.down u.state) n
 holds_one_more u l n r line holds of_line more =
     subst (Holds (under_way (u.up ++ r ∷ []) u.down u.state)) (sym more)
-    (record { up = lines_on u.up l.up r line holds.up of_line; down = holds.down; one = holds.one; state = holds.state; good = holds.good })
+    (record { up = lines_one_more u.up l.up r line holds.up of_line; down = holds.down; one = holds.one; state = holds.state; good = holds.good })
 
 -- where `front` and then `line` are the lines of the requests `rs`, these lines and then `line` once more are those of `rs`
 -- with the request at some place k doubled
@@ -133,8 +134,8 @@ lines_twice (r ∷ s ∷ rs) [] line all = absurd all.1
 lines_twice (r ∷ rs) (x ∷ front) line all = let rest = lines_twice rs front line all.1 in (suc rest.0, (all.0, rest.1))
 
 -- what the instrument of the field does with a request is what it does with the request's line
-played_as : (s : SceneState) (r : Request) (line : List ℕ) → IsLineOf r line → IsPlayed s line (scene_handed s r.id r.call).state (Some (scene_handed s r.id r.call).reply)
-played_as s r line is = subst (λ x. IsPlayed s x (scene_handed s r.id r.call).state (Some (scene_handed s r.id r.call).reply)) (sym is.text) (by_call r.call is.fits) where
+request_played_as_line : (s : SceneState) (r : Request) (line : List ℕ) → IsLineOf r line → IsPlayed s line (scene_handed s r.id r.call).state (Some (scene_handed s r.id r.call).reply)
+request_played_as_line s r line is = subst (λ x. IsPlayed s x (scene_handed s r.id r.call).state (Some (scene_handed s r.id r.call).reply)) (sym is.text) (by_call r.call is.fits) where
   -- the lemma above, by whether the call is one of the table
   by_call : (call : Asked) → IsAskedFitting call → IsPlayed s (asked_line (Some r.id) call) (scene_handed s r.id call).state (Some (scene_handed s r.id call).reply)
   by_call (Table call) fits = scene_is_an_instrument.calls s r.id call is.id fits
@@ -143,21 +144,23 @@ played_as s r line is = subst (λ x. IsPlayed s x (scene_handed s r.id r.call).s
 -- What happens.
 
 -- there are possible steps that lose all requests, and leave the replies and the state as they are
-lose_all_up : (rs : List Request) (down : List (List ℕ)) (state : SceneState) → (xs : List Step) × AreSteps xs (under_way rs down state) × (all_stepped xs (under_way rs down state) ≡ under_way [] down state)
+lose_all_up : (rs : List Request) (down : List (List ℕ)) (state : SceneState)
+    → (xs : List Step) × AreSteps xs (under_way rs down state) × (all_stepped xs (under_way rs down state) ≡ under_way [] down state)
 lose_all_up [] down state = ([], tt, refl)
 lose_all_up (r ∷ rs) down state = let rest = lose_all_up rs down state in (Lose_up zero ∷ rest.0, (tt, rest.1), rest.2)
 
 -- there are possible steps that lose all replies, and leave the requests and the state as they are
-lose_all_down : (up : List Request) (down : List (List ℕ)) (state : SceneState) → (xs : List Step) × AreSteps xs (under_way up down state) × (all_stepped xs (under_way up down state) ≡ under_way up [] state)
+lose_all_down : (up : List Request) (down : List (List ℕ)) (state : SceneState)
+    → (xs : List Step) × AreSteps xs (under_way up down state) × (all_stepped xs (under_way up down state) ≡ under_way up [] state)
 lose_all_down up [] state = ([], tt, refl)
 lose_all_down up (x ∷ down) state = let rest = lose_all_down up down state in (Lose_down zero ∷ rest.0, (tt, rest.1), rest.2)
 
--- if m has the state that the instrument makes of the front request r, a good one (`KeptReplyReads`), and the lines of the requests
--- `rs` behind r, each reply of `down` is one line, and m has the replies of `down` once the reply to r was sent on its way or lost
--- at once (`MaySendOut`), steps lead to m
+-- if the instrument goes to a good state (`KeptReplyReads`) by the front request r, and each reply of `down` is one line, steps
+-- lead to lines m with that state, with the lines of the requests `rs` behind r, and with the replies of `down` once the reply
+-- to r was sent on its way or lost at once (`IsSentOrLost`)
 sends_out : (rs : List Request) (down : List (List ℕ)) (s : SceneState) (r : Request) (m : Lines) → m.state ≡ (scene_handed s r.id r.call).state
     → KeptReplyReads (scene_handed s r.id r.call).state → AreLinesOf rs m.up → AllByRecursion IsOneLine down
-    → MaySendOut down (Some (scene_handed s r.id r.call).reply) m.down → Steps (under_way (r ∷ rs) down s) m
+    → IsSentOrLost down (Some (scene_handed s r.id r.call).reply) m.down → Steps (under_way (r ∷ rs) down s) m
 sends_out rs down s r m state good lines one (inl lost) = record {
   steps = Reach ∷ Lose_down (length down) ∷ [];
   are = (tt, (tt, tt));
@@ -183,12 +186,12 @@ sends_out rs down s r m state good lines one (inr out) = record {
 
 -- where the front line reaches the instrument (`HasReached`), steps of what is in flight in the field lead to the lines after
 -- that
-reaches : (rs : List Request) (down : List (List ℕ)) (s : SceneState) (l m : Lines) → Holds (under_way rs down s) l → HasReached l m → Steps (under_way rs down s) m
-reaches [] down s l m holds h = absurd (subst (AreLinesOf []) h.front holds.up)
-reaches (r ∷ rs) down s l m holds h =
+reaches_by_steps : (rs : List Request) (down : List (List ℕ)) (s : SceneState) (l m : Lines) → Holds (under_way rs down s) l → HasReached l m → Steps (under_way rs down s) m
+reaches_by_steps [] down s l m holds h = absurd (subst (AreLinesOf []) h.front holds.up)
+reaches_by_steps (r ∷ rs) down s l m holds h =
     sends_out rs down s r m same.0 (scene_is_an_instrument.instrument.stays_good s r.id r.call holds.good lines.0.id) lines.1
     (subst (AllByRecursion IsOneLine) (sym holds.down) holds.one)
-    (subst (λ x. MaySendOut x (Some (scene_handed s r.id r.call).reply) m.down) (sym holds.down) (subst (λ x. MaySendOut l.down x m.down) same.1 h.plays.sends)) where
+    (subst (λ x. IsSentOrLost x (Some (scene_handed s r.id r.call).reply) m.down) (sym holds.down) (subst (λ x. IsSentOrLost l.down x m.down) same.1 h.plays.sends)) where
       -- the lines of the requests in flight are the front line and those behind it
       lines : AreLinesOf (r ∷ rs) (h.line ∷ m.up)
       lines = subst (AreLinesOf (r ∷ rs)) h.front holds.up
@@ -199,7 +202,7 @@ reaches (r ∷ rs) down s l m holds h =
 
       -- what it makes of the line is what the instrument of the field makes of the request
       same : (m.state ≡ (scene_handed s r.id r.call).state) × (h.plays.reply ≡ Some (scene_handed s r.id r.call).reply)
-      same = one_reply s m.state (scene_handed s r.id r.call).state h.line h.plays.reply (Some (scene_handed s r.id r.call).reply) played (played_as s r h.line lines.0)
+      same = one_reply s m.state (scene_handed s r.id r.call).state h.line h.plays.reply (Some (scene_handed s r.id r.call).reply) played (request_played_as_line s r h.line lines.0)
 
 -- what is in flight in the field is what is in flight on the line (`Holds`), also without the front reply in both: `down` are
 -- the replies behind it
@@ -214,22 +217,22 @@ pub holds_dropped : (u : UnderWay SceneState) (l : Lines) (line : List ℕ) (n :
 holds_dropped u l line n holds takes = holds_one_less u (without zero u.down) l line n holds takes (ap (without zero) (holds.down ∙ takes.front))
 
 -- what happens on the line, and is no act, happens by steps
-pub happens : (u : UnderWay SceneState) (l m : Lines) (h : Happening) → ((act : Act) → h ≡ Acts act → ⊥) → Holds u l → Leads l h m → Steps u m
-happens u l m (Acts act) never holds leads = absurd (never act refl)
-happens u l m Reaches never holds leads = reaches u.up u.down u.state l m holds leads
-happens u l m Restarts never holds leads = record {
+pub happens_by_steps : (u : UnderWay SceneState) (l m : Lines) (h : Happening) → ((act : Act) → h ≡ Acts act → ⊥) → Holds u l → Leads l h m → Steps u m
+happens_by_steps u l m (Acts act) never holds leads = absurd (never act refl)
+happens_by_steps u l m Reaches never holds leads = reaches_by_steps u.up u.down u.state l m holds leads
+happens_by_steps u l m Restarts never holds leads = record {
   steps = Start ∷ [];
   are = (tt, tt);
   holds = subst (Holds (stepped u Start)) (sym leads)
       (record { up = holds.up; down = holds.down; one = holds.one; state = ap scene_restarted holds.state; good = scene_is_an_instrument.instrument.starts_good u.state holds.good });
 }
-happens u l m (Passes moment) never holds leads = record {
+happens_by_steps u l m (Passes moment) never holds leads = record {
   steps = Change (at_moment moment u.state) ∷ [];
   are = (scene_is_an_instrument.passes u.state moment holds.good, tt);
   holds = subst (Holds (stepped u (Change (at_moment moment u.state)))) (sym leads)
       (record { up = holds.up; down = holds.down; one = holds.one; state = ap (at_moment moment) holds.state; good = (scene_is_an_instrument.passes u.state moment holds.good).0 });
 }
-happens u l m Repeats_up never holds leads =
+happens_by_steps u l m Repeats_up never holds leads =
     let twice = leads.1 in
     let lines = lines_twice u.up twice.0 twice.1 (subst (AreLinesOf u.up) twice.2 holds.up) in
     record {
@@ -243,7 +246,7 @@ happens u l m Repeats_up never holds leads =
         good = holds.good;
       });
     }
-happens u l m Repeats_down never holds leads =
+happens_by_steps u l m Repeats_down never holds leads =
     let twice = leads.1 in
     let ones = subst (AllByRecursion IsOneLine) twice.2 holds.one in
     let new : doubled (length twice.0) u.down ≡ leads.0 =
@@ -260,7 +263,7 @@ happens u l m Repeats_down never holds leads =
         good = holds.good;
       });
     }
-happens u l m Loses_up never holds leads =
+happens_by_steps u l m Loses_up never holds leads =
     let lost = lose_all_up u.up u.down u.state in
     record {
       steps = lost.0;
@@ -268,14 +271,14 @@ happens u l m Loses_up never holds leads =
       holds = subst (λ v. Holds v m) (sym lost.2)
           (subst (Holds (under_way [] u.down u.state)) (sym leads) (record { up = tt; down = holds.down; one = holds.one; state = holds.state; good = holds.good }));
     }
-happens u l m Loses_down never holds leads =
+happens_by_steps u l m Loses_down never holds leads =
     let lost = lose_all_down u.up u.down u.state in
     record {
       steps = lost.0;
       are = lost.1;
       holds = subst (λ v. Holds v m) (sym lost.2) (subst (Holds (under_way u.up [] u.state)) (sym leads) (record { up = holds.up; down = refl; one = tt; state = holds.state; good = holds.good }));
     }
-happens u l m Loses_front never holds leads = record {
+happens_by_steps u l m Loses_front never holds leads = record {
   steps = Lose_down zero ∷ [];
   are = (tt, tt);
   holds = holds_dropped u l leads.0 m holds leads.1;

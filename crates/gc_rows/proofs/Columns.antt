@@ -14,33 +14,32 @@ use Rattle.gc_rows.specs.Laws.{ColumnsAreFields}
 use Rattle.gc_texts.specs.Cuts.{before, behind}
 use Rattle.gc_rows.specs.Rows.{com_of}
 
--- a byte d from 48 to 57, the digits, isn't equal to a mark below 48 or above 57
-no_digit : (d mark : ℕ) → d ≡ mark → IsInRange 48 57 d → mark < 48 ⊎ 57 < mark → ⊥
-no_digit d mark e range (inl low) = omega (arith, e, range.0, low)
-no_digit d mark e range (inr high) = omega (arith, e, range.1, high)
+-- a byte d that is a digit, from 48 to 57, isn't equal to a mark below 48 or above 57
+digit_is_no_mark : (d mark : ℕ) → d ≡ mark → IsInRange 48 57 d → mark < 48 ⊎ 57 < mark → ⊥
+digit_is_no_mark d mark e range (inl low) = omega (arith, e, range.0, low)
+digit_is_no_mark d mark e range (inr high) = omega (arith, e, range.1, high)
 
--- digits lack each mark that isn't a digit, as a comma or a colon
+-- digits lack each mark that isn't a digit
 pub digits_lack : (mark : ℕ) (ds : List ℕ) → AllDigits 10 ds → mark < 48 ⊎ 57 < mark → Lacks mark ds
 digits_lack mark [] digits other = tt
-digits_lack mark (d ∷ ds) digits other = ((λ e. no_digit d mark e (digit_from_value d digits.0) other), digits_lack mark ds digits.1 other)
+digits_lack mark (d ∷ ds) digits other = ((λ e. digit_is_no_mark d mark e (digit_from_value d digits.0) other), digits_lack mark ds digits.1 other)
 
 -- a text lacks a mark that both its parts lack
 pub lacks_both : (mark : ℕ) (xs ys : List ℕ) → Lacks mark xs → Lacks mark ys → Lacks mark (xs ++ ys)
 lacks_both mark xs ys lx ly = every_append (λ b. b ≢ mark) xs ys lx ly
 
--- the text of an id lacks a colon: it is a comma and an id below 8, or nothing if there is no id
-id_lacks : (id : Option ℕ) → IfSome id (λ i. i < 8) → Lacks 58 (id_text id)
-id_lacks None small = tt
-id_lacks (Some i) small = ((λ e. absurd (omega (arith, e))), ((λ e. absurd (omega (arith, e, small))), tt))
+-- the text of an id below 8, or of none, lacks a colon
+id_lacks_colon : (id : Option ℕ) → IfSome id (λ i. i < 8) → Lacks 58 (id_text id)
+id_lacks_colon None small = tt
+id_lacks_colon (Some i) small = ((λ e. absurd (omega (arith, e))), ((λ e. absurd (omega (arith, e, small))), tt))
 
--- in `ds`, which lack a comma, and the text of an id after them, `ds` are what comes before the first comma; they are all where
--- there is no id, and so no comma
+-- if `ds` lack a comma, they are what comes before the first comma of `ds` and the text of an id, or all if there is no id
 number_first : (ds : List ℕ) (id : Option ℕ) → Lacks 44 ds → before 44 (ds ++ id_text id) ≡ ds
 number_first ds None lacks = ap (before 44) (append-nil ds) ∙ before_none 44 ds lacks
 number_first ds (Some i) lacks = before_mark 44 ds ((48 + i) ∷ []) lacks
 
--- in `ds`, which lack a comma, and `tail` after them, which is a comma and the parameters, or nothing if there are none
--- (`EndsCode`): `ds` are what comes before the first comma, and the parameters what comes after it
+-- if `ds` lack a comma, and `tail` is a comma and the parameters, or nothing if there are none (`EndsCode`), then in `ds` and
+-- `tail` together `ds` are what comes before the first comma, and the parameters what comes after it
 code_first : (ds tail params : List ℕ) → Lacks 44 ds → EndsCode tail params → (before 44 (ds ++ tail) ≡ ds) × (behind 44 (ds ++ tail) ≡ params)
 code_first ds tail params lacks (inl none) =
     let whole : ds ++ tail ≡ ds = ap (λ l. ds ++ l) none.0 ∙ append-nil ds in
@@ -53,7 +52,7 @@ pub reply_columns : ColumnsAreFields
 reply_columns line r is =
     let number : Lacks 44 is.number = digits_lack 44 is.number is.is_number.digits (inl (omega arith)) in
     let front : Lacks 58 (is.number ++ id_text r.id) =
-    lacks_both 58 is.number (id_text r.id) (digits_lack 58 is.number is.is_number.digits (inr (omega arith))) (id_lacks r.id is.is_id) in
+    lacks_both 58 is.number (id_text r.id) (digits_lack 58 is.number is.is_number.digits (inr (omega arith))) (id_lacks_colon r.id is.is_id) in
     let code = code_first is.code is.tail r.params (digits_lack 44 is.code is.is_code.digits (inl (omega arith))) is.is_tail in
     let joined : is.number ++ (id_text r.id ++ 58 ∷ (is.code ++ is.tail)) ≡ (is.number ++ id_text r.id) ++ 58 ∷ (is.code ++ is.tail) = sym (append_assoc is.number (id_text r.id) _) in
     let first : com_of line ≡ is.number =

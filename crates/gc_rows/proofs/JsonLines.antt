@@ -20,15 +20,15 @@ use Rattle.gc_rows.specs.JsonLines.{Member, Text, Number, Texts, behind_backslas
 use Rattle.gc_rows.specs.Laws.{IsPlainName, ArePlainMembers, texts_read, members_read, record_read, JsonLinesReadBack}
 use Rattle.gc_texts.specs.Logs.{escaped, AreBytes, IsPrintableByte}
 use Rattle.gc_texts.specs.Stamps.{stamp_text}
-use Rattle.gc_texts.proofs.Logs.{IsOfBytes}
+use Rattle.gc_texts.proofs.Logs.{IsOfBytes, bytes_by_recursion, bytes_by_places}
 use Rattle.gc_texts.proofs.LogStamps.{escaped_prints, stamp_prints}
 
--- the target, the members of the name and the procedure, appended to `old` one after the other, are `old` and then the members of
--- a command
-pub command_text : (old target procedure : List ℕ) (name : List Member)
+-- the target, the members of the name and the procedure, appended to `old` one after the other, are `old` and then the members
+-- of a command
+pub command_members_text : (old target procedure : List ℕ) (name : List Member)
     → ((old ++ number_member (codes "target") target) ++ members_text name) ++ number_member (codes "procedure") procedure
     ≡ old ++ members_text (Number (codes "target") target ∷ (name ++ Number (codes "procedure") procedure ∷ []))
-command_text old target procedure name =
+command_members_text old target procedure name =
     let t = number_member (codes "target") target in
     let p = number_member (codes "procedure") procedure in
     let n = members_text name in
@@ -36,28 +36,27 @@ command_text old target procedure name =
     flat_map-append member_text name (Number (codes "procedure") procedure ∷ []) ∙ ap (λ l. n ++ l) (append-nil p) in
     append_assoc (old ++ t) n p ∙ append_assoc old t (n ++ p) ∙ ap (λ l. old ++ (t ++ l)) (sym last)
 
--- the members of the quality and the attempt, appended to `old` one after the other, are `old` and then the members after all
--- others
-pub last_text : (old attempt : List ℕ) (quality : List Member)
+-- the members of the quality and then the attempt, appended to `old`, are `old` and then the members after all others
+pub last_members_text : (old attempt : List ℕ) (quality : List Member)
     → (old ++ members_text quality) ++ number_member (codes "attempt") attempt ≡ old ++ members_text (quality ++ Number (codes "attempt") attempt ∷ [])
-last_text old attempt quality =
+last_members_text old attempt quality =
     let a = number_member (codes "attempt") attempt in
     let q = members_text quality in
     let last : members_text (quality ++ Number (codes "attempt") attempt ∷ []) ≡ q ++ a =
     flat_map-append member_text quality (Number (codes "attempt") attempt ∷ []) ∙ ap (λ l. q ++ l) (append-nil a) in
     append_assoc old q a ∙ ap (λ l. old ++ l) (sym last)
 
--- a, b and c, appended one after the other to `old`, are `old` and then one text, which is a, b and c with nothing after them
+-- appending a, b and c to `old` one after the other is appending them as one text, with nothing after them
 pub three_appended : (old a b c : List ℕ) → ((old ++ a) ++ b) ++ c ≡ old ++ (a ++ (b ++ (c ++ [])))
 three_appended old a b c =
     append_assoc (old ++ a) b c ∙ append_assoc old a (b ++ c) ∙ ap (λ l. old ++ (a ++ (b ++ l))) (sym (append-nil c))
 
--- a double quote and a backslash are escaped as a writer of JSON does it
+-- a double quote and a backslash are escaped as a writer of JSON escapes them
 marked_as_json : (b : ℕ) → IsPrintableByte b → ((b == 34) || (b == 92)) ≡ true → behind_backslash b ≡ escape_byte b
 unfolding escape_byte
 marked_as_json b shown marked = let some : nat_lt 0 b ≡ true = lt-ltb 0 b (omega (arith, shown.0)) in rw (marked, some) refl
 
--- any other printable byte is unchanged, as with a writer of JSON
+-- a printable byte other than a double quote and a backslash is left as it is, as a writer of JSON leaves it
 plain_as_json : (b : ℕ) → IsPrintableByte b → ((b == 34) || (b == 92)) ≡ false → behind_backslash b ≡ escape_byte b
 plain_as_json b shown plain =
     rw plain (sym (escape_byte_plain b (λ e. let bad : true ≡ false = subst (λ x. ((x == 34) || (x == 92)) ≡ false) e plain in cc)
@@ -74,7 +73,7 @@ printable_as_json (b ∷ bs) shown = ap (λ l. l ++ flat_map behind_backslash bs
 
 -- bytes, once they are made printable, are escaped as a writer of JSON does it
 bytes_as_json : (bytes : List ℕ) → AreBytes bytes → flat_map behind_backslash (escaped bytes) ≡ escape (escaped bytes)
-bytes_as_json bytes are = printable_as_json (escaped bytes) (recursion_from_All IsPrintableByte (escaped bytes) (escaped_prints bytes (recursion_from_All (λ b. b < 256) bytes are)))
+bytes_as_json bytes are = printable_as_json (escaped bytes) (recursion_from_All IsPrintableByte (escaped bytes) (escaped_prints bytes (bytes_by_recursion bytes are)))
 
 -- a writer of JSON leaves a plain name unchanged
 name_as_json : (name : List ℕ) → IsPlainName name → name ≡ escape name
@@ -83,9 +82,9 @@ name_as_json (b ∷ bs) plain = ap (λ l. b ∷ l) (name_as_json bs plain.1) ∙
 
 -- a comma (44), a name in double quotes (34), a colon (58), the text of a value, further members and the end of a line are the
 -- same bytes however they are grouped
-regroup : (name text others close : List ℕ)
+member_regrouped : (name text others close : List ℕ)
     → ((((44 ∷ 34 ∷ name) ++ 34 ∷ 58 ∷ []) ++ text) ++ others) ++ close ≡ 44 ∷ (((34 ∷ (name ++ 34 ∷ [])) ++ 58 ∷ []) ++ (text ++ (others ++ close)))
-regroup name text others close =
+member_regrouped name text others close =
     let front : (name ++ 34 ∷ []) ++ 58 ∷ [] ≡ name ++ 34 ∷ 58 ∷ [] = append_assoc name (34 ∷ []) (58 ∷ []) in
     let k = 44 ∷ 34 ∷ (name ++ 34 ∷ 58 ∷ []) in
     append_assoc (k ++ text) others close ∙ append_assoc k text (others ++ close) ∙ ap (λ l. 44 ∷ 34 ∷ (l ++ (text ++ (others ++ close)))) (sym front)
@@ -132,15 +131,15 @@ members_as_json [] are = refl
 members_as_json (Text name bytes ∷ ms) are =
     ap (λ l. ((((44 ∷ 34 ∷ l) ++ 34 ∷ 58 ∷ []) ++ string_text bytes) ++ members_text ms) ++ codes "}") (name_as_json name are.0.0)
     ∙ ap (λ l. ((((44 ∷ 34 ∷ escape name) ++ 34 ∷ 58 ∷ []) ++ (34 ∷ (l ++ 34 ∷ []))) ++ members_text ms) ++ codes "}") (bytes_as_json bytes are.0.1)
-    ∙ regroup (escape name) (34 ∷ (escape (escaped bytes) ++ 34 ∷ [])) (members_text ms) (codes "}")
+    ∙ member_regrouped (escape name) (34 ∷ (escape (escaped bytes) ++ 34 ∷ [])) (members_text ms) (codes "}")
     ∙ ap (λ l. 44 ∷ (((34 ∷ (escape name ++ 34 ∷ [])) ++ 58 ∷ []) ++ ((34 ∷ (escape (escaped bytes) ++ 34 ∷ [])) ++ l))) (members_as_json ms are.1)
 members_as_json (Number name digits ∷ ms) are =
     ap (λ l. ((((44 ∷ 34 ∷ l) ++ 34 ∷ 58 ∷ []) ++ digits) ++ members_text ms) ++ codes "}") (name_as_json name are.0.0)
-    ∙ regroup (escape name) digits (members_text ms) (codes "}")
+    ∙ member_regrouped (escape name) digits (members_text ms) (codes "}")
     ∙ ap (λ l. 44 ∷ (((34 ∷ (escape name ++ 34 ∷ [])) ++ 58 ∷ []) ++ (digits ++ l))) (members_as_json ms are.1)
 members_as_json (Texts name texts ∷ ms) are =
     ap (λ l. ((((44 ∷ 34 ∷ l) ++ 34 ∷ 58 ∷ []) ++ list_text texts) ++ members_text ms) ++ codes "}") (name_as_json name are.0.0)
-    ∙ regroup (escape name) (list_text texts) (members_text ms) (codes "}")
+    ∙ member_regrouped (escape name) (list_text texts) (members_text ms) (codes "}")
     ∙ ap (λ l. 44 ∷ (((34 ∷ (escape name ++ 34 ∷ [])) ++ 58 ∷ []) ++ (list_text texts ++ l))) (members_as_json ms are.1)
     ∙ ap (λ l. 44 ∷ (((34 ∷ (escape name ++ 34 ∷ [])) ++ 58 ∷ []) ++ l)) (list_as_json texts (members_tokens (members_read ms)) are.0.1)
 
@@ -150,16 +149,16 @@ texts_have_numbers [] = tt
 texts_have_numbers (text ∷ texts) = (tt, texts_have_numbers texts)
 
 -- the numbers among plain members are numbers of JSON
-have_numbers : (members : List Member) → ArePlainMembers members → MembersHaveNumbers (members_read members)
-have_numbers [] are = tt
-have_numbers (Text name bytes ∷ ms) are = (tt, have_numbers ms are.1)
-have_numbers (Number name digits ∷ ms) are = (are.0.1, have_numbers ms are.1)
-have_numbers (Texts name texts ∷ ms) are = (texts_have_numbers texts, have_numbers ms are.1)
+members_have_numbers : (members : List Member) → ArePlainMembers members → MembersHaveNumbers (members_read members)
+members_have_numbers [] are = tt
+members_have_numbers (Text name bytes ∷ ms) are = (tt, members_have_numbers ms are.1)
+members_have_numbers (Number name digits ∷ ms) are = (are.0.1, members_have_numbers ms are.1)
+members_have_numbers (Texts name texts ∷ ms) are = (texts_have_numbers texts, members_have_numbers ms are.1)
 
 -- the texts of a list hold no object or list
-flat_texts : (texts : List (List ℕ)) → items_depth (texts_read texts) ≡ 0
-flat_texts [] = refl
-flat_texts (text ∷ texts) = ap (max 0) (flat_texts texts) ∙ zero-max 0
+texts_are_flat : (texts : List (List ℕ)) → items_depth (texts_read texts) ≡ 0
+texts_are_flat [] = refl
+texts_are_flat (text ∷ texts) = ap (max 0) (texts_are_flat texts) ∙ zero-max 0
 
 -- members nest one list deep at most: they hold no object, and only lists of texts
 members_nest_once : (members : List Member) → members_depth (members_read members) ≤ 1
@@ -168,18 +167,17 @@ members_nest_once (Text name bytes ∷ ms) = subst (λ n. n ≤ 1) (sym (zero-ma
 members_nest_once (Number name digits ∷ ms) = subst (λ n. n ≤ 1) (sym (zero-max (members_depth (members_read ms)))) (members_nest_once ms)
 members_nest_once (Texts name texts ∷ ms) =
     let few = members_nest_once ms in
-    subst (λ n. max (suc n) (members_depth (members_read ms)) ≤ 1) (sym (flat_texts texts)) (omega (arith, few))
+    subst (λ n. max (suc n) (members_depth (members_read ms)) ≤ 1) (sym (texts_are_flat texts)) (omega (arith, few))
 
 -- printable bytes are below 256
-pub printable_are_bytes : (text : List ℕ) → AllByRecursion IsPrintableByte text → IsOfBytes text
+printable_are_bytes : (text : List ℕ) → AllByRecursion IsPrintableByte text → IsOfBytes text
 printable_are_bytes text shown = all_on IsPrintableByte (λ b. b < 256) text (λ b is. omega (arith, is.1)) shown
 
--- the moment of a run, of at most 64 bits, is escaped as a writer of JSON does it
-moment_as_json : (run : ℕ) → run < 2 ^ 64 → flat_map behind_backslash (escaped (stamp_text run)) ≡ escape (escaped (stamp_text run))
-moment_as_json run below =
-    let text = stamp_text run in
-    let bytes = printable_are_bytes text (recursion_from_All IsPrintableByte text (stamp_prints run below)) in
-    printable_as_json (escaped text) (recursion_from_All IsPrintableByte (escaped text) (escaped_prints text bytes))
+-- the text of a moment of at most 64 bits is of bytes
+pub stamp_bytes : (utc : ℕ) → utc < 2 ^ 64 → AreBytes (stamp_text utc)
+stamp_bytes utc below =
+    let shown = recursion_from_All IsPrintableByte (stamp_text utc) (stamp_prints utc below) in
+    bytes_by_places (stamp_text utc) (printable_are_bytes (stamp_text utc) shown)
 
 -- a and m, and then a brace and a line feed, are the text of a, m and the brace, and then the line feed
 pub feed_apart : (a m : List ℕ) → (a ++ m) ++ codes "}\n" ≡ (a ++ (m ++ codes "}")) ++ codes "\n"
@@ -190,34 +188,34 @@ feed_apart a m =
 abbrev pub object_text : (run : ℕ) (members : List Member) → List ℕ
 object_text run members = (codes "{\"run\":" ++ string_text (stamp_text run)) ++ (members_text members ++ codes "}")
 
--- a line of JSON, whose run's moment has at most 64 bits and whose members are plain, without its line feed is what the writer of
--- JSON writes of the object of that moment and these members
+-- a line of JSON whose run's moment has at most 64 bits and whose members are plain is, without its line feed, what the writer
+-- of JSON writes of the object of that moment and these members
 object_as_json : (run : ℕ) (members : List Member) → run < 2 ^ 64 → ArePlainMembers members
     → object_text run members ≡ print (json_tokens (json.object (record_read run members)))
 unfolding print_from escape_byte
 object_as_json run members below are =
-    ap (λ l. (codes "{\"run\":" ++ (34 ∷ (l ++ 34 ∷ []))) ++ (members_text members ++ codes "}")) (moment_as_json run below)
+    ap (λ l. (codes "{\"run\":" ++ (34 ∷ (l ++ 34 ∷ []))) ++ (members_text members ++ codes "}")) (bytes_as_json (stamp_text run) (stamp_bytes run below))
     ∙ ap (λ l. (codes "{\"run\":" ++ (34 ∷ (escape (escaped (stamp_text run)) ++ 34 ∷ []))) ++ l) (members_as_json members are)
 
--- a line of JSON, whose run's moment has at most 64 bits and whose members are plain, without its line feed reads as the object
+-- a line of JSON whose run's moment has at most 64 bits and whose members are plain reads, without its line feed, as the object
 -- of that moment and these members
 pub object_reads_back : (run : ℕ) (members : List Member) → run < 2 ^ 64 → ArePlainMembers members
     → document (object_text run members) ≡ Some (json.object (record_read run members))
 object_reads_back run members below are =
     let same = zero-max (members_depth (members_read members)) in
     let shallow = members_nest_once members in
-    ap document (object_as_json run members below are) ∙ document-print (json.object (record_read run members)) (tt, have_numbers members are) (omega (arith, same, shallow))
+    ap document (object_as_json run members below are) ∙ document-print (json.object (record_read run members)) (tt, members_have_numbers members are) (omega (arith, same, shallow))
 
--- the law: a line of JSON, whose run's moment has at most 64 bits and whose members are plain, reads back
-pub read_back : JsonLinesReadBack
-read_back run members below are = (
+-- the law: a line of JSON whose run's moment has at most 64 bits and whose members are plain reads back
+pub json_lines_read_back : JsonLinesReadBack
+json_lines_read_back run members below are = (
   object_text run members,
   feed_apart (codes "{\"run\":" ++ string_text (stamp_text run)) (members_text members),
   object_reads_back run members below are,
 )
 
--- if `mid` and then the strings of the texts from place k on are `old`, so are `mid`, the comma before text k if there is one (`behind`),
--- the string of text k, and then the strings of the texts from place k + 1 on, each with a comma before it (`next`)
+-- if `mid` and then the strings of the texts from place k on are `old`, so are `mid`, the comma before text k if there is one
+-- (`behind`), its string, and the strings of the texts from place k + 1 on, each with a comma before it (`next`)
 pub strings_next : (old mid : List ℕ) (texts : List (List ℕ)) (k : ℕ) (behind next : Bool) → k < length texts → next ≡ true
     → mid ++ strings_text behind (drop k texts) ≡ old
     → ((mid ++ comma_where behind) ++ string_text (get_or texts k [])) ++ strings_text next (drop (k + 1) texts) ≡ old

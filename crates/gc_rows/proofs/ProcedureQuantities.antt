@@ -90,13 +90,13 @@ quantities_fill asked (Answered quality (Some answer) line) = columns_filled ask
 quantities_fill asked end = refl
 
 -- however a command ended, its quantities and, after them, its quality and its attempt have 26 fields
-more_fill : (when : When) (asked : Asked) (end : End) → length (quantity_fields asked end ++ last_fields when end) ≡ 26
-more_fill when asked end = length-append (quantity_fields asked end) (last_fields when end) ∙ ap (λ n. n + 2) (quantities_fill asked end)
+quantities_and_last_fill : (when : When) (asked : Asked) (end : End) → length (quantity_fields asked end ++ last_fields when end) ≡ 26
+quantities_and_last_fill when asked end = length-append (quantity_fields asked end) (last_fields when end) ∙ ap (λ n. n + 2) (quantities_fill asked end)
 
 -- the law: each row has a field for each name of its header
 pub each_row_fills_its_columns : RowsFillTheirColumns
 each_row_fills_its_columns false when name command (Answered quality answer line) = refl
 each_row_fills_its_columns false when name command end = refl
 each_row_fills_its_columns true when name command (Answered quality answer line) =
-    ap (λ n. suc (suc (suc (suc (suc (suc (suc (suc (suc (suc (suc (suc (suc n))))))))))))) (more_fill when command.call (Answered quality answer line))
+    ap (λ n. suc (suc (suc (suc (suc (suc (suc (suc (suc (suc (suc (suc (suc n))))))))))))) (quantities_and_last_fill when command.call (Answered quality answer line))
 each_row_fills_its_columns true when name command end = refl

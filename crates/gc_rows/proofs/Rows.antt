@@ -19,7 +19,7 @@ use Rattle.gc_rows.specs.Quantities.{quantity_text}
 use Rattle.gc_rows.specs.Rows.{is_special, within_quotes, csv_field, field_text, behind_comma, fields_behind_commas, row_of, spread, value_behind_comma}
 use Rattle.gc_values.specs.declared.value.Value.{Value}
 use Rattle.gc_texts.proofs.LogStamps.{escaped_prints}
-use Rattle.gc_texts.proofs.Logs.{escaped_injective}
+use Rattle.gc_texts.proofs.Logs.{bytes_by_recursion, escaped_injective}
 
 -- after `front`, the texts of the items of four lists, one list after the other, are those of the lists joined
 pub four_written : {X : Type 0} (text : X → List ℕ) (front : List ℕ) (ws hs es qs : List X)
@@ -38,13 +38,13 @@ blanks_text : (n : ℕ) → fields_behind_commas (replicate n []) ≡ replicate 
 blanks_text zero = refl
 blanks_text (suc n) = ap (λ l. 44 ∷ l) (blanks_text n)
 
--- the texts of values as `value_behind_comma` has them are the fields of the values' quantities, each after a comma
+-- values as `value_behind_comma` writes them are the fields of their quantities, each after a comma
 values_text : (values : List Value) → flat_map value_behind_comma values ≡ fields_behind_commas (map quantity_text values)
 values_text [] = refl
 values_text (v ∷ vs) = ap (λ l. value_behind_comma v ++ l) (values_text vs)
 
--- after any bytes: `first` commas, the values as quantities, and a comma for each further column are the values in their
--- columns
+-- `first` commas, values as `value_behind_comma` writes them, and a comma for each further column are, after any bytes, the
+-- values in their columns
 pub spread_text : (old : List ℕ) (first : ℕ) (values : List Value)
     → ((old ++ replicate first 44) ++ flat_map value_behind_comma values) ++ replicate (24 - first - length values) 44
     ≡ old ++ fields_behind_commas (spread first (map quantity_text values))
@@ -63,57 +63,57 @@ spread_text old first values =
     ∙ ap (λ l. old ++ l) (sym joined)
     ∙ ap (λ n. old ++ fields_behind_commas (front ++ (texts ++ replicate (24 - first - n) []))) (sym (length-map values quantity_text))
 
--- `or` of three tests is the same, however they are grouped, and with `false` added twice
-or_same : (x y z : Bool) → ((x || y) || z) ≡ (((x || (y || z)) || false) || false)
-or_same true y z = refl
-or_same false true z = refl
-or_same false false true = refl
-or_same false false false = refl
+-- `or` of three tests is the same grouped the other way, and with `false` added twice
+or_regrouped : (x y z : Bool) → ((x || y) || z) ≡ (((x || (y || z)) || false) || false)
+or_regrouped true y z = refl
+or_regrouped false true z = refl
+or_regrouped false false true = refl
+or_regrouped false false false = refl
 
 -- a byte calls for quotes exactly if the writer of comma-separated values says so
-same_byte : (b : ℕ) → is_special b ≡ needs_byte default_writer b
-same_byte b = or_same ((b == 44) || (b == 34)) (b == 13) (b == 10)
+byte_as_csv : (b : ℕ) → is_special b ≡ needs_byte default_writer b
+byte_as_csv b = or_regrouped ((b == 44) || (b == 34)) (b == 13) (b == 10)
 
 -- a text is within quotes exactly if the writer of comma-separated values puts it there
-same_any : (text : List ℕ) → list_any is_special text ≡ list_any (needs_byte default_writer) text
-same_any [] = refl
-same_any (b ∷ bs) = ap (λ x. x || list_any is_special bs) (same_byte b) ∙ ap (λ x. needs_byte default_writer b || x) (same_any bs)
+quotes_as_csv : (text : List ℕ) → list_any is_special text ≡ list_any (needs_byte default_writer) text
+quotes_as_csv [] = refl
+quotes_as_csv (b ∷ bs) = ap (λ x. x || list_any is_special bs) (byte_as_csv b) ∙ ap (λ x. needs_byte default_writer b || x) (quotes_as_csv bs)
 
--- a double quote within quotes is doubled here as the writer of comma-separated values doubles it
-same_quoted : (text : List ℕ) → flat_map within_quotes text ≡ csv.escaped default_writer text
+-- a double quote within quotes is doubled as the writer of comma-separated values doubles it
+doubled_as_csv : (text : List ℕ) → flat_map within_quotes text ≡ csv.escaped default_writer text
 unfolding csv.escaped
-same_quoted [] = refl
-same_quoted (b ∷ bs) = elim (cases_Bool (b == 34)) [
-  | inl same ↦ rw same (ap (λ l. 34 ∷ l) (ap (λ x. x ∷ flat_map within_quotes bs) (sym (eqb-true b 34 same)) ∙ ap (λ l. b ∷ l) (same_quoted bs)))
-  | inr other ↦ rw other (ap (λ l. b ∷ l) (same_quoted bs))
+doubled_as_csv [] = refl
+doubled_as_csv (b ∷ bs) = elim (cases_Bool (b == 34)) [
+  | inl same ↦ rw same (ap (λ l. 34 ∷ l) (ap (λ x. x ∷ flat_map within_quotes bs) (sym (eqb-true b 34 same)) ∙ ap (λ l. b ∷ l) (doubled_as_csv bs)))
+  | inr other ↦ rw other (ap (λ l. b ∷ l) (doubled_as_csv bs))
 ]
 
 -- a field is what the writer of comma-separated values writes of its text
-same_field : (text : List ℕ) → csv_field text ≡ csv.field_text default_writer text
-same_field text = elim (cases_Bool (list_any is_special text)) [
-  | inl special ↦ rw (special, sym (same_any text) ∙ special) (ap (λ l. 34 ∷ (l ++ 34 ∷ [])) (same_quoted text))
-  | inr plain ↦ rw (plain, sym (same_any text) ∙ plain) refl
+field_as_csv : (text : List ℕ) → csv_field text ≡ csv.field_text default_writer text
+field_as_csv text = elim (cases_Bool (list_any is_special text)) [
+  | inl special ↦ rw (special, sym (quotes_as_csv text) ∙ special) (ap (λ l. 34 ∷ (l ++ 34 ∷ [])) (doubled_as_csv text))
+  | inr plain ↦ rw (plain, sym (quotes_as_csv text) ∙ plain) refl
 ]
 
 -- fields, each after a comma, are what the writer of comma-separated values writes of their bytes, escaped
-same_fields : (fields : List (List ℕ)) → fields_behind_commas fields ≡ fields_text default_writer (map escaped fields)
+fields_as_csv : (fields : List (List ℕ)) → fields_behind_commas fields ≡ fields_text default_writer (map escaped fields)
 unfolding fields_text
-same_fields [] = refl
-same_fields (f ∷ fs) = ap (λ l. 44 ∷ (l ++ fields_behind_commas fs)) (same_field (escaped f)) ∙ ap (λ l. 44 ∷ (csv.field_text default_writer (escaped f) ++ l)) (same_fields fs)
+fields_as_csv [] = refl
+fields_as_csv (f ∷ fs) = ap (λ l. 44 ∷ (l ++ fields_behind_commas fs)) (field_as_csv (escaped f)) ∙ ap (λ l. 44 ∷ (csv.field_text default_writer (escaped f) ++ l)) (fields_as_csv fs)
 
 -- a row of two fields or more is what the writer of comma-separated values writes of these fields' bytes, escaped
-same_row : (first second : List ℕ) (others : List (List ℕ)) → row_of (first ∷ second ∷ others) ≡ row_text default_writer (map escaped (first ∷ second ∷ others))
+row_as_csv : (first second : List ℕ) (others : List (List ℕ)) → row_of (first ∷ second ∷ others) ≡ row_text default_writer (map escaped (first ∷ second ∷ others))
 unfolding is_blank
-same_row first second others =
-    ap (λ l. (l ++ fields_behind_commas (second ∷ others)) ++ 10 ∷ []) (same_field (escaped first))
-    ∙ ap (λ l. (csv.field_text default_writer (escaped first) ++ l) ++ 10 ∷ []) (same_fields (second ∷ others))
+row_as_csv first second others =
+    ap (λ l. (l ++ fields_behind_commas (second ∷ others)) ++ 10 ∷ []) (field_as_csv (escaped first))
+    ∙ ap (λ l. (csv.field_text default_writer (escaped first) ++ l) ++ 10 ∷ []) (fields_as_csv (second ∷ others))
 
 -- a row of two fields or more reads back as its fields
 row_back : (fields : List (List ℕ)) → 1 < length fields → ReadsBackAs (row_of fields) fields
 row_back [] many behind = absurd (omega (arith, many))
 row_back (first ∷ []) many behind = absurd (omega (arith, many))
 row_back (first ∷ second ∷ others) many behind =
-    ap (λ l. next_record default_config StartRecord [] [] (l ++ behind)) (same_row first second others) ∙ read-write-many (escaped first) (escaped second) (map escaped others) behind
+    ap (λ l. next_record default_config StartRecord [] [] (l ++ behind)) (row_as_csv first second others) ∙ read-write-many (escaped first) (escaped second) (map escaped others) behind
 
 -- rows of two fields or more read back as a table of their fields, escaped
 table_back : (rows : List (List (List ℕ))) → AllByRecursion (λ fields. 1 < length fields) rows
@@ -123,8 +123,8 @@ table_back [] many = refl
 table_back (fields ∷ rows) many = rw (row_back fields many.0 (flat_map row_of rows)) (ap (λ l. map escaped fields ∷ l) (table_back rows many.1))
 
 -- the law: rows and tables read back
-pub read_back : RowsReadBack
-read_back = record {
+pub rows_read_back : RowsReadBack
+rows_read_back = record {
   row = row_back;
   table = table_back;
   names = (refl, refl);
@@ -148,7 +148,7 @@ doubled_prints (b ∷ bs) h =
 field_prints : (bytes : List ℕ) → AreBytes bytes → IsPrintable (field_text bytes)
 field_prints bytes are =
     let text = escaped bytes in
-    let shown = escaped_prints bytes (recursion_from_All (λ b. b < 256) bytes are) in
+    let shown = escaped_prints bytes (bytes_by_recursion bytes are) in
     let mark = one_prints 34 (omega arith, omega arith) in
     cond_both (list_any is_special text) (34 ∷ (flat_map within_quotes text ++ 34 ∷ [])) text (All IsPrintableByte)
     (λ _. All-append IsPrintableByte (34 ∷ []) (flat_map within_quotes text ++ 34 ∷ []) mark
@@ -163,9 +163,9 @@ fields_print (f ∷ fs) are =
     (All-append IsPrintableByte (44 ∷ []) (field_text f) (one_prints 44 (omega arith, omega arith)) (field_prints f are.0)) (fields_print fs are.1)
 
 -- the law: a row is printable before its line feed
-pub printable : RowsArePrintable
-printable [] are = ([], refl, All-from_recursion IsPrintableByte [] tt)
-printable (first ∷ others) are = (
+pub rows_are_printable : RowsArePrintable
+rows_are_printable [] are = ([], refl, All-from_recursion IsPrintableByte [] tt)
+rows_are_printable (first ∷ others) are = (
   field_text first ++ fields_behind_commas others,
   refl,
   All-append IsPrintableByte (field_text first) (fields_behind_commas others) (field_prints first are.0) (fields_print others are.1),

@@ -26,13 +26,9 @@ use Rattle.gc_texts.specs.Stamps.{stamp_text}
 abbrev pub behind_backslash : ℕ → List ℕ
 behind_backslash b = if (b == 34) || (b == 92) then 92 ∷ b ∷ [] else b ∷ []
 
--- a printable text as a string of JSON, with its double quotes
-abbrev pub in_quotes : List ℕ → List ℕ
-in_quotes text = codes "\"" ++ flat_map behind_backslash text ++ codes "\""
-
--- a string of JSON that holds these bytes, escaped first as in a log line
+-- a string of JSON, with its double quotes, that holds these bytes, escaped first as in a log line
 abbrev pub string_text : List ℕ → List ℕ
-string_text bytes = in_quotes (escaped bytes)
+string_text bytes = codes "\"" ++ flat_map behind_backslash (escaped bytes) ++ codes "\""
 
 -- a member of an object: its name, and its value, which is a string that holds these bytes, a number with these digits, or a list of
 -- strings that hold these bytes
@@ -70,10 +66,6 @@ list_text texts = codes "[" ++ (strings_text false texts ++ codes "]")
 -- a member that is a list of strings of these bytes, as it is written
 abbrev pub texts_member : (name : List ℕ) → (texts : List (List ℕ)) → List ℕ
 texts_member name texts = named name ++ list_text texts
-
--- the member `items`, a list of strings of these bytes, as it is written
-abbrev pub items_list : List (List ℕ) → List ℕ
-items_list texts = texts_member (codes "items") texts
 
 -- a member as it is written
 abbrev pub member_text : Member → List ℕ

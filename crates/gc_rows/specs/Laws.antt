@@ -46,7 +46,8 @@ ReadsBackAs text fields =
 
 -- rows read back by a reader of comma-separated values, whatever bytes their fields hold. `row`: a row of two fields or more
 -- reads back as its fields. `table`: rows of two fields or more give a table of their fields, escaped. `names`: what comes before
--- all records is the row of the columns' names. `once`: no two lists of bytes have one escaped form, in which a field is read back
+-- all records is the row of the columns' names. `once`: a field is read back escaped, and no two lists of bytes have one escaped
+-- form
 pub record RowsReadBack : Type 0 where
   pub row : (fields : List (List ℕ)) → 1 < length fields → ReadsBackAs (row_of fields) fields
   pub table : (rows : List (List (List ℕ))) → AllByRecursion (λ fields. 1 < length fields) rows
@@ -106,8 +107,8 @@ abbrev pub IsAnswerOfBytes : Answer → Type 0
 IsAnswerOfBytes (answers.Name bytes) = IsFittingAnswer (answers.Name bytes) × AreBytes bytes
 IsAnswerOfBytes answer = IsFittingAnswer answer
 
--- the reply's line of an ending, if there is one, has bytes alone and reads as a reply, and its answer, if there is one, holds numbers of
--- its types and bytes
+-- the reply's line of an ending, if there is one, reads as a reply and is of bytes, and the ending's answer, if there is one,
+-- holds numbers within their ranges, and bytes (`IsReplyOfBytes`, `IsAnswerOfBytes`)
 abbrev pub IsEndOfBytes : End → Type 0
 IsEndOfBytes (Answered quality (Some answer) line) = IsReplyOfBytes line × IsAnswerOfBytes answer
 IsEndOfBytes (Answered quality None line) = IsReplyOfBytes line

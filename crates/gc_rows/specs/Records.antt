@@ -74,6 +74,4 @@ head_text Columns = row_of (header true)
 -- `Json`, the bytes that each line begins with
 abbrev pub form_sign : Form → List ℕ
 form_sign Json = codes "{\"run\":\""
-form_sign Lines = head_text Lines
-form_sign Csv = head_text Csv
-form_sign Columns = head_text Columns
+form_sign form = head_text form

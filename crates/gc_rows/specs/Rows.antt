@@ -1,6 +1,6 @@
 -- Rows: a record as a row of comma-separated values. The columns are this project's own, and how a field is quoted is RFC
 -- 4180's. Each field is printable ASCII: other bytes are written as `\x` and two digits, and so is a backslash.
-use Rattle.std.specs.Prelude.{ℕ, ◌-◌, ◌≤◌, ◌==◌, ◌||◌, Bool, true, false, List, [], ◌∷◌, ◌++◌, length, map, replicate, Option, Some, None, if◌then◌else◌, codes}
+use Rattle.std.specs.Prelude.{ℕ, ◌≡◌, ◌+◌, ◌-◌, ◌≤◌, ◌==◌, ◌||◌, Bool, true, false, List, [], ◌∷◌, ◌++◌, length, map, replicate, Option, Some, None, if◌then◌else◌, codes}
 use Rattle.std.specs.Fmt.{decimal}
 use Rattle.std.specs.List.{flat_map, list_any}
 use Rattle.gc_catalogue.specs.Answers.{answer_fields}
@@ -36,6 +36,11 @@ values_of line = behind 44 (behind 58 (behind 44 line))
 abbrev pub AreNoLonger : ReplyTexts → (line : List ℕ) → Type 0
 AreNoLonger texts line =
     (length texts.com.now ≤ length line) × (length texts.code.now ≤ length line) × (length texts.values.now ≤ length line)
+
+-- a text was appended to the bytes `old`, which are then `new`, and took at most `most` bytes
+pub record Adds (old new added : List ℕ) (most : ℕ) : Type 0 where
+  pub text : new ≡ old ++ added
+  pub room : length new ≤ length old + most
 
 -- whether a byte may occur in a field only within quotes: a comma, a double quote, CR or LF
 abbrev pub is_special : ℕ → Bool
@@ -102,9 +107,13 @@ value_behind_comma value = behind_comma (quantity_text value)
 abbrev pub spread : (first : ℕ) → (texts : List (List ℕ)) → List (List ℕ)
 spread first texts = replicate first [] ++ (texts ++ replicate (24 - first - length texts) [])
 
+-- the texts of an answer's values, in order
+abbrev pub value_texts : Answer → List (List ℕ)
+value_texts answer = map quantity_text (answer_fields answer).values
+
 -- the quantities of an answer to `asked`, each in its column; all columns are empty if the procedure isn't in the table
 abbrev pub answer_columns : Asked → Answer → List (List ℕ)
-answer_columns (Table call) answer = spread (column_of call answer) (map quantity_text (answer_fields answer).values)
+answer_columns (Table call) answer = spread (column_of call answer) (value_texts answer)
 answer_columns (Raw raw) answer = replicate 24 []
 
 -- the quantities of the answer that an ending has, each in its column; all columns are empty if the ending isn't `Answered`, or

@@ -1,7 +1,7 @@
 //! Lines of JSON: a record as one object. Its quantities are members by their names, as numbers and as the reply wrote them; the values
 //! of a procedure that isn't in the table are one list of items.
 
-ghost use Rattle.std.specs.Prelude.{◌≡◌, ℕ, ◌+◌, ◌*◌, ◌≤◌, ◌<◌, ◌++◌, false, length, option_map, Some};
+ghost use Rattle.std.specs.Prelude.{◌≡◌, ℕ, ◌+◌, ◌*◌, ◌≤◌, ◌<◌, ◌++◌, codes, false, length, option_map, Some};
 ghost use Rattle.std.specs.List.{flat_map};
 ghost use Rattle.arrayvec.specs.ArrayVec.{array_vec_len};
 ghost use Rattle.gc_rows.specs.Items.{split_items};
@@ -9,8 +9,9 @@ ghost use Rattle.gc_values.specs.Params.{total_length};
 ghost use Rattle.gc_texts.specs.Endings.{ending_seen};
 ghost use Rattle.gc_texts.specs.Logs.{escaped};
 ghost use Rattle.gc_rows.specs.declared.json_line.TheConstants.{NAME_ROOM, TEXT_ROOM, NUMBER_ROOM, SENT_ROOM, WHEN_ROOM, COMMAND_ROOM, REPLY_ROOM, ENDING_ROOM, OWN_ROOM, VALUE_ROOM, STRINGS_ROOM, LIST_ROOM, ANSWER_ROOM, LAST_ROOM, AFTER_ENDING_ROOM};
-ghost use Rattle.gc_rows.specs.JsonLines.{behind_backslash, in_quotes, named, string_text, text_member, number_member, comma_where, strings_text, items_list, item_members, members_text, without_zeros, sent_members, when_members, text_if_any, command_members, fault_members, reply_members, ending_members, value_members, values_members, answer_members, quantity_members, attempt_members, last_members, members_after_ending};
+ghost use Rattle.gc_rows.specs.JsonLines.{behind_backslash, named, string_text, text_member, number_member, comma_where, strings_text, texts_member, item_members, members_text, without_zeros, sent_members, when_members, text_if_any, command_members, fault_members, reply_members, ending_members, value_members, values_members, answer_members, quantity_members, attempt_members, last_members, members_after_ending};
 ghost use Rattle.gc_rows.specs.Records.{record_of};
+ghost use Rattle.gc_rows.specs.Rows.{Adds};
 ghost use Rattle.gc_rows.specs.declared.record.Form.TheVariants.{Json};
 
 use crate::quantity::{
@@ -84,8 +85,7 @@ const AFTER_ENDING_ROOM: usize = ANSWER_ROOM + LAST_ROOM;
 // Appends a text with a backslash before each double quote and each backslash.
 fn append_behind_backslashes<const N: usize>(line: &mut ArrayVec<u8, N>, text: &[u8])
     requires { array_vec_len line.old + 2 * length text.now ≤ N }
-    ensures text { line.new.items ≡ line.old.items ++ flat_map behind_backslash text.now }
-    ensures room { array_vec_len line.new ≤ array_vec_len line.old + 2 * length text.now }
+    ensures { Adds line.old.items line.new.items (flat_map behind_backslash text.now) (2 * length text.now) }
 {
     for b in text {
         if *b == b'"' || *b == b'\\' {
@@ -100,8 +100,7 @@ fn append_behind_backslashes<const N: usize>(line: &mut ArrayVec<u8, N>, text: &
 fn append_string<const N: usize>(line: &mut ArrayVec<u8, N>, bytes: &[u8])
     requires short { length bytes.now ≤ 514 }
     requires room { array_vec_len line.old + 8 * length bytes.now + 2 ≤ N }
-    ensures text { line.new.items ≡ line.old.items ++ string_text bytes.now }
-    ensures room { array_vec_len line.new ≤ array_vec_len line.old + 8 * length bytes.now + 2 }
+    ensures { Adds line.old.items line.new.items (string_text bytes.now) (8 * length bytes.now + 2) }
 {
     append(line, b"\"");
     append_behind_backslashes(line, &escaped(bytes));
@@ -113,8 +112,7 @@ fn append_name<const N: usize>(line: &mut ArrayVec<u8, N>, name: &[u8], suffix: 
     requires short { length name.now ≤ 32 }
     requires ends { length suffix.now ≤ 5 }
     requires room { array_vec_len line.old + NAME_ROOM ≤ N }
-    ensures text { line.new.items ≡ line.old.items ++ named (name.now ++ suffix.now) }
-    ensures room { array_vec_len line.new ≤ array_vec_len line.old + NAME_ROOM }
+    ensures { Adds line.old.items line.new.items (named (name.now ++ suffix.now)) NAME_ROOM }
 {
     append(line, b",\"");
     append(line, name);
@@ -127,8 +125,7 @@ fn append_text<const N: usize>(line: &mut ArrayVec<u8, N>, name: &[u8], bytes: &
     requires named { length name.now ≤ 32 }
     requires short { length bytes.now ≤ 514 }
     requires room { array_vec_len line.old + 8 * length bytes.now + TEXT_ROOM ≤ N }
-    ensures text { line.new.items ≡ line.old.items ++ text_member name.now bytes.now }
-    ensures room { array_vec_len line.new ≤ array_vec_len line.old + 8 * length bytes.now + TEXT_ROOM }
+    ensures { Adds line.old.items line.new.items (text_member name.now bytes.now) (8 * length bytes.now + TEXT_ROOM) }
 {
     append_name(line, name, b"");
     append_string(line, bytes);
@@ -139,8 +136,7 @@ fn append_number<const N: usize>(line: &mut ArrayVec<u8, N>, name: &[u8], digits
     requires named { length name.now ≤ 32 }
     requires short { length digits.now ≤ 514 }
     requires room { array_vec_len line.old + length digits.now + NAME_ROOM ≤ N }
-    ensures text { line.new.items ≡ line.old.items ++ number_member name.now digits.now }
-    ensures room { array_vec_len line.new ≤ array_vec_len line.old + length digits.now + NAME_ROOM }
+    ensures { Adds line.old.items line.new.items (number_member name.now digits.now) (length digits.now + NAME_ROOM) }
 {
     append_name(line, name, b"");
     append(line, digits);
@@ -149,8 +145,7 @@ fn append_number<const N: usize>(line: &mut ArrayVec<u8, N>, name: &[u8], digits
 // Appends the member that says when a command was sent; nothing if it wasn't.
 fn append_sent<const N: usize>(line: &mut ArrayVec<u8, N>, sent: Option<u64>)
     requires { array_vec_len line.old + SENT_ROOM ≤ N }
-    ensures text { line.new.items ≡ line.old.items ++ members_text (sent_members sent) }
-    ensures room { array_vec_len line.new ≤ array_vec_len line.old + SENT_ROOM }
+    ensures { Adds line.old.items line.new.items (members_text (sent_members sent)) SENT_ROOM }
 {
     if let Some(utc) = sent {
         append_text(line, b"sent", &stamp_text(utc));
@@ -160,8 +155,7 @@ fn append_sent<const N: usize>(line: &mut ArrayVec<u8, N>, sent: Option<u64>)
 // Appends the members that say when a command was sent and ended, and which command of its run it was.
 fn append_when<const N: usize>(line: &mut ArrayVec<u8, N>, when: &When)
     requires { array_vec_len line.old + WHEN_ROOM ≤ N }
-    ensures text { line.new.items ≡ line.old.items ++ members_text (when_members when.now) }
-    ensures room { array_vec_len line.new ≤ array_vec_len line.old + WHEN_ROOM }
+    ensures { Adds line.old.items line.new.items (members_text (when_members when.now)) WHEN_ROOM }
 {
     let mut digits = Buffer::new();
     append_sent(line, when.stamp.sent);
@@ -179,8 +173,7 @@ fn append_text_if_any<const N: usize>(line: &mut ArrayVec<u8, N>, name: &[u8], b
     requires named { length name.now ≤ 32 }
     requires short { length bytes.now ≤ 514 }
     requires room { array_vec_len line.old + 8 * length bytes.now + TEXT_ROOM ≤ N }
-    ensures text { line.new.items ≡ line.old.items ++ members_text (text_if_any name.now bytes.now) }
-    ensures room { array_vec_len line.new ≤ array_vec_len line.old + 8 * length bytes.now + TEXT_ROOM }
+    ensures { Adds line.old.items line.new.items (members_text (text_if_any name.now bytes.now)) (8 * length bytes.now + TEXT_ROOM) }
 {
     if !bytes.is_empty() {
         append_text(line, name, bytes);
@@ -191,8 +184,7 @@ fn append_text_if_any<const N: usize>(line: &mut ArrayVec<u8, N>, name: &[u8], b
 fn append_command<const N: usize>(line: &mut ArrayVec<u8, N>, command: &Wish, name: &[u8])
     requires short { length name.now ≤ 64 }
     requires room { array_vec_len line.old + COMMAND_ROOM ≤ N }
-    ensures text { line.new.items ≡ line.old.items ++ members_text (command_members command.now name.now) }
-    ensures room { array_vec_len line.new ≤ array_vec_len line.old + COMMAND_ROOM }
+    ensures { Adds line.old.items line.new.items (members_text (command_members command.now name.now)) COMMAND_ROOM }
 {
     let mut digits = Buffer::new();
     append_number(line, b"target", digits.format(command.target).as_bytes());
@@ -218,8 +210,7 @@ fn without_zeros(digits: &[u8]) -> &[u8]
 // Appends the member of a fault's number; nothing if there is no fault.
 fn append_fault<const N: usize>(line: &mut ArrayVec<u8, N>, fault: Option<ValueFault>)
     requires { array_vec_len line.old + NUMBER_ROOM ≤ N }
-    ensures text { line.new.items ≡ line.old.items ++ members_text (fault_members fault) }
-    ensures room { array_vec_len line.new ≤ array_vec_len line.old + NUMBER_ROOM }
+    ensures { Adds line.old.items line.new.items (members_text (fault_members fault)) NUMBER_ROOM }
 {
     if let Some(fault) = fault {
         append_number(
@@ -234,8 +225,7 @@ fn append_fault<const N: usize>(line: &mut ArrayVec<u8, N>, fault: Option<ValueF
 // a string.
 fn append_reply_texts<const N: usize>(line: &mut ArrayVec<u8, N>, reply: &Line)
     requires { array_vec_len line.old + REPLY_ROOM ≤ N }
-    ensures text { line.new.items ≡ line.old.items ++ members_text (reply_members (Some reply.now.items)) }
-    ensures room { array_vec_len line.new ≤ array_vec_len line.old + REPLY_ROOM }
+    ensures { Adds line.old.items line.new.items (members_text (reply_members (Some reply.now.items))) REPLY_ROOM }
 {
     let texts = texts_of(reply);
     append_number(line, b"rc_com", without_zeros(texts.com));
@@ -246,8 +236,7 @@ fn append_reply_texts<const N: usize>(line: &mut ArrayVec<u8, N>, reply: &Line)
 // Appends the members of a reply's line, as `append_reply_texts`; nothing if there is no line.
 fn append_reply<const N: usize>(line: &mut ArrayVec<u8, N>, reply: Option<&Line>)
     requires { array_vec_len line.old + REPLY_ROOM ≤ N }
-    ensures text { line.new.items ≡ line.old.items ++ members_text (reply_members (option_map (λ l. l.now.items) reply.entry)) }
-    ensures room { array_vec_len line.new ≤ array_vec_len line.old + REPLY_ROOM }
+    ensures { Adds line.old.items line.new.items (members_text (reply_members (option_map (λ l. l.now.items) reply.entry))) REPLY_ROOM }
 {
     if let Some(reply) = reply {
         append_reply_texts(line, reply);
@@ -257,8 +246,7 @@ fn append_reply<const N: usize>(line: &mut ArrayVec<u8, N>, reply: Option<&Line>
 // Appends the members that say how a command ended: its word, its fault, and those of the reply's line.
 fn append_ending<const N: usize>(line: &mut ArrayVec<u8, N>, ending: Ending<'_>)
     requires { array_vec_len line.old + ENDING_ROOM ≤ N }
-    ensures text { line.new.items ≡ line.old.items ++ members_text (ending_members (ending_seen ending.entry)) }
-    ensures room { array_vec_len line.new ≤ array_vec_len line.old + ENDING_ROOM }
+    ensures { Adds line.old.items line.new.items (members_text (ending_members (ending_seen ending.entry))) ENDING_ROOM }
 {
     append_text(line, b"outcome", ending.word());
     append_fault(line, ending.fault());
@@ -272,8 +260,7 @@ fn append_value<const N: usize>(line: &mut ArrayVec<u8, N>, name: &[u8], value: 
     requires named { length name.now ≤ 32 }
     requires short { length came.now ≤ 514 }
     requires room { array_vec_len line.old + 8 * length came.now + OWN_ROOM ≤ N }
-    ensures text { line.new.items ≡ line.old.items ++ members_text (value_members name.now value.now came.now) }
-    ensures room { array_vec_len line.new ≤ array_vec_len line.old + 8 * length came.now + OWN_ROOM }
+    ensures { Adds line.old.items line.new.items (members_text (value_members name.now value.now came.now)) (8 * length came.now + OWN_ROOM) }
 {
     match value {
         Value::Text(text) => append_text(line, name, text.as_bytes()),
@@ -296,8 +283,7 @@ fn append_values<const N: usize>(
     requires fits { first + length values.now ≤ 24 }
     requires short { length came.now ≤ 512 }
     requires room { array_vec_len line.old + VALUE_ROOM * length values.now ≤ N }
-    ensures text { line.new.items ≡ line.old.items ++ members_text (values_members first values.now came.now) }
-    ensures room { array_vec_len line.new ≤ array_vec_len line.old + VALUE_ROOM * length values.now }
+    ensures { Adds line.old.items line.new.items (members_text (values_members first values.now came.now)) (VALUE_ROOM * length values.now) }
 {
     let mut column = first;
     let mut rest = came;
@@ -311,8 +297,7 @@ fn append_values<const N: usize>(
 // Appends the comma before an item of a list, if another item is before it (`after_another`).
 fn append_comma<const N: usize>(line: &mut ArrayVec<u8, N>, after_another: bool)
     requires { array_vec_len line.old + 1 ≤ N }
-    ensures text { line.new.items ≡ line.old.items ++ comma_where after_another }
-    ensures room { array_vec_len line.new ≤ array_vec_len line.old + 1 }
+    ensures { Adds line.old.items line.new.items (comma_where after_another) 1 }
 {
     if after_another {
         append(line, b",");
@@ -324,8 +309,7 @@ fn append_strings<const N: usize>(line: &mut ArrayVec<u8, N>, texts: &Items<'_>)
     requires short { total_length texts.now ≤ 512 }
     requires few { length texts.now ≤ 16 }
     requires room { array_vec_len line.old + STRINGS_ROOM ≤ N }
-    ensures text { line.new.items ≡ line.old.items ++ strings_text false texts.now }
-    ensures room { array_vec_len line.new ≤ array_vec_len line.old + STRINGS_ROOM }
+    ensures { Adds line.old.items line.new.items (strings_text false texts.now) STRINGS_ROOM }
 {
     for k in 0..texts.len() {
         append_comma(line, k > 0);
@@ -338,8 +322,7 @@ fn append_list<const N: usize>(line: &mut ArrayVec<u8, N>, texts: &Items<'_>)
     requires short { total_length texts.now ≤ 512 }
     requires few { length texts.now ≤ 16 }
     requires room { array_vec_len line.old + LIST_ROOM ≤ N }
-    ensures text { line.new.items ≡ line.old.items ++ items_list texts.now }
-    ensures room { array_vec_len line.new ≤ array_vec_len line.old + LIST_ROOM }
+    ensures { Adds line.old.items line.new.items (texts_member (codes "items") texts.now) LIST_ROOM }
 {
     append_name(line, b"items", b"");
     append(line, b"[");
@@ -351,8 +334,7 @@ fn append_list<const N: usize>(line: &mut ArrayVec<u8, N>, texts: &Items<'_>)
 fn append_items<const N: usize>(line: &mut ArrayVec<u8, N>, values: &[u8])
     requires short { length values.now ≤ 512 }
     requires room { array_vec_len line.old + LIST_ROOM ≤ N }
-    ensures text { line.new.items ≡ line.old.items ++ members_text (item_members (split_items values.now)) }
-    ensures room { array_vec_len line.new ≤ array_vec_len line.old + LIST_ROOM }
+    ensures { Adds line.old.items line.new.items (members_text (item_members (split_items values.now))) LIST_ROOM }
 {
     match split(values) {
         Ok(items) => append_list(line, &items),
@@ -369,8 +351,7 @@ fn append_answer<const N: usize>(
     reply: &Line,
 )
     requires { array_vec_len line.old + ANSWER_ROOM ≤ N }
-    ensures text { line.new.items ≡ line.old.items ++ members_text (answer_members asked.now answer.now reply.now.items) }
-    ensures room { array_vec_len line.new ≤ array_vec_len line.old + ANSWER_ROOM }
+    ensures { Adds line.old.items line.new.items (members_text (answer_members asked.now answer.now reply.now.items)) ANSWER_ROOM }
 {
     match asked {
         Asked::Table(call) => append_values(
@@ -387,8 +368,7 @@ fn append_answer<const N: usize>(
 // (`None`).
 fn append_quantities<const N: usize>(line: &mut ArrayVec<u8, N>, asked: &Asked, ending: Ending<'_>)
     requires { array_vec_len line.old + ANSWER_ROOM ≤ N }
-    ensures text { line.new.items ≡ line.old.items ++ members_text (quantity_members asked.now (ending_seen ending.entry)) }
-    ensures room { array_vec_len line.new ≤ array_vec_len line.old + ANSWER_ROOM }
+    ensures { Adds line.old.items line.new.items (members_text (quantity_members asked.now (ending_seen ending.entry))) ANSWER_ROOM }
 {
     if let Ending::Answered(_, Some(answer), reply) = ending {
         append_answer(line, asked, answer, reply);
@@ -399,8 +379,7 @@ fn append_quantities<const N: usize>(line: &mut ArrayVec<u8, N>, asked: &Asked, 
 // for a command of the setup, of the setup.
 fn append_last<const N: usize>(line: &mut ArrayVec<u8, N>, when: &When, ending: Ending<'_>)
     requires { array_vec_len line.old + LAST_ROOM ≤ N }
-    ensures text { line.new.items ≡ line.old.items ++ members_text (last_members when.now (ending_seen ending.entry)) }
-    ensures room { array_vec_len line.new ≤ array_vec_len line.old + LAST_ROOM }
+    ensures { Adds line.old.items line.new.items (members_text (last_members when.now (ending_seen ending.entry))) LAST_ROOM }
 {
     append_text_if_any(line, b"quality", ending.quality_text());
     append_number(
@@ -414,8 +393,7 @@ fn append_last<const N: usize>(line: &mut ArrayVec<u8, N>, when: &When, ending: 
 // are the quality and the attempt.
 fn append_after_ending<const N: usize>(line: &mut ArrayVec<u8, N>, ended: EndedCommand<'_>)
     requires { array_vec_len line.old + AFTER_ENDING_ROOM ≤ N }
-    ensures text { line.new.items ≡ line.old.items ++ members_text (members_after_ending ended.entry.when ended.entry.command.now.call (ending_seen ended.entry.ending)) }
-    ensures room { array_vec_len line.new ≤ array_vec_len line.old + AFTER_ENDING_ROOM }
+    ensures { Adds line.old.items line.new.items (members_text (members_after_ending ended.entry.when ended.entry.command.now.call (ending_seen ended.entry.ending))) AFTER_ENDING_ROOM }
 {
     append_quantities(line, &ended.command.call, ended.ending);
     append_last(line, &ended.when, ended.ending);

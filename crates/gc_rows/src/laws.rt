@@ -26,8 +26,8 @@ pub fn rows_are_printable()
     ensures { RowsArePrintable }
 {}
 
-/// A line of JSON, whose members have plain names and hold bytes, numbers of JSON or texts of bytes, reads as an object of the
-/// run's moment and these members, in their order, whatever the bytes, which are escaped as in a log.
+/// Where the members of a line of JSON have plain names, and hold bytes, numbers of JSON or texts of bytes, the line reads as an
+/// object of the run's moment and these members, in their order. The bytes may be any, and are escaped as in a log.
 pub fn json_lines_read_back()
     ensures { JsonLinesReadBack }
 {}

@@ -5,6 +5,7 @@ ghost use Rattle.gc_lines.specs.Ports.{FailsWith, TakesText};
 ghost use Rattle.gc_texts.specs.Endings.{ending_seen};
 ghost use Rattle.gc_rows.specs.declared.record.TheConstants.{FAULT_ROOM, REPLY_ROOM};
 ghost use Rattle.gc_rows.specs.Records.{spaced_fault, spaced_line, ending_text, record_of, head_text, form_sign};
+ghost use Rattle.gc_rows.specs.Rows.{Adds};
 ghost use Rattle.arrayvec.specs.ArrayVec.{array_vec_len};
 
 use crate::json_line::json_line;
@@ -145,8 +146,7 @@ fn ending_text(ending: Ending<'_>) -> ArrayVec<u8, ENDING_ROOM>
 // Appends a space and the number of a fault, if there is a fault.
 fn append_fault<const N: usize>(text: &mut ArrayVec<u8, N>, fault: Option<ValueFault>)
     requires { array_vec_len text.old + FAULT_ROOM ≤ N }
-    ensures text { text.new.items ≡ text.old.items ++ spaced_fault fault }
-    ensures room { array_vec_len text.new ≤ array_vec_len text.old + FAULT_ROOM }
+    ensures { Adds text.old.items text.new.items (spaced_fault fault) FAULT_ROOM }
 {
     if let Some(fault) = fault {
         append(text, b" ");

@@ -6,7 +6,7 @@ ghost use Rattle.arrayvec.specs.ArrayVec.{array_vec_len};
 ghost use Rattle.gc_catalogue.specs.declared.asked.Asked.TheVariants.{Table};
 ghost use Rattle.gc_texts.specs.Cuts.{before, behind};
 ghost use Rattle.gc_texts.specs.Endings.{ending_seen};
-ghost use Rattle.gc_rows.specs.Rows.{com_of, code_of, values_of, AreNoLonger, is_special, within_quotes, csv_field, field_text, behind_comma, fields_behind_commas, fault_field, reply_fields, ending_fields, moment_text, when_fields, command_fields, answer_columns, quantity_fields, last_fields, fields_after_ending, spread, value_behind_comma, row_of, row_fields};
+ghost use Rattle.gc_rows.specs.Rows.{Adds, com_of, code_of, values_of, AreNoLonger, is_special, within_quotes, csv_field, field_text, behind_comma, fields_behind_commas, fault_field, reply_fields, ending_fields, moment_text, when_fields, command_fields, answer_columns, quantity_fields, last_fields, fields_after_ending, spread, value_behind_comma, row_of, row_fields};
 ghost use Rattle.gc_rows.specs.Quantities.{column_of, quantity_text};
 ghost use Rattle.gc_rows.specs.declared.row.TheConstants.{WHEN_ROOM, COMMAND_ROOM, REPLY_ROOM, ENDING_ROOM, VALUE_ROOM, QUANTITIES_ROOM, LAST_ROOM, AFTER_ENDING_ROOM};
 ghost use Rattle.gc_catalogue.specs.Answers.{answer_fields};
@@ -102,8 +102,7 @@ fn needs_quotes(text: &[u8]) -> bool
 // Appends a text, as it is written within quotes: each double quote twice.
 fn append_doubled<const N: usize>(to: &mut ArrayVec<u8, N>, text: &[u8])
     requires { array_vec_len to.old + 2 * length text.now ≤ N }
-    ensures text { to.new.items ≡ to.old.items ++ flat_map within_quotes text.now }
-    ensures room { array_vec_len to.new ≤ array_vec_len to.old + 2 * length text.now }
+    ensures { Adds to.old.items to.new.items (flat_map within_quotes text.now) (2 * length text.now) }
 {
     for b in text {
         if *b == b'"' {
@@ -117,8 +116,7 @@ fn append_doubled<const N: usize>(to: &mut ArrayVec<u8, N>, text: &[u8])
 // Appends a text as a field: within double quotes if it has a byte that needs them, else as it is.
 fn append_csv_field<const N: usize>(row: &mut ArrayVec<u8, N>, text: &[u8])
     requires { array_vec_len row.old + 2 * length text.now + 2 ≤ N }
-    ensures text { row.new.items ≡ row.old.items ++ csv_field text.now }
-    ensures room { array_vec_len row.new ≤ array_vec_len row.old + 2 * length text.now + 2 }
+    ensures { Adds row.old.items row.new.items (csv_field text.now) (2 * length text.now + 2) }
 {
     if needs_quotes(text) {
         append(row, b"\"");
@@ -133,8 +131,7 @@ fn append_csv_field<const N: usize>(row: &mut ArrayVec<u8, N>, text: &[u8])
 fn append_field<const N: usize>(row: &mut ArrayVec<u8, N>, bytes: &[u8])
     requires short { length bytes.now ≤ 514 }
     requires room { array_vec_len row.old + 8 * length bytes.now + 2 ≤ N }
-    ensures text { row.new.items ≡ row.old.items ++ field_text bytes.now }
-    ensures room { array_vec_len row.new ≤ array_vec_len row.old + 8 * length bytes.now + 2 }
+    ensures { Adds row.old.items row.new.items (field_text bytes.now) (8 * length bytes.now + 2) }
 {
     append_csv_field(row, &escaped(bytes));
 }
@@ -143,8 +140,7 @@ fn append_field<const N: usize>(row: &mut ArrayVec<u8, N>, bytes: &[u8])
 fn append_field_after_comma<const N: usize>(row: &mut ArrayVec<u8, N>, bytes: &[u8])
     requires short { length bytes.now ≤ 514 }
     requires room { array_vec_len row.old + 8 * length bytes.now + 3 ≤ N }
-    ensures text { row.new.items ≡ row.old.items ++ behind_comma bytes.now }
-    ensures room { array_vec_len row.new ≤ array_vec_len row.old + 8 * length bytes.now + 3 }
+    ensures { Adds row.old.items row.new.items (behind_comma bytes.now) (8 * length bytes.now + 3) }
 {
     append(row, b",");
     append_field(row, bytes);
@@ -173,8 +169,7 @@ fn moment_text(moment: Option<u64>) -> ArrayVec<u8, STAMP_ROOM>
 // Appends when a command was sent and ended, and which command of its run it was: four fields.
 fn append_when<const N: usize>(row: &mut ArrayVec<u8, N>, when: &When)
     requires { array_vec_len row.old + WHEN_ROOM ≤ N }
-    ensures text { row.new.items ≡ row.old.items ++ fields_behind_commas (when_fields when.now) }
-    ensures room { array_vec_len row.new ≤ array_vec_len row.old + WHEN_ROOM }
+    ensures { Adds row.old.items row.new.items (fields_behind_commas (when_fields when.now)) WHEN_ROOM }
 {
     let mut digits = Buffer::new();
     append_field_after_comma(row, &moment_text(when.stamp.sent));
@@ -187,8 +182,7 @@ fn append_when<const N: usize>(row: &mut ArrayVec<u8, N>, when: &When)
 fn append_command<const N: usize>(row: &mut ArrayVec<u8, N>, command: &Wish, name: &[u8])
     requires short { length name.now ≤ 64 }
     requires room { array_vec_len row.old + COMMAND_ROOM ≤ N }
-    ensures text { row.new.items ≡ row.old.items ++ fields_behind_commas (command_fields command.now name.now) }
-    ensures room { array_vec_len row.new ≤ array_vec_len row.old + COMMAND_ROOM }
+    ensures { Adds row.old.items row.new.items (fields_behind_commas (command_fields command.now name.now)) COMMAND_ROOM }
 {
     let mut digits = Buffer::new();
     append_field_after_comma(row, digits.format(command.target).as_bytes());
@@ -211,8 +205,7 @@ fn fault_text(fault: Option<ValueFault>) -> ArrayVec<u8, 20>
 // line.
 fn append_reply<const N: usize>(row: &mut ArrayVec<u8, N>, line: Option<&Line>)
     requires { array_vec_len row.old + REPLY_ROOM ≤ N }
-    ensures text { row.new.items ≡ row.old.items ++ fields_behind_commas (reply_fields (option_map (λ l. l.now.items) line.entry)) }
-    ensures room { array_vec_len row.new ≤ array_vec_len row.old + REPLY_ROOM }
+    ensures { Adds row.old.items row.new.items (fields_behind_commas (reply_fields (option_map (λ l. l.now.items) line.entry))) REPLY_ROOM }
 {
     match line {
         Some(line) => {
@@ -228,8 +221,7 @@ fn append_reply<const N: usize>(row: &mut ArrayVec<u8, N>, line: Option<&Line>)
 // Appends how a command ended: its word, its fault, and the three fields of its reply's line.
 fn append_ending<const N: usize>(row: &mut ArrayVec<u8, N>, ending: Ending<'_>)
     requires { array_vec_len row.old + ENDING_ROOM ≤ N }
-    ensures text { row.new.items ≡ row.old.items ++ fields_behind_commas (ending_fields (ending_seen ending.entry)) }
-    ensures room { array_vec_len row.new ≤ array_vec_len row.old + ENDING_ROOM }
+    ensures { Adds row.old.items row.new.items (fields_behind_commas (ending_fields (ending_seen ending.entry))) ENDING_ROOM }
 {
     append_field_after_comma(row, ending.word());
     append_field_after_comma(row, &fault_text(ending.fault()));
@@ -240,8 +232,7 @@ fn append_ending<const N: usize>(row: &mut ArrayVec<u8, N>, ending: Ending<'_>)
 fn append_values<const N: usize>(row: &mut ArrayVec<u8, N>, values: &[Value])
     requires few { length values.now ≤ 6 }
     requires room { array_vec_len row.old + VALUE_ROOM * length values.now ≤ N }
-    ensures text { row.new.items ≡ row.old.items ++ flat_map value_behind_comma values.now }
-    ensures room { array_vec_len row.new ≤ array_vec_len row.old + VALUE_ROOM * length values.now }
+    ensures { Adds row.old.items row.new.items (flat_map value_behind_comma values.now) (VALUE_ROOM * length values.now) }
 {
     for value in values {
         append_field_after_comma(row, &quantity_text(value));
@@ -251,8 +242,7 @@ fn append_values<const N: usize>(row: &mut ArrayVec<u8, N>, values: &[Value])
 // Appends the quantities of an answer to a call, each in its column; the other columns are empty.
 fn append_columns<const N: usize>(row: &mut ArrayVec<u8, N>, call: &Call, answer: &Answer)
     requires { array_vec_len row.old + QUANTITIES_ROOM ≤ N }
-    ensures text { row.new.items ≡ row.old.items ++ fields_behind_commas (answer_columns (Table call.now) answer.now) }
-    ensures room { array_vec_len row.new ≤ array_vec_len row.old + QUANTITIES_ROOM }
+    ensures { Adds row.old.items row.new.items (fields_behind_commas (answer_columns (Table call.now) answer.now)) QUANTITIES_ROOM }
 {
     let values = answer_values(answer);
     let first = column_of(call, answer);
@@ -264,8 +254,7 @@ fn append_columns<const N: usize>(row: &mut ArrayVec<u8, N>, call: &Call, answer
 // Appends the quantities of an answer to `asked`, each in its column. All columns are empty if the procedure isn't in the table.
 fn append_answer<const N: usize>(row: &mut ArrayVec<u8, N>, asked: &Asked, answer: &Answer)
     requires { array_vec_len row.old + QUANTITIES_ROOM ≤ N }
-    ensures text { row.new.items ≡ row.old.items ++ fields_behind_commas (answer_columns asked.now answer.now) }
-    ensures room { array_vec_len row.new ≤ array_vec_len row.old + QUANTITIES_ROOM }
+    ensures { Adds row.old.items row.new.items (fields_behind_commas (answer_columns asked.now answer.now)) QUANTITIES_ROOM }
 {
     match asked {
         Asked::Table(call) => append_columns(row, call, answer),
@@ -277,8 +266,7 @@ fn append_answer<const N: usize>(row: &mut ArrayVec<u8, N>, asked: &Asked, answe
 // `Answered`, or has no answer (`None`).
 fn append_quantities<const N: usize>(row: &mut ArrayVec<u8, N>, asked: &Asked, ending: Ending<'_>)
     requires { array_vec_len row.old + QUANTITIES_ROOM ≤ N }
-    ensures text { row.new.items ≡ row.old.items ++ fields_behind_commas (quantity_fields asked.now (ending_seen ending.entry)) }
-    ensures room { array_vec_len row.new ≤ array_vec_len row.old + QUANTITIES_ROOM }
+    ensures { Adds row.old.items row.new.items (fields_behind_commas (quantity_fields asked.now (ending_seen ending.entry))) QUANTITIES_ROOM }
 {
     match ending {
         Ending::Answered(_, Some(answer), _) => append_answer(row, asked, answer),
@@ -290,8 +278,7 @@ fn append_quantities<const N: usize>(row: &mut ArrayVec<u8, N>, asked: &Asked, e
 // chain or, for a command of the setup, of the setup.
 fn append_last<const N: usize>(row: &mut ArrayVec<u8, N>, when: &When, ending: Ending<'_>)
     requires { array_vec_len row.old + LAST_ROOM ≤ N }
-    ensures text { row.new.items ≡ row.old.items ++ fields_behind_commas (last_fields when.now (ending_seen ending.entry)) }
-    ensures room { array_vec_len row.new ≤ array_vec_len row.old + LAST_ROOM }
+    ensures { Adds row.old.items row.new.items (fields_behind_commas (last_fields when.now (ending_seen ending.entry))) LAST_ROOM }
 {
     append_field_after_comma(row, ending.quality_text());
     append_field_after_comma(
@@ -308,8 +295,7 @@ fn append_after_ending<const N: usize>(
     ended: EndedCommand<'_>,
 )
     requires { array_vec_len row.old + AFTER_ENDING_ROOM ≤ N }
-    ensures text { row.new.items ≡ row.old.items ++ fields_behind_commas (fields_after_ending columns ended.entry.when ended.entry.command.now.call (ending_seen ended.entry.ending)) }
-    ensures room { array_vec_len row.new ≤ array_vec_len row.old + AFTER_ENDING_ROOM }
+    ensures { Adds row.old.items row.new.items (fields_behind_commas (fields_after_ending columns ended.entry.when ended.entry.command.now.call (ending_seen ended.entry.ending))) AFTER_ENDING_ROOM }
 {
     if columns {
         append_quantities(row, &ended.command.call, ended.ending);

@@ -17,9 +17,10 @@ use Rattle.gc_scenes.specs.SceneExecution.{Played, plays, played_call, unless_fa
 use Rattle.gc_scenes.specs.SceneReplying.{IsHanded, IsPlayed, answers, names_call, resent_line, again_or_played, handed_call, played_line}
 use Rattle.gc_scenes.specs.SceneState.{SceneState}
 use Rattle.gc_scene_world.specs.SceneRuns.{scene_handed, scene_ends}
-use Rattle.gc_scene_world.specs.SceneStages.{Notes}
+use Rattle.gc_scene_world.specs.SceneStages.{CountsExecution}
 use Rattle.gc_world.specs.Exchange.{IsExchange, ReadsWithItsId}
-use Rattle.gc_world.proofs.Handing.{kept_id, again_kept, kept_reads, other_id, reply_heard}
+use Rattle.gc_instrument.specs.State.{kept_id}
+use Rattle.gc_world.proofs.Handing.{again_kept, kept_reads, id_is_not_kept, reply_heard}
 use Rattle.std.proofs.lemmas.Option.{same_Some, none-some}
 
 -- The reply to a request line.
@@ -34,12 +35,12 @@ plays_line s id call small fits =
 
 -- where the instrument got the request line of a call with values in range and an id below 8, and its reply, if there is one (b),
 -- was appended to the empty text, the state then and this text are those that `scene_handed` says (`IsHanded`)
-pub exchanged : (s after : SceneState) (new : List ℕ) (b : Bool) (id : ℕ) (call : Call) → id < 8 → IsFitting call
+pub exchanged_is_handed : (s after : SceneState) (new : List ℕ) (b : Bool) (id : ℕ) (call : Call) → id < 8 → IsFitting call
     → AppendsAnswer (IsPlayed s (request_line (Some id) call) after) [] new b → IsHanded (scene_handed s id call) after new
-exchanged s after new true id call small fits h =
+exchanged_is_handed s after new true id call small fits h =
     let one = one_reply s after (scene_handed s id call).state (request_line (Some id) call) (Some h.0) (Some (scene_handed s id call).reply) h.1 (plays_line s id call small fits) in
     record { state = one.0; line = h.2 ∙ same_Some h.0 (scene_handed s id call).reply one.1 }
-exchanged s after new false id call small fits h =
+exchanged_is_handed s after new false id call small fits h =
     let one = one_reply s after (scene_handed s id call).state (request_line (Some id) call) None (Some (scene_handed s id call).reply) h.0 (plays_line s id call small fits) in
     absurd (none-some (scene_handed s id call).reply one.1)
 
@@ -52,8 +53,8 @@ StoredReads s = ReadsWithItsId s.base.kept
 -- where the stored line reads as a reply with the stored id, the request's reply has the request's id, and the line that is
 -- stored after the request reads as a reply with the id that is stored then
 record KeepsIds (s : SceneState) (id : ℕ) (h : Handed SceneState) : Type 0 where
-  reads : ReadsWithItsId s.base.kept → heard h.reply ≡ Some id
-  good : ReadsWithItsId s.base.kept → ReadsWithItsId h.state.base.kept
+  reads : StoredReads s → heard h.reply ≡ Some id
+  good : StoredReads s → StoredReads h.state
 
 -- `KeepsIds` holds of a request with an id below 8 that is answered by the line sent again (`o`), if there is one, or else by
 -- what was played, whose return code has 16 bits
@@ -91,42 +92,42 @@ same_repeats s rpc call (Some code) = refl
 same_repeats s rpc call None = refl
 
 -- where a request was answered by the line sent again (`o`), if there is one, or else by what was played (`p`), and the count of
--- executions, the length of xs, changed as `Notes` says, it is the length of xs with n at its end if the request was executed,
--- and else still that of xs
+-- executions, the length of xs, changed as `CountsExecution` says, it is the length of xs with n at its end if the request was
+-- executed, and else still that of xs
 execution_counted_by : (s : SceneState) (id : ℕ) (p : Played) (o : Option (List ℕ)) (new : ℕ) (xs : List ℕ) (n : ℕ) → resent_line s (Some id) ≡ o → p.state.repeats ≡ s.repeats
-    → Notes s.repeats (kept_id s.base.kept) (kept_id (again_or_played s (Some id) p o).state.base.kept) (length xs) new
+    → CountsExecution s.repeats (kept_id s.base.kept) (kept_id (again_or_played s (Some id) p o).state.base.kept) (length xs) new
     → new ≡ length (cond (again_or_played s (Some id) p o).executed (xs ++ n ∷ []) xs)
 execution_counted_by s id p (Some line) new xs n again same h = by_repeats s.repeats refl
   where
-    -- by whether the instrument repeats
+    -- the lemma above, by whether the instrument repeats (`b`)
     by_repeats : (b : Bool) → s.repeats ≡ b → new ≡ length xs
     by_repeats true e = h.same e refl
     by_repeats false e = absurd (none-some line (sym (ap (λ b. cond b (kept_line s.base.kept (Some id)) None) e) ∙ again))
 execution_counted_by s id p None new xs n again same h = by_repeats s.repeats refl ∙ sym (length_push xs n)
   where
-    -- by whether the instrument repeats
+    -- the lemma above, by whether the instrument repeats (`b`)
     by_repeats : (b : Bool) → s.repeats ≡ b → new ≡ length xs + 1
     by_repeats false e = h.never e
     by_repeats true e =
         let none : kept_line s.base.kept (Some id) ≡ None = sym (ap (λ b. cond b (kept_line s.base.kept (Some id)) None) e) ∙ again in
         let kept : kept_id (again_or_played s (Some id) p None).state.base.kept ≡ Some id =
         ap (λ b. kept_id (cond b (kept_after p.state.base.kept (Some id) (played_line id p)) None)) (same ∙ e) in
-        h.another (λ equal. other_id s.base.kept id none (equal ∙ kept))
+        h.another (λ equal. id_is_not_kept s.base.kept id none (equal ∙ kept))
 
--- where the count of executions was the length of xs, and changes as `Notes` says, it is the length of xs with n at its end if
--- the request was executed, and else still that of xs
+-- where the count of executions was the length of xs, and changes as `CountsExecution` says, it is the length of xs with n at its
+-- end if the request was executed, and else still that of xs
 pub execution_counted : (s : SceneState) (id : ℕ) (call : Call) (after : SceneState) (old new : ℕ) (xs : List ℕ) (n : ℕ) → after ≡ (scene_handed s id call).state
-    → Notes s.repeats (kept_id s.base.kept) (kept_id after.base.kept) old new → old ≡ length xs
+    → CountsExecution s.repeats (kept_id s.base.kept) (kept_id after.base.kept) old new → old ≡ length xs
     → new ≡ length (cond (scene_handed s id call).executed (xs ++ n ∷ []) xs)
 unfolding handed_call
 execution_counted s id call after old new xs n is h count =
     let rpc = (call_fields call).number in
     execution_counted_by s id (played_call s rpc call) (resent_line s (Some id)) new xs n refl (same_repeats s rpc call (fault_of rpc s.faults))
-    (subst (λ (t : SceneState). Notes s.repeats (kept_id s.base.kept) (kept_id t.base.kept) (length xs) new) is
-    (subst (λ k. Notes s.repeats (kept_id s.base.kept) (kept_id after.base.kept) k new) count h))
+    (subst (λ (t : SceneState). CountsExecution s.repeats (kept_id s.base.kept) (kept_id t.base.kept) (length xs) new) is
+    (subst (λ k. CountsExecution s.repeats (kept_id s.base.kept) (kept_id after.base.kept) k new) count h))
 
--- where `Notes` holds of r, b and a, it holds of values equal to these
-pub notes_are : {r repeats : Bool} {b before a after : Option ℕ} {old new : ℕ} → r ≡ repeats → b ≡ before → a ≡ after → Notes r b a old new
-    → Notes repeats before after old new
-notes_are {r} {repeats} {b} {before} {a} {after} {old} {new} er eb ea h =
-    subst (λ (x : Bool). Notes x before after old new) er (subst (λ (x : Option ℕ). Notes r x after old new) eb (subst (λ (x : Option ℕ). Notes r b x old new) ea h))
+-- if `CountsExecution` holds, it holds with values equal to its first three in their places, too
+pub counts_of_equal : {r repeats : Bool} {b before a after : Option ℕ} {old new : ℕ} → r ≡ repeats → b ≡ before → a ≡ after → CountsExecution r b a old new
+    → CountsExecution repeats before after old new
+counts_of_equal {r} {repeats} {b} {before} {a} {after} {old} {new} er eb ea h =
+    subst (λ (x : Bool). CountsExecution x before after old new) er (subst (λ (x : Option ℕ). CountsExecution r x after old new) eb (subst (λ (x : Option ℕ). CountsExecution r b x old new) ea h))

@@ -17,7 +17,7 @@ use Rattle.gc_world.specs.Staging.{after_event, after_bytes}
 use Rattle.gc_world.specs.Streams.{Streams, up_texts, down_texts, remaining}
 use Rattle.gc_world.specs.World.{Request, Numbered, Wire, World, up_delivered, down_delivered, happens}
 use Rattle.gc_world.proofs.Counts.{one_answered}
-use Rattle.gc_world.proofs.Handed.{next, next_same, next_idle, ended}
+use Rattle.gc_world.proofs.Handed.{next, next_same, next_idle, none_to_hand_over}
 use Rattle.gc_world.proofs.Streaming.{cut_short}
 
 -- from the wire `old` to the wire `new`, executions and requests in flight together don't grow, nor do replies made and
@@ -26,7 +26,7 @@ pub record IsNoMore (old new : Wire SceneState) : Type 0 where
   pub executed : length new.executed + length new.up ≤ length old.executed + length old.up
   pub made : length new.made + length new.up ≤ length old.made + length old.up
 
--- a delivery upward keeps to `IsNoMore`
+-- a delivery upward leads to a wire with no more executions, replies and requests in flight, as `IsNoMore` counts them
 up_no_more : (w : Wire SceneState) (q : List (Numbered Request)) → w.up ≡ q → IsNoMore w (up_delivered scene_ends w q)
 up_no_more w [] e = record { executed = omega arith; made = omega arith }
 up_no_more w (x ∷ rest) e =
@@ -37,15 +37,16 @@ up_no_more w (x ∷ rest) e =
       made = omega (arith, up, length_push w.made m);
     }
 
--- a delivery downward keeps to `IsNoMore`
+-- a delivery downward leads to a wire with no more executions, replies and requests in flight, as `IsNoMore` counts them
 down_no_more : (width : ℕ) (w : World (ById Call) SceneState) (q : List (Numbered (List ℕ))) → IsNoMore w.wire (down_delivered (by_ids width scene_ends) w q).wire
 down_no_more width w [] = record { executed = omega arith; made = omega arith }
 down_no_more width w (x ∷ rest) = record { executed = omega arith; made = omega arith }
 
--- a delivery in either direction keeps to `IsNoMore`
-no_more : (width : ℕ) (d : Direction) (w : World (ById Call) SceneState) → IsNoMore w.wire (happens scene_ends (by_ids width scene_ends) w (deliver d)).wire
-no_more width Up w = up_no_more w.wire w.wire.up refl
-no_more width Down w = down_no_more width w w.wire.down
+-- a delivery in either direction leads to a wire with no more executions, replies and requests in flight, as `IsNoMore` counts
+-- them
+delivered_no_more : (width : ℕ) (d : Direction) (w : World (ById Call) SceneState) → IsNoMore w.wire (happens scene_ends (by_ids width scene_ends) w (deliver d)).wire
+delivered_no_more width Up w = up_no_more w.wire w.wire.up refl
+delivered_no_more width Down w = down_no_more width w w.wire.down
 
 -- a delivery as an event leads to the same wire as the delivery as a step
 delivered_wire : (width : ℕ) (d : Direction) (v : Streams (ById Call) SceneState)
@@ -62,9 +63,9 @@ pub record IsReached (width : ℕ) (d : Direction) (s : StageParts) (v : Streams
   pub idle : now.world.wire.idle ≡ v.world.wire.idle
   pub room : IsNoMore v.world.wire now.world.wire
 
--- `IsReached` holds before any byte was handed over
-pub reached : (width : ℕ) (d : Direction) (s : StageParts) (v : Streams (ById Call) SceneState) (n : ℕ) → AreStreamsOf width s v → IsReached width d s v n n
-reached width d s v n h = record { now = v; shows = h; same = refl; idle = refl; room = record { executed = omega arith; made = omega arith } }
+-- if a stage shows streams, `IsReached` holds of them before any of n bytes was handed over
+pub reached_at_start : (width : ℕ) (d : Direction) (s : StageParts) (v : Streams (ById Call) SceneState) (n : ℕ) → AreStreamsOf width s v → IsReached width d s v n n
+reached_at_start width d s v n h = record { now = v; shows = h; same = refl; idle = refl; room = record { executed = omega arith; made = omega arith } }
 
 module _ (width : ℕ) (d : Direction) (s : StageParts) (v : Streams (ById Call) SceneState) (n left : ℕ) (h : IsReached width d s v n left) where
   -- `IsReached` holds also once the front line was delivered, with `used` bytes fewer left: those of the line that were still to
@@ -73,7 +74,7 @@ module _ (width : ℕ) (d : Direction) (s : StageParts) (v : Streams (ById Call)
       → AreStreamsOf width t (after_event scene_ends width h.now (delivery d)) → IsReached width d t v n (left - used)
   reaches_next t used e some le shows =
       let one = next scene_ends (by_ids width scene_ends) d h.now left used e some le in
-      let more = subst (IsNoMore h.now.world.wire) (sym (delivered_wire width d h.now)) (no_more width d h.now.world) in
+      let more = subst (IsNoMore h.now.world.wire) (sym (delivered_wire width d h.now)) (delivered_no_more width d h.now.world) in
       record {
         now = after_event scene_ends width h.now (delivery d);
         shows = shows;
@@ -88,11 +89,12 @@ module _ (width : ℕ) (d : Direction) (s : StageParts) (v : Streams (ById Call)
 
   -- where no byte of the direction is in flight any more, the stage shows the streams that all n bytes lead to
   pub runs_dry : (r : ℕ) → IsRemainder d h.now r → r ≡ 0 → AreStreamsOf width s (after_bytes scene_ends width d v n)
-  runs_dry r is e = subst (λ x. AreStreamsOf width s x) (sym (ended scene_ends (by_ids width scene_ends) d h.now left is.part (sym is.left ∙ e)) ∙ h.same) h.shows
+  runs_dry r is e = subst (λ x. AreStreamsOf width s x) (sym (none_to_hand_over scene_ends (by_ids width scene_ends) d h.now left is.part (sym is.left ∙ e)) ∙ h.same) h.shows
 
 -- Bytes that complete no line.
 
--- once n bytes of the upward front line were handed over that don't complete it, the streams with n more gone are shown
+-- if n bytes of the upward front line don't complete it, the stage with n more bytes of its upward lane gone (`further`) shows the
+-- streams that handing them over leads to
 pub begins_up : (width : ℕ) (s : StageParts) (v : Streams (ById Call) SceneState) (n : ℕ) (lane : Flight) → AreStreamsOf width s v
     → n < remaining v.up_gone (map with_end (up_texts v.world.wire)) → lane ≡ further s.up n
     → AreStreamsOf width (record s { up = lane }) (handed_over scene_ends (by_ids width scene_ends) Up v n)
@@ -108,7 +110,8 @@ begins_up width s v n lane h lt is =
       counts = h.counts;
     })
 
--- once n bytes of the downward front line were handed over that don't complete it, the streams with n more gone are shown
+-- if n bytes of the downward front line don't complete it, the stage with n more bytes of its downward lane gone (`further`) shows
+-- the streams that handing them over leads to
 pub begins_down : (width : ℕ) (s : StageParts) (v : Streams (ById Call) SceneState) (n : ℕ) (lane : Flight) → AreStreamsOf width s v
     → n < remaining v.down_gone (map with_end (down_texts v.world.wire)) → lane ≡ further s.down n
     → AreStreamsOf width (record s { down = lane }) (handed_over scene_ends (by_ids width scene_ends) Down v n)

@@ -13,8 +13,8 @@ use Rattle.gc_world.proofs.Pieces.{end_length}
 use Rattle.gc_world.proofs.Queues.{without_map, doubled_past}
 
 -- a lane with these texts and this many bytes gone is the record of both
-pub flight : (f : Flight) (texts : List (List ℕ)) (gone : ℕ) → f.texts ≡ texts → f.gone ≡ gone → f ≡ record { texts = texts; gone = gone }
-flight f texts gone e1 e2 = ap₂ {C = Flight} (λ (t : List (List ℕ)) n. record { texts = t; gone = n }) e1 e2
+pub flight_is : (f : Flight) (texts : List (List ℕ)) (gone : ℕ) → f.texts ≡ texts → f.gone ≡ gone → f ≡ record { texts = texts; gone = gone }
+flight_is f texts gone e1 e2 = ap₂ {C = Flight} (λ (t : List (List ℕ)) n. record { texts = t; gone = n }) e1 e2
 
 -- 0 gone bytes are a part (`IsPart`) of any lines with their CR LF, also of none
 pub part_none : (texts : List (List ℕ)) → IsPart 0 (map with_end texts)
@@ -55,24 +55,24 @@ module _ {A : Type 0} (f : A → List ℕ) where
       subst (λ q. IsPart gone (map with_end q)) (without_map f k old ∙ sym (ap (map f) is)) (part_without k gone (map f old) whole h)
 
   -- once line k, which hasn't begun to go, was taken out of the lines, the lane is what `losing` says
-  pub lost_is : (k gone : ℕ) (old new : List A) → is_begun k gone ≡ false → new ≡ without k old
+  pub lane_is_losing : (k gone : ℕ) (old new : List A) → is_begun k gone ≡ false → new ≡ without k old
       → ◌≡◌ {A = Flight} (record { texts = map f new; gone = gone }) (losing k (record { texts = map f old; gone = gone }))
-  lost_is k gone old new whole is =
+  lane_is_losing k gone old new whole is =
       ap {B = Flight} (λ (t : List (List ℕ)). record { texts = t; gone = gone }) (ap (map f) is ∙ sym (without_map f k old))
       ∙ ap {B = Flight} (λ b. cond b (record { texts = map f old; gone = gone }) (record { texts = without k (map f old); gone = gone })) (sym whole)
 
   -- a repeat of a line that isn't there changes nothing
-  pub repeat_none : (k gone : ℕ) (old : List A) → length old ≤ k
+  pub none_to_repeat : (k gone : ℕ) (old : List A) → length old ≤ k
       → ◌≡◌ {A = Flight} (record { texts = map f old; gone = gone }) (repeating k (record { texts = map f old; gone = gone }))
-  repeat_none k gone old past =
+  none_to_repeat k gone old past =
       let same : doubled k (map f old) ≡ map f old = doubled_past k (map f old) (omega (arith, past, length-map old f)) in
-      either (is_begun k gone) (record { texts = map f old; gone = gone }) (record { texts = doubled k (map f old); gone = gone })
+      equal_chosen (is_begun k gone) (record { texts = map f old; gone = gone }) (record { texts = doubled k (map f old); gone = gone })
       (ap {B = Flight} (λ (t : List (List ℕ)). record { texts = t; gone = gone }) (sym same))
     where
       -- where x and y are equal, x is whichever of them a test chooses
-      either : (b : Bool) (x y : Flight) → x ≡ y → x ≡ cond b x y
-      either true x y e = refl
-      either false x y e = e
+      equal_chosen : (b : Bool) (x y : Flight) → x ≡ y → x ≡ cond b x y
+      equal_chosen true x y e = refl
+      equal_chosen false x y e = e
 
   -- inserting at a line's place a line with the same text doubles the text
   doubled_text : (xs : List A) (k : ℕ) (x y : A) → k < length xs → x ≡ get_or xs k x → f y ≡ f x → map f (insert xs k y) ≡ doubled k (map f xs)
@@ -87,8 +87,8 @@ module _ {A : Type 0} (f : A → List ℕ) where
       subst (λ q. IsPart gone (map with_end q)) (sym (ap (map f) is ∙ doubled_text old k x y lt at same)) (part_doubled k gone (map f old) h)
 
   -- once a line with the text of line k, which hasn't begun to go, was put in at its place, the lane is what `repeating` says
-  pub repeat_is : (k gone : ℕ) (old new : List A) (x y : A) (whole : is_begun k gone ≡ false) (there : k < length old) (at : x ≡ get_or old k x) (same : f y ≡ f x)
+  pub lane_is_repeating : (k gone : ℕ) (old new : List A) (x y : A) (whole : is_begun k gone ≡ false) (there : k < length old) (at : x ≡ get_or old k x) (same : f y ≡ f x)
       (is : new ≡ insert old k y) → ◌≡◌ {A = Flight} (record { texts = map f new; gone = gone }) (repeating k (record { texts = map f old; gone = gone }))
-  repeat_is k gone old new x y whole lt at same is =
+  lane_is_repeating k gone old new x y whole lt at same is =
       ap {B = Flight} (λ (t : List (List ℕ)). record { texts = t; gone = gone }) (ap (map f) is ∙ doubled_text old k x y lt at same)
       ∙ ap {B = Flight} (λ b. cond b (record { texts = map f old; gone = gone }) (record { texts = doubled k (map f old); gone = gone })) (sym whole)

@@ -16,9 +16,9 @@ use Rattle.gc_scene_world.specs.declared.report.Counts.{Counts}
 use Rattle.gc_scene_world.specs.Lanes.{Flight, is_whole, losing, repeating, pushed}
 use Rattle.gc_scene_world.specs.SceneReports.{AreCounts}
 use Rattle.gc_scene_world.specs.SceneRuns.{scene_handed, scene_ends}
-use Rattle.gc_scene_world.specs.SceneStages.{StageParts, AreStreamsOf, MayBeWritten, IsRemainder, Notes}
-use Rattle.gc_scene_world.proofs.Exchanges.{execution_counted, exchanged}
-use Rattle.gc_scene_world.proofs.Lanes.{flight}
+use Rattle.gc_scene_world.specs.SceneStages.{StageParts, AreStreamsOf, MayBeWritten, IsRemainder, CountsExecution}
+use Rattle.gc_scene_world.proofs.Exchanges.{execution_counted, exchanged_is_handed}
+use Rattle.gc_scene_world.proofs.Lanes.{flight_is}
 use Rattle.gc_world.specs.declared.direction.Direction.{Direction}
 use Rattle.gc_world.specs.declared.event.Event.TheVariants as event
 use Rattle.gc_world.specs.Clients.{by_ids}
@@ -27,7 +27,7 @@ use Rattle.gc_world.specs.Staging.{after_event}
 use Rattle.gc_world.specs.Streams.{Streams, is_begun, at_line}
 use Rattle.gc_world.specs.World.{Request, Numbered, Wire, World, bytes_of, Step, Up_lose, Up_repeat, Down_lose, Down_repeat, Nothing, without, doubled, idle, up_delivered, with_up, with_down, on_wire, happens}
 use Rattle.gc_world.proofs.Directions.{bytes_pass, idle_bytes}
-use Rattle.gc_world.proofs.Handing.{kept_id}
+use Rattle.gc_instrument.specs.State.{kept_id}
 use Rattle.gc_world.proofs.Queues.{without_map, doubled_map, without_past, doubled_past}
 use Rattle.gc_world.proofs.Rows.{each_without, each_doubled}
 
@@ -44,19 +44,19 @@ tallied false c = record c { idle_events = c.idle_events + 1 }
 pub tallied_is : (b : Bool) (c : Counts) (n : ℕ) → n ≡ cond b c.idle_events (c.idle_events + 1) → tallied b c ≡ record c { idle_events = n }
 tallied_is b c n is = by_possible b ∙ ap (λ (i : ℕ). record c { idle_events = i }) (sym is)
   where
-    -- by whether the event is possible
+    -- the lemma above without n, by whether the event is possible (`t`)
     by_possible : (t : Bool) → tallied t c ≡ record c { idle_events = cond t c.idle_events (c.idle_events + 1) }
     by_possible true = refl
     by_possible false = refl
 
 -- an event that is not possible is counted in the stage as in the wire
-counts_idle : (c : Counts) (w : Wire SceneState) → AreCounts c w → AreCounts (tallied false c) (idle w)
-counts_idle c w h = record { sent = h.sent; executed = h.executed; made = h.made; refused = h.refused; idle = ap (λ n. n + 1) h.idle }
+idle_is_counted : (c : Counts) (w : Wire SceneState) → AreCounts c w → AreCounts (tallied false c) (idle w)
+idle_is_counted c w h = record { sent = h.sent; executed = h.executed; made = h.made; refused = h.refused; idle = ap (λ n. n + 1) h.idle }
 
 -- the counts of a wire are also those of this wire with other requests and replies in flight
-counts_queues : (c : Counts) (w : Wire SceneState) (up : List (Numbered Request)) (down : List (Numbered (List ℕ))) → AreCounts c w
+counts_of_other_queues : (c : Counts) (w : Wire SceneState) (up : List (Numbered Request)) (down : List (Numbered (List ℕ))) → AreCounts c w
     → AreCounts c (record w { up = up; down = down })
-counts_queues c w up down h = record { sent = h.sent; executed = h.executed; made = h.made; refused = h.refused; idle = h.idle }
+counts_of_other_queues c w up down h = record { sent = h.sent; executed = h.executed; made = h.made; refused = h.refused; idle = h.idle }
 
 -- the front request was handed to the instrument, as the functions' contracts say. `request` is its text. `up`, `instrument` and
 -- `down` are the stage's parts then, and `executed` is its count of executions. `reply` is the text `old`, which was empty, with
@@ -74,7 +74,7 @@ pub record HandsToInstrument (s : StageParts) : Type 0 where
   pub start : up.gone ≡ 0
   pub empty : old ≡ []
   pub played : AppendsAnswer (IsPlayed s.instrument request instrument) old reply answers
-  pub notes : Notes s.instrument.repeats (kept_id s.instrument.base.kept) (kept_id instrument.base.kept) s.counts.executed executed
+  pub notes : CountsExecution s.instrument.repeats (kept_id s.instrument.base.kept) (kept_id instrument.base.kept) s.counts.executed executed
   pub down_is : down ≡ pushed s.down reply
 
 -- the stage after that, with one more reply made
@@ -101,7 +101,7 @@ module _ (width : ℕ) (s : StageParts) (v : Streams (ById Call) SceneState) (h 
     down = h.down;
     requests = h.requests;
     settled = h.settled;
-    counts = counts_idle s.counts v.world.wire h.counts;
+    counts = idle_is_counted s.counts v.world.wire h.counts;
   }
 
   -- Deliveries.
@@ -110,7 +110,7 @@ module _ (width : ℕ) (s : StageParts) (v : Streams (ById Call) SceneState) (h 
   pub streams_up_deliver : (left : HandsToInstrument s) → AreStreamsOf width (after_handing s left) (after_event scene_ends width v event.UpDeliver)
   streams_up_deliver left = by_front v.world.wire.up refl
     where
-      -- by whether a line is in flight
+      -- the lemma above, by the requests in flight upward (`q`)
       by_front : (q : List (Numbered Request)) → v.world.wire.up ≡ q
           → AreStreamsOf width (after_handing s left) (record { world = on_wire v.world (up_delivered scene_ends v.world.wire q); up_gone = 0; down_gone = v.down_gone })
       by_front [] q_is = let wrong : [] ≡ left.request ∷ left.up.texts = ap (map text_of) (sym q_is) ∙ sym (ap (λ (f : Flight). f.texts) h.up) ∙ left.front in cc
@@ -122,7 +122,7 @@ module _ (width : ℕ) (s : StageParts) (v : Streams (ById Call) SceneState) (h 
           let played : AppendsAnswer (IsPlayed s.instrument (text_of x) left.instrument) [] left.reply left.answers =
           subst (λ l. AppendsAnswer (IsPlayed s.instrument l left.instrument) [] left.reply left.answers) line_is
           (subst (λ o. AppendsAnswer (IsPlayed s.instrument left.request left.instrument) o left.reply left.answers) left.empty left.played) in
-          let did = exchanged s.instrument left.instrument left.reply left.answers x.line.id x.line.call asked.0.0 asked.0.1 played in
+          let did = exchanged_is_handed s.instrument left.instrument left.reply left.answers x.line.id x.line.call asked.0.0 asked.0.1 played in
           let state : left.instrument ≡ (scene_handed v.world.wire.state x.line.id x.line.call).state =
           did.state ∙ ap (λ (t : SceneState). (scene_handed t x.line.id x.line.call).state) h.instrument in
           let said : left.reply ≡ (scene_handed v.world.wire.state x.line.id x.line.call).reply =
@@ -132,7 +132,7 @@ module _ (width : ℕ) (s : StageParts) (v : Streams (ById Call) SceneState) (h 
             client = h.client;
             next = h.next;
             instrument = state;
-            up = flight left.up (map text_of rest) 0 rest_is left.start;
+            up = flight_is left.up (map text_of rest) 0 rest_is left.start;
             down = left.down_is ∙ ap₂ {C = Flight} (λ (f : Flight) (l : List ℕ). pushed f l) h.down said
                 ∙ ap (λ (t : List (List ℕ)). record { texts = t; gone = v.down_gone }) (sym (map-append (λ (y : Numbered (List ℕ)). y.line) v.world.wire.down (m ∷ [])));
             requests = asked.1;
@@ -158,26 +158,26 @@ module _ (width : ℕ) (s : StageParts) (v : Streams (ById Call) SceneState) (h 
   down_length = ap (λ (f : Flight). length f.texts) h.down ∙ length-map v.world.wire.down (λ x. x.line)
 
   -- the texts of the upward lane are those of the world's queue
-  up_are : s.up.texts ≡ map text_of v.world.wire.up
-  up_are = ap (λ (f : Flight). f.texts) h.up
+  up_texts_are : s.up.texts ≡ map text_of v.world.wire.up
+  up_texts_are = ap (λ (f : Flight). f.texts) h.up
 
   -- the texts of the downward lane are those of the world's queue
-  down_are : s.down.texts ≡ map (λ (x : Numbered (List ℕ)). x.line) v.world.wire.down
-  down_are = ap (λ (f : Flight). f.texts) h.down
+  down_texts_are : s.down.texts ≡ map (λ (x : Numbered (List ℕ)). x.line) v.world.wire.down
+  down_texts_are = ap (λ (f : Flight). f.texts) h.down
 
   -- once line k of a lane was lost or repeated by this step, or the event was only counted, since that wasn't possible (b:
   -- whether it was), the streams after the step are shown. `old` is the lane before the step and `lane` after it; the step
   -- leaves these texts; g bytes of the front line have gone; `put` sets a lane and counts in the stage. The last premise is the
   -- case in which line k hasn't begun to go
-  changed : (old : Flight) (g : ℕ) (put : Flight → Counts → StageParts) (k : ℕ) (texts : List (List ℕ)) (step : Step) (b : Bool) (lane : Flight) (gone_is : old.gone ≡ g)
+  lane_changed : (old : Flight) (g : ℕ) (put : Flight → Counts → StageParts) (k : ℕ) (texts : List (List ℕ)) (step : Step) (b : Bool) (lane : Flight) (gone_is : old.gone ≡ g)
       (same : put old (tallied false s.counts) ≡ record s { counts = tallied false s.counts }) (b_is : b ≡ is_whole k old)
       (lane_is : lane ≡ cond (is_begun k old.gone) old (record old { texts = texts }))
       → ((t : Bool) → ltb k (length old.texts) ≡ t
       → AreStreamsOf width (put (record old { texts = texts }) (tallied t s.counts)) (stepped step))
       → AreStreamsOf width (put lane (tallied b s.counts)) (stepped (at_line k g step))
-  changed old g put k texts step b lane gone_is same b_is lane_is whole = by_begun (is_begun k g) (ap (is_begun k) gone_is)
+  lane_changed old g put k texts step b lane gone_is same b_is lane_is whole = by_begun (is_begun k g) (ap (is_begun k) gone_is)
     where
-      -- by whether line k has begun to go
+      -- the lemma above, by whether line k has begun to go (`began`)
       by_begun : (began : Bool) → is_begun k old.gone ≡ began
           → AreStreamsOf width (put lane (tallied b s.counts)) (stepped (cond began Nothing step))
       by_begun true e =
@@ -202,18 +202,18 @@ module _ (width : ℕ) (s : StageParts) (v : Streams (ById Call) SceneState) (h 
       subst (λ c. AreStreamsOf width (record s { up = record s.up { texts = texts }; counts = tallied t s.counts }) (with_world (on_wire v.world (with_up v.world.wire us c))))
       (sym (ap (ltb k) (sym up_length) ∙ there)) (by_there t there)
     where
-      -- by whether there is a line k
+      -- the lemma above, by whether there is a line k (`t`)
       by_there : (t : Bool) → ltb k (length s.up.texts) ≡ t
           → AreStreamsOf width (record s { up = record s.up { texts = texts }; counts = tallied t s.counts }) (with_world (on_wire v.world (with_up v.world.wire us t)))
       by_there true there = record {
         client = h.client;
         next = h.next;
         instrument = h.instrument;
-        up = flight (record s.up { texts = texts }) (map text_of us) v.up_gone texts_are (ap (λ (f : Flight). f.gone) h.up);
+        up = flight_is (record s.up { texts = texts }) (map text_of us) v.up_gone texts_are (ap (λ (f : Flight). f.gone) h.up);
         down = h.down;
         requests = asked;
         settled = h.settled;
-        counts = counts_queues s.counts v.world.wire us v.world.wire.down h.counts;
+        counts = counts_of_other_queues s.counts v.world.wire us v.world.wire.down h.counts;
       }
       by_there false there = record {
         client = h.client;
@@ -223,7 +223,7 @@ module _ (width : ℕ) (s : StageParts) (v : Streams (ById Call) SceneState) (h 
         down = h.down;
         requests = h.requests;
         settled = h.settled;
-        counts = counts_idle s.counts v.world.wire h.counts;
+        counts = idle_is_counted s.counts v.world.wire h.counts;
       }
 
   -- where `texts`, those of the replies `ds`, are the downward lane's texts of before if there is no line k, the streams are
@@ -236,7 +236,7 @@ module _ (width : ℕ) (s : StageParts) (v : Streams (ById Call) SceneState) (h 
       subst (λ c. AreStreamsOf width (record s { down = record s.down { texts = texts }; counts = tallied t s.counts }) (with_world (on_wire v.world (with_down v.world.wire ds c))))
       (sym (ap (ltb k) (sym down_length) ∙ there)) (by_there t there)
     where
-      -- by whether there is a line k
+      -- the lemma above, by whether there is a line k (`t`)
       by_there : (t : Bool) → ltb k (length s.down.texts) ≡ t
           → AreStreamsOf width (record s { down = record s.down { texts = texts }; counts = tallied t s.counts }) (with_world (on_wire v.world (with_down v.world.wire ds t)))
       by_there true there = record {
@@ -244,10 +244,10 @@ module _ (width : ℕ) (s : StageParts) (v : Streams (ById Call) SceneState) (h 
         next = h.next;
         instrument = h.instrument;
         up = h.up;
-        down = flight (record s.down { texts = texts }) (map (λ x. x.line) ds) v.down_gone texts_are (ap (λ (f : Flight). f.gone) h.down);
+        down = flight_is (record s.down { texts = texts }) (map (λ x. x.line) ds) v.down_gone texts_are (ap (λ (f : Flight). f.gone) h.down);
         requests = h.requests;
         settled = h.settled;
-        counts = counts_queues s.counts v.world.wire v.world.wire.up ds h.counts;
+        counts = counts_of_other_queues s.counts v.world.wire v.world.wire.up ds h.counts;
       }
       by_there false there = record {
         client = h.client;
@@ -257,7 +257,7 @@ module _ (width : ℕ) (s : StageParts) (v : Streams (ById Call) SceneState) (h 
         down = ap (λ (x : List (List ℕ)). record s.down { texts = x }) (past (ltb-false _ _ there)) ∙ h.down;
         requests = h.requests;
         settled = h.settled;
-        counts = counts_idle s.counts v.world.wire h.counts;
+        counts = idle_is_counted s.counts v.world.wire h.counts;
       }
 
   module _ (k : ℕ) (lane : Flight) where
@@ -265,35 +265,35 @@ module _ (width : ℕ) (s : StageParts) (v : Streams (ById Call) SceneState) (h 
     pub up_lost : lane ≡ losing k s.up
         → AreStreamsOf width (record s { up = lane; counts = tallied (is_whole k s.up) s.counts }) (after_event scene_ends width v (event.UpLose k))
     up_lost left =
-        changed s.up v.up_gone (λ (f : Flight) (c : Counts). record s { up = f; counts = c }) k (without k s.up.texts) (Up_lose k) (is_whole k s.up) lane
+        lane_changed s.up v.up_gone (λ (f : Flight) (c : Counts). record s { up = f; counts = c }) k (without k s.up.texts) (Up_lose k) (is_whole k s.up) lane
         (ap (λ (f : Flight). f.gone) h.up) refl refl left
-        (up_changed k (without k s.up.texts) (without k v.world.wire.up) (ap (without k) up_are ∙ without_map text_of k v.world.wire.up) (without_past k s.up.texts)
+        (up_changed k (without k s.up.texts) (without k v.world.wire.up) (ap (without k) up_texts_are ∙ without_map text_of k v.world.wire.up) (without_past k s.up.texts)
         (each_without MayBeWritten k v.world.wire.up h.requests))
 
     -- once line k of the upward lane was repeated, if that was possible, the streams after that event are shown
     pub up_repeated : lane ≡ repeating k s.up
         → AreStreamsOf width (record s { up = lane; counts = tallied (is_whole k s.up) s.counts }) (after_event scene_ends width v (event.UpRepeat k))
     up_repeated left =
-        changed s.up v.up_gone (λ (f : Flight) (c : Counts). record s { up = f; counts = c }) k (doubled k s.up.texts) (Up_repeat k) (is_whole k s.up) lane
+        lane_changed s.up v.up_gone (λ (f : Flight) (c : Counts). record s { up = f; counts = c }) k (doubled k s.up.texts) (Up_repeat k) (is_whole k s.up) lane
         (ap (λ (f : Flight). f.gone) h.up) refl refl left
-        (up_changed k (doubled k s.up.texts) (doubled k v.world.wire.up) (ap (doubled k) up_are ∙ doubled_map text_of k v.world.wire.up) (doubled_past k s.up.texts)
+        (up_changed k (doubled k s.up.texts) (doubled k v.world.wire.up) (ap (doubled k) up_texts_are ∙ doubled_map text_of k v.world.wire.up) (doubled_past k s.up.texts)
         (each_doubled MayBeWritten k v.world.wire.up h.requests))
 
     -- once line k of the downward lane was lost, if that was possible, the streams after that event are shown
     pub down_lost : lane ≡ losing k s.down
         → AreStreamsOf width (record s { down = lane; counts = tallied (is_whole k s.down) s.counts }) (after_event scene_ends width v (event.DownLose k))
     down_lost left =
-        changed s.down v.down_gone (λ (f : Flight) (c : Counts). record s { down = f; counts = c }) k (without k s.down.texts) (Down_lose k) (is_whole k s.down) lane
+        lane_changed s.down v.down_gone (λ (f : Flight) (c : Counts). record s { down = f; counts = c }) k (without k s.down.texts) (Down_lose k) (is_whole k s.down) lane
         (ap (λ (f : Flight). f.gone) h.down) refl refl left
-        (down_changed k (without k s.down.texts) (without k v.world.wire.down) (ap (without k) down_are ∙ without_map (λ x. x.line) k v.world.wire.down) (without_past k s.down.texts))
+        (down_changed k (without k s.down.texts) (without k v.world.wire.down) (ap (without k) down_texts_are ∙ without_map (λ x. x.line) k v.world.wire.down) (without_past k s.down.texts))
 
     -- once line k of the downward lane was repeated, if that was possible, the streams after that event are shown
     pub down_repeated : lane ≡ repeating k s.down
         → AreStreamsOf width (record s { down = lane; counts = tallied (is_whole k s.down) s.counts }) (after_event scene_ends width v (event.DownRepeat k))
     down_repeated left =
-        changed s.down v.down_gone (λ (f : Flight) (c : Counts). record s { down = f; counts = c }) k (doubled k s.down.texts) (Down_repeat k) (is_whole k s.down) lane
+        lane_changed s.down v.down_gone (λ (f : Flight) (c : Counts). record s { down = f; counts = c }) k (doubled k s.down.texts) (Down_repeat k) (is_whole k s.down) lane
         (ap (λ (f : Flight). f.gone) h.down) refl refl left
-        (down_changed k (doubled k s.down.texts) (doubled k v.world.wire.down) (ap (doubled k) down_are ∙ doubled_map (λ x. x.line) k v.world.wire.down) (doubled_past k s.down.texts))
+        (down_changed k (doubled k s.down.texts) (doubled k v.world.wire.down) (ap (doubled k) down_texts_are ∙ doubled_map (λ x. x.line) k v.world.wire.down) (doubled_past k s.down.texts))
 
   -- Bytes.
 

@@ -1,5 +1,5 @@
--- A run on the instrument of a scene, this project's own: the world of gc_world with this instrument in place of the simulator. What the
--- client and the line do is the same.
+-- A run on the instrument of a scene, this project's own: the world of gc_world with this instrument in place of the simulator.
+-- What the client and the line do is the same.
 use Rattle.std.specs.Prelude.{ℕ, true, List, Some}
 use Rattle.gc_catalogue.specs.Calls.{call_fields}
 use Rattle.gc_catalogue.specs.declared.call.Call.{Call}

@@ -1,5 +1,5 @@
--- How a stage corresponds to the streams of a run: for contracts of private functions. A stage is the code's state while it plays events:
--- the client, the instrument, the lines in flight in both directions, the settlements, and counts.
+-- How a stage corresponds to the streams of a run: for contracts of private functions. A stage is the code's state while it plays
+-- events: the client, the instrument, the lines in flight in both directions, the settlements, and counts.
 use Rattle.std.specs.Prelude.{◌≡◌, ℕ, ◌+◌, ◌<◌, ◌^◌, Bool, true, false, List, length, Option}
 use Rattle.std.specs.List.{AllByRecursion}
 use Rattle.gc_catalogue.specs.Calls.{IsFitting}
@@ -38,8 +38,8 @@ stage_parts s = record { client = s.client; instrument = s.instrument; up = s.up
 abbrev pub MayBeWritten : Numbered Request → Type 0
 MayBeWritten x = (x.line.id < IDS) × IsFitting x.line.call
 
--- the parts of a stage, whose client's window has this width, correspond to these streams; the client's next id is below 8; and a client
--- may have written each request in flight (`MayBeWritten`)
+-- the parts of a stage, whose client's window has this width, correspond to these streams; the client's next id is below 8; and a
+-- client may have written each request in flight (`MayBeWritten`)
 pub record AreStreamsOf (width : ℕ) (s : StageParts) (v : Streams (ById Call) SceneState) : Type 0 where
   pub client : s.client ≡ record { width = width; ids = v.world.client }
   pub next : v.world.client.next < IDS
@@ -55,8 +55,8 @@ pub record AreStreamsOf (width : ℕ) (s : StageParts) (v : Streams (ById Call) 
 abbrev pub staging : Staging Stage SceneState
 staging = record { ends = scene_ends; shows = λ width s v. AreStreamsOf width (stage_parts s) v }
 
--- `n` is how many bytes of the front line of a direction are still to go, 0 if no line is in flight; not all bytes of the front line have
--- gone, and none count as gone if there is no line
+-- `n` is how many bytes of the front line of a direction are still to go, 0 if no line is in flight; not all bytes of the front
+-- line have gone, and none count as gone if there is no line
 pub record IsRemainder (d : Direction) (v : Streams (ById Call) SceneState) (n : ℕ) : Type 0 where
   pub left : n ≡ to_go d v
   pub part : IsPart (gone d v) (lines d v.world.wire)
@@ -80,7 +80,7 @@ pub record HasRoom (s : StageParts) : Type 0 where
 -- the count of executions was `old`, and is `new` once a request was handed over, by which the stored id went from `before` to
 -- `after`: the count stayed if the instrument stores replies (`repeats`) and the id stayed, and grew by one if the id changed, or
 -- if the instrument stores no replies
-pub record Notes (repeats : Bool) (before after : Option ℕ) (old new : ℕ) : Type 0 where
+pub record CountsExecution (repeats : Bool) (before after : Option ℕ) (old new : ℕ) : Type 0 where
   pub same : repeats ≡ true → before ≡ after → new ≡ old
   pub another : (before ≡ after → ⊥) → new ≡ old + 1
   pub never : repeats ≡ false → new ≡ old + 1

@@ -12,7 +12,7 @@ ghost use Rattle.gc_world.specs.Directions.{bytes, delivery};
 ghost use Rattle.gc_world.specs.Staging.{streams_at_start, ShowsSome, Follows, FollowsBytes, HasMoreThan};
 ghost use Rattle.gc_scene_world.specs.Lanes.{losing, repeating, idle_after};
 ghost use Rattle.gc_scene_world.specs.SceneRuns.{scene_ends};
-ghost use Rattle.gc_scene_world.specs.SceneStages.{stage_parts, staging, ShowsRemainder, HasRoom, HasRoomFor, Notes};
+ghost use Rattle.gc_scene_world.specs.SceneStages.{stage_parts, staging, ShowsRemainder, HasRoom, HasRoomFor, CountsExecution};
 
 use crate::lane::Lane;
 use crate::report::{Counts, SceneReport};
@@ -288,7 +288,7 @@ fn repeat(lane: &mut Lane, k: usize, idle: &mut usize) -> Result<(), AllocError>
 // execution changes that id, and a repeat leaves it.
 fn note_execution(executed: &mut usize, repeats: bool, before: Option<u8>, after: Option<u8>)
     requires { executed.old + 1 < 2 ^ 64 }
-    ensures { Notes repeats before after executed.old executed.new }
+    ensures { CountsExecution repeats before after executed.old executed.new }
 {
     if !repeats || before != after {
         *executed += 1;

@@ -129,13 +129,13 @@ module _ (kept : Option KeptReply) where
 
 -- where a call with ways led from the state s to t, but for the face, and then the face was set by the vertical angle, if the
 -- instrument has both faces' angles (`faced`), the call with ways leads to the state after that
-pub then_faced : (w : Ways) (now : Option DateTime) (s t u : State) (asked : Call) (code : ℕ) (said : Answer) → Gives (acted_faceless w now s asked) t code said
+pub acts_with_face : (w : Ways) (now : Option DateTime) (s t u : State) (asked : Call) (code : ℕ) (said : Answer) → Gives (acted_faceless w now s asked) t code said
     → u ≡ faced w.faces t → Gives (acted w now s asked) u code said
-then_faced w now s t u asked code said does is =
+acts_with_face w now s t u asked code said does is =
     ap (faced_outcome w.faces) does ∙ ap (λ (x : State). record { state = x; rc = code; answer = said }) (sym is)
 
--- where an instrument with the fields `i`, but with the targets that the call sees (`seen`), acts on it, and goes to the state t,
--- that is the outcome of the call in the scene's state s that these fields make up (`scene_of`)
+-- where the fields `i` of an instrument make up the scene's state s (`scene_of`), and the call leads from their base, with the
+-- targets that it sees (`seen`), to t, it leads from s to t with the kept reply of `i`, with the same code and answer
 pub acts_over_seen : (i : Inside) (s : SceneState) (seen t : State) (now : Option DateTime) (asked : Call) (code : ℕ) (said : Answer)
     → scene_of i ≡ s → seen ≡ seeing (seen_by s asked) i.base → now ≡ clock_shows s
     → Gives (acted i.ways now seen asked) t code said → Gives (outcome s asked) (with_kept i.kept t) code said
@@ -151,21 +151,21 @@ acts_over_seen i s seen t now asked code said e over date does =
 -- The outcomes that the ways change.
 
 -- with `faces`, the outcome of a face change, but for the face, is that of pointing at the other face's angles
-pub face_row : (w : Ways) (now : Option DateTime) (s : State) (pos_mode atr_mode : ℤ) (dummy : Bool) (x : Executed) → w.faces ≡ true
+pub change_face_outcome : (w : Ways) (now : Option DateTime) (s : State) (pos_mode atr_mode : ℤ) (dummy : Bool) (x : Executed) → w.faces ≡ true
     → done (pointed_over s) answer.Nothing ≡ x
     → acted_faceless w now s (call.ChangeFace pos_mode atr_mode dummy) ≡ x
-face_row w now s pos_mode atr_mode dummy x is does =
+change_face_outcome w now s pos_mode atr_mode dummy x is does =
     ap (λ (b : Bool). cond b (done (pointed_over s) answer.Nothing) (exec s (call.ChangeFace pos_mode atr_mode dummy))) is ∙ does
 
 -- with `takes`, the outcome of TMC_GetSimpleMea, but for the face, is that of answering the distance and clearing it
-pub take_row : (w : Ways) (now : Option DateTime) (s : State) (wait mode : ℤ) (x : Executed) → w.takes ≡ true
+pub simple_mea_outcome : (w : Ways) (now : Option DateTime) (s : State) (wait mode : ℤ) (x : Executed) → w.takes ≡ true
     → measured_outcome (unmeasured s) s ≡ x
     → acted_faceless w now s (call.SimpleMea wait mode) ≡ x
-take_row w now s wait mode x is does =
+simple_mea_outcome w now s wait mode x is does =
     ap (λ (b : Bool). cond b (measured_outcome (unmeasured s) s) (exec s (call.SimpleMea wait mode))) is ∙ does
 
 -- where no clock runs, the outcome of asking for the date, but for the face, is the table's
-pub date_row : (w : Ways) (now : Option DateTime) (s : State) (x : Executed) → now ≡ None → exec s call.GetDate ≡ x
+pub get_date_outcome : (w : Ways) (now : Option DateTime) (s : State) (x : Executed) → now ≡ None → exec s call.GetDate ≡ x
     → acted_faceless w now s call.GetDate ≡ x
 unfolding exec
-date_row w now s x is does = ap (λ (n : Option DateTime). dated n s) is ∙ does
+get_date_outcome w now s x is does = ap (λ (n : Option DateTime). dated n s) is ∙ does

@@ -26,14 +26,14 @@ use Rattle.gc_scenes.specs.declared.rules.Sight.{Sight}
 use Rattle.gc_scenes.proofs.Acted.{table_without_ways}
 
 -- no number is at least 1 and at most 0
-no_look : (look : ℕ) (a b : Bool) → nat_le 1 look ≡ a → nat_le look 0 ≡ b → not (a && b) ≡ true
-no_look look true true x y = let low : 1 ≤ look = leb-true 1 look x in let high : look ≤ 0 = leb-true look 0 y in absurd (omega (arith, low, high))
-no_look look true false x y = refl
-no_look look false b x y = refl
+no_look_from_1_to_0 : (look : ℕ) (a b : Bool) → nat_le 1 look ≡ a → nat_le look 0 ≡ b → not (a && b) ≡ true
+no_look_from_1_to_0 look true true x y = let low : 1 ≤ look = leb-true 1 look x in let high : look ≤ 0 = leb-true look 0 y in absurd (omega (arith, low, high))
+no_look_from_1_to_0 look true false x y = refl
+no_look_from_1_to_0 look false b x y = refl
 
 -- a target that is never hidden can be seen in each look
 clear_still : (look : ℕ) (t : Target) → is_clear look (still t) ≡ true
-clear_still look t = no_look look (nat_le 1 look) (nat_le look 0) refl refl
+clear_still look t = no_look_from_1_to_0 look (nat_le 1 look) (nat_le look 0) refl refl
 
 -- the sight in this look, from where the telescope points (`there`), in face I
 abbrev in_face_one : (look : ℕ) (there : Pointing) → Sight

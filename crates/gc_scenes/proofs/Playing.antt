@@ -1,6 +1,6 @@
 -- What the code appends for a request is what the definitions give.
 use Rattle.std.proofs.Common.{◌≡◌, ℕ, List, ◌++◌, Some, None, Option, refl, sym, ap, ◌∙◌, subst}
-use Rattle.std.specs.Prelude.{unwrap_or}
+use Rattle.std.specs.Prelude.{option_map, unwrap_or}
 use Rattle.gc_lines.specs.Answering.{AppendsText}
 use Rattle.gc_lines.specs.Requests.{RequestFields}
 use Rattle.gc_values.specs.declared.fault.ValueFault.{ValueFault}
@@ -13,7 +13,7 @@ use Rattle.gc_instrument.specs.Execution.{Executed}
 use Rattle.gc_instrument.specs.Replying.{refusal_line, reply_id}
 use Rattle.gc_scenes.specs.Appending.{AppendsHanded, AppendsPlayed}
 use Rattle.gc_scenes.specs.Rules.{fault_of, scripted_reply, noisy, noise_after}
-use Rattle.gc_scenes.specs.SceneExecution.{Played, Reports, plays, outcome, after_call, replied_answer, played_call, played_raw, unless_faulted_raw, scripted, scripted_played, counting, faulted}
+use Rattle.gc_scenes.specs.SceneExecution.{Played, Reports, plays, outcome, after_call, replied_answer, played_call, played_raw, unless_faulted_raw, scripted_played, counting, faulted_raw}
 use Rattle.gc_scenes.specs.SceneReplying.{names_call, unreadable, AnswersRequest, resent_line, again_or_played, handed_call, handed_raw, played_or_refused, holding, kept_if_repeating, played_line}
 use Rattle.gc_scenes.specs.SceneState.{SceneState}
 use Rattle.gc_scenes.specs.declared.rules.Noise.{Noise}
@@ -50,9 +50,9 @@ module _ (s after : SceneState) (rpc : ℕ) (id : Option ℕ) (old new : List �
   -- where a fault answers the request, what `again_or_played` says of a reply with its code, without parameters, is what
   -- `handed_raw` says of the request
   pub gave_fault : (code : ℕ) → Some code ≡ fault_of rpc s.faults
-      → AppendsHanded (again_or_played s id (faulted (counting rpc s) code) (resent_line s id)) after old new
+      → AppendsHanded (again_or_played s id (faulted_raw (counting rpc s) code) (resent_line s id)) after old new
       → AppendsHanded (handed_raw s rpc id) after old new
-  gave_fault code is h = by_played (Some (faulted (counting rpc s) code)) (ap (unless_faulted_raw (counting rpc s) rpc) (sym is)) h
+  gave_fault code is h = by_played (Some (faulted_raw (counting rpc s) code)) (ap (unless_faulted_raw (counting rpc s) rpc) (sym is)) h
 
   -- where no fault answers the request, and the scene has a reply for the request's procedure, what `again_or_played` says of
   -- that reply is what `handed_raw` says of the request
@@ -61,7 +61,7 @@ module _ (s after : SceneState) (rpc : ℕ) (id : Option ℕ) (old new : List �
       → AppendsHanded (handed_raw s rpc id) after old new
   gave_scripted a none is h =
       by_played (Some (scripted_played (counting rpc s) a))
-      (ap (unless_faulted_raw (counting rpc s) rpc) (sym none) ∙ ap (scripted (counting rpc s)) (sym is)) h
+      (ap (unless_faulted_raw (counting rpc s) rpc) (sym none) ∙ ap (option_map (scripted_played (counting rpc s))) (sym is)) h
 
   -- where no fault answers the request, and the scene has no reply for the request's procedure, counting the request and
   -- appending its refusal is what `handed_raw` says of it
@@ -69,7 +69,7 @@ module _ (s after : SceneState) (rpc : ℕ) (id : Option ℕ) (old new : List �
       → new ≡ old ++ refusal_line (unwrap_or id 0) Unknown
       → AppendsHanded (handed_raw s rpc id) after old new
   gave_refusal none unknown state appended =
-      by_played None (ap (unless_faulted_raw (counting rpc s) rpc) (sym none) ∙ ap (scripted (counting rpc s)) (sym unknown)) (record { state = state; appended = appended })
+      by_played None (ap (unless_faulted_raw (counting rpc s) rpc) (sym none) ∙ ap (option_map (scripted_played (counting rpc s))) (sym unknown)) (record { state = state; appended = appended })
 
 -- Executing.
 
@@ -87,10 +87,10 @@ pub record IsExecuted (s : SceneState) (call : Call) (number : ℕ) (u : SceneSt
   pub appended : new ≡ old ++ reply_line number code (replied_answer u.ways.values u.base.pointing call code told) u.base.precision
 
 -- executing a call, adding the noise and appending the reply (`IsExecuted`) is what `plays` says of the call
-pub executed : (s : SceneState) (call : Call) (number : ℕ) (u : SceneState) (old new : List ℕ) → IsExecuted s call number u old new
+pub executing_plays : (s : SceneState) (call : Call) (number : ℕ) (u : SceneState) (old new : List ℕ) → IsExecuted s call number u old new
     → AppendsPlayed number (plays s call) u old new
 unfolding plays
-executed s call number u old new h =
+executing_plays s call number u old new h =
     let x = outcome s call in
     let rc : h.code ≡ x.rc = sym (ap (λ (y : Executed). y.rc) h.gives) in
     let ans : h.said ≡ x.answer = sym (ap (λ (y : Executed). y.answer) h.gives) in

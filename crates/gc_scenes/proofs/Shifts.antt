@@ -33,14 +33,14 @@ units_value z h d =
     signed_same (is_negative z) m (stripped m 24).digits (10 ^ 24) (10 ^ (stripped m 24).places) (sym w.same) ∙ ap (λ (x : ℤ). x *ℤ pos (10 ^ (stripped m 24).places)) (signed-unsigned_abs z)
 
 -- a decimal with the value of z units, which are in range, is the one that `of_units` gives
-made_by : (b : Bool) (z : ℤ) (h : are_in_range z ≡ b) (d moved : Decimal) → SameValue moved.digits moved.scale z 24 → IsInRange z 24 → moved ≡ of_units b z h d
-made_by true z h d moved same within = one_decimal z moved (of_units true z h d) same (units_value z h d)
-made_by false z h d moved same within = absurd (false≢true (sym h ∙ le-leb (unsigned_abs z) (10 ^ 13 * 10 ^ 24) within))
+of_units_in_range : (b : Bool) (z : ℤ) (h : are_in_range z ≡ b) (d moved : Decimal) → SameValue moved.digits moved.scale z 24 → IsInRange z 24 → moved ≡ of_units b z h d
+of_units_in_range true z h d moved same within = one_decimal z moved (of_units true z h d) same (units_value z h d)
+of_units_in_range false z h d moved same within = absurd (false≢true (sym h ∙ le-leb (unsigned_abs z) (10 ^ 13 * 10 ^ 24) within))
 
 -- where z units are out of range, `of_units` leaves the decimal as it is
-not_made : (b : Bool) (z : ℤ) (h : are_in_range z ≡ b) (d : Decimal) → (IsInRange z 24 → ⊥) → d ≡ of_units b z h d
-not_made true z h d out = absurd (out (leb-true (unsigned_abs z) (10 ^ 13 * 10 ^ 24) h))
-not_made false z h d out = refl
+of_units_out_of_range : (b : Bool) (z : ℤ) (h : are_in_range z ≡ b) (d : Decimal) → (IsInRange z 24 → ⊥) → d ≡ of_units b z h d
+of_units_out_of_range true z h d out = absurd (out (leb-true (unsigned_abs z) (10 ^ 13 * 10 ^ 24) h))
+of_units_out_of_range false z h d out = refl
 
 -- a number of at most 10^37 and one of at most 3 * 10^37, either way from 0, have a sum of at most 4 * 10^37
 sum_small : (x y : ℤ) → unsigned_abs x ≤ 10 ^ 37 → unsigned_abs y ≤ 3 * 10 ^ 37 → unsigned_abs (x +ℤ y) ≤ 4 * 10 ^ 37
@@ -59,9 +59,9 @@ pub shifted_made : (d moved : Decimal) (by sum : ℤ) → sum ≡ units d +ℤ b
     → moved ≡ shifted d by
 unfolding shifted
 shifted_made d moved by sum is same within =
-    made_by _ (units d +ℤ by) refl d moved (subst (λ (z : ℤ). SameValue moved.digits moved.scale z 24) is same) (subst (λ (z : ℤ). IsInRange z 24) is within)
+    of_units_in_range _ (units d +ℤ by) refl d moved (subst (λ (z : ℤ). SameValue moved.digits moved.scale z 24) is same) (subst (λ (z : ℤ). IsInRange z 24) is within)
 
 -- where the sum of a decimal's units and `by` is out of range, `shifted` leaves the decimal as it is
 pub shifted_kept : (d : Decimal) (by sum : ℤ) → sum ≡ units d +ℤ by → (IsInRange sum 24 → ⊥) → d ≡ shifted d by
 unfolding shifted
-shifted_kept d by sum is out = not_made _ (units d +ℤ by) refl d (λ within. out (subst (λ (z : ℤ). IsInRange z 24) (sym is) within))
+shifted_kept d by sum is out = of_units_out_of_range _ (units d +ℤ by) refl d (λ within. out (subst (λ (z : ℤ). IsInRange z 24) (sym is) within))

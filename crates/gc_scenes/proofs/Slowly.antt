@@ -5,7 +5,7 @@ use Rattle.gc_lines.specs.Headers.{GivesEach}
 use Rattle.gc_lines.specs.Requests.{RequestFields, IsRequest}
 use Rattle.gc_lines.specs.declared.fault.LineFault.{LineFault}
 use Rattle.gc_lines.specs.declared.request.Request.{Request}
-use Rattle.gc_lines.proofs.AnsweringLines.{no_request}
+use Rattle.gc_lines.proofs.AnsweringLines.{faulty_is_no_request}
 use Rattle.gc_scenes.specs.SceneReplying.{IsPlayed}
 use Rattle.gc_scenes.specs.SceneState.{SceneState}
 use Rattle.gc_catalogue.specs.Moments.{later}
@@ -24,7 +24,7 @@ delay_read delays line view r ms only is = λ q reads.
 -- contract of the reading that failed
 pub delay_unread : (delays : List Delay) (line : List ℕ) (view : Request → RequestFields) (fault : LineFault) (ms : ℕ)
     → GivesEach IsRequest view line (Err fault) → IsDelay delays line ms
-delay_unread delays line view fault ms only = λ q reads. absurd (no_request line fault view only q reads)
+delay_unread delays line view fault ms only = λ q reads. absurd (faulty_is_no_request line fault view only q reads)
 
 -- Here a line is taken up. `v` equals the state `now` before the line, `then` is the scene's state when the instrument starts on
 -- the line, and `scene` that after it.

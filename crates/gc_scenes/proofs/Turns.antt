@@ -13,8 +13,8 @@ use Rattle.gc_scenes.specs.SceneReplying.{AnswersRequest, names_call, names_none
 use Rattle.gc_scenes.specs.SceneState.{SceneState}
 
 -- states and replies that are those of `h` are equal
-one_given : (h : Handed SceneState) (t u : SceneState) (x y : List ℕ) → IsHanded h t x → IsHanded h u y → (t ≡ u) × (x ≡ y)
-one_given h t u x y a b = (a.state ∙ sym b.state, a.line ∙ sym b.line)
+one_handed : (h : Handed SceneState) (t u : SceneState) (x y : List ℕ) → IsHanded h t x → IsHanded h u y → (t ≡ u) × (x ≡ y)
+one_handed h t u x y a b = (a.state ∙ sym b.state, a.line ∙ sym b.line)
 
 -- the fault `Unknown` isn't a fault of parameters
 unknown_not_parameters : (e : ValueFault) → ◌≡◌ {A = CallFault} Unknown (Parameters e) → ⊥
@@ -23,11 +23,11 @@ unknown_not_parameters e is = cc
 -- a state and a request determine the state after the request and the reply
 one_answer : (s t u : SceneState) (q : RequestFields) (x y : List ℕ) → AnswersRequest s q t x → AnswersRequest s q u y → (t ≡ u) × (x ≡ y)
 one_answer s t u q x y (names_call c is does) (names_call d other makes) =
-    one_given (handed_call s q.rpc q.id d) t u x y (subst (λ (a : Call). IsHanded (handed_call s q.rpc q.id a) t x) (one_call q.rpc q.params c d is other) does) makes
+    one_handed (handed_call s q.rpc q.id d) t u x y (subst (λ (a : Call). IsHanded (handed_call s q.rpc q.id a) t x) (one_call q.rpc q.params c d is other) does) makes
 one_answer s t u q x y (names_call c is does) (names_none other makes) = absurd (no_refusal q.rpc q.params c Unknown is other)
 one_answer s t u q x y (names_call c is does) (unreadable e other again told) = absurd (no_refusal q.rpc q.params c (Parameters e) is other)
 one_answer s t u q x y (names_none is does) (names_call c other makes) = absurd (no_refusal q.rpc q.params c Unknown other is)
-one_answer s t u q x y (names_none is does) (names_none other makes) = one_given (handed_raw s q.rpc q.id) t u x y does makes
+one_answer s t u q x y (names_none is does) (names_none other makes) = one_handed (handed_raw s q.rpc q.id) t u x y does makes
 one_answer s t u q x y (names_none is does) (unreadable e other again told) = absurd (unknown_not_parameters e (one_refusal q.rpc q.params Unknown (Parameters e) is other))
 one_answer s t u q x y (unreadable e is same made) (names_call c other makes) = absurd (no_refusal q.rpc q.params c (Parameters e) other is)
 one_answer s t u q x y (unreadable e is same made) (names_none other makes) = absurd (unknown_not_parameters e (one_refusal q.rpc q.params Unknown (Parameters e) other is))

@@ -26,8 +26,8 @@ one_more n = min (n + 1) 4294967295
 abbrev pub is_clear : (look : ℕ) → Prism → Bool
 is_clear look p = not (nat_le p.from look && nat_le look p.to)
 
--- the targets that aren't hidden in the look of this sight, each with the angles at which the telescope points at it: those of face II
--- if it is in that face
+-- the targets that aren't hidden in the look of this sight, each with the angles at which the telescope points at it: those of
+-- face II if it is in that face
 abbrev pub seen : Sight → List Prism → List Target
 seen s [] = []
 seen s (p ∷ ps) = if is_clear s.look p then target_in_face s.turned p.at ∷ seen s ps else seen s ps
@@ -41,12 +41,12 @@ abbrev pub moved_by : Option Offset → Prism → Prism
 moved_by None p = p
 moved_by (Some o) p = record p { at = applied_to o p.at }
 
--- the target after a measurement with this sight: moved by its drift, if it isn't hidden and lies exactly where the telescope points
+-- the target after a measurement with this sight: moved by its drift, if it isn't hidden and the telescope points exactly at it
 abbrev pub moved : Sight → Prism → Prism
 moved s p = if is_clear s.look p && is_at s.there (target_in_face s.turned p.at) then moved_by p.drift p else p
 
--- the targets after a measurement with this sight: all that aren't hidden and lie exactly where the telescope points have moved by
--- their drift
+-- the targets after a measurement with this sight: all that aren't hidden and lie exactly where the telescope points have moved
+-- by their drift
 abbrev pub drifted : Sight → List Prism → List Prism
 drifted s ps = map (moved s) ps
 

@@ -53,8 +53,8 @@ abbrev pub is_turned_for : SceneState → Call → Bool
 is_turned_for s asked = is_turned s.ways (heading s.base.pointing asked)
 
 -- how the telescope meets targets at this call. The number of the look is the count of looks after the call, so a call that is no
--- look has that of the last one, or 0 before the first. The telescope is where it points before the call, and in the face in which
--- the call looks for a target
+-- look has that of the last one, or 0 before the first. The telescope is where it points before the call, and in the face in
+-- which the call looks for a target
 abbrev pub sight_at : SceneState → Call → Sight
 sight_at s asked = record { turned = is_turned_for s asked; look = look_of s.ways.aims s.looks asked; there = s.base.pointing }
 
@@ -144,13 +144,13 @@ abbrev pub distance_in_warning : SceneState → Call → (code : ℕ) → Decima
 distance_in_warning s asked code = if has_distance code then unwrap_or (known_distance s asked) zero else zero
 
 -- a request that a fault answers with this code: nothing is executed, and the reply has no values
-abbrev pub faulted : SceneState → (code : ℕ) → Played
-faulted s code = record { state = s; rc = code; params = [] }
+abbrev pub faulted_raw : SceneState → (code : ℕ) → Played
+faulted_raw s code = record { state = s; rc = code; params = [] }
 
 -- a call that a fault answers with this code: nothing is executed, and the reply has values only with a warning
 -- (`answer_or_values`)
-abbrev pub warned : SceneState → Call → (code : ℕ) → Played
-warned s asked code = record {
+abbrev pub faulted_call : SceneState → Call → (code : ℕ) → Played
+faulted_call s asked code = record {
   state = s;
   rc = code;
   params = answer_params s.base.precision
@@ -159,7 +159,7 @@ warned s asked code = record {
 
 -- what the instrument does with a call that a fault answers with this code, or that no fault answers (`None`)
 abbrev pub unless_faulted : SceneState → Call → (code : Option ℕ) → Played
-unless_faulted s asked (Some code) = warned s asked code
+unless_faulted s asked (Some code) = faulted_call s asked code
 unless_faulted s asked None = plays s asked
 
 -- what the instrument does with a call of the procedure with this number, where the request isn't a repeat: the faults count the
@@ -171,15 +171,11 @@ played_call s rpc asked = unless_faulted (counting rpc s) asked (fault_of rpc s.
 abbrev pub scripted_played : SceneState → Scripted → Played
 scripted_played s a = record { state = s; rc = a.rc; params = scripted_params a.with }
 
--- the reply of the scene to a request of a procedure that isn't in the table; none if the scene has none
-abbrev pub scripted : SceneState → Option Scripted → Option Played
-scripted s a = option_map (scripted_played s) a
-
 -- what the instrument does with a request of a procedure that isn't in the table: a fault answers it with this code, or none does
 -- (`None`), and then the scene's reply answers it, if there is one
 abbrev pub unless_faulted_raw : SceneState → (rpc : ℕ) → (code : Option ℕ) → Option Played
-unless_faulted_raw s rpc (Some code) = Some (faulted s code)
-unless_faulted_raw s rpc None = scripted s (scripted_reply rpc s.answers)
+unless_faulted_raw s rpc (Some code) = Some (faulted_raw s code)
+unless_faulted_raw s rpc None = option_map (scripted_played s) (scripted_reply rpc s.answers)
 
 -- what the instrument does with a request that isn't a repeat, of a procedure that isn't in the table: the faults count the
 -- request, and the first that was due at it answers it, if one was, and else the scene's reply, if there is one. `None`: nothing

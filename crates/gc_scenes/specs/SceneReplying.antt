@@ -17,8 +17,8 @@ use Rattle.gc_scenes.specs.declared.replying.Fresh.{Fresh}
 use Rattle.gc_scenes.specs.declared.replying.Fresh.TheVariants as fresh
 
 -- the reply line with this id, this return code and these parameters
-abbrev pub line_with : (id rc : ℕ) → (params : List ℕ) → List ℕ
-line_with id rc params = reply_text (record { rc_com = 0; id = Some id; rc = rc; params = params })
+abbrev pub line_with : (number rc : ℕ) → (params : List ℕ) → List ℕ
+line_with number rc params = reply_text (record { rc_com = 0; id = Some number; rc = rc; params = params })
 
 -- the reply line with this id, and with the return code and the parameters of `p`
 abbrev pub played_line : (number : ℕ) → Played → List ℕ

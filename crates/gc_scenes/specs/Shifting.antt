@@ -4,7 +4,7 @@ use Rattle.gc_values.specs.Decimals.{units}
 use Rattle.gc_values.specs.Fraction.{is_negative, signed}
 use Rattle.gc_values.specs.Zeros.{stripped}
 use Rattle.gc_values.specs.declared.decimal.Decimal.{Decimal}
-use Rattle.gc_scenes.specs.ShiftedFacts.{few, in_range, canonical}
+use Rattle.gc_scenes.specs.ShiftedFacts.{stripped_has_few_places, stripped_is_in_range, stripped_is_canonical}
 
 -- whether z units of 10^-24 are in a decimal's range
 abbrev pub are_in_range : ℤ → Bool
@@ -15,9 +15,9 @@ abbrev pub of_units : (fits : Bool) (z : ℤ) → are_in_range z ≡ fits → (d
 of_units true z h d = record {
   digits = signed (is_negative z) (stripped (unsigned_abs z) 24).digits;
   scale = (stripped (unsigned_abs z) 24).places;
-  has_few_places = few (unsigned_abs z);
-  is_in_range = in_range (is_negative z) (unsigned_abs z) h;
-  is_canonical = canonical (is_negative z) (unsigned_abs z);
+  has_few_places = stripped_has_few_places (unsigned_abs z);
+  is_in_range = stripped_is_in_range (is_negative z) (unsigned_abs z) h;
+  is_canonical = stripped_is_canonical (is_negative z) (unsigned_abs z);
 }
 of_units false z h d = d
 

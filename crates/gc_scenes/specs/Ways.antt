@@ -1,6 +1,6 @@
 -- The ways of real instruments that a scene's instrument may have, each by itself: this project's own, from memory, and no
 -- statement about an instrument. Angles are whole numbers of units, 10^-24 radians each.
-use Rattle.std.specs.Prelude.{ℕ, ℤ, ◌+◌, ◌-◌, ◌%◌, ◌==◌, ◌&&◌, ◌||◌, ◌+ℤ◌, ◌-ℤ◌, not, Bool, true, false, List, [], ◌∷◌, Option, Some, None, nat_le, int_le, int_lt, unsigned_abs, if◌then◌else◌, min, max}
+use Rattle.std.specs.Prelude.{ℕ, ℤ, ◌+◌, ◌-◌, ◌%◌, ◌==◌, ◌&&◌, ◌||◌, ◌+ℤ◌, ◌-ℤ◌, Bool, true, false, List, [], ◌∷◌, Option, Some, None, nat_le, int_le, int_lt, unsigned_abs, if◌then◌else◌, min, max}
 use Rattle.gc_values.specs.Decimals.{units}
 use Rattle.gc_values.specs.Directions.{half_turn, turn}
 use Rattle.gc_values.specs.Fraction.{signed}
@@ -65,8 +65,8 @@ is_turned w there = w.faces && is_in_face_two there.v
 abbrev pub on_circle : ℤ → ℕ
 on_circle z = let rest = unsigned_abs z % unsigned_abs turn in min rest (unsigned_abs turn - rest)
 
--- how far a target is from where the telescope points, in units: the difference of the horizontal angles, the shorter way round the
--- circle, or that of the vertical ones, whichever is greater
+-- how far a target is from where the telescope points, in units: the difference of the horizontal angles, the shorter way round
+-- the circle, or that of the vertical ones, whichever is greater
 abbrev pub apart : Pointing → Target → ℕ
 apart there t = max (on_circle (units t.hz -ℤ units there.hz)) (unsigned_abs (units t.v -ℤ units there.v))
 

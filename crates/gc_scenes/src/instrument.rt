@@ -2,7 +2,7 @@
 
 ghost use Rattle.std.specs.Prelude.{◌≡◌, ◌<◌, ◌≤◌, ◌++◌, ℕ, List, Bool, [], length, true, false, Option, None};
 ghost use Rattle.std.specs.Option.{option_map};
-ghost use Rattle.gc_instrument.specs.State.{opening};
+ghost use Rattle.gc_instrument.specs.State.{kept_id, opening};
 ghost use Rattle.gc_instrument.specs.Targets.{first_at};
 ghost use Rattle.gc_scenes.specs.Rules.{seen, drifted, counted, fault_of, scripted_reply, noisy, noise_after};
 ghost use Rattle.gc_scenes.specs.SceneExecution.{Reports, is_measurement, is_search, look_of, heading, is_turned_for, outcome, noting, after_call, counting, clock_shows, sight_at, seen_by, clock_after, distance_in_warning, known_distance};
@@ -111,7 +111,7 @@ impl SceneInstrument {
 
     /// The id of the stored reply. `None`: no reply is stored.
     pub fn kept_id(&self) -> Option<u8>
-        ensures { result ≡ option_map (λ k. k.id) self.now.base.kept }
+        ensures { result ≡ kept_id self.now.base.kept }
     {
         self.kept.id()
     }

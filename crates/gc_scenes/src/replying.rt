@@ -5,7 +5,7 @@ ghost use Rattle.std.specs.Option.{option_map};
 ghost use Rattle.gc_lines.specs.Answering.{AppendsAnswer, GrowsByReply, HasRoomForReply};
 ghost use Rattle.gc_lines.specs.Headers.{MayBeId};
 ghost use Rattle.gc_catalogue.specs.Texts.{reply_line};
-ghost use Rattle.gc_scenes.specs.SceneExecution.{answer_or_values, plays, unless_faulted, warned};
+ghost use Rattle.gc_scenes.specs.SceneExecution.{answer_or_values, plays, unless_faulted, faulted_call};
 ghost use Rattle.gc_scenes.specs.SceneReplying.{IsPlayed, resent_line, handed_fresh, handed_raw, played_fresh, played_line, line_with, kept_if_repeating, holding};
 ghost use Rattle.gc_scenes.specs.Appending.{AppendsHanded, AppendsPlayed};
 
@@ -155,7 +155,7 @@ impl SceneInstrument {
     )
         requires id { id < 8 }
         requires room { HasRoomForReply N out.old }
-        ensures line { out.new.items ≡ out.old.items ++ played_line id (warned self.now call.now rc) }
+        ensures line { out.new.items ≡ out.old.items ++ played_line id (faulted_call self.now call.now rc) }
         ensures bound { GrowsByReply out.old.items out.new.items }
     {
         let distance = self.distance_in_warning(call, rc);

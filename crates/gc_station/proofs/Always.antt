@@ -9,7 +9,7 @@ use Rattle.gc_station.specs.Progressing.{turned}
 use Rattle.gc_station.specs.Runs.{state_after}
 use Rattle.gc_station.specs.Scopes.{Scope}
 use Rattle.gc_station.specs.Model.{Model, opening, action_at, with_progress, Performs, moved, after, after_all, Runs}
-use Rattle.gc_station.proofs.Counts.{ended_progress}
+use Rattle.gc_station.proofs.Counts.{with_losses_progress}
 use Rattle.gc_station.proofs.Going.{after_all-append}
 
 module _ (plan : Plan) (commands : List Task) where
@@ -42,11 +42,11 @@ module _ (plan : Plan) (commands : List Task) where
     -- each act keeps P of the model's progress: the loss of what is outstanding, at the end of an act, changes no progress
     progress_kept : (done : List Act) (act : Act) → Runs plan commands s done → PerformsNext s done act → P (after_all plan commands s done).progress done
         → P (after plan commands (after_all plan commands s done) act).progress (done ++ act ∷ [])
-    progress_kept done act runs o p = subst (λ (q : Progress). P q (done ++ act ∷ [])) (sym (ended_progress (moved_next s done act))) (step done act runs o p)
+    progress_kept done act runs o p = subst (λ (q : Progress). P q (done ++ act ∷ [])) (sym (with_losses_progress (moved_next s done act))) (step done act runs o p)
 
 -- the progress after one act more is that which `moved` gives once the turn is taken: the loss of what is outstanding, at the end
 -- of the act, changes no progress
 pub progress_after_act : (plan : Plan) (commands : List Task) (scope : Scope) (done : List Act) (act : Act)
     → (state_after plan commands scope (done ++ act ∷ [])).progress ≡ (moved_next plan commands (opening plan scope) done act).progress
 progress_after_act plan commands scope done act =
-    ap (λ (x : Model). x.progress) (after_all-append plan commands (opening plan scope) done (act ∷ [])) ∙ ended_progress (moved_next plan commands (opening plan scope) done act)
+    ap (λ (x : Model). x.progress) (after_all-append plan commands (opening plan scope) done (act ∷ [])) ∙ with_losses_progress (moved_next plan commands (opening plan scope) done act)

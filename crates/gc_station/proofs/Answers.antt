@@ -6,9 +6,9 @@ use Rattle.std.specs.List.{AllByRecursion}
 use Rattle.gc_catalogue.specs.declared.asked.Asked.{Asked}
 use Rattle.gc_catalogue.specs.declared.asked.Asked.TheVariants.{Table}
 use Rattle.gc_catalogue.specs.declared.call.Call.TheVariants.{NullProc}
-use Rattle.gc_client.specs.declared.window.TheConstants.{WINDOW}
+use Rattle.gc_client.specs.declared.window.TheConstants.{WINDOW, IDS}
 use Rattle.gc_client.specs.Rule.{ById, pending_of, sends}
-use Rattle.gc_client.proofs.Digits.{sending}
+use Rattle.gc_client.proofs.Digits.{send_keeps_ids}
 use Rattle.gc_texts.specs.declared.wish.Wish.{Wish}
 use Rattle.gc_texts.specs.Tasks.{call_at}
 use Rattle.gc_texts.specs.declared.tasks.Task.{Task}
@@ -26,7 +26,7 @@ use Rattle.gc_station.specs.Ends.{LateIsJustified, LostIsJustified}
 use Rattle.gc_station.specs.Deciding.{later}
 use Rattle.gc_station.specs.Quiet.{IsAsking}
 use Rattle.gc_station.specs.Progressing.{turned, moment_noted, early_noted, cycle_begun, skipped, attempts_left_out, unsent_at, cleared, null_sent, resynchronized, sent, request_noted, loses_all, setup_sent}
-use Rattle.gc_station.specs.Marks.{commands_in, unsent_as}
+use Rattle.gc_station.specs.Marks.{commands_in, record_with}
 use Rattle.gc_station.specs.Reasons.{HoldsBefore}
 use Rattle.gc_station.specs.Records.{Record}
 use Rattle.gc_station.specs.Runs.{state_after, OfEachRecord}
@@ -41,7 +41,7 @@ use Rattle.gc_station.proofs.Going.{after_all-append}
 use Rattle.gc_station.proofs.Growing.{losing_records}
 use Rattle.gc_station.proofs.Lists.{all_append, all_on, AllRisingAt, rising_more}
 use Rattle.gc_station.proofs.Losing.{losing_honest}
-use Rattle.gc_station.proofs.Waiting.{TimedOutAsRead, StillWaits, IsJustified, Honest, IsHonest, Marked, asked_more, asked_as, asked_among, as_read_without_moment, all_true_more, honest_without_moment, honest_after_moment}
+use Rattle.gc_station.proofs.Waiting.{TimedOutAsRead, StillWaits, IsJustified, Honest, IsHonest, Marked, asked_more, asked_with_equal_id, asked_number_below, as_read_without_moment, all_true_more, honest_without_moment, honest_after_moment}
 use Rattle.gc_station.proofs.Pieces.{piece_honest}
 use Rattle.gc_station.specs.Scopes.{Scope}
 use Rattle.gc_station.proofs.Midway.{with_sent, sent_with_room}
@@ -62,7 +62,7 @@ put_honest plan commands scope acts requests f t act h = h
 
 -- a command that isn't sent is neither answered nor late nor lost, so its record is true
 unsent_true : (plan : Plan) (commands : List Task) (scope : Scope) (all : List Act) (missed : Bool) (utc : ℕ) (mark : Mark) (command : Wish)
-    → IsJustified plan commands scope all (unsent_as utc mark command (end_unsent missed))
+    → IsJustified plan commands scope all (record_with utc mark None command (end_unsent missed))
 unsent_true plan commands scope all true utc mark command = record { answered = λ line e. cc; late = λ e. cc; lost = λ e. cc }
 unsent_true plan commands scope all false utc mark command = record { answered = λ line e. cc; late = λ e. cc; lost = λ e. cc }
 
@@ -95,7 +95,7 @@ module _ (plan : Plan) (commands : List Task) (scope : Scope) (acts : List Act) 
   -- this act puts the request for `call`, for which there is room. If the request has a mark, that is of the command that is sent
   -- next (`Marked`), and the deadline is that command's; and if other requests wait, a request of the client is next (`IsAsking`)
   record PutsRequest (act : Act) (call : Asked) (deadline : ℕ) (mark : Option Mark) : Type 0 where
-    room : length here.client.waiting < 7
+    room : length here.client.waiting < WINDOW
     asks : 0 < length here.client.waiting → IsAsking (action_at plan here)
     marked : (m : Mark) → mark ≡ Some m → Marked plan commands scope acts m
     due : (m : Mark) → mark ≡ Some m → deadline ≡ deadline_after plan commands scope acts
@@ -103,7 +103,8 @@ module _ (plan : Plan) (commands : List Task) (scope : Scope) (acts : List Act) 
 
   -- a request that this act puts waits after it, as `StillWaits` says: behind the others, and put as the last of the acts
   asked_here : (act : Act) (target : ℕ) (call : Asked) (deadline : ℕ) (mark : Option Mark) → Invariant plan commands here → PutsRequest act call deadline mark
-      → StillWaits plan commands scope (acts ++ act ∷ []) ((here.client.next + 1) % 8) (length here.client.waiting + 1) (length acts) (length here.client.waiting) (pending_of target call deadline) mark
+      → StillWaits plan commands scope (acts ++ act ∷ []) ((here.client.next + 1) % IDS) (length here.client.waiting + 1) (length acts) (length here.client.waiting)
+      (pending_of target call deadline) mark
   asked_here act target call deadline mark fine r =
       record {
         before = acts;
@@ -113,7 +114,7 @@ module _ (plan : Plan) (commands : List Task) (scope : Scope) (acts : List Act) 
         many = refl;
         asks = r.asks;
         its = r.marked;
-        id = (sending here.client.next (length here.client.waiting) fine.digit r.room).own;
+        id = (send_keeps_ids here.client.next (length here.client.waiting) fine.digit r.room).own;
         put = r.puts;
         deadline = r.due;
         stays = tt;
@@ -127,9 +128,9 @@ module _ (plan : Plan) (commands : List Task) (scope : Scope) (acts : List Act) 
       let ws = c.waiting in
       let marks = here.marks in
       let asked = pending_of target call deadline in
-      let next = (c.next + 1) % 8 in
+      let next = (c.next + 1) % IDS in
       let many : length (ws ++ asked ∷ []) ≡ length ws + 1 = length-append ws (asked ∷ []) in
-      let ids = sending c.next (length ws) fine.digit r.room in
+      let ids = send_keeps_ids c.next (length ws) fine.digit r.room in
       let W = StillWaits plan commands scope (acts ++ act ∷ []) next (length ws + 1) in
       let end : length ws ≡ 0 + length ws = omega arith in
       let from : 0 ≤ length acts = omega arith in
@@ -138,8 +139,8 @@ module _ (plan : Plan) (commands : List Task) (scope : Scope) (acts : List Act) 
             (rising_more (StillWaits plan commands scope acts c.next (length ws)) W 0 0 (length acts) (length ws) ws marks asked mark end fine.paired from
             (λ n j p y low w.
             let below : j < length ws = omega (arith, low) in (
-              asked_among plan commands scope acts TimedOutAsRead n j _ p y w,
-              asked_as plan commands scope (acts ++ act ∷ []) TimedOutAsRead n j j _ _ p y
+              asked_number_below plan commands scope acts TimedOutAsRead n j _ p y w,
+              asked_with_equal_id plan commands scope (acts ++ act ∷ []) TimedOutAsRead n j j _ _ p y
                   (λ above. above) (ids.others j below) (asked_more plan commands scope acts act TimedOutAsRead TimedOutAsRead n j _ p y (as_read_without_moment act (puts_read_none _ act r.puts)) w),
             )) h.waiting (asked_here act target call deadline mark fine r));
         written = h.written;
@@ -148,7 +149,7 @@ module _ (plan : Plan) (commands : List Task) (scope : Scope) (acts : List Act) 
   -- an act that sends the first of the commands `left`, those from the next one on, with the mark of that one (`Marked`) and with
   -- room for it, preserves `IsHonest`
   first_honest : (act : Act) (next : Upcoming) (left : List Task) (mark : Mark) → Invariant plan commands here → HonestBefore act here
-      → (marked : Marked plan commands scope acts mark) → (room : length here.client.waiting < 7) → (there : drop (place_to_send plan commands here) commands ≡ left)
+      → (marked : Marked plan commands scope acts mark) → (room : length here.client.waiting < WINDOW) → (there : drop (place_to_send plan commands here) commands ≡ left)
       → (puts : Puts (first_text mark.sent here.client left) act)
       → HonestAfter act (with_progress (sent next) (asks_first mark left (with_progress turned here)))
   first_honest act next [] mark fine h is room at puts = honest_without_moment plan commands scope acts act _ _ _ (puts_read_none [] act puts) h
@@ -170,7 +171,7 @@ module _ (plan : Plan) (commands : List Task) (scope : Scope) (acts : List Act) 
 
   -- an act that sends a null procedure of the client, with room for it, preserves `IsHonest`; if other requests wait, a request
   -- of the client is next (`IsAsking`)
-  null_honest : (act : Act) (f : Progress → Progress) → Invariant plan commands here → HonestBefore act here → (room : length here.client.waiting < 7)
+  null_honest : (act : Act) (f : Progress → Progress) → Invariant plan commands here → HonestBefore act here → (room : length here.client.waiting < WINDOW)
       → (asks : 0 < length here.client.waiting → IsAsking (action_at plan here)) → (puts : Puts (next_request_text here.client (Table NullProc)) act)
       → HonestAfter act (with_progress f (asks_for (null_request plan) (with_progress turned here)))
   null_honest act f fine h room asks puts =
@@ -178,15 +179,15 @@ module _ (plan : Plan) (commands : List Task) (scope : Scope) (acts : List Act) 
       let d = later s.progress.moment.elapsed plan.deadline in
       subst (λ (c : ById Asked). Honest plan commands scope (acts ++ act ∷ []) (acts ++ act ∷ []) c (s.marks ++ None ∷ []) s.records) (sym (sent_with_room s.client 0 (Table NullProc) d room))
       (sent_honest act 0 (Table NullProc) d None fine h
-      (record { room = room; asks = asks; marked = λ m its. absurd (never m its); due = λ m its. absurd (never m its); puts = puts })) where
+      (record { room = room; asks = asks; marked = λ m its. absurd (null_has_no_mark m its); due = λ m its. absurd (null_has_no_mark m its); puts = puts })) where
         -- a null procedure has no mark
-        never : (m : Mark) → None ≡ Some m → ⊥
-        never m e = cc
+        null_has_no_mark : (m : Mark) → None ≡ Some m → ⊥
+        null_has_no_mark m e = cc
 
   -- an act that sends the first of the setup's commands `left`, those from the next one on, with the mark of that one (`Marked`),
   -- or a null procedure if there is none, and with room for the request, preserves `IsHonest`
   setup_honest : (act : Act) (left : List Task) (mark : Mark) → Invariant plan commands here → HonestBefore act here → (marked : Marked plan commands scope acts mark)
-      → (room : length here.client.waiting < 7) → (there : drop (place_to_send plan commands here) commands ≡ left) → (puts : Puts (text_or_null mark.sent here.client left) act)
+      → (room : length here.client.waiting < WINDOW) → (there : drop (place_to_send plan commands here) commands ≡ left) → (puts : Puts (text_or_null mark.sent here.client left) act)
       → HonestAfter act (with_progress (setup_sent plan) (asks_for (request_or_null plan mark left) (with_progress turned here)))
   setup_honest act [] mark fine h is room at puts = null_honest act (setup_sent plan) fine h room (λ above. sending_asks plan here is.sends) puts
   setup_honest act (task ∷ others) mark fine h is room at puts =

@@ -7,7 +7,6 @@ use Rattle.std.proofs.Common.{◌≡◌, ℕ, zero, suc, Bool, List, [], ◌∷�
 use Rattle.std.specs.Prelude.{slice_get}
 use Rattle.std.specs.List.{AllByRecursion}
 use Rattle.gc_values.proofs.Every.{every_drop}
-use Rattle.gc_catalogue.specs.declared.answer.Reading.{Reading}
 use Rattle.gc_catalogue.specs.declared.asked.Asked.{Asked}
 use Rattle.gc_client.specs.Rule
 use Rattle.gc_client.specs.Rule.{heard, hears, restarts}
@@ -26,7 +25,7 @@ use Rattle.gc_station.specs.Qualities.{IsOfQuality, IsAsListed, accepted_at}
 use Rattle.gc_station.specs.Progressing.{turned, moment_noted, loses_all}
 use Rattle.gc_station.specs.Records.{Record}
 use Rattle.gc_station.specs.Runs.{state_after}
-use Rattle.gc_station.specs.Scopes.{Scope}
+use Rattle.gc_station.specs.Scopes.{Scope, Reads}
 use Rattle.gc_station.specs.declared.mark.Mark.{Mark}
 use Rattle.gc_station.specs.declared.plan.Plan.{Plan}
 use Rattle.gc_station.specs.declared.progress.Action.{Action}
@@ -45,9 +44,9 @@ use Rattle.gc_station.specs.Attempts.{code_of, listed_by}
 use Rattle.gc_station.specs.Reasons.{HoldsBefore}
 use Rattle.gc_station.specs.Retries.{expected_of, code_of_end, HasItsTurn}
 use Rattle.gc_station.proofs.EachRun.{invariant_after, invariant_opening}
-use Rattle.gc_station.proofs.Facts.{action_for, not_none}
+use Rattle.gc_station.proofs.Facts.{action_for, not_zero}
 use Rattle.gc_station.proofs.Invariant.{Invariant}
-use Rattle.gc_station.proofs.Listed.{code_there, named_by, any_listed, any_append, expected_as, near_expected, accepted_expected}
+use Rattle.gc_station.proofs.Listed.{code_is_in_line, named_by, any_listed, any_append, expected_as, near_expected, accepted_expected}
 
 -- what is expected of the answer of the command at a place is what its task says
 expected_there : (commands : List Task) (k : ℕ) (task : Task) → slice_get commands k ≡ Some task → expected_first (drop k commands) ≡ expected_first (task ∷ [])
@@ -105,7 +104,7 @@ module _ (plan : Plan) (commands : List Task) (scope : Scope) where
   next_expects : (p : Progress) → 0 < cycles_begun plan p → ExpectsAsText (Some (mark_next plan commands p))
   next_expects p many =
       let expected = expected_first (drop (place_next commands p) commands) in
-      ap (λ (b : Bool). expected_as b expected.turn.attempt expected) (sym (not_none (cycles_begun plan p) many))
+      ap (λ (b : Bool). expected_as b expected.turn.attempt expected) (sym (not_zero (cycles_begun plan p) many))
 
   -- `listed_by` of settlements is `any_listed` of their records, if their marks are `ExpectsAsText`
   listed_as_recorded : (utc : ℕ) (marks : List (Option Mark)) (xs : List (Rule.Settlement Asked)) (b : Bool) → AllByRecursion ExpectsAsText marks
@@ -117,7 +116,7 @@ module _ (plan : Plan) (commands : List Task) (scope : Scope) where
       let end = end_of scope.reads mark.expected x.call x.outcome in
       let code = code_of scope.reads x.call x.outcome in
       let kept = if nat_eq mark.expected.turn.link 0 then false else b in
-      let same = named_by scope.reads mark.expected.again x.call code end (λ q said l e. code_there scope.reads mark.expected x.call x.outcome q said l e)
+      let same = named_by scope.reads mark.expected.again x.call code end (λ q said l e. code_is_in_line scope.reads mark.expected x.call x.outcome q said l e)
       ∙ ap (λ (k : Expected). repeats_after k.again (code_of_end scope.reads x.call end) end) all.0 in
       listed_as_recorded utc marks xs (kept || repeats_after mark.expected.again code end) all.1
       ∙ ap (λ y. any_listed scope.reads commands (kept || y) (records_of scope.reads utc marks xs)) same
@@ -134,7 +133,7 @@ module _ (plan : Plan) (commands : List Task) (scope : Scope) where
   settles_keeps : (s : Model) (x : List (Rule.Settlement Asked)) → KeepsToText s → AllByRecursion IsAsItsText (s.records ++ records_of s.reads s.progress.moment.utc s.marks x)
   settles_keeps s x k =
       let utc = s.progress.moment.utc in
-      subst (λ (reads : Asked → List ℕ → Reading). AllByRecursion IsAsItsText (s.records ++ records_of reads utc s.marks x)) (sym k.reads)
+      subst (λ (reads : Reads). AllByRecursion IsAsItsText (s.records ++ records_of reads utc s.marks x)) (sym k.reads)
       (all_settled ExpectsAsText IsAsItsText scope.reads utc s.marks s.records x (record_keeps utc) k.marks k.records)
 
   -- if `KeepsToText` holds of `s`, `listed_by` of the settlements `x` is what its records and those of `x` after them say
@@ -142,11 +141,11 @@ module _ (plan : Plan) (commands : List Task) (scope : Scope) where
       → listed_by s.reads s.listed s.marks x ≡ any_listed scope.reads commands false (s.records ++ records_of s.reads s.progress.moment.utc s.marks x)
   settles_listed s x k =
       let utc = s.progress.moment.utc in
-      ap (λ (reads : Asked → List ℕ → Reading). listed_by reads s.listed s.marks x) k.reads
+      ap (λ (reads : Reads). listed_by reads s.listed s.marks x) k.reads
       ∙ listed_as_recorded utc s.marks x s.listed k.marks
       ∙ ap (λ b. any_listed scope.reads commands b (records_of scope.reads utc s.marks x)) k.listed
       ∙ sym (any_append scope.reads commands s.records (records_of scope.reads utc s.marks x) false)
-      ∙ sym (ap (λ (reads : Asked → List ℕ → Reading). any_listed scope.reads commands false (s.records ++ records_of reads utc s.marks x)) k.reads)
+      ∙ sym (ap (λ (reads : Reads). any_listed scope.reads commands false (s.records ++ records_of reads utc s.marks x)) k.reads)
 
   -- `KeepsToText` is preserved by a line that is heard
   line_keeps : (s : Model) (line : List ℕ) → KeepsToText s → KeepsToText (line_came s line)
@@ -258,20 +257,20 @@ module _ (plan : Plan) (commands : List Task) (scope : Scope) where
   after_keeps : (s : Model) (act : Act) → Invariant plan commands s → KeepsToText s → KeepsToText (after plan commands s act)
   after_keeps s act fine k =
       let t = moved plan commands (action_at plan s) (with_progress turned s) act in
-      losing_keeps (loses_all t.progress) t (moved_keeps (action_at plan s) (with_progress turned s) act (there (action_at plan s) (action_for plan s.progress (waiting_of s)))
+      losing_keeps (loses_all t.progress) t (moved_keeps (action_at plan s) (with_progress turned s) act (next_has_its_command (action_at plan s) (action_for plan s.progress (waiting_of s)))
       (record { reads = k.reads; marks = k.marks; records = k.records; listed = k.listed })) where
         -- if a command is unsent, a cycle has begun, and there is a next command
-        one_left : 0 < s.progress.unsent → (0 < cycles_begun plan s.progress) × (0 < length (commands_left commands s.progress))
-        one_left unsent =
+        has_next_if_unsent : 0 < s.progress.unsent → (0 < cycles_begun plan s.progress) × (0 < length (commands_left commands s.progress))
+        has_next_if_unsent unsent =
             let many = length-drop (place_next commands s.progress) commands in
             let within = fine.unsent in
             let below = fine.begun unsent in (omega (arith, below), omega (arith, many, unsent, within))
 
         -- `HasItsCommand` holds of the action that is next
-        there : (next : Action) → HoldsBefore plan s.progress (waiting_of s) next → HasItsCommand next (with_progress turned s)
-        there actions.Send needs = one_left needs.2
-        there actions.Skip needs = one_left needs.2
-        there next needs = tt
+        next_has_its_command : (next : Action) → HoldsBefore plan s.progress (waiting_of s) next → HasItsCommand next (with_progress turned s)
+        next_has_its_command actions.Send needs = has_next_if_unsent needs.2
+        next_has_its_command actions.Skip needs = has_next_if_unsent needs.2
+        next_has_its_command next needs = tt
 
   -- `KeepsToText` holds after any acts
   pub kept_all : (acts : List Act) → KeepsToText (state_after plan commands scope acts)

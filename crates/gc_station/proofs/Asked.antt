@@ -58,13 +58,13 @@ heard_piece false lines = refl
 
 -- if an act performs the action o, the lines in the steps of the act's part of a synchronization (`sync_part`) are those that the
 -- station hears at the act
-heard_by : (commands : List Task) (s : Model) (o : Action) (act : Act) → Performs commands s o act → heard_in (sync_part s o act).sync_steps ≡ lines_heard_at s act
-heard_by commands s action.Ask (Put bytes) obeys = refl
-heard_by commands s action.Ask (Cut bytes count) obeys = refl
-heard_by commands s (action.Read until) (Gave piece m) obeys = heard_piece (is_heard s.progress.phase) (lines_completed s.rest piece)
-heard_by commands s (action.Close why) (Gave piece m) obeys = cc
-heard_by commands s o (Gave piece m) obeys = absurd obeys
-heard_by commands s o act obeys = refl
+heard_in_sync_part : (commands : List Task) (s : Model) (o : Action) (act : Act) → Performs commands s o act → heard_in (sync_part s o act).sync_steps ≡ lines_heard_at s act
+heard_in_sync_part commands s action.Ask (Put bytes) obeys = refl
+heard_in_sync_part commands s action.Ask (Cut bytes count) obeys = refl
+heard_in_sync_part commands s (action.Read until) (Gave piece m) obeys = heard_piece (is_heard s.progress.phase) (lines_completed s.rest piece)
+heard_in_sync_part commands s (action.Close why) (Gave piece m) obeys = cc
+heard_in_sync_part commands s o (Gave piece m) obeys = absurd obeys
+heard_in_sync_part commands s o act obeys = refl
 
 -- the steps of a read that gave `piece`, in its part of a synchronization (`sync_part`), are the lines of the piece if it is
 -- heard, and none if it is discarded
@@ -92,7 +92,8 @@ module _ (plan : Plan) (commands : List Task) where
   -- after an act while the station synchronizes, the ids that are left are those that the lines of the act leave
   pub word_after_sync_steps : (s : Model) (act : Act) → Performs commands s (action_at plan s) act → has_begun s.progress ≡ false
       → (after plan commands s act).progress.word ≡ unanswered_after s.progress.word (heard_in (sync_part s (action_at plan s) act).sync_steps)
-  word_after_sync_steps s act obeys begins = word_after plan commands s act obeys begins ∙ ap (λ l. unanswered_after s.progress.word l) (sym (heard_by commands s (action_at plan s) act obeys))
+  word_after_sync_steps s act obeys begins = word_after plan commands s act obeys begins
+      ∙ ap (λ l. unanswered_after s.progress.word l) (sym (heard_in_sync_part commands s (action_at plan s) act obeys))
 
 -- Each part synchronizes first.
 
@@ -149,20 +150,20 @@ begun_with_more p [] h = inr (left_none (heard_in p.sync_steps))
 begun_with_more p (q ∷ ps) h = (left_none (heard_in p.sync_steps), h)
 
 -- if `loses_all` says that nothing is lost, the station has synchronized
-pub goes_begun : (t : Model) → loses_all t.progress ≡ false → has_begun t.progress ≡ true
-goes_begun t e = (none_lost_parts (has_begun t.progress) (is_over t.progress) e).0
+pub begun_if_nothing_lost : (t : Model) → loses_all t.progress ≡ false → has_begun t.progress ≡ true
+begun_if_nothing_lost t e = (none_lost_parts (has_begun t.progress) (is_over t.progress) e).0
 
--- with a part p without steps of a synchronization before the parts `ps` (`in_front`), the first part has none; if p is joined to the first of
--- `ps` (`ends` is false), that one has to have none either
-none_in_front : (p : Part) (ends : Bool) (ps : List Part) → p.sync_steps ≡ [] → (ends ≡ false → FirstHasNoSyncSteps ps) → FirstHasNoSyncSteps (in_front p ends ps)
-none_in_front p true ps e h = e
-none_in_front p false [] e h = e
-none_in_front p false (q ∷ ps) e h = nil_both p.sync_steps q.sync_steps e (h refl)
+-- with a part p without steps of a synchronization before the parts `ps` (`in_front`), the first part has none, if the first of
+-- `ps` has none in case p is joined to it (`ends` is false)
+in_front_no_sync_steps : (p : Part) (ends : Bool) (ps : List Part) → p.sync_steps ≡ [] → (ends ≡ false → FirstHasNoSyncSteps ps) → FirstHasNoSyncSteps (in_front p ends ps)
+in_front_no_sync_steps p true ps e h = e
+in_front_no_sync_steps p false [] e h = e
+in_front_no_sync_steps p false (q ∷ ps) e h = nil_both p.sync_steps q.sync_steps e (h refl)
 
 -- the part that sends the first of these commands has no steps of a synchronization; nor does it have any if there is no command
-none_asking : (now : ℕ) (mark : Mark) (tasks : List Task) → (part.first_request_part now mark tasks).sync_steps ≡ []
-none_asking now mark [] = refl
-none_asking now mark (task ∷ others) = refl
+first_request_no_sync_steps : (now : ℕ) (mark : Mark) (tasks : List Task) → (part.first_request_part now mark tasks).sync_steps ≡ []
+first_request_no_sync_steps now mark [] = refl
+first_request_no_sync_steps now mark (task ∷ others) = refl
 
 module _ (plan : Plan) (commands : List Task) where
   -- let all that is outstanding be lost at the model t (`loses_all`), and all eight ids be left in t unless the station has
@@ -172,14 +173,14 @@ module _ (plan : Plan) (commands : List Task) where
       → Runs plan commands t acts → AreBegun t.progress.word (parts_of plan commands t acts)
       → AreBegun the_word (parts_of plan commands t acts)
   next_begun t acts loses anew runs h = by_case (has_begun t.progress) refl loses where
-    -- if the run is over no act follows, so the parts are the one in which nothing happens
-    none_over : (acts : List Act) → is_over t.progress ≡ true → Runs plan commands t acts → AreBegun the_word (parts_of plan commands t acts)
-    none_over [] over runs = inl refl
-    none_over (act ∷ acts) over runs = absurd (no_act_once_over plan commands t act over runs.0)
+    -- if the run is over, the parts have synchronized from all eight ids: no act follows, so nothing happens in them
+    begun_if_over : (acts : List Act) → is_over t.progress ≡ true → Runs plan commands t acts → AreBegun the_word (parts_of plan commands t acts)
+    begun_if_over [] over runs = inl refl
+    begun_if_over (act ∷ acts) over runs = absurd (no_act_once_over plan commands t act over runs.0)
 
-    -- the lemma above, by whether the station has synchronized (b): if it hasn't, its word is whole; if it has, the run is over
+    -- `next_begun` by whether the station has synchronized (b): if it hasn't, its word is whole; if it has, the run is over
     by_case : (b : Bool) → has_begun t.progress ≡ b → (not b || is_over t.progress) ≡ true → AreBegun the_word (parts_of plan commands t acts)
-    by_case true e over = none_over acts over runs
+    by_case true e over = begun_if_over acts over runs
     by_case false e over = subst (λ w. AreBegun w (parts_of plan commands t acts)) (anew e) h
 
   module _ (s : Model) (act : Act) (acts : List Act) where
@@ -202,7 +203,7 @@ module _ (plan : Plan) (commands : List Task) where
         (subst (λ w. AreBegun w ps) (word_after_sync_steps plan commands s act obeys e) h)
     parts_begun_with true false e f obeys runs h =
         let p = client_part plan commands s (action_at plan s) act in
-        let goes : has_begun t.progress ≡ true = goes_begun t f in
+        let goes : has_begun t.progress ≡ true = begun_if_nothing_lost t f in
         subst (λ w. AreBegun w (in_front p false ps)) (sym (word_empty s.progress.word e))
         (begun_joined p ps (subst (λ w. AreBegun w ps) (word_empty t.progress.word goes) h))
     parts_begun_with true true e f obeys runs h =
@@ -218,26 +219,27 @@ module _ (plan : Plan) (commands : List Task) where
 
   -- Once the station has synchronized there are no steps of a synchronization.
 
-  -- the part of an action that puts bytes has none
-  none_putting : (s : Model) (o : Action) → (part.put_part plan commands s o).sync_steps ≡ []
-  none_putting s action.Flush = refl
-  none_putting s action.Prepare = refl
-  none_putting s action.Send = none_asking s.progress.moment.elapsed (mark_next plan commands s.progress) (drop (place_next commands s.progress) commands)
-  none_putting s o = refl
+  -- the part of an action that puts bytes has no steps of a synchronization
+  put_part_no_sync_steps : (s : Model) (o : Action) → (part.put_part plan commands s o).sync_steps ≡ []
+  put_part_no_sync_steps s action.Flush = refl
+  put_part_no_sync_steps s action.Prepare = refl
+  put_part_no_sync_steps s action.Send = first_request_no_sync_steps s.progress.moment.elapsed (mark_next plan commands s.progress) (drop (place_next commands s.progress) commands)
+  put_part_no_sync_steps s o = refl
 
-  -- the part of an act once the station has synchronized has none
-  pub none_doing : (s : Model) (o : Action) (act : Act) → (client_part plan commands s o act).sync_steps ≡ []
-  none_doing s o (Put bytes) = none_putting s o
-  none_doing s o (Cut bytes count) = none_putting s o
-  none_doing s o (Told m) = refl
-  none_doing s o (Gave piece m) = refl
-  none_doing s o act = refl
+  -- the part of an act, once the station has synchronized, has no steps of a synchronization
+  pub client_part_no_sync_steps : (s : Model) (o : Action) (act : Act) → (client_part plan commands s o act).sync_steps ≡ []
+  client_part_no_sync_steps s o (Put bytes) = put_part_no_sync_steps s o
+  client_part_no_sync_steps s o (Cut bytes count) = put_part_no_sync_steps s o
+  client_part_no_sync_steps s o (Told m) = refl
+  client_part_no_sync_steps s o (Gave piece m) = refl
+  client_part_no_sync_steps s o act = refl
 
-  -- the first part of acts, once the station has synchronized, has none
-  pub no_sync_steps : (s : Model) (acts : List Act) → has_begun s.progress ≡ true → FirstHasNoSyncSteps (parts_of plan commands s acts)
-  no_sync_steps s [] e = refl
-  no_sync_steps s (act ∷ acts) e =
+  -- the first part of acts, once the station has synchronized, has no steps of a synchronization
+  pub first_part_no_sync_steps : (s : Model) (acts : List Act) → has_begun s.progress ≡ true → FirstHasNoSyncSteps (parts_of plan commands s acts)
+  first_part_no_sync_steps s [] e = refl
+  first_part_no_sync_steps s (act ∷ acts) e =
       let t = after plan commands s act in
       let o = action_at plan s in
-      subst (λ b. FirstHasNoSyncSteps (in_front (if b then client_part plan commands s o act else sync_part s o act) (b && loses_all t.progress) (parts_of plan commands t acts))) (sym e)
-      (none_in_front (client_part plan commands s o act) (loses_all t.progress) (parts_of plan commands t acts) (none_doing s o act) (λ f. no_sync_steps t acts (goes_begun t f)))
+      let ps = parts_of plan commands t acts in
+      subst (λ b. FirstHasNoSyncSteps (in_front (if b then client_part plan commands s o act else sync_part s o act) (b && loses_all t.progress) ps)) (sym e)
+      (in_front_no_sync_steps (client_part plan commands s o act) (loses_all t.progress) ps (client_part_no_sync_steps s o act) (λ f. first_part_no_sync_steps t acts (begun_if_nothing_lost t f)))

@@ -7,7 +7,7 @@ use Rattle.std.proofs.lemmas.Bool.{eqb-true, both_ways}
 use Rattle.std.proofs.lemmas.List.{nil_from_length}
 use Rattle.std.proofs.lemmas.List.Elements.{filter_map-append}
 use Rattle.gc_catalogue.specs.declared.asked.Asked.{Asked}
-use Rattle.gc_client.specs.Beginning.{IsSubsequence, the_word, left_by, left_by_one}
+use Rattle.gc_client.specs.Beginning.{IsSubsequence, the_word, left_by, left_when}
 use Rattle.gc_client.specs.Rule.{ById, heard}
 use Rattle.gc_texts.specs.declared.tasks.Task.{Task}
 use Rattle.gc_station.specs.declared.plan.Plan.{Plan}
@@ -25,11 +25,11 @@ use Rattle.gc_station.specs.Scopes.{Scope}
 use Rattle.gc_station.specs.Model.{Model, opening, action_at, waiting_of, with_progress, Performs, moved, after, after_all, Runs}
 use Rattle.gc_station.proofs.Always.{progress_after_act}
 use Rattle.gc_station.proofs.Closings.{runs_split}
-use Rattle.gc_station.proofs.Counts.{ended_progress}
+use Rattle.gc_station.proofs.Counts.{with_losses_progress}
 use Rattle.gc_station.proofs.EachRun.{invariant_holds}
 use Rattle.gc_station.proofs.Facts.{action_for}
 use Rattle.gc_station.proofs.Going.{after_all-append, runs_behind}
-use Rattle.gc_station.proofs.Quiets.{asks_only}
+use Rattle.gc_station.proofs.Quiets.{only_ask_sends}
 use Rattle.gc_station.proofs.Words.{word_moved, renews_only, renews_needs}
 
 -- Lines answer the ids of a word in their order: the word is a subsequence of the lines' ids.
@@ -41,11 +41,11 @@ left_answered : (word : List ℕ) (line : List ℕ) (others : List (List ℕ)) (
 left_answered [] line others ids h = tt
 left_answered (asked ∷ rest) line others ids h = by_id (heard line) refl h where
   -- the lemma above, if the line has an id: the word's first one (`true`) or another
-  by_test : (id : ℕ) (b : Bool) → nat_eq id asked ≡ b → IsSubsequence (left_by_one b asked rest) (filter_map heard others ++ ids) → IsSubsequence (asked ∷ rest) (id ∷ (filter_map heard others ++ ids))
+  by_test : (id : ℕ) (b : Bool) → nat_eq id asked ≡ b → IsSubsequence (left_when b asked rest) (filter_map heard others ++ ids) → IsSubsequence (asked ∷ rest) (id ∷ (filter_map heard others ++ ids))
   by_test id true e h = inl (sym (eqb-true id asked e), h)
   by_test id false e h = inr h
 
-  -- the lemma above, by the id that the line has, if it has one
+  -- `left_answered` by the id that the line has, if it has one
   by_id : (o : Option ℕ) → heard line ≡ o → IsSubsequence (left_by (asked ∷ rest) o) (filter_map heard others ++ ids) → IsSubsequence (asked ∷ rest) (filter_map heard (line ∷ others) ++ ids)
   by_id None e h = rw e h
   by_id (Some id) e h = rw e (by_test id (nat_eq id asked) refl h)
@@ -69,7 +69,7 @@ module _ (plan : Plan) (commands : List Task) where
   pub word_after : (s : Model) (act : Act) → Performs commands s (action_at plan s) act → has_begun s.progress ≡ false
       → (after plan commands s act).progress.word ≡ unanswered_after s.progress.word (lines_heard_at s act)
   word_after s act obeys begins =
-      ap (λ (p : Progress). p.word) (ended_progress (moved plan commands (action_at plan s) (with_progress turned s) act))
+      ap (λ (p : Progress). p.word) (with_losses_progress (moved plan commands (action_at plan s) (with_progress turned s) act))
       ∙ word_moved plan commands s (action_at plan s) act obeys (not_renew s (action_at plan s) (action_for plan s.progress (waiting_of s)) begins)
 
   -- if the station resynchronizes, all ids of the word are left
@@ -77,7 +77,7 @@ module _ (plan : Plan) (commands : List Task) where
       → has_begun (after plan commands s act).progress ≡ false → (after plan commands s act).progress.word ≡ the_word
   word_if_resynchronizing s act obeys begun begins =
       let o = action_at plan s in
-      let far = ended_progress (moved plan commands o (with_progress turned s) act) in
+      let far = with_losses_progress (moved plan commands o (with_progress turned s) act) in
       let it = renews_only plan commands s o act obeys begun (ap has_begun (sym far) ∙ begins) in
       ap (λ (p : Progress). p.word) far ∙ ap (λ (x : Action). (moved plan commands x (with_progress turned s) act).progress.word) it.0
       ∙ ap (λ (x : Act). (moved plan commands actions.Renew (with_progress turned s) x).progress.word) it.2
@@ -138,7 +138,7 @@ module _ (plan : Plan) (commands : List Task) (scope : Scope) (acts : List Act) 
       record {
         client = new;
         marks = nil_from_length here.marks (fine.paired ∙ ap (λ (c : ById Asked). length c.waiting) new);
-        asks = λ asks. subst (λ (o : Action). Performs commands here o act) (asks_only plan commands (action_at plan here) here act obeys asks needs begins) obeys;
+        asks = λ asks. subst (λ (o : Action). Performs commands here o act) (only_ask_sends plan commands (action_at plan here) here act obeys asks needs begins) obeys;
         left = ap (λ (x : Model). x.progress.word) (after_all-append plan commands (opening plan scope) acts (act ∷ [])) ∙ word_after plan commands here act obeys begins;
       }
 
@@ -158,7 +158,7 @@ module _ (plan : Plan) (commands : List Task) (scope : Scope) (acts : List Act) 
 
   -- each act of a run is as `SynchronizesInOrder` says: `IsSynchronizing` while the station synchronizes, and
   -- `IsResynchronizing` if it resynchronizes
-  pub begins_so : (later : List Act) → Runs plan commands (opening plan scope) (acts ++ act ∷ later) → SynchronizesInOrder plan commands scope acts act
-  begins_so later runs =
+  pub synchronizes_in_order : (later : List Act) → Runs plan commands (opening plan scope) (acts ++ act ∷ later) → SynchronizesInOrder plan commands scope acts act
+  synchronizes_in_order later runs =
       let obeys = (runs_split plan commands (opening plan scope) acts later act runs).1 in
       record { starts = refl; begins = λ begins. of_beginning obeys begins; anew = λ begun begins. of_resynchronizing obeys begun begins }

@@ -14,7 +14,7 @@ use Rattle.gc_client.specs.declared.pending.Pending.{Pending}
 use Rattle.gc_client.specs.declared.window.TheConstants.{WINDOW}
 use Rattle.gc_client.proofs.OneForOne.{accounts_for_sends, length-settle}
 use Rattle.gc_station.specs.Parts.{client_stepped}
-use Rattle.gc_station.specs.Behind.{IsEndedByReply, IsNearTheTable}
+use Rattle.gc_station.specs.Behind.{IsRepliedTableCall, IsNearTheTable}
 use Rattle.gc_station.specs.Model.{is_some_of_table, ends_with_table}
 use Rattle.gc_station.specs.Progressing.{one_more_in_window}
 use Rattle.gc_station.proofs.Booking.{course_client}
@@ -25,26 +25,26 @@ use Rattle.gc_station.proofs.Lists.{get_more, get_behind}
 
 -- the count after one step of this client, if it was `b` before: how many requests were sent, up to seven, after the last call of
 -- the table that a reply ended
-abbrev pub behind_step : ById Asked → ℕ → Step Asked → ℕ
+abbrev pub behind_step : ById Asked → (b : ℕ) → Step Asked → ℕ
 behind_step c b (Send target call deadline) = one_more_in_window b
 behind_step c b (Hear line) = if ends_with_table (hears c line (heard line)).settlements then length (hears c line (heard line)).client.waiting else b
 behind_step c b (Expire now) = b
 behind_step c b Restart = b
 
 -- the count after these steps of this client, in order, if it was `b` before
-abbrev pub behind_by : ById Asked → ℕ → List (Step Asked) → ℕ
+abbrev pub behind_by : ById Asked → (b : ℕ) → List (Step Asked) → ℕ
 behind_by c b [] = b
 behind_by c b (step ∷ steps) = behind_by (client_stepped c step) (behind_step c b step) steps
 
 -- at most `b` requests were sent in all; or at most `b` were sent after some call of the table that a reply ended
-abbrev pub IsAtMostBehind : Course Asked → ℕ → Type 0
+abbrev pub IsAtMostBehind : Course Asked → (b : ℕ) → Type 0
 IsAtMostBehind x b =
     (length x.sent ≤ b)
-    ⊎ ((k : ℕ) × (s : Settlement Asked) × (slice_get x.settlements k ≡ Some s) × IsEndedByReply s × (length x.sent ≤ suc k + b))
+    ⊎ ((k : ℕ) × (s : Settlement Asked) × (slice_get x.settlements k ≡ Some s) × IsRepliedTableCall s × (length x.sent ≤ suc k + b))
 
 -- if the count `b` is below seven, `IsAtMostBehind` holds of it
-abbrev pub CountsBehind : Course Asked → ℕ → Type 0
-CountsBehind x b = b < 7 → IsAtMostBehind x b
+abbrev pub CountsBehind : Course Asked → (b : ℕ) → Type 0
+CountsBehind x b = b < WINDOW → IsAtMostBehind x b
 
 -- the last of the requests that a reply settles isn't lost
 last_settled_not_lost : (k : ℕ) (line : List ℕ) (ps : List (Pending Asked)) (x : Settlement Asked) → k < length ps → slice_get (settle k line ps) k ≡ Some x → x.outcome ≡ Lost → ⊥
@@ -60,7 +60,7 @@ record EndsReplied (xs : List (Settlement Asked)) : Type 0 where
   last : Settlement Asked
   some : 0 < length xs
   at : slice_get xs (length xs - 1) ≡ Some last
-  replied : IsEndedByReply last
+  replied : IsRepliedTableCall last
 
 -- if the test `is_some_of_table` holds of what may be a settlement, there is a settlement, and it is of a call of the table
 table_one : (o : Option (Settlement Asked)) → is_some_of_table o ≡ true → (x : Settlement Asked) × (o ≡ Some x) × (is_of_table x.call ≡ true)
@@ -112,19 +112,19 @@ at_most_sent x target call (Some sending) b (inr (k, s, at, replied, near)) =
     let more = length-append x.sent (record { target = target; call = call } ∷ []) in inr (k, s, at, replied, omega (arith, more, near))
 
 -- if `one_more_in_window` of a number is below seven, so is the number, and the former is the number plus 1
-one_more_is : (b : ℕ) → one_more_in_window b < 7 → (b < 7) × (one_more_in_window b ≡ b + 1)
-one_more_is b low = cond_both (nat_lt b WINDOW) (b + 1) b (λ n. n < 7 → (b < 7) × (n ≡ b + 1)) (λ e l. (ltb-true b WINDOW e, refl))
-    (λ e l. let high : 7 ≤ b = ltb-false b WINDOW e in absurd (omega (arith, l, high))) low
+one_more_if_below : (b : ℕ) → one_more_in_window b < WINDOW → (b < WINDOW) × (one_more_in_window b ≡ b + 1)
+one_more_if_below b low = cond_both (nat_lt b WINDOW) (b + 1) b (λ n. n < WINDOW → (b < WINDOW) × (n ≡ b + 1)) (λ e l. (ltb-true b WINDOW e, refl))
+    (λ e l. let high : WINDOW ≤ b = ltb-false b WINDOW e in absurd (omega (arith, l, high))) low
 
 -- a step preserves `CountsBehind`, with the count that `behind_step` gives, if the course after the step accounts for its sends
 counts_step : (x : Course Asked) (b : ℕ) (step : Step Asked) → AccountsForSends (course_after WINDOW x step) → CountsBehind x b
     → CountsBehind (course_after WINDOW x step) (behind_step x.client b step)
 counts_step x b (Send target call deadline) one h low =
-    let is = one_more_is b low in
+    let is = one_more_if_below b low in
     subst (λ (n : ℕ). IsAtMostBehind (course_after WINDOW x (Send target call deadline)) n) (sym is.1) (at_most_sent x target call (sends WINDOW x.client target call deadline) b (h is.0))
 counts_step x b (Hear line) one h low = by_test (ends_with_table (hears x.client line (heard line)).settlements) refl low where
   -- the lemma above, by whether the last request that the line settles is a call of the table (`t`)
-  by_test : (t : Bool) → ends_with_table (hears x.client line (heard line)).settlements ≡ t → (if t then length (hears x.client line (heard line)).client.waiting else b) < 7
+  by_test : (t : Bool) → ends_with_table (hears x.client line (heard line)).settlements ≡ t → (if t then length (hears x.client line (heard line)).client.waiting else b) < WINDOW
       → IsAtMostBehind (course_after WINDOW x (Hear line)) (if t then length (hears x.client line (heard line)).client.waiting else b)
   by_test false e low = let y = hears x.client line (heard line) in at_most_more x y.settlements y.client b (h low)
   by_test true e low =
@@ -169,8 +169,8 @@ counts_steps done (step ∷ steps) b h =
       client_of_step x step = course_client (step ∷ []) x
 
 -- if `CountsBehind` holds of a count below seven, `IsNearTheTable` holds of the course
-pub near_so : (x : Course Asked) (b : ℕ) → CountsBehind x b → b < 7 → IsNearTheTable x
-near_so x b h low = by_case (h low) where
+pub near_by_count : (x : Course Asked) (b : ℕ) → CountsBehind x b → b < WINDOW → IsNearTheTable x
+near_by_count x b h low = by_case (h low) where
   -- the lemma above, by the case of `IsAtMostBehind`
   by_case : IsAtMostBehind x b → IsNearTheTable x
   by_case (inl few) = inl (omega (arith, few, low))

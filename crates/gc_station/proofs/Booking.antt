@@ -8,8 +8,8 @@ use Rattle.std.specs.List.{AllByRecursion}
 use Rattle.std.proofs.lemmas.List.{length-map, length-append, length-drop, map-append, drop-append-le, drop-drop}
 use Rattle.std.proofs.lemmas.Bool.{ne_eqb}
 use Rattle.std.proofs.lemmas.Option.{same_Some}
-use Rattle.gc_catalogue.specs.declared.answer.Reading.{Reading}
 use Rattle.gc_catalogue.specs.declared.asked.Asked.{Asked}
+use Rattle.gc_client.specs.declared.window.TheConstants.{WINDOW}
 use Rattle.gc_client.specs.OneForOne.{Wanted, Course, Step, Send, Hear, Expire, Restart, sent_on, course_after, course, of_settled, of_pending}
 use Rattle.gc_client.specs.Rule.{ById, Outcome, Answered, Late, Lost, Sending, Settlement, fresh, heard, hears, expires, lost, send_unless_full, sends}
 use Rattle.gc_client.proofs.OneForOne.{heard_parts, lost_parts}
@@ -25,6 +25,7 @@ use Rattle.gc_station.specs.Requests.{of_command}
 use Rattle.gc_station.specs.Deciding.{later}
 use Rattle.gc_station.specs.Model.{client_sent, sent_to}
 use Rattle.gc_station.specs.Parts.{SyncStep, Part, only_sync_steps, only_steps, idle_part, parts_joined, request_part, MarkAsks, MarksAsk, went_out, sent_of, timeless, course_at, client_stepped, client_after}
+use Rattle.gc_station.specs.Scopes.{Reads}
 use Rattle.gc_station.proofs.Lists.{all_append, all_at}
 use Rattle.gc_station.proofs.Records.{answer_along, records-none, records-append}
 use Rattle.std.proofs.lemmas.List.Elements.{filter-append}
@@ -34,7 +35,7 @@ use Rattle.std.proofs.lemmas.List.Elements.{filter-append}
 -- what these steps add to one list of a course, which `list` gives, from this client on
 abbrev pub added_by : {A : Type 0} → (list : Course Asked → List A) → ById Asked → List (Step Asked) → List A
 added_by list c [] = []
-added_by list c (s ∷ ss) = list (course_after 7 (course_at c) s) ++ added_by list (client_stepped c s) ss
+added_by list c (s ∷ ss) = list (course_after WINDOW (course_at c) s) ++ added_by list (client_stepped c s) ss
 
 -- what these steps settle, from this client on
 abbrev pub settled_by : ById Asked → List (Step Asked) → List (Settlement Asked)
@@ -54,8 +55,8 @@ added_append : {A : Type 0} (list : Course Asked → List A) (c : ById Asked) (f
     → added_by list c (first ++ later) ≡ added_by list c first ++ added_by list (client_after c first) later
 added_append list c [] later = refl
 added_append list c (s ∷ first) later =
-    ap (λ k. list (course_after 7 (course_at c) s) ++ k) (added_append list (client_stepped c s) first later)
-    ∙ sym (append_assoc (list (course_after 7 (course_at c) s)) (added_by list (client_stepped c s) first) (added_by list (client_after (client_stepped c s) first) later))
+    ap (λ k. list (course_after WINDOW (course_at c) s) ++ k) (added_append list (client_stepped c s) first later)
+    ∙ sym (append_assoc (list (course_after WINDOW (course_at c) s)) (added_by list (client_stepped c s) first) (added_by list (client_after (client_stepped c s) first) later))
 
 -- two lists of steps settle what the first settles and then what the second settles after it
 pub settled_append : (c : ById Asked) (first later : List (Step Asked)) → settled_by c (first ++ later) ≡ settled_by c first ++ settled_by (client_after c first) later
@@ -76,10 +77,10 @@ sent_parts x target call (Some s) = (sym (append-nil x.settlements), refl, refl)
 -- a step adds the same to any course as to one at its start with the same client, and makes that client the one that
 -- `client_stepped` gives
 step_parts : (x : Course Asked) (s : Step Asked)
-    → ((course_after 7 x s).settlements ≡ x.settlements ++ (course_after 7 (course_at x.client) s).settlements)
-    × ((course_after 7 x s).sent ≡ x.sent ++ (course_after 7 (course_at x.client) s).sent)
-    × ((course_after 7 x s).client ≡ client_stepped x.client s)
-step_parts x (Send target call deadline) = sent_parts x target call (sends 7 x.client target call deadline)
+    → ((course_after WINDOW x s).settlements ≡ x.settlements ++ (course_after WINDOW (course_at x.client) s).settlements)
+    × ((course_after WINDOW x s).sent ≡ x.sent ++ (course_after WINDOW (course_at x.client) s).sent)
+    × ((course_after WINDOW x s).client ≡ client_stepped x.client s)
+step_parts x (Send target call deadline) = sent_parts x target call (sends WINDOW x.client target call deadline)
 step_parts x (Hear line) = (refl, sym (append-nil x.sent), refl)
 step_parts x (Expire now) = (sym (append-nil x.settlements), sym (append-nil x.sent), refl)
 step_parts x Restart = (refl, sym (append-nil x.sent), refl)
@@ -87,27 +88,27 @@ step_parts x Restart = (refl, sym (append-nil x.sent), refl)
 -- steps add to one list of a course what they add to it from its client on, if each step adds the same to any course as to one at
 -- its start with the same client
 course_added : {A : Type 0} (list : Course Asked → List A)
-    → ((x : Course Asked) (s : Step Asked) → list (course_after 7 x s) ≡ list x ++ list (course_after 7 (course_at x.client) s))
-    → (steps : List (Step Asked)) (x : Course Asked) → list (course 7 x steps) ≡ list x ++ added_by list x.client steps
+    → ((x : Course Asked) (s : Step Asked) → list (course_after WINDOW x s) ≡ list x ++ list (course_after WINDOW (course_at x.client) s))
+    → (steps : List (Step Asked)) (x : Course Asked) → list (course WINDOW x steps) ≡ list x ++ added_by list x.client steps
 course_added list adds [] x = sym (append-nil (list x))
 course_added list adds (s ∷ ss) x =
-    let y = course_after 7 x s in
-    let now = list (course_after 7 (course_at x.client) s) in
+    let y = course_after WINDOW x s in
+    let now = list (course_after WINDOW (course_at x.client) s) in
     course_added list adds ss y ∙ ap (λ l. l ++ added_by list y.client ss) (adds x s) ∙ ap (λ c. (list x ++ now) ++ added_by list c ss) (step_parts x s).2
     ∙ append_assoc (list x) now (added_by list (client_stepped x.client s) ss)
 
 -- steps add to the settlements of a course what they settle from its client on
-pub course_settled : (steps : List (Step Asked)) (x : Course Asked) → (course 7 x steps).settlements ≡ x.settlements ++ settled_by x.client steps
+pub course_settled : (steps : List (Step Asked)) (x : Course Asked) → (course WINDOW x steps).settlements ≡ x.settlements ++ settled_by x.client steps
 course_settled steps x = course_added (λ (y : Course Asked). y.settlements) (λ y s. (step_parts y s).0) steps x
 
 -- steps add to the requests of a course what they send from its client on
-pub course_sent : (steps : List (Step Asked)) (x : Course Asked) → (course 7 x steps).sent ≡ x.sent ++ sent_by x.client steps
+pub course_sent : (steps : List (Step Asked)) (x : Course Asked) → (course WINDOW x steps).sent ≡ x.sent ++ sent_by x.client steps
 course_sent steps x = course_added (λ (y : Course Asked). y.sent) (λ y s. (step_parts y s).1) steps x
 
 -- the client of a course after steps is its client after them
-pub course_client : (steps : List (Step Asked)) (x : Course Asked) → (course 7 x steps).client ≡ client_after x.client steps
+pub course_client : (steps : List (Step Asked)) (x : Course Asked) → (course WINDOW x steps).client ≡ client_after x.client steps
 course_client [] x = refl
-course_client (s ∷ ss) x = course_client ss (course_after 7 x s) ∙ ap (λ c. client_after c ss) (step_parts x s).2
+course_client (s ∷ ss) x = course_client ss (course_after WINDOW x s) ∙ ap (λ c. client_after c ss) (step_parts x s).2
 
 -- Lists.
 
@@ -116,14 +117,14 @@ drop_twice : {A : Type 0} (ss ts : List (Settlement Asked)) (xs : List A) → dr
 drop_twice ss ts xs = drop-drop (length ts) (length ss) xs ∙ ap (λ n. drop n xs) (sym (length-append ss ts))
 
 -- the records of settlements, without their moments (`timeless`), are those of the moment 0
-records_timeless : (reads : Asked → List ℕ → Reading) (utc : ℕ) (ms : List (Option Mark)) (ss : List (Settlement Asked)) → map timeless (records_of reads utc ms ss) ≡ records_of reads 0 ms ss
+records_timeless : (reads : Reads) (utc : ℕ) (ms : List (Option Mark)) (ss : List (Settlement Asked)) → map timeless (records_of reads utc ms ss) ≡ records_of reads 0 ms ss
 records_timeless reads utc [] ss = refl
 records_timeless reads utc (m ∷ ms) [] = refl
 records_timeless reads utc (None ∷ ms) (s ∷ ss) = records_timeless reads utc ms ss
 records_timeless reads utc (Some mark ∷ ms) (s ∷ ss) = ap (λ rs. record_of reads 0 mark s ∷ rs) (records_timeless reads utc ms ss)
 
 -- settlements, of which there are no more than marks `ms`, have the same records if the marks `more` come after `ms`
-records_more : (reads : Asked → List ℕ → Reading) (ms more : List (Option Mark)) (ss : List (Settlement Asked)) → length ss ≤ length ms → records_of reads 0 (ms ++ more) ss ≡ records_of reads 0 ms ss
+records_more : (reads : Reads) (ms more : List (Option Mark)) (ss : List (Settlement Asked)) → length ss ≤ length ms → records_of reads 0 (ms ++ more) ss ≡ records_of reads 0 ms ss
 records_more reads [] more [] le = records-none reads 0 more
 records_more reads [] more (s ∷ ss) le = absurd (omega (arith, le))
 records_more reads (m ∷ ms) more [] le = refl
@@ -131,14 +132,14 @@ records_more reads (None ∷ ms) more (s ∷ ss) le = records_more reads ms more
 records_more reads (Some mark ∷ ms) more (s ∷ ss) le = ap (λ rs. record_of reads 0 mark s ∷ rs) (records_more reads ms more ss (omega (arith, le)))
 
 -- a command whose request was settled was sent, however it ended
-pub ended_sent : (reads : Asked → List ℕ → Reading) (expected : Expected) (call : Asked) (o : Outcome) → went_out (end_of reads expected call o) ≡ true
+pub ended_sent : (reads : Reads) (expected : Expected) (call : Asked) (o : Outcome) → went_out (end_of reads expected call o) ≡ true
 ended_sent reads expected call (Answered line) =
     answer_along (λ (end : End). went_out end ≡ true) expected (reads call line) (reads call (as_zero line)) line (λ quality answer. refl) refl (λ fault. refl)
 ended_sent reads expected call Late = refl
 ended_sent reads expected call Lost = refl
 
 -- all records of settlements are of commands that were sent
-records_sent : (reads : Asked → List ℕ → Reading) (utc : ℕ) (ms : List (Option Mark)) (ss : List (Settlement Asked)) → sent_of (records_of reads utc ms ss) ≡ records_of reads utc ms ss
+records_sent : (reads : Reads) (utc : ℕ) (ms : List (Option Mark)) (ss : List (Settlement Asked)) → sent_of (records_of reads utc ms ss) ≡ records_of reads utc ms ss
 records_sent reads utc [] ss = refl
 records_sent reads utc (m ∷ ms) [] = refl
 records_sent reads utc (None ∷ ms) (s ∷ ss) = records_sent reads utc ms ss
@@ -148,7 +149,7 @@ records_sent reads utc (Some mark ∷ ms) (s ∷ ss) =
     ap (λ (b : Bool). if b then r ∷ rest else rest) (ended_sent reads mark.expected s.call s.outcome) ∙ ap (λ rs. r ∷ rs) (records_sent reads utc ms ss)
 
 -- among `rs` followed by records of settlements, the sent ones are the sent ones of `rs`, followed by all those records
-pub sent_of-append_records : (reads : Asked → List ℕ → Reading) (rs : List Record) (utc : ℕ) (ms : List (Option Mark)) (ss : List (Settlement Asked))
+pub sent_of-append_records : (reads : Reads) (rs : List Record) (utc : ℕ) (ms : List (Option Mark)) (ss : List (Settlement Asked))
     → sent_of (rs ++ records_of reads utc ms ss) ≡ sent_of rs ++ records_of reads utc ms ss
 sent_of-append_records reads rs utc ms ss = filter-append _ rs (records_of reads utc ms ss) ∙ ap (λ xs. sent_of rs ++ xs) (records_sent reads utc ms ss)
 
@@ -178,16 +179,16 @@ marks_ask_at commands (m ∷ ms) (x ∷ xs) (suc n) mark h e = marks_ask_at comm
 
 -- if P holds of the record of each settlement with the command's mark at the same place, P holds of all records of the
 -- settlements `ss` with the marks `ms`; all records are of the moment `utc`
-pub all_records : (reads : Asked → List ℕ → Reading) (utc : ℕ) (P : Record → Type 0) (ms : List (Option Mark)) (ss : List (Settlement Asked))
+pub all_records : (reads : Reads) (utc : ℕ) (P : Record → Type 0) (ms : List (Option Mark)) (ss : List (Settlement Asked))
     → ((n : ℕ) (mark : Mark) (s : Settlement Asked) → slice_get ms n ≡ Some (Some mark) → slice_get ss n ≡ Some s → P (record_of reads utc mark s)) → AllByRecursion P (records_of reads utc ms ss)
 all_records reads utc P [] ss f = tt
 all_records reads utc P (m ∷ ms) [] f = tt
 all_records reads utc P (None ∷ ms) (s ∷ ss) f = all_records reads utc P ms ss (λ n mark x at got. f (suc n) mark x at got)
 all_records reads utc P (Some mark ∷ ms) (s ∷ ss) f = (f 0 mark s refl refl, all_records reads utc P ms ss (λ n other x at got. f (suc n) other x at got))
 
--- where P of a mark gives Q of the record of each settlement with it, P holds of all marks `ms`, and Q of all records `rs`, Q
--- holds of `rs`, and of the records of the settlements `ss` after them
-pub all_settled : (P : Option Mark → Type 0) (Q : Record → Type 0) (reads : Asked → List ℕ → Reading) (utc : ℕ) (ms : List (Option Mark)) (rs : List Record) (ss : List (Settlement Asked))
+-- Q holds of all records `rs` and of those of the settlements `ss` after them, if Q holds of `rs`, P of all marks `ms`, and P of
+-- a mark gives Q of the record of any settlement with that mark
+pub all_settled : (P : Option Mark → Type 0) (Q : Record → Type 0) (reads : Reads) (utc : ℕ) (ms : List (Option Mark)) (rs : List Record) (ss : List (Settlement Asked))
     → ((mark : Mark) (x : Settlement Asked) → P (Some mark) → Q (record_of reads utc mark x)) → AllByRecursion P ms → AllByRecursion Q rs → AllByRecursion Q (rs ++ records_of reads utc ms ss)
 all_settled P Q reads utc ms rs ss one marks records =
     all_append Q rs (records_of reads utc ms ss) records (all_records reads utc Q ms ss (λ n mark x at got. one mark x (all_at P ms n (Some mark) marks at)))
@@ -211,13 +212,13 @@ abbrev pub sending_of : ById Asked → ℕ → Asked → ℕ → Sending (ById A
 sending_of c target call deadline = record { id = c.next; client = client_sent c (send_unless_full c target call deadline false) }
 
 -- a send isn't refused if the window has room
-pub sends_with_room : (c : ById Asked) (target : ℕ) (call : Asked) (deadline : ℕ) → length c.waiting < 7 → sends 7 c target call deadline ≡ Some (sending_of c target call deadline)
-sends_with_room c target call deadline room = ap (λ b. send_unless_full c target call deadline b) (ne_eqb (length c.waiting) 7 (λ e. omega (arith, e, room)))
+pub sends_with_room : (c : ById Asked) (target : ℕ) (call : Asked) (deadline : ℕ) → length c.waiting < WINDOW → sends WINDOW c target call deadline ≡ Some (sending_of c target call deadline)
+sends_with_room c target call deadline room = ap (λ b. send_unless_full c target call deadline b) (ne_eqb (length c.waiting) WINDOW (λ e. omega (arith, e, room)))
 
 -- What is recorded.
 
 -- each reply says of its call what `reads` gives
-module _ (reads : Asked → List ℕ → Reading) (commands : List Task) where
+module _ (reads : Reads) (commands : List Task) where
   -- a station with the marks `ms` and the records `rs` sends the requests `asks`, with the marks `more`, and the settlements `ss`
   -- come: then it has the marks `ms'` and the records `rs'`, which are compared without their moments
   pub record Wrote (ms : List (Option Mark)) (rs : List Record) (more : List (Option Mark))
@@ -354,13 +355,13 @@ module _ (reads : Asked → List ℕ → Reading) (commands : List Task) where
   )
 
   -- a send of what its mark says, if there is room: the mark is added, and the records stay
-  pub books_send : (c : ById Asked) (ms : List (Option Mark)) (rs : List Record) (now : ℕ) (x : Outgoing) → length c.waiting < 7 → MarkAsks commands x.mark (of_command x.command)
-      → Books c ms rs (request_part now x) (sent_to 7 c x.command now x.wait) (ms ++ x.mark ∷ []) rs
+  pub books_send : (c : ById Asked) (ms : List (Option Mark)) (rs : List Record) (now : ℕ) (x : Outgoing) → length c.waiting < WINDOW → MarkAsks commands x.mark (of_command x.command)
+      → Books c ms rs (request_part now x) (sent_to WINDOW c x.command now x.wait) (ms ++ x.mark ∷ []) rs
   books_send c ms rs now x room is =
       let target = x.command.target in
       let call = x.command.call in
       let deadline = later now x.wait in
-      let h : IsSendBooked c ms rs target call x.mark (sends 7 c target call deadline) =
+      let h : IsSendBooked c ms rs target call x.mark (sends WINDOW c target call deadline) =
       subst (IsSendBooked c ms rs target call x.mark) (sym (sends_with_room c target call deadline room))
       (some_send_booked c ms rs target call x.mark (sending_of c target call deadline) is) in
       record { client = h.0; wrote = h.1 }

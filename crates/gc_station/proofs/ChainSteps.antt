@@ -14,7 +14,7 @@ use Rattle.gc_station.specs.Quiet.{KeepsOpen}
 use Rattle.gc_station.specs.Progressing.{failing}
 use Rattle.gc_station.specs.Model.{Model, Performs, waiting_of, with_rest, moved, cycle_length}
 use Rattle.gc_station.specs.NextCommand.{commands_before, is_chained_after}
-use Rattle.gc_station.proofs.Walk.{closed_along, is_sent, moved_changed, walk}
+use Rattle.gc_station.proofs.Walk.{closed_along, sent_same, moved_changed, walk}
 
 -- What an act does to the place in a cycle, and to the chain that is there.
 
@@ -57,9 +57,9 @@ pub still : (p q : Progress) → (left : q.left ≡ p.left) → (unsent : q.unse
 still p q left unsent missed next_is_chained chain_unbroken = record { left = left; unsent = unsent; missed = missed; next_is_chained = next_is_chained; chain_unbroken = λ e. sym chain_unbroken ∙ e }
 
 -- if these fields are the same, but for a chain that is broken in q, `Still` holds, and q's chain is broken
-pub broken : (p q : Progress) → (left : q.left ≡ p.left) → (unsent : q.unsent ≡ p.unsent) → (missed : q.missed ≡ p.missed) → (next_is_chained : q.next_is_chained ≡ p.next_is_chained)
+pub still_but_broken : (p q : Progress) → (left : q.left ≡ p.left) → (unsent : q.unsent ≡ p.unsent) → (missed : q.missed ≡ p.missed) → (next_is_chained : q.next_is_chained ≡ p.next_is_chained)
     → (chain_unbroken : q.chain_unbroken ≡ false) → Still p q × (q.chain_unbroken ≡ false)
-broken p q left unsent missed next_is_chained chain_unbroken = (
+still_but_broken p q left unsent missed next_is_chained chain_unbroken = (
   record {
     left = left;
     unsent = unsent;
@@ -76,24 +76,24 @@ pub moved_steps : (plan : Plan) (commands : List Task) (action : Action) (s : Mo
     → ChangesChain plan commands action s.progress (moved plan commands action s act).progress
 moved_steps plan commands Begin s (Told m) = inr (record { unsent = refl; chain_unbroken = refl })
 moved_steps plan commands Begin s act = inl (still s.progress _ refl refl refl refl refl)
-moved_steps plan commands Renew s (Told m) = inr (broken s.progress _ refl refl refl refl refl)
+moved_steps plan commands Renew s (Told m) = inr (still_but_broken s.progress _ refl refl refl refl refl)
 moved_steps plan commands Renew s act = inl (still s.progress _ refl refl refl refl refl)
 moved_steps plan commands Open s Opened = still s.progress _ refl refl refl refl refl
-moved_steps plan commands Open s act = (broken s.progress _ refl refl refl refl refl).0
-moved_steps plan commands Prepare s (Cut bytes n) = broken s.progress _ refl refl refl refl refl
-moved_steps plan commands Prepare s act = broken s.progress _ refl refl refl refl refl
+moved_steps plan commands Open s act = (still_but_broken s.progress _ refl refl refl refl refl).0
+moved_steps plan commands Prepare s (Cut bytes n) = still_but_broken s.progress _ refl refl refl refl refl
+moved_steps plan commands Prepare s act = still_but_broken s.progress _ refl refl refl refl refl
 moved_steps plan commands Send s (Cut bytes n) =
-    subst (λ (x : Model). GoesOnBy 1 commands s.progress (failing (cause.Write (commands_before plan commands s.progress) n) x.progress)) (is_sent plan commands s)
+    subst (λ (x : Model). GoesOnBy 1 commands s.progress (failing (cause.Write (commands_before plan commands s.progress) n) x.progress)) (sent_same plan commands s)
     (record { left = refl; unsent = refl; missed = refl; chained = refl })
 moved_steps plan commands Send s act =
-    subst (λ (x : Model). GoesOnBy 1 commands s.progress x.progress) (is_sent plan commands s) (record { left = refl; unsent = refl; missed = refl; chained = refl })
+    subst (λ (x : Model). GoesOnBy 1 commands s.progress x.progress) (sent_same plan commands s) (record { left = refl; unsent = refl; missed = refl; chained = refl })
 moved_steps plan commands Skip s (Told m) = inr (record { left = refl; unsent = refl; missed = refl; chained = refl }, refl)
 moved_steps plan commands Skip s act = inl (still s.progress _ refl refl refl refl refl)
 moved_steps plan commands Pass s (Told m) = inr (record { left = refl; unsent = refl; missed = refl; chained = refl }, refl)
 moved_steps plan commands Pass s act = inl (still s.progress _ refl refl refl refl refl)
 moved_steps plan commands (Close why) s act =
     closed_along (λ (q : Progress). Still s.progress q × (q.chain_unbroken ≡ false)) plan (waiting_of (with_rest [] s)) why s.progress
-    (broken s.progress _ refl refl refl refl refl) (broken s.progress _ refl refl refl refl refl)
+    (still_but_broken s.progress _ refl refl refl refl refl) (still_but_broken s.progress _ refl refl refl refl refl)
 moved_steps plan commands action s act =
     let is = moved_changed plan commands action s act in
     still s.progress _ (ap (λ (x : Model). x.progress.left) is) (ap (λ (x : Model). x.progress.unsent) is) (ap (λ (x : Model). x.progress.missed) is)

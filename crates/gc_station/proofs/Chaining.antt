@@ -30,10 +30,10 @@ use Rattle.gc_station.specs.Reasons.{HoldsBefore, MayGo}
 use Rattle.gc_station.specs.Records.{Record}
 use Rattle.gc_station.specs.Runs.{state_after}
 use Rattle.gc_station.specs.Scopes.{Scope}
-use Rattle.gc_station.specs.Model.{Model, Performs, Runs, opening, action_at, waiting_of, ended, with_progress, moved, after, after_all, cycle_length}
+use Rattle.gc_station.specs.Model.{Model, Performs, Runs, opening, action_at, waiting_of, with_losses, with_progress, moved, after, after_all, cycle_length}
 use Rattle.gc_station.specs.NextCommand.{place_next, commands_left, cycles_begun, first_is_chained}
 use Rattle.gc_station.proofs.Answers.{answers_true}
-use Rattle.gc_station.proofs.Counts.{ended_progress, ended_passes}
+use Rattle.gc_station.proofs.Counts.{with_losses_progress, with_losses_passes}
 use Rattle.gc_station.proofs.Each.{row_settled, reached_next, row}
 use Rattle.gc_station.proofs.Interleaving.{ComesBefore, before_not_after, drop_past, interleave_all, interleave_last, reached_before}
 use Rattle.gc_station.proofs.EachRun.{invariant_holds}
@@ -42,10 +42,10 @@ use Rattle.gc_station.proofs.Facts.{action_for}
 use Rattle.gc_station.proofs.Invariant.{Invariant}
 use Rattle.gc_station.proofs.Going.{after_all-append}
 use Rattle.gc_station.proofs.Lists.{all_append}
-use Rattle.gc_station.proofs.Nearly.{as_listed}
+use Rattle.gc_station.proofs.Nearly.{qualities_as_listed}
 use Rattle.gc_station.proofs.Walk.{moved_changed}
 use Rattle.gc_station.proofs.Words.{begun_kept}
-use Rattle.gc_station.proofs.ChainSteps.{Still, GoesOnBy, AtCycleStart, ChangesChain, broken, moved_steps, stays_open}
+use Rattle.gc_station.proofs.ChainSteps.{Still, GoesOnBy, AtCycleStart, ChangesChain, still_but_broken, moved_steps, stays_open}
 
 -- What holds of each of some acts.
 
@@ -61,7 +61,7 @@ each_act_append P plan commands s [] ys h k = k
 each_act_append P plan commands s (x ∷ xs) ys h k = (h.0, each_act_append P plan commands (after plan commands s x) xs ys h.1 k)
 
 -- the station has synchronized after this act, made from the model s on
-abbrev pub IsBegunAfter : Plan → List Task → Model → Act → Type 0
+abbrev pub IsBegunAfter : Plan → List Task → (s : Model) → Act → Type 0
 IsBegunAfter plan commands s act = has_begun (after plan commands s act).progress ≡ true
 
 -- the station has synchronized after each of these acts
@@ -76,7 +76,7 @@ stays_begun_more plan commands s acts act h e =
     (ap (λ (x : Model). has_begun x.progress) (sym (after_all-append plan commands s acts (act ∷ []))) ∙ e, tt)
 
 -- this act, made from the model s on, sends no command of the setup
-abbrev pub SendsNoSetup : Plan → Model → Act → Type 0
+abbrev pub SendsNoSetup : Plan → (s : Model) → Act → Type 0
 SendsNoSetup plan s act = action_at plan s ≡ Prepare → ⊥
 
 -- none of these acts sends a command of the setup
@@ -97,9 +97,9 @@ moved_leaves_nothing_out plan commands action s act = inl (ap (λ (x : Model). x
 
 -- if `LeavesNothingOut` holds from s to t, and a chain goes on in t, the commands that were left out in s (`before`) are those
 -- left out in t
-still_passes : (s t : Model) (before : List RunRequest) → LeavesNothingOut s t → t.progress.chain_unbroken ≡ true → s.passes ≡ before → t.passes ≡ before
-still_passes s t before (inl same) e is = same ∙ is
-still_passes s t before (inr none) e is = absurd (both_ways t.progress.chain_unbroken none e)
+same_passes : (s t : Model) (before : List RunRequest) → LeavesNothingOut s t → t.progress.chain_unbroken ≡ true → s.passes ≡ before → t.passes ≡ before
+same_passes s t before (inl same) e is = same ∙ is
+same_passes s t before (inr none) e is = absurd (both_ways t.progress.chain_unbroken none e)
 
 -- whether the cycle's next command waits for the answer of the one before it: its cycle is missed, or the text chains it
 abbrev pub waits_for_answer : List Task → Progress → Bool
@@ -128,13 +128,13 @@ next_chained count commands p q on within =
     ∙ ap (λ (n : ℕ). q.missed || first_is_chained (drop (length commands - n) commands)) (sym on.unsent)
 
 -- `LeavesNothingOut` is preserved by the loss of what is outstanding, at the end of an act
-ended_leaves_nothing_out : (s t : Model) → LeavesNothingOut s t → LeavesNothingOut s (ended t)
-ended_leaves_nothing_out s t (inl same) = inl (ended_passes t ∙ same)
-ended_leaves_nothing_out s t (inr none) = inr (ap (λ (p : Progress). p.chain_unbroken) (ended_progress t) ∙ none)
+with_losses_leaves_nothing_out : (s t : Model) → LeavesNothingOut s t → LeavesNothingOut s (with_losses t)
+with_losses_leaves_nothing_out s t (inl same) = inl (with_losses_passes t ∙ same)
+with_losses_leaves_nothing_out s t (inr none) = inr (ap (λ (p : Progress). p.chain_unbroken) (with_losses_progress t) ∙ none)
 
 -- if no command is unsent, none is left from the next place on
-pub none_behind : (commands : List Task) → drop (length commands - 0) commands ≡ []
-none_behind commands = drop_all (length commands - 0) commands (omega arith)
+pub no_next_command : (commands : List Task) → drop (length commands - 0) commands ≡ []
+no_next_command commands = drop_all (length commands - 0) commands (omega arith)
 
 -- What the last record says.
 
@@ -155,16 +155,16 @@ well_end (Answered quality said line) e = (quality, said, line, refl, e)
 well_end end e = cc
 
 -- if the last of `r` and the records after it was answered well, `EndsAnsweredWell` holds of all of them
-last_one : (r : Record) (rs : List Record) → last_well (is_well r.end) rs ≡ true → EndsAnsweredWell (r ∷ rs)
-last_one r [] e = let it = well_end r.end e in record { earlier = []; answer = r; last = refl; quality = it.0; said = it.1; line = it.2; answered = it.3; well = it.4 }
-last_one r (x ∷ rs) e =
-    let l = last_one x rs e in
+ends_well_with : (r : Record) (rs : List Record) → last_well (is_well r.end) rs ≡ true → EndsAnsweredWell (r ∷ rs)
+ends_well_with r [] e = let it = well_end r.end e in record { earlier = []; answer = r; last = refl; quality = it.0; said = it.1; line = it.2; answered = it.3; well = it.4 }
+ends_well_with r (x ∷ rs) e =
+    let l = ends_well_with x rs e in
     record { earlier = r ∷ l.earlier; answer = l.answer; last = ap (λ xs. r ∷ xs) l.last; quality = l.quality; said = l.said; line = l.line; answered = l.answered; well = l.well }
 
 -- if the last of some records was answered well, `EndsAnsweredWell` holds of them
 ends_well : (rs : List Record) → last_well false rs ≡ true → EndsAnsweredWell rs
 ends_well [] e = cc
-ends_well (r ∷ rs) e = last_one r rs e
+ends_well (r ∷ rs) e = ends_well_with r rs e
 
 -- what holds of all elements of a list holds of its last one
 all_last : {A : Type 0} (P : A → Type 0) (xs : List A) (x : A) → AllByRecursion P (xs ++ x ∷ []) → P x
@@ -172,11 +172,11 @@ all_last P xs x all = (all_behind P xs (x ∷ []) all).0
 
 -- as `reached_next`, where it is known only that a command is left: in a cycle, the commands that had their turn, with the next
 -- one after them, are those that had their turn one place later
-reached_last : (plan : Plan) (commands : List Task) (cycle place : ℕ) (left : List Task) → drop place commands ≡ left → 0 < length left → 0 < cycle
+reached_one_more : (plan : Plan) (commands : List Task) (cycle place : ℕ) (left : List Task) → drop place commands ≡ left → 0 < length left → 0 < cycle
     → plan.setup ≤ place
     → (task : Task) × (commands_reached plan.setup commands cycle place ++ requests cycle place (of_task task ∷ []) ≡ commands_reached plan.setup commands cycle (place + 1))
-reached_last plan commands cycle place [] at some many within = absurd (omega (arith, some))
-reached_last plan commands cycle place (task ∷ others) at some many within = (task, reached_next plan.setup commands cycle place task others at within many)
+reached_one_more plan commands cycle place [] at some many within = absurd (omega (arith, some))
+reached_one_more plan commands cycle place (task ∷ others) at some many within = (task, reached_next plan.setup commands cycle place task others at within many)
 
 -- What every run keeps of the chain where it is.
 
@@ -204,9 +204,9 @@ module _ (plan : Plan) (commands : List Task) (scope : Scope) where
 
   -- if all acts (`all`) are `before` and then `behind`, and the station has synchronized after all of them, it has synchronized
   -- after `behind`, counted from the model after `before`
-  begun_there : (before behind all : List Act) (q : Progress) → all ≡ before ++ behind → (at all).progress ≡ q → has_begun q ≡ true
+  begun_by_split : (before behind all : List Act) (q : Progress) → all ≡ before ++ behind → (at all).progress ≡ q → has_begun q ≡ true
       → has_begun (after_all plan commands (at before) behind).progress ≡ true
-  begun_there before behind all q order there begun =
+  begun_by_split before behind all q order there begun =
       ap (λ (x : Model). has_begun x.progress) (sym (ap at order ∙ after_all-append plan commands (opening plan scope) before behind)) ∙ ap has_begun there ∙ begun
 
   -- the two fields on chains of p are right after these acts: if the next command isn't the first of its cycle, `next_is_chained`
@@ -220,7 +220,7 @@ module _ (plan : Plan) (commands : List Task) (scope : Scope) where
   leaves_nothing_out acts act =
       let s = at acts in
       subst (λ (x : Model). LeavesNothingOut s x) (sym (after_all-append plan commands (opening plan scope) acts (act ∷ [])))
-      (ended_leaves_nothing_out s (moved plan commands (action_at plan s) (with_progress turned s) act)
+      (with_losses_leaves_nothing_out s (moved plan commands (action_at plan s) (with_progress turned s) act)
       (moved_leaves_nothing_out plan commands (action_at plan s) (with_progress turned s) act))
 
   -- `ChainIsRight` is preserved by an act that keeps the fields as `Still` says, doesn't close the connection, and sends no
@@ -246,11 +246,11 @@ module _ (plan : Plan) (commands : List Task) (scope : Scope) where
               place = place_is ∙ w.place;
               stays = all_append KeepsOpen w.between (act ∷ []) w.stays (stays, tt);
               begun = begun;
-              passes = still_passes (at acts) (at (acts ++ act ∷ [])) (at w.before).passes (leaves_nothing_out acts act)
+              passes = same_passes (at acts) (at (acts ++ act ∷ [])) (at w.before).passes (leaves_nothing_out acts act)
                   (ap (λ (x : Progress). x.chain_unbroken) there ∙ e) w.passes;
               keeps =
                   stays_begun_more plan commands (at w.before) (w.request ∷ w.between) act w.keeps
-                  (begun_there w.before (w.request ∷ (w.between ++ act ∷ [])) (acts ++ act ∷ []) q order there begun);
+                  (begun_by_split w.before (w.request ∷ (w.between ++ act ∷ [])) (acts ++ act ∷ []) q order there begun);
               no_setup =
                   let back = after_all-append plan commands (opening plan scope) w.before (w.request ∷ w.between) in
                   let here : after_all plan commands (at w.before) (w.request ∷ w.between) ≡ at acts = sym back ∙ ap at (sym w.order) in
@@ -295,9 +295,9 @@ module _ (plan : Plan) (commands : List Task) (scope : Scope) where
           place = place_is ∙ ap (λ (x : Progress). place_next commands x + 1) here;
           stays = tt;
           begun = begins e;
-          passes = still_passes (at acts) (at (acts ++ act ∷ [])) (at acts).passes (leaves_nothing_out acts act)
+          passes = same_passes (at acts) (at (acts ++ act ∷ [])) (at acts).passes (leaves_nothing_out acts act)
               (ap (λ (x : Progress). x.chain_unbroken) there ∙ e) refl;
-          keeps = (begun_there acts (act ∷ []) (acts ++ act ∷ []) q refl there (begins e), tt);
+          keeps = (begun_by_split acts (act ∷ []) (acts ++ act ∷ []) q refl there (begins e), tt);
           no_setup = (λ prepares. let both : Send ≡ Prepare = sym is ∙ prepares in cc, tt);
         };
       }
@@ -346,7 +346,7 @@ module _ (plan : Plan) (commands : List Task) (scope : Scope) where
       let s = at done in
       let t = moved plan commands (action_at plan s) (with_progress turned s) act in
       let next = after_all-append plan commands (opening plan scope) done (act ∷ []) in
-      let far : (at (done ++ act ∷ [])).progress ≡ t.progress = ap (λ (x : Model). x.progress) next ∙ ended_progress t in
+      let far : (at (done ++ act ∷ [])).progress ≡ t.progress = ap (λ (x : Model). x.progress) next ∙ with_losses_progress t in
       let at_turn : ChainIsRight done (turned s.progress) = record {
         next_is_chained = h.next_is_chained;
         chain_unbroken = λ e.
@@ -374,7 +374,7 @@ module _ (plan : Plan) (commands : List Task) (scope : Scope) where
 
   -- `ChainIsRight` holds after every run
   chain_holds : (acts : List Act) → Runs plan commands (opening plan scope) acts → ChainIsRight acts (at acts).progress
-  chain_holds acts runs = chain_along [] acts runs (record { next_is_chained = λ above. sym (ap first_is_chained (none_behind commands)); chain_unbroken = λ e. cc })
+  chain_holds acts runs = chain_along [] acts runs (record { next_is_chained = λ above. sym (ap first_is_chained (no_next_command commands)); chain_unbroken = λ e. cc })
 
   -- after every run, if the next command isn't the first of its cycle, `next_is_chained` is what the text says of it, or true in
   -- a missed cycle
@@ -392,7 +392,7 @@ module _ (plan : Plan) (commands : List Task) (scope : Scope) where
   -- if a chained command is to be sent, `IsLinkedStill` holds
   pub chain_linked : (acts : List Act) → Runs plan commands (opening plan scope) acts → action_at plan (at acts) ≡ Send → IsChained plan commands (at acts).progress
       → IsLinkedStill acts
-  chain_linked acts runs is chained = of_may needs.4 where
+  chain_linked acts runs is chained = linked_if_may_go needs.4 where
     -- the model after these acts
     s : Model
     s = at acts
@@ -413,11 +413,11 @@ module _ (plan : Plan) (commands : List Task) (scope : Scope) where
     next_is_chained : s.progress.next_is_chained ≡ true
     next_is_chained = h.next_is_chained chained.0 ∙ ap (λ (b : Bool). s.progress.missed || b) chained.1 ∙ or_right s.progress.missed true refl
 
-    -- the command before the next one, if no command is outstanding: `IsUnbroken` says that it was sent, and `EndsAnsweredWell`
-    -- that the last record was answered well; that record is its own, so `IsLinked` holds of it
-    of_last : commands_in s.marks ≡ 0 → s.progress.chain_unbroken ≡ true → EndsAnsweredWell s.records → IsUnbroken acts s.progress
+    -- `IsLinkedStill` holds if no command is outstanding, the chain is unbroken, so that the command before the next one was sent
+    -- (`IsUnbroken`), and the last record, which is that command's own, was answered well (`EndsAnsweredWell`)
+    linked_by_last : commands_in s.marks ≡ 0 → s.progress.chain_unbroken ≡ true → EndsAnsweredWell s.records → IsUnbroken acts s.progress
         → IsLinkedStill acts
-    of_last settled it l w =
+    linked_by_last settled it l w =
         let b = at w.before in
         let before = invariant_holds plan commands scope w.before in
         let asked = subst (λ (o : Action). HoldsBefore plan b.progress (waiting_of b) o) w.sends (action_for plan b.progress (waiting_of b)) in
@@ -428,7 +428,7 @@ module _ (plan : Plan) (commands : List Task) (scope : Scope) where
         let cycle = cycles_begun plan b.progress in
         let left : 0 < length (drop place commands) = let n = length-drop place commands in omega (arith, n, some, before.unsent) in
         let within : plan.setup ≤ place = omega (arith, some, before.unsent) in
-        let sent = reached_last plan commands cycle place (drop place commands) refl left many within in
+        let sent = reached_one_more plan commands cycle place (drop place commands) refl left many within in
         let b_passes = b.passes in
         let there : commands_reached plan.setup commands (cycles_begun plan s.progress) (place_next commands s.progress) ≡ commands_reached plan.setup commands cycle (place + 1) =
         ap (λ (n : ℕ). commands_reached plan.setup commands n (place_next commands s.progress)) w.cycle ∙ ap (λ (n : ℕ). commands_reached plan.setup commands cycle n) w.place in
@@ -453,7 +453,7 @@ module _ (plan : Plan) (commands : List Task) (scope : Scope) where
         let true_one = all_last (AnswerIsJustified plan commands scope acts) l.earlier l.answer
         (subst (λ (rs : List Record). AllByRecursion (AnswerIsJustified plan commands scope acts) rs) l.last (answers_true plan commands scope acts runs)) in
         let listed = all_last (λ (r : Record). IsAsListed scope.reads commands r) l.earlier l.answer
-        (subst (λ (rs : List Record). AllByRecursion (λ (r : Record). IsAsListed scope.reads commands r) rs) l.last (as_listed plan commands scope acts)) in
+        (subst (λ (rs : List Record). AllByRecursion (λ (r : Record). IsAsListed scope.reads commands r) rs) l.last (qualities_as_listed plan commands scope acts)) in
         let linked : IsLinked plan commands scope acts = record {
           before = w.before;
           request = w.request;
@@ -473,11 +473,11 @@ module _ (plan : Plan) (commands : List Task) (scope : Scope) where
         } in
         (linked, w.keeps, w.no_setup)
 
-    -- the lemma above, if the next command may be sent (`MayGo`): as it is chained, that is because the one before it was
+    -- `IsLinkedStill` holds if the next command may be sent (`MayGo`): as it is chained, that is because the one before it was
     -- answered well
-    of_may : MayGo s.progress (waiting_of s) → IsLinkedStill acts
-    of_may (inl free) = absurd (both_ways s.progress.next_is_chained free next_is_chained)
-    of_may (inr it) = of_last it.0 it.2 (ends_well s.records it.1) (h.chain_unbroken it.2)
+    linked_if_may_go : MayGo s.progress (waiting_of s) → IsLinkedStill acts
+    linked_if_may_go (inl free) = absurd (both_ways s.progress.next_is_chained free next_is_chained)
+    linked_if_may_go (inr it) = linked_by_last it.0 it.2 (ends_well s.records it.1) (h.chain_unbroken it.2)
 
   -- a chained command is sent only once the one before it was answered well, as `IsLinked` says
   pub chain_kept : (acts : List Act) → Runs plan commands (opening plan scope) acts

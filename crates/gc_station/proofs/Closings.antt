@@ -30,13 +30,13 @@ use Rattle.gc_station.specs.Reasons.{HoldsBefore, IsAtItsEnd, IsFinished}
 use Rattle.gc_station.specs.Runs.{state_after}
 use Rattle.gc_station.specs.Model.{Model, next_request_text, null_text, first_text, waiting_of, opening, action_at, with_progress, with_moment, is_heard, lines_completed, after_piece, Performs, moved, after, after_all, Runs, text_or_null, null_request, asks_for, asks_setup}
 use Rattle.gc_station.specs.NextCommand.{commands_before, place_next}
-use Rattle.gc_station.proofs.Counts.{ended_progress}
+use Rattle.gc_station.proofs.Counts.{with_losses_progress}
 use Rattle.gc_station.proofs.EachRun.{invariant_holds}
-use Rattle.gc_station.proofs.Facts.{action_for, finished_so}
+use Rattle.gc_station.proofs.Facts.{action_for, finished_by_test}
 use Rattle.gc_station.proofs.Invariant.{Invariant, says_done}
 use Rattle.gc_station.proofs.Going.{after_all-append, runs_front, runs_behind}
 use Rattle.gc_station.proofs.Walk.{asked_along, came_along, quieted_along, model_sent, HoldsAfterPut, walk}
-use Rattle.gc_station.proofs.Turns.{phase_by, again_down, closed_down}
+use Rattle.gc_station.proofs.Turns.{phase_failed, phase_by, after_failure_down, closed_down}
 use Rattle.gc_station.specs.Scopes.{Scope}
 
 -- the cause for which a phase closes the connection or ends the run, if it does
@@ -52,7 +52,7 @@ Failed before behind why act = (is_up behind ≡ false → is_up before ≡ fals
 
 -- why the phase `behind`, after an act, decides the end for this cause: a call failed, as the act shows; or `Other` holds; or the
 -- phase is as before the act (`before`)
-abbrev Decides : Type 0 → (before behind : Phase) → Cause → Act → Type 0
+abbrev Decides : (Other : Type 0) → (before behind : Phase) → Cause → Act → Type 0
 Decides Other before behind why act = Failed before behind why act ⊎ (Other ⊎ (behind ≡ before))
 
 -- an act shows no cause if P holds of it, and P holds of no act that shows one: of no end of the connection, no failed read, no
@@ -65,11 +65,11 @@ no_cause_shown P ended broke untold cut cause.Clock act holds shows = untold (su
 no_cause_shown P ended broke untold cut (cause.Write requests bytes) act holds shows = cut shows.0 bytes (subst P shows.1 holds)
 no_cause_shown P ended broke untold cut why act holds shows = shows
 
--- a failure for `why`, which the act shows, sets the phase to closing if there is a connection (`up`) and to over if there is
--- none. If that decides the end for the cause c, the act decides it: c is `why`
+-- if the phase after a failure for `why` (`phase_failed`), which the act shows, decides the end for the cause c, the act decides
+-- it: c is `why`
 fail_decides : {Other : Type 0} (before at : Phase) (up : Bool) (why c : Cause) (act : Act) → is_up at ≡ up → Shows why act
-    → (is_up at ≡ false → is_up before ≡ false) → cause_in (if up then Closing why else Over why) ≡ Some c
-    → Decides Other before (if up then Closing why else Over why) c act
+    → (is_up at ≡ false → is_up before ≡ false) → cause_in (phase_failed up why) ≡ Some c
+    → Decides Other before (phase_failed up why) c act
 fail_decides before at true why c act is shows down e = let same : why ≡ c = cc in inl (λ d. cc, subst (λ (x : Cause). Shows x act) same shows)
 fail_decides before at false why c act is shows down e = let same : why ≡ c = cc in inl (λ d. down is, subst (λ (x : Cause). Shows x act) same shows)
 
@@ -102,11 +102,11 @@ no_try_left false tries e = (refl, grind (arith, nat_tests, e))
 
 -- if the phase after a lost connection or a failed attempt (`phase_by`) ends the run, the cause is as `EndsAtFailure` says.
 -- `done`: nothing is left to be sent and none is outstanding; `again`: a try is left, or none is needed
-again_ends : (plan : Plan) (other c : Cause) (n : ℕ) (p : Progress) (done again : Bool) → is_finished n p ≡ done → (is_spared plan other p || nat_lt 0 p.tries) ≡ again
+phase_by_ends : (plan : Plan) (other c : Cause) (n : ℕ) (p : Progress) (done again : Bool) → is_finished n p ≡ done → (is_spared plan other p || nat_lt 0 p.tries) ≡ again
     → cause_in (phase_by done again other) ≡ Some c → EndsAtFailure plan p n other c
-again_ends plan other c n p true again finished tries e = inl (cc, finished_so n p finished)
-again_ends plan other c n p false true finished tries e = cc
-again_ends plan other c n p false false finished tries e = let none = no_try_left (is_spared plan other p) p.tries tries in inr (cc, finished, none.0, none.1)
+phase_by_ends plan other c n p true again finished tries e = inl (cc, finished_by_test n p finished)
+phase_by_ends plan other c n p false true finished tries e = cc
+phase_by_ends plan other c n p false false finished tries e = let none = no_try_left (is_spared plan other p) p.tries tries in inr (cc, finished, none.0, none.1)
 
 -- if a close for the cause `other` ends the run, it ends as `EndsAfter` says, given that a close for `Done` is made only if all
 -- is done (`IsFinished`)
@@ -117,18 +117,18 @@ closed_ends plan w cause.Clock c p done e = cc
 closed_ends plan w cause.Turns c p done e = cc
 closed_ends plan w cause.Stale c p done e = cc
 closed_ends plan w cause.Stopped c p done e = cc
-closed_ends plan w cause.Open c p done e = again_ends plan cause.Open c w.commands p (is_finished w.commands p) (nat_lt 0 p.tries) refl refl e
-closed_ends plan w other c p done e = again_ends plan other c w.commands p (is_finished w.commands p) (is_idle plan p || nat_lt 0 p.tries) refl refl e
+closed_ends plan w cause.Open c p done e = phase_by_ends plan cause.Open c w.commands p (is_finished w.commands p) (nat_lt 0 p.tries) refl refl e
+closed_ends plan w other c p done e = phase_by_ends plan other c w.commands p (is_finished w.commands p) (is_idle plan p || nat_lt 0 p.tries) refl refl e
 
 -- in the phase `behind`, the one after the act, there is no connection: the act closed it or could make none, and no other is
 -- made, for this cause
-abbrev pub Gone : Plan → Model → Action → Phase → Cause → Act → Type 0
+abbrev pub Gone : Plan → Model → Action → (behind : Phase) → Cause → Act → Type 0
 Gone plan s next behind c act = (is_up behind ≡ false) × EndsDisconnected plan s.progress (waiting_of s) next c act
 
 -- if the end is decided after an act of this action, the act decided it, by a call that failed or a connection that is gone; or
 -- the phase is as before
-abbrev DecidesSo : Plan → Model → Action → Cause → Act → Model → Type 0
-DecidesSo plan s next c act t = cause_in t.progress.phase ≡ Some c → Decides (Gone plan s next t.progress.phase c act) s.progress.phase t.progress.phase c act
+abbrev DecidesIfEnded : Plan → Model → Action → Cause → Act → Model → Type 0
+DecidesIfEnded plan s next c act t = cause_in t.progress.phase ≡ Some c → Decides (Gone plan s next t.progress.phase c act) s.progress.phase t.progress.phase c act
 
 -- a line feed that was sent decides no end
 cleared_none : (begun : Bool) (c : Cause) → cause_in (if begun then Draining else Ready) ≡ Some c → ⊥
@@ -140,53 +140,53 @@ pub cleared_up : (begun : Bool) → is_up (if begun then Draining else Ready) �
 cleared_up true = refl
 cleared_up false = refl
 
--- `DecidesSo` holds after an act of the action `next` that puts these bytes (`HoldsAfterPut`), if the model t after a whole write
--- has the phase of the model s, from before the act
+-- `DecidesIfEnded` holds after an act of the action `next` that puts these bytes (`HoldsAfterPut`), if the model t after a whole
+-- write has the phase of the model s, from before the act
 put_decides : (plan : Plan) (s : Model) (next : Action) (c : Cause) (requests : ℕ) (text : List ℕ) (t : Model) → t.progress.phase ≡ s.progress.phase
-    → HoldsAfterPut (DecidesSo plan s next c) requests text t
+    → HoldsAfterPut (DecidesIfEnded plan s next c) requests text t
 put_decides plan s next c requests text t same = (
   λ m g. inr (inr same),
   λ n g. fail_decides s.progress.phase t.progress.phase (is_up t.progress.phase) (cause.Write requests n) c (Cut text n) refl (text, refl)
       (λ d. sym (ap is_up same) ∙ d) g,
 )
 
--- `DecidesSo` holds after an act, given that a close for `Done` is next only if all is done (`IsFinished`)
+-- `DecidesIfEnded` holds after an act, given that a close for `Done` is next only if all is done (`IsFinished`)
 moved_decides : (plan : Plan) (commands : List Task) (next : Action) (s : Model) (act : Act) (c : Cause) → Performs commands s next act
     → (next ≡ action.Close cause.Done → IsFinished (commands_in s.marks) s.progress)
-    → DecidesSo plan s next c act (moved plan commands next (with_progress turned s) act)
+    → DecidesIfEnded plan s next c act (moved plan commands next (with_progress turned s) act)
 moved_decides plan commands action.Open s act c o done e =
     let n = commands_in s.marks in
     let p = s.progress in
-    walk plan commands (DecidesSo plan s action.Open c) action.Open (with_progress turned s) act o
-    (λ m g. cc, λ k g. inr (inl (again_down plan n cause.Open p, inr (refl, again_ends plan cause.Open c n p (is_finished n p) (nat_lt 0 p.tries) refl refl g)))) e
+    walk plan commands (DecidesIfEnded plan s action.Open c) action.Open (with_progress turned s) act o
+    (λ m g. cc, λ k g. inr (inl (after_failure_down plan n cause.Open p, inr (refl, phase_by_ends plan cause.Open c n p (is_finished n p) (nat_lt 0 p.tries) refl refl g)))) e
 moved_decides plan commands action.Clear s act c o done e =
     let at = (cleared (turned s.progress)).phase in
-    walk plan commands (DecidesSo plan s action.Clear c) action.Clear (with_progress turned s) act o (
+    walk plan commands (DecidesIfEnded plan s action.Clear c) action.Clear (with_progress turned s) act o (
       λ m g. absurd (cleared_none (has_begun s.progress) c g),
       λ n g. fail_decides s.progress.phase at (is_up at) (cause.Write (commands_before plan commands (turned s.progress)) n) c (Cut (10 ∷ []) n) refl (10 ∷ [], refl)
           (λ d. absurd (both_ways (is_up (if has_begun s.progress then Draining else Ready)) d (cleared_up (has_begun s.progress)))) g,
     ) e
 moved_decides plan commands action.Ask s act c o done e =
     let t = with_progress turned s in
-    walk plan commands (DecidesSo plan s action.Ask c) action.Ask t act o
+    walk plan commands (DecidesIfEnded plan s action.Ask c) action.Ask t act o
     (put_decides plan s action.Ask c (commands_before plan commands t.progress) (null_text s.progress.word) (with_progress (null_sent plan) t) refl) e
 moved_decides plan commands action.Prepare s act c o done e =
     let t = with_progress turned s in
     let text = text_or_null s.progress.moment.utc s.client (drop s.progress.prepared commands) in
-    walk plan commands (DecidesSo plan s action.Prepare c) action.Prepare t act o
+    walk plan commands (DecidesIfEnded plan s action.Prepare c) action.Prepare t act o
     (put_decides plan s action.Prepare c (commands_before plan commands t.progress) text (with_progress (setup_sent plan) (asks_setup plan commands t)) refl) e
 moved_decides plan commands action.Send s act c o done e =
     let t = with_progress turned s in
     let text = first_text s.progress.moment.utc s.client (drop (place_next commands s.progress) commands) in
-    walk plan commands (DecidesSo plan s action.Send c) action.Send t act o
+    walk plan commands (DecidesIfEnded plan s action.Send c) action.Send t act o
     (put_decides plan s action.Send c (commands_before plan commands t.progress) text (model_sent plan commands t) refl) e
 moved_decides plan commands action.Flush s act c o done e =
     let t = with_progress turned s in
-    walk plan commands (DecidesSo plan s action.Flush c) action.Flush t act o
+    walk plan commands (DecidesIfEnded plan s action.Flush c) action.Flush t act o
     (put_decides plan s action.Flush c (commands_before plan commands t.progress) (next_request_text s.client (Table NullProc)) (with_progress request_noted (asks_for (null_request plan) t)) refl) e
 moved_decides plan commands (action.Read until) s act c o done e =
     let t = with_progress turned s in
-    walk plan commands (DecidesSo plan s (action.Read until) c) (action.Read until) t act o (
+    walk plan commands (DecidesIfEnded plan s (action.Read until) c) (action.Read until) t act o (
       λ bytes m g. inr (inr (came_phase (is_heard s.progress.phase) s.progress.word bytes (with_moment m (with_progress (moment_noted m) t)))),
       λ m g. inr (inr (quiet_same plan s.progress.phase (time_passed until m t.progress) c g)),
       λ g. noted_failure_decides t cause.End c Ended refl g,
@@ -197,19 +197,19 @@ moved_decides plan commands (action.Close why) s act c o done e =
     inr (inl (closed_down plan (waiting_of s) why (turned s.progress), inl (why, o, refl, closed_ends plan (waiting_of s) why c s.progress (λ is. done (ap action.Close is)) e)))
 moved_decides plan commands (action.Stop why) s act c o done e = absurd o
 moved_decides plan commands next s act c o done e =
-    walk plan commands (DecidesSo plan s next c) next (with_progress turned s) act o (λ m g. inr (inr refl), λ n g. noted_failure_decides (with_progress turned s) cause.Clock c Untold refl g) e
+    walk plan commands (DecidesIfEnded plan s next c) next (with_progress turned s) act o (λ m g. inr (inr refl), λ n g. noted_failure_decides (with_progress turned s) cause.Clock c Untold refl g) e
 
 -- if the end is decided, no act leaves the phase as it is: the connection is closed, and without a connection no act is made
-not_twice : (plan : Plan) (commands : List Task) (s : Model) (act : Act) (c : Cause) (phase : Phase) → s.progress.phase ≡ phase → cause_in phase ≡ Some c
+decided_phase_changes : (plan : Plan) (commands : List Task) (s : Model) (act : Act) (c : Cause) (phase : Phase) → s.progress.phase ≡ phase → cause_in phase ≡ Some c
     → Performs commands s (action_in phase plan s.progress (waiting_of s)) act
     → (moved plan commands (action_in phase plan s.progress (waiting_of s)) (with_progress turned s) act).progress.phase ≡ phase → ⊥
-not_twice plan commands s act c (Closing why) is e o same = let down : true ≡ false = sym (ap is_up same) ∙ closed_down plan (waiting_of s) why (turned s.progress) in cc
-not_twice plan commands s act c (Over why) is e o same = absurd o
-not_twice plan commands s act c phase is e o same = cc
+decided_phase_changes plan commands s act c (Closing why) is e o same = let down : true ≡ false = sym (ap is_up same) ∙ closed_down plan (waiting_of s) why (turned s.progress) in cc
+decided_phase_changes plan commands s act c (Over why) is e o same = absurd o
+decided_phase_changes plan commands s act c phase is e o same = cc
 
--- the act decided the end for this cause (the phase is the one after it): it shows a call that failed, or the connection is
--- gone and no other is made
-abbrev pub Decided : Plan → Model → Phase → Cause → Act → Type 0
+-- the act decided the end for this cause, in the phase `behind` after it: it shows a call that failed, or the connection is gone
+-- and no other is made
+abbrev pub Decided : Plan → Model → (behind : Phase) → Cause → Act → Type 0
 Decided plan s behind c act = Failed s.progress.phase behind c act ⊎ Gone plan s (action_at plan s) behind c act
 
 -- if the end is decided after an act, the act decided it; given that a close for `Done` is next only if all is done
@@ -218,22 +218,22 @@ pub after_decided : (plan : Plan) (commands : List Task) (s : Model) (act : Act)
     → (action_at plan s ≡ action.Close cause.Done → IsFinished (commands_in s.marks) s.progress)
     → cause_in (after plan commands s act).progress.phase ≡ Some c → Decided plan s (after plan commands s act).progress.phase c act
 after_decided plan commands s act c o done e =
-    subst (λ (behind : Phase). Decided plan s behind c act) (sym same) (pick (moved_decides plan commands (action_at plan s) s act c o done ends)) where
+    subst (λ (behind : Phase). Decided plan s behind c act) (sym same) (decided_by_act (moved_decides plan commands (action_at plan s) s act c o done ends)) where
       -- the loss of what is outstanding, which comes last in an act, leaves the phase
       same : (after plan commands s act).progress.phase ≡ (moved plan commands (action_at plan s) (with_progress turned s) act).progress.phase
-      same = ap (λ (p : Progress). p.phase) (ended_progress (moved plan commands (action_at plan s) (with_progress turned s) act))
+      same = ap (λ (p : Progress). p.phase) (with_losses_progress (moved plan commands (action_at plan s) (with_progress turned s) act))
 
       -- so the end is decided before that, too
       ends : cause_in (moved plan commands (action_at plan s) (with_progress turned s) act).progress.phase ≡ Some c
       ends = sym (ap cause_in same) ∙ e
 
       -- `moved_decides` without the case that the phase is as before, which can't be
-      pick : Decides (Gone plan s (action_at plan s) (moved plan commands (action_at plan s) (with_progress turned s) act).progress.phase c act) s.progress.phase
+      decided_by_act : Decides (Gone plan s (action_at plan s) (moved plan commands (action_at plan s) (with_progress turned s) act).progress.phase c act) s.progress.phase
           (moved plan commands (action_at plan s) (with_progress turned s) act).progress.phase c act
           → Decided plan s (moved plan commands (action_at plan s) (with_progress turned s) act).progress.phase c act
-      pick (inl shows) = inl shows
-      pick (inr (inl gone)) = inr gone
-      pick (inr (inr still)) = absurd (not_twice plan commands s act c s.progress.phase refl (ap cause_in (sym still) ∙ ends) o still)
+      decided_by_act (inl shows) = inl shows
+      decided_by_act (inr (inl gone)) = inr gone
+      decided_by_act (inr (inr still)) = absurd (decided_phase_changes plan commands s act c s.progress.phase refl (ap cause_in (sym still) ∙ ends) o still)
 
 -- of a run, an act performs the action that was next, and the acts before it are a run
 pub runs_split : (plan : Plan) (commands : List Task) (s : Model) (earlier later : List Act) (act : Act) → Runs plan commands s (earlier ++ act ∷ later)
@@ -356,7 +356,7 @@ stopped_for plan commands scope acts why runs stop =
       ends before last phase (inl failed) = inl (failed.0 (ap is_up phase), failed.1)
       ends before last phase (inr gone) = inr gone.1
 
-      -- the lemma above, by the condition of stopping: the phase says so, or all turns are used up
+      -- `stopped_for` by the condition of stopping: the phase says so, or all turns are used up
       by_needs : (((state_after plan commands scope acts).progress.phase ≡ Over why) ⊎ ((why ≡ cause.Turns) × ((state_after plan commands scope acts).progress.turns ≡ 0)))
           → ((why ≡ cause.Turns) × ((state_after plan commands scope acts).progress.turns ≡ 0))
           ⊎ HasLast acts (λ earlier last. EndsRun plan (state_after plan commands scope earlier) why last)

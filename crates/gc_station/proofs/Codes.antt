@@ -26,7 +26,7 @@ use Rattle.gc_texts.proofs.ZeroReplies.{zero_reads}
 use Rattle.gc_station.specs.Codes.{WellIsAnAcceptedCode}
 use Rattle.gc_station.specs.Qualities.{GoodIsAnAnswer}
 use Rattle.gc_station.specs.Marks.{value_as, warned_as, refused_as, answer_as, end_of, is_well}
-use Rattle.gc_station.specs.Scopes.{AreReadings}
+use Rattle.gc_station.specs.Scopes.{AreReadings, Reads}
 
 -- a reply with a communication code other than 0 says that fault, whatever was asked
 pub com_fault_is : (asked : Asked) (r : ReplyFields) → (r.rc_com ≡ 0 → ⊥) → IsAskedReading asked r (reading.ComFault r.rc_com)
@@ -63,7 +63,7 @@ without_codes : (accepted : Codes) (rc : ℕ) → accepted ≡ no_codes → (rc 
 without_codes accepted rc none (inl same) = same
 without_codes accepted rc none (inr some) = absurd (none_accepted rc (ap (λ (cs : Codes). lists_code cs rc) (sym none) ∙ some))
 
-module _ (reads : Asked → List ℕ → Reading) (expected : Expected) (call : Asked) (line : List ℕ) (r : ReplyFields) (are : AreReadings reads) (is : IsReply line r) where
+module _ (reads : Reads) (expected : Expected) (call : Asked) (line : List ℕ) (r : ReplyFields) (are : AreReadings reads) (is : IsReply line r) where
   -- if a reply's fields r mean `said` for the call (`IsAskedReading`), `reads` reads its line as `said`
   says : (said : Reading) → IsAskedReading call r said → reads call line ≡ said
   says said reading = are call line said (record { reply = r; is_reply = is; is_reading = reading })

@@ -1,6 +1,6 @@
 -- Facts F of a progress and the acts so far that concern a connection in use alone: they hold trivially if there is no
 -- connection, and if it is to be closed. So a call that fails keeps them, and so does a close. What each other act has to keep
--- is `OnLine`. An act is one call on the link, with its result.
+-- is `HoldsInUse`. An act is one call on the link, with its result.
 use Rattle.std.proofs.Common.{◌≡◌, ℕ, ◌&&◌, Bool, true, false, not, List, [], ◌∷◌, ◌++◌, drop, if◌then◌else◌, refl, ap}
 use Rattle.gc_catalogue.specs.declared.asked.Asked.TheVariants.{Table}
 use Rattle.gc_catalogue.specs.declared.call.Call.TheVariants.{NullProc}
@@ -24,7 +24,7 @@ use Rattle.gc_station.specs.NextCommand.{commands_before, commands_left, upcomin
 use Rattle.gc_station.specs.Runs.{state_after}
 use Rattle.gc_station.specs.Scopes.{Scope}
 use Rattle.gc_station.proofs.Always.{always_of_progress}
-use Rattle.gc_station.proofs.Turns.{again_down, closed_down}
+use Rattle.gc_station.proofs.Turns.{phase_failed, after_failure_down, closed_down}
 use Rattle.gc_station.proofs.Walk.{walk}
 
 -- whether a phase has a connection that isn't to be closed
@@ -35,7 +35,7 @@ is_in_use phase.Ready = true
 is_in_use at = false
 
 -- after a failure no connection is in use
-pub failed_unused : (up : Bool) (why : Cause) → is_in_use (if up then phase.Closing why else phase.Over why) ≡ false
+pub failed_unused : (up : Bool) (why : Cause) → is_in_use (phase_failed up why) ≡ false
 failed_unused true why = refl
 failed_unused false why = refl
 
@@ -57,43 +57,43 @@ paused_alike test false at is same = ap test is
 
 -- the fact F holds after these acts and a read that gave nothing at this moment: of the progress at that moment and, if a drain
 -- was long enough, of the progress once the drain ended
-abbrev pub Silenced : Plan → (Progress → List Act → Type 0) → Until → Moment → Progress → List Act → Type 0
-Silenced plan F until m p acts =
+abbrev pub HoldsIfSilent : Plan → (F : Progress → List Act → Type 0) → Until → Moment → Progress → List Act → Type 0
+HoldsIfSilent plan F until m p acts =
     F (time_passed until m p) (acts ++ Silent m ∷ [])
     × (p.phase ≡ phase.Draining → is_quiet plan (time_passed until m p) ≡ true → F (drained (time_passed until m p)) (acts ++ Silent m ∷ []))
 
 -- the fact F holds after these acts and one more, of this action: of what the act makes of the model's progress, for each
 -- outcome that leaves a connection in use
-abbrev pub OnLine : Plan → List Task → (Progress → List Act → Type 0) → Action → Model → List Act → Type 0
-OnLine plan commands F actions.ReadClock s acts = (m : Moment) → F (early_noted plan (commands_in s.marks) (moment_noted m s.progress)) (acts ++ Told m ∷ [])
-OnLine plan commands F actions.Renew s acts = (m : Moment) → F (early_noted plan 0 (resynchronized plan m s.progress)) (acts ++ Told m ∷ [])
-OnLine plan commands F actions.Begin s acts = (m : Moment) → F (cycle_begun plan (cycle_length plan commands) m s.progress) (acts ++ Told m ∷ [])
-OnLine plan commands F actions.Open s acts = (m : Moment) → F (opened s.progress) (acts ++ Opened ∷ [])
-OnLine plan commands F actions.Clear s acts = (m : Moment) → F (cleared s.progress) (acts ++ Put (10 ∷ []) ∷ [])
-OnLine plan commands F actions.Ask s acts = (m : Moment) → F (null_sent plan s.progress) (acts ++ Put (null_text s.progress.word) ∷ [])
-OnLine plan commands F actions.Prepare s acts = (m : Moment) → F (setup_sent plan s.progress) (acts ++ Put (text_or_null s.progress.moment.utc s.client (drop s.progress.prepared commands)) ∷ [])
-OnLine plan commands F actions.Send s acts = (m : Moment) → F (sent (upcoming_after 1 commands s.progress) s.progress)
+abbrev pub HoldsInUse : Plan → List Task → (F : Progress → List Act → Type 0) → Action → Model → List Act → Type 0
+HoldsInUse plan commands F actions.ReadClock s acts = (m : Moment) → F (early_noted plan (commands_in s.marks) (moment_noted m s.progress)) (acts ++ Told m ∷ [])
+HoldsInUse plan commands F actions.Renew s acts = (m : Moment) → F (early_noted plan 0 (resynchronized plan m s.progress)) (acts ++ Told m ∷ [])
+HoldsInUse plan commands F actions.Begin s acts = (m : Moment) → F (cycle_begun plan (cycle_length plan commands) m s.progress) (acts ++ Told m ∷ [])
+HoldsInUse plan commands F actions.Open s acts = (m : Moment) → F (opened s.progress) (acts ++ Opened ∷ [])
+HoldsInUse plan commands F actions.Clear s acts = (m : Moment) → F (cleared s.progress) (acts ++ Put (10 ∷ []) ∷ [])
+HoldsInUse plan commands F actions.Ask s acts = (m : Moment) → F (null_sent plan s.progress) (acts ++ Put (null_text s.progress.word) ∷ [])
+HoldsInUse plan commands F actions.Prepare s acts = (m : Moment) → F (setup_sent plan s.progress) (acts ++ Put (text_or_null s.progress.moment.utc s.client (drop s.progress.prepared commands)) ∷ [])
+HoldsInUse plan commands F actions.Send s acts = (m : Moment) → F (sent (upcoming_after 1 commands s.progress) s.progress)
     (acts ++ Put (first_text s.progress.moment.utc s.client (commands_left commands s.progress)) ∷ [])
-OnLine plan commands F actions.Skip s acts = (m : Moment)
+HoldsInUse plan commands F actions.Skip s acts = (m : Moment)
     → F (early_noted plan (commands_in s.marks) (skipped (upcoming_after 1 commands s.progress) m s.progress))
     (acts ++ Told m ∷ [])
-OnLine plan commands F actions.Pass s acts =
+HoldsInUse plan commands F actions.Pass s acts =
     (m : Moment) → F (early_noted plan (commands_in s.marks)
     (attempts_left_out (upcoming_after s.progress.next_others commands s.progress) m s.progress)) (acts ++ Told m ∷ [])
-OnLine plan commands F actions.Flush s acts = (m : Moment) → F (request_noted s.progress) (acts ++ Put (next_request_text s.client (Table NullProc)) ∷ [])
-OnLine plan commands F (actions.Read until) s acts =
+HoldsInUse plan commands F actions.Flush s acts = (m : Moment) → F (request_noted s.progress) (acts ++ Put (next_request_text s.client (Table NullProc)) ∷ [])
+HoldsInUse plan commands F (actions.Read until) s acts =
     ((bytes : List ℕ) (m : Moment) → F (piece_at plan until bytes m s).progress (acts ++ Gave bytes m ∷ []))
-    × ((m : Moment) → Silenced plan F until m s.progress acts)
-OnLine plan commands F (actions.Close why) s acts = Unit {0}
-OnLine plan commands F (actions.Stop why) s acts = Unit {0}
+    × ((m : Moment) → HoldsIfSilent plan F until m s.progress acts)
+HoldsInUse plan commands F (actions.Close why) s acts = Unit {0}
+HoldsInUse plan commands F (actions.Stop why) s acts = Unit {0}
 
 module _ (plan : Plan) (commands : List Task) (F : Progress → List Act → Type 0) (unused : (p : Progress) (acts : List Act) → is_in_use p.phase ≡ false → F p acts) where
   -- the fact holds after these acts and one more, of the progress of the model after them
   abbrev pub FactBehind : List Act → Act → Model → Type 0
   FactBehind acts act t = F t.progress (acts ++ act ∷ [])
 
-  -- `Silenced` gives the fact after a read that gave nothing, in any phase
-  holds_if_silent : (until : Until) (m : Moment) (p : Progress) (at : Phase) (acts : List Act) → p.phase ≡ at → Silenced plan F until m p acts
+  -- `HoldsIfSilent` gives the fact after a read that gave nothing, in any phase
+  holds_if_silent : (until : Until) (m : Moment) (p : Progress) (at : Phase) (acts : List Act) → p.phase ≡ at → HoldsIfSilent plan F until m p acts
       → F (quieted plan at (time_passed until m p)) (acts ++ Silent m ∷ [])
   holds_if_silent until m p phase.Pausing acts is h =
       unused _ (acts ++ Silent m ∷ []) (paused_alike is_in_use (is_past p.pause (time_passed until m p) && not (is_idle plan (time_passed until m p))) p.phase is refl)
@@ -104,17 +104,17 @@ module _ (plan : Plan) (commands : List Task) (F : Progress → List Act → Typ
     by_test false past = h.0
   holds_if_silent until m p at acts is h = h.0
 
-  -- `OnLine` of an action gives the fact after an act of it: if the act leaves no connection in use, the fact holds anyway
+  -- `HoldsInUse` of an action gives the fact after an act of it: if the act leaves no connection in use, the fact holds anyway
   -- (`unused`)
-  pub on_line : (next : Action) (s : Model) (act : Act) (acts : List Act) → Performs commands s next act → OnLine plan commands F next (with_progress turned s) acts
+  pub holds_in_use : (next : Action) (s : Model) (act : Act) (acts : List Act) → Performs commands s next act → HoldsInUse plan commands F next (with_progress turned s) acts
       → FactBehind acts act (moved plan commands next (with_progress turned s) act)
-  on_line actions.Open s act acts o h = walk plan commands (FactBehind acts) actions.Open (with_progress turned s) act o
-      (h, λ n. unused _ _ (down_unused _ (again_down plan (commands_in s.marks) cause.Open (turned s.progress))))
-  on_line actions.Clear s act acts o h = walk plan commands (FactBehind acts) actions.Clear (with_progress turned s) act o
+  holds_in_use actions.Open s act acts o h = walk plan commands (FactBehind acts) actions.Open (with_progress turned s) act o
+      (h, λ n. unused _ _ (down_unused _ (after_failure_down plan (commands_in s.marks) cause.Open (turned s.progress))))
+  holds_in_use actions.Clear s act acts o h = walk plan commands (FactBehind acts) actions.Clear (with_progress turned s) act o
       (h, λ n. unused _ _ (failed_unused (is_up (cleared (turned s.progress)).phase) (cause.Write (commands_before plan commands (turned s.progress)) n)))
-  on_line actions.Ask s act acts o h = walk plan commands (FactBehind acts) actions.Ask (with_progress turned s) act o
+  holds_in_use actions.Ask s act acts o h = walk plan commands (FactBehind acts) actions.Ask (with_progress turned s) act o
       (h, λ n. unused _ _ (failed_unused (is_up s.progress.phase) (cause.Write (commands_before plan commands (turned s.progress)) n)))
-  on_line (actions.Read until) s act acts o h =
+  holds_in_use (actions.Read until) s act acts o h =
       let up = is_up s.progress.phase in
       walk plan commands (FactBehind acts) (actions.Read until) (with_progress turned s) act o (
         h.0,
@@ -123,22 +123,22 @@ module _ (plan : Plan) (commands : List Task) (F : Progress → List Act → Typ
         unused _ _ (failed_unused up cause.Read),
         unused _ _ (failed_unused up cause.Clock),
       )
-  on_line (actions.Close why) s act acts o h = unused _ _ (down_unused _ (closed_down plan (waiting_of s) why (turned s.progress)))
-  on_line (actions.Stop why) s act acts o h = absurd o
-  on_line actions.Prepare s act acts o h = walk plan commands (FactBehind acts) actions.Prepare (with_progress turned s) act o
+  holds_in_use (actions.Close why) s act acts o h = unused _ _ (down_unused _ (closed_down plan (waiting_of s) why (turned s.progress)))
+  holds_in_use (actions.Stop why) s act acts o h = absurd o
+  holds_in_use actions.Prepare s act acts o h = walk plan commands (FactBehind acts) actions.Prepare (with_progress turned s) act o
       (h, λ n. unused _ _ (failed_unused (is_up s.progress.phase) (cause.Write (commands_before plan commands (turned s.progress)) n)))
-  on_line actions.Send s act acts o h = walk plan commands (FactBehind acts) actions.Send (with_progress turned s) act o
+  holds_in_use actions.Send s act acts o h = walk plan commands (FactBehind acts) actions.Send (with_progress turned s) act o
       (h, λ n. unused _ _ (failed_unused (is_up s.progress.phase) (cause.Write (commands_before plan commands (turned s.progress)) n)))
-  on_line actions.Flush s act acts o h = walk plan commands (FactBehind acts) actions.Flush (with_progress turned s) act o
+  holds_in_use actions.Flush s act acts o h = walk plan commands (FactBehind acts) actions.Flush (with_progress turned s) act o
       (h, λ n. unused _ _ (failed_unused (is_up s.progress.phase) (cause.Write (commands_before plan commands (turned s.progress)) n)))
-  on_line next s act acts o h = walk plan commands (FactBehind acts) next (with_progress turned s) act o (h, λ n. unused _ _ (failed_unused (is_up s.progress.phase) cause.Clock))
+  holds_in_use next s act acts o h = walk plan commands (FactBehind acts) next (with_progress turned s) act o (h, λ n. unused _ _ (failed_unused (is_up s.progress.phase) cause.Clock))
 
-  -- the fact holds after every run, if it holds at the start, and `OnLine` holds of the action that is next after each run after
-  -- which the fact holds
-  pub on_line_always : (scope : Scope)
+  -- the fact holds after every run, if it holds at the start, and `HoldsInUse` holds of the action that is next after each run
+  -- after which the fact holds
+  pub holds_in_use_always : (scope : Scope)
       → ((done : List Act) → Runs plan commands (opening plan scope) done → F (state_after plan commands scope done).progress done
-      → OnLine plan commands F (action_at plan (state_after plan commands scope done)) (with_progress turned (state_after plan commands scope done)) done)
+      → HoldsInUse plan commands F (action_at plan (state_after plan commands scope done)) (with_progress turned (state_after plan commands scope done)) done)
       → F (opening plan scope).progress [] → (acts : List Act) → Runs plan commands (opening plan scope) acts → F (state_after plan commands scope acts).progress acts
-  on_line_always scope row start acts runs =
+  holds_in_use_always scope row start acts runs =
       always_of_progress plan commands (opening plan scope) F
-      (λ done act runs o held. on_line (action_at plan (state_after plan commands scope done)) (state_after plan commands scope done) act done o (row done runs held)) start acts runs
+      (λ done act runs o held. holds_in_use (action_at plan (state_after plan commands scope done)) (state_after plan commands scope done) act done o (row done runs held)) start acts runs

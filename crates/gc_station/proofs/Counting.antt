@@ -25,8 +25,8 @@ adds_nothing false before rest = refl
 
 -- once the next chain begins, the count of the last attempt (`attempt`) is among those of the chains before, and the attempt that
 -- begins, `followed` by another one or not, has none yet
-settled_then : (followed : Bool) (before attempt rest : ℕ) → capped (capped (before + attempt) + ((if followed then 0 else 0) + rest)) ≡ capped (before + (attempt + rest))
-settled_then followed before attempt rest = adds_nothing followed (capped (before + attempt)) rest ∙ omega arith
+last_attempt_settled : (followed : Bool) (before attempt rest : ℕ) → capped (capped (before + attempt) + ((if followed then 0 else 0) + rest)) ≡ capped (before + (attempt + rest))
+last_attempt_settled followed before attempt rest = adds_nothing followed (capped (before + attempt)) rest ∙ omega arith
 
 -- the counts `c` once an attempt begins, as `started` gives them: it is a further one (`true`), or the first one of its chain
 abbrev attempt_begun : Counts → Bool → Counts
@@ -55,14 +55,14 @@ with_counted end t = record {
 }
 
 -- a command is counted in the count of its ending, and in no other
-counted_so : (end : End) (t : Tally) → counted end t ≡ with_counted end t
-counted_so (Answered quality answer line) t = refl
-counted_so (Unreadable line fault) t = refl
-counted_so (Elsewhere line) t = refl
-counted_so Late t = refl
-counted_so Lost t = refl
-counted_so Skipped t = refl
-counted_so Missed t = refl
+counted_by_ending : (end : End) (t : Tally) → counted end t ≡ with_counted end t
+counted_by_ending (Answered quality answer line) t = refl
+counted_by_ending (Unreadable line fault) t = refl
+counted_by_ending (Elsewhere line) t = refl
+counted_by_ending Late t = refl
+counted_by_ending Lost t = refl
+counted_by_ending Skipped t = refl
+counted_by_ending Missed t = refl
 
 -- a count that grows by one for each command with this ending (`so`), stays for any other, adds up, and doesn't depend on `again`
 module _ (count : Tally → ℕ) (so : End → Bool) (step : (end : End) (t : Tally) → count (with_counted end t) ≡ (if so end then one_more (count t) else count t))
@@ -72,7 +72,7 @@ module _ (count : Tally → ℕ) (so : End → Bool) (step : (end : End) (t : Ta
   counts_next : (x s : ℕ) (t : Tally) (r : Record) (rs : List Record) (q : Bool) → x ≡ capped (s + ((if q then 0 else count (counted r.end t)) + how_many so rs))
       → x ≡ capped (s + ((if q then 0 else count t) + how_many so (if q then rs else r ∷ rs)))
   counts_next x s t r rs q is =
-      is ∙ ap (λ n. capped (s + ((if q then 0 else n) + how_many so rs))) (ap count (counted_so r.end t) ∙ step r.end t) ∙ counted_either_way q (so r.end) s (count t) (how_many so rs)
+      is ∙ ap (λ n. capped (s + ((if q then 0 else n) + how_many so rs))) (ap count (counted_by_ending r.end t) ∙ step r.end t) ∙ counted_either_way q (so r.end) s (count t) (how_many so rs)
       ∙ ap (λ n. capped (s + ((if q then 0 else count t) + n))) (sym (counted_in_front so q r rs))
 
   -- a count after these records is the sum of that of the chains before, of that of the attempt before unless a further one
@@ -99,7 +99,7 @@ module _ (count : Tally → ℕ) (so : End → Bool) (step : (end : End) (t : Ta
         counts_next _ (count (sum c.settled c.attempt)) none_yet r (last_attempts rs) (is_followed rs) (ih (record { settled = sum c.settled c.attempt; attempt = counted r.end none_yet }))
         ∙ ap (λ n. capped (n + ((if is_followed rs then 0 else count none_yet) + how_many so (if is_followed rs then last_attempts rs else r ∷ last_attempts rs)))) (adds c.settled c.attempt)
         ∙ ap (λ n. capped (capped (count c.settled + count c.attempt) + ((if is_followed rs then 0 else n) + how_many so (if is_followed rs then last_attempts rs else r ∷ last_attempts rs)))) none
-        ∙ settled_then (is_followed rs) (count c.settled) (count c.attempt) _
+        ∙ last_attempt_settled (is_followed rs) (count c.settled) (count c.attempt) _
 
   -- a count of a tally of all records is the number of records of last attempts with its ending, at most 2^64 - 1
   pub counts_all : (records : List Record) → count (tally_of records) ≡ capped (how_many so (last_attempts records))
@@ -118,11 +118,11 @@ again_counts c (r ∷ rs) none = by_tests (λ d n. again_counts d rs n) (nat_eq 
       → (total (tallied (if z then c else (let d = (if l then attempt_begun c f else c) in record d { attempt = counted r.end d.attempt })) rs)).again
       ≡ capped (c.settled.again + (if not z && l && f then suc (further_attempts rs) else further_attempts rs))
   by_tests ih true l f = ih c none
-  by_tests ih false false f = ih (record c { attempt = counted r.end c.attempt }) (ap (λ (t : Tally). t.again) (counted_so r.end c.attempt) ∙ none)
+  by_tests ih false false f = ih (record c { attempt = counted r.end c.attempt }) (ap (λ (t : Tally). t.again) (counted_by_ending r.end c.attempt) ∙ none)
   by_tests ih false true true =
-      ih (record { settled = record c.settled { again = one_more c.settled.again }; attempt = counted r.end none_yet }) (ap (λ (t : Tally). t.again) (counted_so r.end none_yet)) ∙ omega arith
+      ih (record { settled = record c.settled { again = one_more c.settled.again }; attempt = counted r.end none_yet }) (ap (λ (t : Tally). t.again) (counted_by_ending r.end none_yet)) ∙ omega arith
   by_tests ih false true false =
-      ih (record { settled = sum c.settled c.attempt; attempt = counted r.end none_yet }) (ap (λ (t : Tally). t.again) (counted_so r.end none_yet))
+      ih (record { settled = sum c.settled c.attempt; attempt = counted r.end none_yet }) (ap (λ (t : Tally). t.again) (counted_by_ending r.end none_yet))
       ∙ ap (λ n. capped (capped (c.settled.again + n) + further_attempts rs)) none ∙ omega arith
 
 -- each count of a tally is the number of the records of last attempts with its ending, and `again` is the number of further

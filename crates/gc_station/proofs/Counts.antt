@@ -8,8 +8,8 @@ use Rattle.gc_station.specs.declared.progress.Action.{Action}
 use Rattle.gc_station.specs.declared.progress.Action.TheVariants.{Begin, Send, Skip, Pass}
 use Rattle.gc_station.specs.declared.progress.Progress.{Progress}
 use Rattle.gc_links.specs.Acts.{Act, Told, Cut}
-use Rattle.gc_station.proofs.Walk.{losing_along, moved_changed, is_sent}
-use Rattle.gc_station.specs.Model.{Model, cycle_length, moved, losing, ended}
+use Rattle.gc_station.proofs.Walk.{losing_along, moved_changed, sent_same}
+use Rattle.gc_station.specs.Model.{Model, cycle_length, moved, losing, with_losses}
 use Rattle.gc_station.specs.NextCommand.{commands_before}
 use Rattle.gc_station.specs.Progressing.{failing, skipped, loses_all}
 
@@ -24,7 +24,7 @@ pub keeps_counts : (p q : Progress) → q.turns ≡ p.turns → q.left ≡ p.lef
 keeps_counts p q turns left unsent = record { turns = turns; left = left; unsent = unsent }
 
 -- the progress with a cycle of `count` commands begun, as far as these counts go
-abbrev pub counted_begun : ℕ → Progress → Progress
+abbrev pub counted_begun : (count : ℕ) → Progress → Progress
 counted_begun count p = record p { left = p.left - 1; unsent = count }
 
 -- the progress with one command fewer unsent
@@ -54,8 +54,8 @@ moved_counts plan commands Skip s act = inl (keeps_counts s.progress _ refl refl
 moved_counts plan commands Pass s (Told m) = inr (keeps_counts (counted_passed s.progress) _ refl refl refl)
 moved_counts plan commands Pass s act = inl (keeps_counts s.progress _ refl refl refl)
 moved_counts plan commands Send s (Cut bytes n) = subst (λ (x : Model). KeepsCounts (counted_sent s.progress)
-    (failing (cause.Write (commands_before plan commands s.progress) n) x.progress)) (is_sent plan commands s) (keeps_counts (counted_sent s.progress) _ refl refl refl)
-moved_counts plan commands Send s act = subst (λ (x : Model). KeepsCounts (counted_sent s.progress) x.progress) (is_sent plan commands s) (keeps_counts (counted_sent s.progress) _ refl refl refl)
+    (failing (cause.Write (commands_before plan commands s.progress) n) x.progress)) (sent_same plan commands s) (keeps_counts (counted_sent s.progress) _ refl refl refl)
+moved_counts plan commands Send s act = subst (λ (x : Model). KeepsCounts (counted_sent s.progress) x.progress) (sent_same plan commands s) (keeps_counts (counted_sent s.progress) _ refl refl refl)
 moved_counts plan commands action s act =
     let is = moved_changed plan commands action s act in
     keeps_counts s.progress _ (ap (λ (x : Model). x.progress.turns) is) (ap (λ (x : Model). x.progress.left) is) (ap (λ (x : Model). x.progress.unsent) is)
@@ -65,16 +65,16 @@ pub losing_progress : (all : Bool) (s : Model) → (losing all s).progress ≡ s
 losing_progress all s = losing_along (λ (t : Model). t.progress ≡ s.progress) all s refl refl
 
 -- the loss of what is outstanding, at the end of an act, changes no progress
-pub ended_progress : (s : Model) → (ended s).progress ≡ s.progress
-ended_progress s = losing_progress (loses_all s.progress) s
+pub with_losses_progress : (s : Model) → (with_losses s).progress ≡ s.progress
+with_losses_progress s = losing_progress (loses_all s.progress) s
 
 -- the loss of requests, all or none, leaves no command out
 losing_passes : (all : Bool) (s : Model) → (losing all s).passes ≡ s.passes
 losing_passes all s = losing_along (λ (t : Model). t.passes ≡ s.passes) all s refl refl
 
 -- the loss of what is outstanding, at the end of an act, leaves no command out
-pub ended_passes : (s : Model) → (ended s).passes ≡ s.passes
-ended_passes s = losing_passes (loses_all s.progress) s
+pub with_losses_passes : (s : Model) → (with_losses s).passes ≡ s.passes
+with_losses_passes s = losing_passes (loses_all s.progress) s
 
 -- what an act does, apart from the turn that it takes, leaves the number of turns
 pub turns_kept : (plan : Plan) (commands : List Task) (action : Action) (s : Model) (act : Act) → (moved plan commands action s act).progress.turns ≡ s.progress.turns

@@ -35,13 +35,13 @@ use Rattle.gc_station.proofs.EachRun.{invariant_holds}
 use Rattle.gc_station.proofs.Facts.{action_for, begin_due, or_second, and_second}
 use Rattle.gc_station.proofs.Invariant.{Invariant}
 use Rattle.gc_station.proofs.Walk.{asked_along, came_along, quieted_along, closed_along, moved_changed, walk}
-use Rattle.gc_station.proofs.Ticking.{Ticks, ticked, rises_front, rises_last, latest_more, last_ticks}
+use Rattle.gc_station.proofs.Ticking.{Ticks, began_kept, rises_front, rises_last, latest_more, last_ticks}
 use Rattle.gc_station.proofs.Staying.{Stays, stays}
 
 -- Acts that stay in their cycle.
 
 -- from p to q an act stays in the cycle, and reads moments as `Ticks` says
-abbrev pub StaysAndTicks : Progress → Act → Progress → Type 0
+abbrev pub StaysAndTicks : (p : Progress) → Act → (q : Progress) → Type 0
 StaysAndTicks p act q = Stays p q × Ticks p act q
 
 -- a read that gave bytes stays in its cycle, and reads its moment as `Ticks` says
@@ -130,7 +130,7 @@ module _ (plan : Plan) (commands : List Task) (scope : Scope) (some : 0 < plan.e
       (rises : ClockRises p.moment.elapsed (act ∷ [])) (held : p.missed ≡ true → (q.next_is_chained ≡ true) × (q.chain_unbroken ≡ false)) (chained : q.next_is_chained ≡ true → WaitsForAnswer q)
       → Cycling acts p → Cycling (acts ++ act ∷ []) q
   cycling_on acts act p q left missed due ticks rises held chained c =
-      let tick = ticked p q act ticks rises c.past in
+      let tick = began_kept p q act ticks rises c.past in
       let same = tick.0 in
       let before = c.began in
       let few = c.fewer in
@@ -288,8 +288,8 @@ module _ (plan : Plan) (commands : List Task) (scope : Scope) (some : 0 < plan.e
   KeepsBegunOf acts p act t = KeepsBegun acts p act t.progress
 
   -- an act that stays in its cycle, as `StaysAndTicks` says, does what `KeepsBegun` says
-  pub on_stays : (acts : List Act) (p : Progress) (act : Act) (q : Progress) → Begun acts p → StaysAndTicks p act q → KeepsBegun acts p act q
-  on_stays acts p act q h same = (last_ticks p q act same.1, λ rises. begun_stays acts act p q same.0 same.1 rises h)
+  pub keeps_begun : (acts : List Act) (p : Progress) (act : Act) (q : Progress) → Begun acts p → StaysAndTicks p act q → KeepsBegun acts p act q
+  keeps_begun acts p act q h same = (last_ticks p q act same.1, λ rises. begun_stays acts act p q same.0 same.1 rises h)
 
   -- where `Begun` holds, an act that only notes a failure does what `KeepsBegunOf` says, if `Ticks` holds of the act with the
   -- progress as it was
@@ -317,18 +317,18 @@ module _ (plan : Plan) (commands : List Task) (scope : Scope) (some : 0 < plan.e
     by_test true e (inr going) = absurd (both_ways p.chain_unbroken (c.held e).1 going.2)
 
   -- an act of each action does to the moment read last, and to `Begun`, what `KeepsBegunOf` says
-  pub on_moved : (acts : List Act) (next : Action) (act : Act) → (is_next : action_at plan (at acts) ≡ next) → (performs : Performs commands (at acts) next act)
+  pub moved_keeps_begun : (acts : List Act) (next : Action) (act : Act) → (is_next : action_at plan (at acts) ≡ next) → (performs : Performs commands (at acts) next act)
       → Invariant plan commands (at acts) → (needs : HoldsBefore plan (at acts).progress (waiting_of (at acts)) next) → Begun acts (turned (at acts).progress)
       → KeepsBegunOf acts (turned (at acts).progress) act (moved plan commands next (with_progress turned (at acts)) act)
-  on_moved acts actions.ReadClock act is o fine needs h =
+  moved_keeps_begun acts actions.ReadClock act is o fine needs h =
       let s = with_progress turned (at acts) in
       walk plan commands (KeepsBegunOf acts s.progress) actions.ReadClock s act o
-      (λ m. on_stays acts s.progress (Told m) _ h (stays s.progress _ refl refl refl refl refl (inl refl), (refl, refl)), λ n. begun_after_failure acts s Untold cause.Clock h (refl, refl))
-  on_moved acts actions.Renew act is o fine needs h =
+      (λ m. keeps_begun acts s.progress (Told m) _ h (stays s.progress _ refl refl refl refl refl (inl refl), (refl, refl)), λ n. begun_after_failure acts s Untold cause.Clock h (refl, refl))
+  moved_keeps_begun acts actions.Renew act is o fine needs h =
       let s = with_progress turned (at acts) in
       walk plan commands (KeepsBegunOf acts s.progress) actions.Renew s act o
-      (λ m. on_stays acts s.progress (Told m) _ h (stays s.progress _ refl refl refl refl refl (inr refl), (refl, refl)), λ n. begun_after_failure acts s Untold cause.Clock h (refl, refl))
-  on_moved acts actions.Begin act is o fine needs h =
+      (λ m. keeps_begun acts s.progress (Told m) _ h (stays s.progress _ refl refl refl refl refl (inr refl), (refl, refl)), λ n. begun_after_failure acts s Untold cause.Clock h (refl, refl))
+  moved_keeps_begun acts actions.Begin act is o fine needs h =
       let s = with_progress turned (at acts) in
       walk plan commands (KeepsBegunOf acts s.progress) actions.Begin s act o (
         λ m. (
@@ -338,14 +338,14 @@ module _ (plan : Plan) (commands : List Task) (scope : Scope) (some : 0 < plan.e
         ),
         λ n. begun_after_failure acts s Untold cause.Clock h (refl, refl),
       )
-  on_moved acts actions.Open act is o fine needs h =
+  moved_keeps_begun acts actions.Open act is o fine needs h =
       let s = with_progress turned (at acts) in
       walk plan commands (KeepsBegunOf acts s.progress) actions.Open s act o (
-        λ m. on_stays acts s.progress Opened _ h (stays s.progress _ refl refl refl refl refl (inl refl), (refl, refl)),
-        λ n. on_stays acts s.progress Unopened _
+        λ m. keeps_begun acts s.progress Opened _ h (stays s.progress _ refl refl refl refl refl (inl refl), (refl, refl)),
+        λ n. keeps_begun acts s.progress Unopened _
             h (stays s.progress _ refl refl refl refl refl (inr refl), (refl, refl)),
       )
-  on_moved acts actions.Send act is o fine needs h =
+  moved_keeps_begun acts actions.Send act is o fine needs h =
       let s = with_progress turned (at acts) in
       let free = not_missed acts s.progress (waiting_of (at acts)) needs.2 needs.4 h in
       walk plan commands (KeepsBegunOf acts s.progress) actions.Send s act o (
@@ -360,13 +360,13 @@ module _ (plan : Plan) (commands : List Task) (scope : Scope) (some : 0 < plan.e
               (λ e. absurd (both_ways s.progress.missed free e)) (refl, refl) rises needs.2 fine.unsent h,
         ),
       )
-  on_moved acts actions.Prepare act is o fine needs h =
+  moved_keeps_begun acts actions.Prepare act is o fine needs h =
       let s = with_progress turned (at acts) in
       walk plan commands (KeepsBegunOf acts s.progress) actions.Prepare s act o (
-        λ m. on_stays acts s.progress _ _ h (stays s.progress _ refl refl refl refl refl (inr refl), (refl, refl)),
-        λ n. on_stays acts s.progress _ _ h (stays s.progress _ refl refl refl refl refl (inr refl), (refl, refl)),
+        λ m. keeps_begun acts s.progress _ _ h (stays s.progress _ refl refl refl refl refl (inr refl), (refl, refl)),
+        λ n. keeps_begun acts s.progress _ _ h (stays s.progress _ refl refl refl refl refl (inr refl), (refl, refl)),
       )
-  on_moved acts actions.Skip act is o fine needs h =
+  moved_keeps_begun acts actions.Skip act is o fine needs h =
       let s = with_progress turned (at acts) in
       walk plan commands (KeepsBegunOf acts s.progress) actions.Skip s act o (
         λ m. (
@@ -376,7 +376,7 @@ module _ (plan : Plan) (commands : List Task) (scope : Scope) (some : 0 < plan.e
         ),
         λ n. begun_after_failure acts s Untold cause.Clock h (refl, refl),
       )
-  on_moved acts actions.Pass act is o fine needs h =
+  moved_keeps_begun acts actions.Pass act is o fine needs h =
       let s = with_progress turned (at acts) in
       walk plan commands (KeepsBegunOf acts s.progress) actions.Pass s act o (
         λ m. (
@@ -386,24 +386,24 @@ module _ (plan : Plan) (commands : List Task) (scope : Scope) (some : 0 < plan.e
         ),
         λ n. begun_after_failure acts s Untold cause.Clock h (refl, refl),
       )
-  on_moved acts (actions.Read until) act is o fine needs h =
+  moved_keeps_begun acts (actions.Read until) act is o fine needs h =
       let s = with_progress turned (at acts) in
       walk plan commands (KeepsBegunOf acts s.progress) (actions.Read until) s act o (
-        λ bytes m. on_stays acts s.progress (Gave bytes m) (piece_at plan until bytes m s).progress h (gave_stays plan commands until s bytes m),
-        λ m. on_stays acts s.progress (Silent m) (moved plan commands (actions.Read until) s (Silent m)).progress h (silent_stays plan s.progress.phase s.progress until m),
+        λ bytes m. keeps_begun acts s.progress (Gave bytes m) (piece_at plan until bytes m s).progress h (gave_stays plan commands until s bytes m),
+        λ m. keeps_begun acts s.progress (Silent m) (moved plan commands (actions.Read until) s (Silent m)).progress h (silent_stays plan s.progress.phase s.progress until m),
         begun_after_failure acts s Ended cause.End h (refl, refl),
         begun_after_failure acts s Broke cause.Read h (refl, refl),
         begun_after_failure acts s Untold cause.Clock h (refl, refl),
       )
-  on_moved acts (actions.Close why) act is o fine needs h =
+  moved_keeps_begun acts (actions.Close why) act is o fine needs h =
       let s = with_progress turned (at acts) in
-      walk plan commands (KeepsBegunOf acts s.progress) (actions.Close why) s act o (on_stays acts s.progress Closed _ h (closed_stays plan s why))
-  on_moved acts (actions.Stop why) act is o fine needs h = absurd o
-  on_moved acts next act is o fine needs h =
+      walk plan commands (KeepsBegunOf acts s.progress) (actions.Close why) s act o (keeps_begun acts s.progress Closed _ h (closed_stays plan s why))
+  moved_keeps_begun acts (actions.Stop why) act is o fine needs h = absurd o
+  moved_keeps_begun acts next act is o fine needs h =
       let s = with_progress turned (at acts) in
       walk plan commands (KeepsBegunOf acts s.progress) next s act o (
-        λ m. on_stays acts s.progress _ _ h (stays s.progress _ refl refl refl refl refl (inl refl), (refl, refl)),
-        λ n. on_stays acts s.progress _ _ h
+        λ m. keeps_begun acts s.progress _ _ h (stays s.progress _ refl refl refl refl refl (inl refl), (refl, refl)),
+        λ n. keeps_begun acts s.progress _ _ h
             (stays s.progress _ refl refl refl refl refl (inl refl), (refl, refl)),
       )
 
@@ -442,7 +442,7 @@ module _ (plan : Plan) (commands : List Task) (scope : Scope) (some : 0 < plan.e
   begun_step done act o h rises =
       let s = at done in
       let old = h (rises_front 0 done act rises) in
-      let on = on_moved done (action_at plan s) act refl o (invariant_holds plan commands scope done) (action_for plan s.progress (waiting_of s)) (begun_turned done s.progress old.1) in
+      let on = moved_keeps_begun done (action_at plan s) act refl o (invariant_holds plan commands scope done) (action_for plan s.progress (waiting_of s)) (begun_turned done s.progress old.1) in
       let t = moved plan commands (action_at plan s) (with_progress turned s) act in
       let there = progress_after_act plan commands scope done act in (
         ap (λ (p : Progress). p.moment.elapsed) there ∙ on.0 ∙ ap (λ (n : ℕ). latest n (act ∷ [])) old.0 ∙ sym (latest_more 0 done act),

@@ -2,7 +2,6 @@
 -- left out, whatever the link does. A mark says which command an outstanding request is of, or `None` of a null procedure.
 use Rattle.std.proofs.Common.{◌≡◌, ℕ, zero, suc, ◌+◌, ◌-◌, ◌<◌, ◌≤◌, nat_eq, List, [], ◌∷◌, ◌++◌, length, take, drop, map, Option, Some, None, ◌⊎◌, inl, inr, refl, sym, ap, ◌∙◌, arith, append_assoc, append-nil, take-add, not, if◌then◌else◌}
 use Rattle.std.proofs.lemmas.List.{length-map, length-drop, length-take, map-append, take_all, drop_all, drop-append-le}
-use Rattle.gc_catalogue.specs.declared.answer.Reading.{Reading}
 use Rattle.gc_catalogue.specs.declared.asked.Asked.{Asked}
 use Rattle.gc_client.specs.declared.pending.Pending.{Pending}
 use Rattle.gc_client.specs.Rule.{Settlement, expired}
@@ -13,9 +12,10 @@ use Rattle.gc_station.specs.declared.mark.Mark.{Mark}
 use Rattle.gc_station.specs.EachOnce.{RunRequest, requests, of_task, all_cycles, commands_reached, of_record, of_waiting, still_waiting, of_cycles, of_text, in_text}
 use Rattle.gc_station.specs.Requests.{asked_at, of_command}
 use Rattle.gc_station.proofs.Timing.{asked_text, unsent_text}
-use Rattle.gc_station.proofs.Facts.{not_none}
+use Rattle.gc_station.proofs.Facts.{not_zero}
 use Rattle.gc_station.specs.Marks.{commands_in, record_of, records_of, with_marks}
 use Rattle.gc_station.specs.Records.{Record}
+use Rattle.gc_station.specs.Scopes.{Reads}
 use Rattle.std.proofs.lemmas.List.Elements.{filter-append}
 
 -- the requests of one cycle for two lists of commands are those of the first list, and after them those of the second, from the
@@ -39,7 +39,7 @@ waiting_marked (None ∷ ms) (w ∷ ws) = waiting_marked ms ws
 waiting_marked (Some mark ∷ ms) (w ∷ ws) = ap (λ rs. of_waiting mark w ∷ rs) (waiting_marked ms ws)
 
 -- the records of settlements are of the requests of their marks
-records_marked : (reads : Asked → List ℕ → Reading) (utc : ℕ) (ms : List (Option Mark)) (ss : List (Settlement Asked)) → map of_record (records_of reads utc ms ss) ≡ marked ms (map of_settled ss)
+records_marked : (reads : Reads) (utc : ℕ) (ms : List (Option Mark)) (ss : List (Settlement Asked)) → map of_record (records_of reads utc ms ss) ≡ marked ms (map of_settled ss)
 records_marked reads utc [] ss = refl
 records_marked reads utc (m ∷ ms) [] = refl
 records_marked reads utc (None ∷ ms) (s ∷ ss) = records_marked reads utc ms ss
@@ -72,8 +72,8 @@ marked_none (None ∷ ms) (a ∷ asks) e = marked_none ms asks e
 marked_none (Some mark ∷ ms) (a ∷ asks) e = absurd (omega (arith, e))
 
 -- the requests of cycles in two lists, as the text has them, are those in the first list, and after them those in the second
-pub listed_append : (commands : List Task) (xs ys : List RunRequest) → of_text commands (xs ++ ys) ≡ of_text commands xs ++ of_text commands ys
-listed_append commands xs ys = ap (map (in_text commands)) (filter-append _ xs ys) ∙ map-append (in_text commands) (of_cycles xs) (of_cycles ys)
+pub of_text-append : (commands : List Task) (xs ys : List RunRequest) → of_text commands (xs ++ ys) ≡ of_text commands xs ++ of_text commands ys
+of_text-append commands xs ys = ap (map (in_text commands)) (filter-append _ xs ys) ∙ map-append (in_text commands) (of_cycles xs) (of_cycles ys)
 
 -- `of_cycles` keeps all requests of a cycle other than 0, which is the setup
 cycles_all : (cycle place : ℕ) (asks : List (Wanted Asked)) → 0 < cycle → of_cycles (requests cycle place asks) ≡ requests cycle place asks
@@ -81,25 +81,25 @@ cycles_all cycle place [] some = refl
 cycles_all cycle place (a ∷ others) some =
     let one : RunRequest = record { cycle = cycle; place = place; asked = a } in
     let rest = of_cycles (requests cycle (place + 1) others) in
-    ap (λ b. if not b then one ∷ rest else rest) (not_none cycle some) ∙ ap (λ xs. one ∷ xs) (cycles_all cycle (place + 1) others some)
+    ap (λ b. if not b then one ∷ rest else rest) (not_zero cycle some) ∙ ap (λ xs. one ∷ xs) (cycles_all cycle (place + 1) others some)
 
 -- the requests of the records, followed by those of the outstanding commands
 abbrev pub row : List (Option Mark) → List (Pending Asked) → List Record → List RunRequest
 row ms ws rs = map of_record rs ++ still_waiting ms ws
 
--- the records `rs`, and after them the outstanding commands (the requests `ws` with their marks `ms`), are of the requests
--- `kept`, as far as they are of a cycle, and as the text has them
-abbrev pub EachIs : List Task → List (Option Mark) → List (Pending Asked) → List Record → List RunRequest → Type 0
-EachIs commands ms ws rs kept = of_text commands (row ms ws rs) ≡ kept
+-- the requests of the row (`row`) that are of a cycle are `kept`, as the text has them (`of_text`). The row is of the records
+-- `rs`, and of the requests `ws`, which are outstanding, with their marks `ms`
+abbrev pub IsRowInText : List Task → (ms : List (Option Mark)) → (ws : List (Pending Asked)) → (rs : List Record) → (kept : List RunRequest) → Type 0
+IsRowInText commands ms ws rs kept = of_text commands (row ms ws rs) ≡ kept
 
 -- a moment, at which requests may time out, leaves the row
 pub row_moment : (ms : List (Option Mark)) (ws : List (Pending Asked)) (rs : List Record) (m : ℕ) → row ms (map (expired m) ws) rs ≡ row ms ws rs
 row_moment ms ws rs m = ap (λ xs. map of_record rs ++ xs) (waiting_marked ms (map (expired m) ws) ∙ ap (marked ms) (expired_parts m ws) ∙ sym (waiting_marked ms ws))
 
--- a moment, at which requests may time out, preserves `EachIs`
-pub each_moment : (commands : List Task) (ms : List (Option Mark)) (ws : List (Pending Asked)) (rs : List Record) (kept : List RunRequest) (m : ℕ)
-    → EachIs commands ms ws rs kept → EachIs commands ms (map (expired m) ws) rs kept
-each_moment commands ms ws rs kept m h = ap (of_text commands) (row_moment ms ws rs m) ∙ h
+-- a moment, at which requests may time out, preserves `IsRowInText`
+pub row_in_text_moment : (commands : List Task) (ms : List (Option Mark)) (ws : List (Pending Asked)) (rs : List Record) (kept : List RunRequest) (m : ℕ)
+    → IsRowInText commands ms ws rs kept → IsRowInText commands ms (map (expired m) ws) rs kept
+row_in_text_moment commands ms ws rs kept m h = ap (of_text commands) (row_moment ms ws rs m) ∙ h
 
 -- if no command is outstanding, the row is that of the records alone
 pub row_settled : (ms : List (Option Mark)) (ws : List (Pending Asked)) (rs : List Record) → commands_in ms ≡ 0 → row ms ws rs ≡ map of_record rs
@@ -116,7 +116,7 @@ row_empty ms ws rs none =
       nothing (m ∷ ms) = refl
 
 -- settlements of the oldest requests leave the row: their records take the place of the requests
-pub row_settles : (reads : Asked → List ℕ → Reading) (utc : ℕ) (ms : List (Option Mark)) (ws left : List (Pending Asked)) (ss : List (Settlement Asked)) (rs : List Record)
+pub row_settles : (reads : Reads) (utc : ℕ) (ms : List (Option Mark)) (ws left : List (Pending Asked)) (ss : List (Settlement Asked)) (rs : List Record)
     → map of_settled ss ++ map of_pending left ≡ map of_pending ws → row (drop (length ss) ms) left (rs ++ records_of reads utc ms ss) ≡ row ms ws rs
 row_settles reads utc ms ws left ss rs parts =
     let front = map of_record rs in
@@ -129,11 +129,11 @@ row_settles reads utc ms ws left ss rs parts =
     ∙ ap (λ xs. front ++ (marked ms ended ++ xs)) (waiting_marked (drop (length ss) ms) left ∙ ap (λ n. marked (drop n ms) waits) (sym count))
     ∙ ap (λ xs. front ++ xs) (sym (marked_append ms ended waits) ∙ ap (marked ms) parts ∙ sym (waiting_marked ms ws))
 
--- settlements of the oldest requests preserve `EachIs`
-pub each_settles : (reads : Asked → List ℕ → Reading) (commands : List Task) (utc : ℕ) (ms : List (Option Mark)) (ws left : List (Pending Asked)) (ss : List (Settlement Asked)) (rs : List Record)
+-- settlements of the oldest requests preserve `IsRowInText`
+pub row_in_text_settles : (reads : Reads) (commands : List Task) (utc : ℕ) (ms : List (Option Mark)) (ws left : List (Pending Asked)) (ss : List (Settlement Asked)) (rs : List Record)
     (kept : List RunRequest) → map of_settled ss ++ map of_pending left ≡ map of_pending ws
-    → EachIs commands ms ws rs kept → EachIs commands (drop (length ss) ms) left (rs ++ records_of reads utc ms ss) kept
-each_settles reads commands utc ms ws left ss rs kept parts h = ap (of_text commands) (row_settles reads utc ms ws left ss rs parts) ∙ h
+    → IsRowInText commands ms ws rs kept → IsRowInText commands (drop (length ss) ms) left (rs ++ records_of reads utc ms ss) kept
+row_in_text_settles reads commands utc ms ws left ss rs kept parts h = ap (of_text commands) (row_settles reads utc ms ws left ss rs parts) ∙ h
 
 -- where each outstanding request has a mark: if one more request is outstanding after the others, its command, if it has one, is
 -- added after the outstanding commands
@@ -145,20 +145,21 @@ more_waiting ms ws m p paired =
     waiting_marked (ms ++ m ∷ []) (ws ++ p ∷ []) ∙ ap (marked (ms ++ m ∷ [])) (map-append of_pending ws (p ∷ []))
     ∙ marked_more ms asked m (of_pending p) count ∙ ap (λ xs. xs ++ marked (m ∷ []) (of_pending p ∷ [])) (sym (waiting_marked ms ws))
 
--- a null procedure that is sent preserves `EachIs`, where each outstanding request has a mark
-pub each_null : (commands : List Task) (ms : List (Option Mark)) (ws : List (Pending Asked)) (p : Pending Asked) (rs : List Record) (kept : List RunRequest) → length ms ≡ length ws
-    → EachIs commands ms ws rs kept → EachIs commands (ms ++ None ∷ []) (ws ++ p ∷ []) rs kept
-each_null commands ms ws p rs kept paired h = ap (λ xs. of_text commands (map of_record rs ++ xs)) (more_waiting ms ws None p paired ∙ append-nil (still_waiting ms ws)) ∙ h
+-- a null procedure that is sent preserves `IsRowInText`, where each outstanding request has a mark
+pub row_in_text_null : (commands : List Task) (ms : List (Option Mark)) (ws : List (Pending Asked)) (p : Pending Asked) (rs : List Record) (kept : List RunRequest) → length ms ≡ length ws
+    → IsRowInText commands ms ws rs kept → IsRowInText commands (ms ++ None ∷ []) (ws ++ p ∷ []) rs kept
+row_in_text_null commands ms ws p rs kept paired h = ap (λ xs. of_text commands (map of_record rs ++ xs)) (more_waiting ms ws None p paired ∙ append-nil (still_waiting ms ws)) ∙ h
 
--- a command of the setup (its mark has the cycle 0) that is sent preserves `EachIs`, where each outstanding request has a mark
-pub each_prepared : (commands : List Task) (mark : Mark) (ms : List (Option Mark)) (ws : List (Pending Asked)) (p : Pending Asked) (rs : List Record) (kept : List RunRequest) → mark.cycle ≡ 0
-    → length ms ≡ length ws → EachIs commands ms ws rs kept → EachIs commands (ms ++ Some mark ∷ []) (ws ++ p ∷ []) rs kept
-each_prepared commands mark ms ws p rs kept none paired h =
+-- a command of the setup (its mark has the cycle 0) that is sent preserves `IsRowInText`, where each outstanding request has a
+-- mark
+pub row_in_text_prepared : (commands : List Task) (mark : Mark) (ms : List (Option Mark)) (ws : List (Pending Asked)) (p : Pending Asked) (rs : List Record) (kept : List RunRequest) → mark.cycle ≡ 0
+    → length ms ≡ length ws → IsRowInText commands ms ws rs kept → IsRowInText commands (ms ++ Some mark ∷ []) (ws ++ p ∷ []) rs kept
+row_in_text_prepared commands mark ms ws p rs kept none paired h =
     let front = map of_record rs in
     let waits = still_waiting ms ws in
     let one = of_waiting mark p in
     ap (of_text commands) (ap (λ xs. front ++ xs) (more_waiting ms ws (Some mark) p paired) ∙ sym (append_assoc front waits (one ∷ [])))
-    ∙ listed_append commands (front ++ waits) (one ∷ [])
+    ∙ of_text-append commands (front ++ waits) (one ∷ [])
     ∙ ap (λ n. of_text commands (front ++ waits) ++ map (in_text commands) (if not (nat_eq n 0) then one ∷ [] else [])) none
     ∙ append-nil (of_text commands (front ++ waits)) ∙ h
 
@@ -200,14 +201,14 @@ reached_next setup commands begun place task others at within some =
     ap (λ (ts : List Task). commands_reached setup commands begun place ++ requests begun place (map of_task ts)) (sym next)
     ∙ reached_past setup commands begun place 1 (place + 1) within (omega (arith, left)) some (inl refl)
 
--- `EachIs` holds of the requests `kept`; and the next command of a cycle is `task`
+-- `IsRowInText` holds of the requests `kept`; and the next command of a cycle is `task`
 module _ (commands : List Task) (ms : List (Option Mark)) (ws : List (Pending Asked)) (rs : List Record) (task : Task) (others : List Task) (kept : List RunRequest)
-    (h : EachIs commands ms ws rs kept) where
-  -- if each outstanding request has a mark, `EachIs` holds after the command is sent with this mark, with its request after
+    (h : IsRowInText commands ms ws rs kept) where
+  -- if each outstanding request has a mark, `IsRowInText` holds after the command is sent with this mark, with its request after
   -- `kept`
-  pub each_sent : (mark : Mark) (p : Pending Asked) → (paired : length ms ≡ length ws) → (there : drop mark.place commands ≡ task ∷ others) → (asks : of_pending p ≡ asked_at mark.sent task)
-      → (above : 0 < mark.cycle) → EachIs commands (ms ++ Some mark ∷ []) (ws ++ p ∷ []) rs (kept ++ requests mark.cycle mark.place (of_task task ∷ []))
-  each_sent mark p paired at is some =
+  pub row_in_text_sent : (mark : Mark) (p : Pending Asked) → (paired : length ms ≡ length ws) → (there : drop mark.place commands ≡ task ∷ others) → (asks : of_pending p ≡ asked_at mark.sent task)
+      → (above : 0 < mark.cycle) → IsRowInText commands (ms ++ Some mark ∷ []) (ws ++ p ∷ []) rs (kept ++ requests mark.cycle mark.place (of_task task ∷ []))
+  row_in_text_sent mark p paired at is some =
       let begun = mark.cycle in
       let place = mark.place in
       let utc = mark.sent in
@@ -216,22 +217,22 @@ module _ (commands : List Task) (ms : List (Option Mark)) (ws : List (Pending As
       let waits = still_waiting ms ws in
       ap (of_text commands) (ap (λ xs. front ++ xs) (more_waiting ms ws (Some mark) p paired ∙ ap (λ a. waits ++ requests begun place (a ∷ [])) is)
       ∙ sym (append_assoc front waits one))
-      ∙ listed_append commands (front ++ waits) one
+      ∙ of_text-append commands (front ++ waits) one
       ∙ ap (λ xs. of_text commands (front ++ waits) ++ map (in_text commands) xs) (cycles_all begun place (asked_at utc task ∷ []) some)
       ∙ ap (λ x. of_text commands (front ++ waits) ++ x ∷ []) (asked_text commands begun place utc task others at)
       ∙ ap (λ xs. xs ++ requests begun place (of_task task ∷ [])) h
 
-  -- if no command is outstanding, `EachIs` holds after the command is recorded without being sent, with its request after `kept`,
-  -- and its record `r` after `rs`
-  pub each_skipped : (begun place : ℕ) (r : Record) → (none : commands_in ms ≡ 0) → (there : drop place commands ≡ task ∷ others)
+  -- if no command is outstanding, `IsRowInText` holds after the command is recorded without being sent, with its request after
+  -- `kept`, and its record `r` after `rs`
+  pub row_in_text_skipped : (begun place : ℕ) (r : Record) → (none : commands_in ms ≡ 0) → (there : drop place commands ≡ task ∷ others)
       → (own : of_record r ∷ [] ≡ requests begun place (of_command task.command ∷ [])) → (above : 0 < begun)
-      → EachIs commands ms ws (rs ++ r ∷ []) (kept ++ requests begun place (of_task task ∷ []))
-  each_skipped begun place r none at is some =
+      → IsRowInText commands ms ws (rs ++ r ∷ []) (kept ++ requests begun place (of_task task ∷ []))
+  row_in_text_skipped begun place r none at is some =
       let one = requests begun place (of_command task.command ∷ []) in
       let listed = requests begun place (of_task task ∷ []) in
       let front = map of_record rs in
       ap (of_text commands) (row_settled ms ws (rs ++ r ∷ []) none ∙ map-append of_record rs (r ∷ []) ∙ ap (λ xs. front ++ xs) is)
-      ∙ listed_append commands front one ∙ ap (λ xs. of_text commands front ++ map (in_text commands) xs) (cycles_all begun place (of_command task.command ∷ []) some)
+      ∙ of_text-append commands front one ∙ ap (λ xs. of_text commands front ++ map (in_text commands) xs) (cycles_all begun place (of_command task.command ∷ []) some)
       ∙ ap (λ x. of_text commands front ++ x ∷ []) (unsent_text commands begun place task others at)
       ∙ ap (λ xs. xs ++ listed) (ap (of_text commands) (sym (row_settled ms ws rs none)) ∙ h)
 

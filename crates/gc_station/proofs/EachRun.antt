@@ -1,10 +1,11 @@
 -- Each act, and so each run, preserves the invariant of every run (`Invariant`). Most lemmas say that an action preserves
--- `Mid` of `Midway`: the counts, the client, the marks and the records belong together, and the phase fits them, before what is
--- outstanding is lost. An act is one call on the link, with its result. A mark says which command an outstanding request is of,
--- or `None` of a null procedure.
+-- `HoldsMidAct` of `Midway`: the counts, the client, the marks and the records belong together, and the phase fits them, before
+-- what is outstanding is lost. An act is one call on the link, with its result. A mark says which command an outstanding request
+-- is of, or `None` of a null procedure.
 use Rattle.std.proofs.Common.{◌≡◌, ℕ, ◌-◌, ◌<◌, ◌⊎◌, inl, inr, ◌||◌, ◌&&◌, Bool, true, false, not, List, [], ◌∷◌, length, drop, map, nat_eq, Option, refl, sym, ap, ◌∙◌, subst, arith, append-nil, if◌then◌else◌}
 use Rattle.std.proofs.lemmas.List.{length-drop}
 use Rattle.std.proofs.lemmas.Bool.{both_ways}
+use Rattle.gc_client.specs.declared.window.TheConstants.{WINDOW}
 use Rattle.gc_client.proofs.Lists.{head_of_drop}
 use Rattle.gc_catalogue.specs.declared.asked.Asked.TheVariants.{Table}
 use Rattle.gc_catalogue.specs.declared.call.Call.TheVariants.{NullProc}
@@ -35,41 +36,46 @@ use Rattle.gc_station.specs.NextCommand.{place_next, commands_left, expected_fir
 use Rattle.gc_station.proofs.Acting.{mid_fail, mid_moment, mid_clock, mid_put, mid_open, mid_close, mid_read}
 use Rattle.gc_station.proofs.Each.{row_empty, reached_whole}
 use Rattle.gc_station.proofs.Facts.{action_for}
-use Rattle.gc_station.proofs.Invariant.{Invariant, is_bare, says_done}
-use Rattle.gc_station.proofs.Midway.{ledger_at, PhaseFits, Mid, mid_of, sound_null, sound_sent, sound_skipped, sound_passed, sound_begun, invariant_ended, sound_prepared}
+use Rattle.gc_station.proofs.Invariant.{Invariant, is_before_requests, says_done}
+use Rattle.gc_station.proofs.Midway.{ledger_at, NothingIsLeft, PhaseFits, HoldsMidAct, mid_act_of, sound_null, sound_sent, sound_skipped, sound_passed, sound_begun, invariant_with_losses, sound_prepared}
 use Rattle.gc_station.proofs.Tasked.{unsent_end}
 use Rattle.gc_station.proofs.Walk.{acts_along}
 use Rattle.gc_station.specs.Scopes.{Scope}
 
--- `Mid` is preserved if no record is added
-mid_nothing : (plan : Plan) (commands : List Task) (s : Model) → Mid plan commands s → Mid plan commands (with_more_records [] s)
-mid_nothing plan commands s mid = subst (λ (rs : List Record). Mid plan commands (record s { records = rs })) (sym (append-nil s.records)) mid
+-- `HoldsMidAct` is preserved if no record is added
+mid_nothing : (plan : Plan) (commands : List Task) (s : Model) → HoldsMidAct plan commands s → HoldsMidAct plan commands (with_more_records [] s)
+mid_nothing plan commands s mid = subst (λ (rs : List Record). HoldsMidAct plan commands (record s { records = rs })) (sym (append-nil s.records)) mid
 
 -- the phase `Ready` is `PhaseFits`: it says nothing of the counts, the kept bytes and the marks
 ready_fits : (phase : Phase) (left unsent : ℕ) (rest : List ℕ) (marks : List (Option Mark)) → phase ≡ Ready → PhaseFits phase left unsent rest marks
-ready_fits phase left unsent rest marks is = record { empty = λ e. absurd (both_ways (is_bare phase) (ap is_bare is) e); finished = λ e. absurd (both_ways (says_done phase) (ap says_done is) e) }
+ready_fits phase left unsent rest marks is =
+    record {
+      empty = λ e. absurd (both_ways (is_before_requests phase) (ap is_before_requests is) e);
+      finished = λ e. absurd (both_ways (says_done phase) (ap says_done is) e);
+    }
 
--- the beginning of a cycle preserves `Mid`, in the phase `Ready`, if a cycle is left and no command of the one before is unsent
+-- the beginning of a cycle preserves `HoldsMidAct`, in the phase `Ready`, if a cycle is left and no command of the one before is
+-- unsent
 mid_begun : (plan : Plan) (commands : List Task) (s : Model) (m : Moment) → (is_ready : s.progress.phase ≡ Ready) → (none_unsent : s.progress.unsent ≡ 0)
-    → (some : 0 < s.progress.left) → Mid plan commands s
-    → Mid plan commands (with_progress (cycle_begun plan (cycle_length plan commands) m) s)
+    → (some : 0 < s.progress.left) → HoldsMidAct plan commands s
+    → HoldsMidAct plan commands (with_progress (cycle_begun plan (cycle_length plan commands) m) s)
 mid_begun plan commands s m is none some mid =
     let p = s.progress in (
       sound_begun plan commands (ledger_at s p) none some mid.0,
       ready_fits p.phase (p.left - 1) (cycle_length plan commands) s.rest s.marks is,
     )
 
--- a line feed that was sent in the phase `Clearing` preserves `Mid`
-mid_cleared : (plan : Plan) (commands : List Task) (s : Model) → s.progress.phase ≡ Clearing → Mid plan commands s → Mid plan commands (with_progress cleared s)
+-- a line feed that was sent in the phase `Clearing` preserves `HoldsMidAct`
+mid_cleared : (plan : Plan) (commands : List Task) (s : Model) → s.progress.phase ≡ Clearing → HoldsMidAct plan commands s → HoldsMidAct plan commands (with_progress cleared s)
 mid_cleared plan commands s is mid = (mid.0, by_word (has_begun s.progress)) where
   -- the lemma above, whether the station has synchronized (`true`) or is synchronizing
   by_word : (begun : Bool) → PhaseFits (if begun then Draining else Ready) s.progress.left s.progress.unsent s.rest s.marks
-  by_word true = record { empty = λ e. mid.1.empty (ap is_bare is); finished = λ e. cc }
+  by_word true = record { empty = λ e. mid.1.empty (ap is_before_requests is); finished = λ e. cc }
   by_word false = record { empty = λ e. cc; finished = λ e. cc }
 
--- a null procedure that is sent in the phase `Ready`, and for which there is room, preserves `Mid`
-mid_flushed : (plan : Plan) (commands : List Task) (s : Model) → s.progress.phase ≡ Ready → length s.client.waiting < 7 → Mid plan commands s
-    → Mid plan commands (with_progress request_noted (asks_for (null_request plan) s))
+-- a null procedure that is sent in the phase `Ready`, and for which there is room, preserves `HoldsMidAct`
+mid_flushed : (plan : Plan) (commands : List Task) (s : Model) → s.progress.phase ≡ Ready → length s.client.waiting < WINDOW → HoldsMidAct plan commands s
+    → HoldsMidAct plan commands (with_progress request_noted (asks_for (null_request plan) s))
 mid_flushed plan commands s is room mid =
     let p = s.progress in (
       sound_null plan commands (ledger_at s p) 0 (Table NullProc) (later p.moment.elapsed plan.deadline) room refl mid.0,
@@ -77,10 +83,10 @@ mid_flushed plan commands s is room mid =
     )
 
 -- `left` are the commands from the setup's next one on. To send the first of them, or a null procedure if there is none,
--- preserves `Mid`, in the phase `Ready`, if there is room for a request
+-- preserves `HoldsMidAct`, in the phase `Ready`, if there is room for a request
 mid_prepares : (plan : Plan) (commands : List Task) (s : Model) (left : List Task) → drop s.progress.prepared commands ≡ left → s.progress.phase ≡ Ready
-    → length s.client.waiting < 7 → Mid plan commands s
-    → Mid plan commands (with_progress (setup_sent plan) (asks_for (request_or_null plan (mark_setup commands s.progress) left) s))
+    → length s.client.waiting < WINDOW → HoldsMidAct plan commands s
+    → HoldsMidAct plan commands (with_progress (setup_sent plan) (asks_for (request_or_null plan (mark_setup commands s.progress) left) s))
 mid_prepares plan commands s [] at is room mid = mid_flushed plan commands s is room mid
 mid_prepares plan commands s (task ∷ others) at is room mid =
     let p = s.progress in
@@ -92,11 +98,11 @@ mid_prepares plan commands s (task ∷ others) at is room mid =
 
 -- the next command of a cycle has its turn: `next` is noted of the one after it
 module _ (plan : Plan) (commands : List Task) (next : Upcoming) (s : Model) where
-  -- `left` are the commands from the cycle's next one on. To send the first of them preserves `Mid`, in the phase `Ready`, if a
-  -- command is unsent and there is room for a request
+  -- `left` are the commands from the cycle's next one on. To send the first of them preserves `HoldsMidAct`, in the phase
+  -- `Ready`, if a command is unsent and there is room for a request
   mid_first : (left : List Task) → (there : commands_left commands s.progress ≡ left)
-      → (is_ready : s.progress.phase ≡ Ready) → (some : 0 < s.progress.unsent) → (room : length s.client.waiting < 7) → Mid plan commands s
-      → Mid plan commands (with_progress (sent next) (asks_first (mark_next plan commands s.progress) left s))
+      → (is_ready : s.progress.phase ≡ Ready) → (some : 0 < s.progress.unsent) → (room : length s.client.waiting < WINDOW) → HoldsMidAct plan commands s
+      → HoldsMidAct plan commands (with_progress (sent next) (asks_first (mark_next plan commands s.progress) left s))
   mid_first [] at is some room mid =
       let sound = mid.0 in
       let n : length commands - place_next commands s.progress ≡ 0 = sym (length-drop (place_next commands s.progress) commands) ∙ ap length at in
@@ -109,12 +115,12 @@ module _ (plan : Plan) (commands : List Task) (next : Upcoming) (s : Model) wher
         ready_fits p.phase p.left (p.unsent - 1) s.rest t.marks is,
       )
 
-  -- `left` are the commands from the cycle's next one on. To record the first of them without sending it preserves `Mid`, in the
-  -- phase `Ready`, if a command is unsent and none is outstanding
+  -- `left` are the commands from the cycle's next one on. To record the first of them without sending it preserves `HoldsMidAct`,
+  -- in the phase `Ready`, if a command is unsent and none is outstanding
   mid_skips : (m : Moment) (left : List Task)
       → (there : commands_left commands s.progress ≡ left)
-      → (is_ready : s.progress.phase ≡ Ready) → (some : 0 < s.progress.unsent) → (settled : commands_in s.marks ≡ 0) → Mid plan commands s
-      → Mid plan commands (with_progress (λ p. early_noted plan (commands_in s.marks) (skipped next m p))
+      → (is_ready : s.progress.phase ≡ Ready) → (some : 0 < s.progress.unsent) → (settled : commands_in s.marks ≡ 0) → HoldsMidAct plan commands s
+      → HoldsMidAct plan commands (with_progress (λ p. early_noted plan (commands_in s.marks) (skipped next m p))
       (with_more_records (first_unsent_record s.progress m (mark_next plan commands s.progress) left) s))
   mid_skips m [] at is some none mid =
       let sound = mid.0 in
@@ -127,11 +133,11 @@ module _ (plan : Plan) (commands : List Task) (next : Upcoming) (s : Model) wher
         ready_fits p.phase p.left (p.unsent - 1) s.rest s.marks is,
       )
 
-  -- an act that is to record the next command of a cycle without sending it preserves `Mid`, in the phase `Ready`, with a command
-  -- unsent and none outstanding
+  -- an act that is to record the next command of a cycle without sending it preserves `HoldsMidAct`, in the phase `Ready`, with a
+  -- command unsent and none outstanding
   mid_skip : (act : Act) → s.progress.phase ≡ Ready → 0 < s.progress.unsent
-      → commands_in s.marks ≡ 0 → Mid plan commands s
-      → Mid plan commands (after_clock (λ m p. early_noted plan (commands_in s.marks) (skipped next m p))
+      → commands_in s.marks ≡ 0 → HoldsMidAct plan commands s
+      → HoldsMidAct plan commands (after_clock (λ m p. early_noted plan (commands_in s.marks) (skipped next m p))
       (with_listed (listed_after_skip plan commands s act) (with_more_records (unsent_record plan commands s.progress act) s)) act)
   mid_skip (Told m) is some none mid =
       mid_moment plan commands (with_progress (λ p. early_noted plan (commands_in s.marks) (skipped next m p))
@@ -139,8 +145,9 @@ module _ (plan : Plan) (commands : List Task) (next : Upcoming) (s : Model) wher
       (mid_skips m (drop (place_next commands s.progress) commands) refl is some none mid)
   mid_skip act is some none mid = mid_fail plan commands (with_more_records [] s) cause.Clock refl (mid_nothing plan commands s mid)
 
--- an act that leaves out the further attempts of a chain preserves `Mid`, in the phase `Ready`, if a command is unsent
-mid_pass : (plan : Plan) (commands : List Task) (s : Model) (act : Act) → s.progress.phase ≡ Ready → 0 < s.progress.unsent → Mid plan commands s → Mid plan commands (after_pass plan commands s act)
+-- an act that leaves out the further attempts of a chain preserves `HoldsMidAct`, in the phase `Ready`, if a command is unsent
+mid_pass : (plan : Plan) (commands : List Task) (s : Model) (act : Act) → s.progress.phase ≡ Ready → 0 < s.progress.unsent → HoldsMidAct plan commands s
+    → HoldsMidAct plan commands (after_pass plan commands s act)
 mid_pass plan commands s (Told m) is some mid =
     let p = s.progress in
     let n = p.next_others in
@@ -153,52 +160,54 @@ mid_pass plan commands s act is some mid = mid_fail plan commands s cause.Clock 
 
 -- if a connection is closed for being done, no cycle and no command is left
 close_done : (plan : Plan) (commands : List Task) (s : Model) (w : Waiting) (why : Cause) → Invariant plan commands s
-    → HoldsBefore plan s.progress w (action.Close why) → why ≡ cause.Done → (s.progress.left ≡ 0) × (s.progress.unsent ≡ 0)
+    → HoldsBefore plan s.progress w (action.Close why) → why ≡ cause.Done → NothingIsLeft s.progress
 close_done plan commands s w cause.Done fine (up, inl phase) is = let it = fine.finished (ap says_done phase) in (it.0, it.1)
 close_done plan commands s w cause.Done fine (up, inr end) is = (end.0, end.1)
 close_done plan commands s w why fine for_it is = cc
 
--- from a model with the invariant, each act of an action whose conditions hold leads to `Mid`, before what is outstanding is lost
+-- from a model with the invariant, each act of an action whose conditions hold leads to `HoldsMidAct`, before what is outstanding
+-- is lost
 pub mid_moved : (plan : Plan) (commands : List Task) (s : Model) (action : Action) (act : Act) → Invariant plan commands s → HoldsBefore plan s.progress (waiting_of s) action
-    → Mid plan commands (moved plan commands action (with_progress turned s) act)
+    → HoldsMidAct plan commands (moved plan commands action (with_progress turned s) act)
 mid_moved plan commands s action.ReadClock act fine is =
-    let t = with_progress turned s in mid_clock plan commands (λ m p. early_noted plan (commands_in t.marks) (moment_noted m p)) t act (mid_of plan commands s fine)
-    (λ m. mid_of plan commands s fine)
+    let t = with_progress turned s in mid_clock plan commands (λ m p. early_noted plan (commands_in t.marks) (moment_noted m p)) t act (mid_act_of plan commands s fine)
+    (λ m. mid_act_of plan commands s fine)
 mid_moved plan commands s action.Renew act fine is =
-    let t = with_progress turned s in mid_clock plan commands (λ m p. early_noted plan 0 (resynchronized plan m p)) t act (mid_of plan commands s fine) (λ m. mid_of plan commands s fine)
+    let t = with_progress turned s in mid_clock plan commands (λ m p. early_noted plan 0 (resynchronized plan m p)) t act (mid_act_of plan commands s fine) (λ m. mid_act_of plan commands s fine)
 mid_moved plan commands s action.Begin act fine is =
     let t = with_progress turned s in
-    let mid = mid_of plan commands s fine in
+    let mid = mid_act_of plan commands s fine in
     mid_clock plan commands (cycle_begun plan (cycle_length plan commands)) t act mid (λ m. mid_begun plan commands t m is.0 is.2 is.4 mid)
-mid_moved plan commands s action.Open act fine is = mid_open plan commands (with_progress turned s) act is (mid_of plan commands s fine)
+mid_moved plan commands s action.Open act fine is = mid_open plan commands (with_progress turned s) act is (mid_act_of plan commands s fine)
 mid_moved plan commands s action.Clear act fine is =
-    let t = with_progress turned s in mid_put plan commands _ (with_progress cleared) t act (mid_cleared plan commands t is (mid_of plan commands s fine))
+    let t = with_progress turned s in mid_put plan commands _ (with_progress cleared) t act (mid_cleared plan commands t is (mid_act_of plan commands s fine))
 mid_moved plan commands s action.Ask act fine is = let t = with_progress turned s in
-    mid_put plan commands _ (with_progress (null_sent plan)) t act (let mid = mid_of plan commands s fine in (mid.0, mid.1))
+    mid_put plan commands _ (with_progress (null_sent plan)) t act (let mid = mid_act_of plan commands s fine in (mid.0, mid.1))
 mid_moved plan commands s action.Prepare act fine is =
     let t = with_progress turned s in
     mid_put plan commands _ (λ (x : Model). with_progress (setup_sent plan) (asks_setup plan commands x)) t act
-    (mid_prepares plan commands t (drop t.progress.prepared commands) refl is.0 is.3.1 (mid_of plan commands s fine))
+    (mid_prepares plan commands t (drop t.progress.prepared commands) refl is.0 is.3.1 (mid_act_of plan commands s fine))
 mid_moved plan commands s action.Send act fine is =
     let t = with_progress turned s in
     mid_put plan commands _ (λ (x : Model). with_progress (sent (upcoming_after 1 commands x.progress)) (asks_next plan commands x)) t act
     (mid_first plan commands (upcoming_after 1 commands t.progress) t (drop (place_next commands t.progress) commands) refl
-    is.0 is.2 is.3.1 (mid_of plan commands s fine))
+    is.0 is.2 is.3.1 (mid_act_of plan commands s fine))
 mid_moved plan commands s action.Skip act fine is =
     let t = with_progress turned s in
-    mid_skip plan commands (upcoming_after 1 commands t.progress) t act is.0 is.2 is.3 (mid_of plan commands s fine)
-mid_moved plan commands s action.Pass act fine is = mid_pass plan commands (with_progress turned s) act is.0 is.2 (mid_of plan commands s fine)
+    mid_skip plan commands (upcoming_after 1 commands t.progress) t act is.0 is.2 is.3 (mid_act_of plan commands s fine)
+mid_moved plan commands s action.Pass act fine is = mid_pass plan commands (with_progress turned s) act is.0 is.2 (mid_act_of plan commands s fine)
 mid_moved plan commands s action.Flush act fine is =
     let t = with_progress turned s in
-    mid_put plan commands _ (λ (x : Model). with_progress request_noted (asks_for (null_request plan) x)) t act (mid_flushed plan commands t is.0 is.4.1 (mid_of plan commands s fine))
-mid_moved plan commands s (action.Read until) act fine is = mid_read plan commands until (with_progress turned s) act (mid_of plan commands s fine)
-mid_moved plan commands s (action.Close why) act fine is = mid_close plan commands (with_progress turned s) why (close_done plan commands s (waiting_of s) why fine is) (mid_of plan commands s fine)
-mid_moved plan commands s (action.Stop why) act fine is = mid_of plan commands s fine
+    mid_put plan commands _ (λ (x : Model). with_progress request_noted (asks_for (null_request plan) x)) t act (mid_flushed plan commands t is.0 is.4.1 (mid_act_of plan commands s fine))
+mid_moved plan commands s (action.Read until) act fine is = mid_read plan commands until (with_progress turned s) act (mid_act_of plan commands s fine)
+mid_moved plan commands s (action.Close why) act fine is =
+    mid_close plan commands (with_progress turned s) why (close_done plan commands s (waiting_of s) why fine is) (mid_act_of plan commands s fine)
+mid_moved plan commands s (action.Stop why) act fine is = mid_act_of plan commands s fine
 
 -- each act preserves the invariant of every run
 pub invariant_after : (plan : Plan) (commands : List Task) (s : Model) (act : Act) → Invariant plan commands s → Invariant plan commands (after plan commands s act)
 invariant_after plan commands s act fine =
-    invariant_ended plan commands (moved plan commands (action_at plan s) (with_progress turned s) act)
+    invariant_with_losses plan commands (moved plan commands (action_at plan s) (with_progress turned s) act)
     (mid_moved plan commands s (action_at plan s) act fine (action_for plan s.progress (waiting_of s)))
 
 -- acts preserve the invariant of every run
@@ -229,7 +238,7 @@ invariant_opening plan commands scope =
 pub invariant_holds : (plan : Plan) (commands : List Task) (scope : Scope) (acts : List Act) → Invariant plan commands (state_after plan commands scope acts)
 invariant_holds plan commands scope acts = invariant_all plan commands (opening plan scope) acts (invariant_opening plan commands scope)
 
--- if the conditions of a stop hold the run is over (`is_over`): no act follows
+-- if the conditions of a stop hold, the run is over (`is_over`): no act follows
 pub stop_over : (plan : Plan) (p : Progress) (w : Waiting) (why : Cause) → HoldsBefore plan p w (action.Stop why) → is_over p ≡ true
 stop_over plan p w why (down, inl over) = ap (λ (phase : Phase). is_over_in phase || (not (is_up phase) && nat_eq p.turns 0)) over
 stop_over plan p w why (down, inr turns) = either_way (is_over_in p.phase) (is_up p.phase) (nat_eq p.turns 0) down (ap (λ (n : ℕ). nat_eq n 0) turns.1) where
@@ -240,12 +249,12 @@ stop_over plan p w why (down, inr turns) = either_way (is_over_in p.phase) (is_u
   either_way false false false d n = cc
   either_way false true none d n = cc
 
--- if a run stops nothing is outstanding, and the records, with the attempts that were left out (`passes`) between them, are of
+-- if a run stops, nothing is outstanding, and the records, with the attempts that were left out (`passes`) between them, are of
 -- the commands that had their turn, in order; if it stops as done, no cycle and no command is left
-pub stopped : (plan : Plan) (commands : List Task) (s : Model) (why : Cause) → Invariant plan commands s → action_at plan s ≡ action.Stop why
+pub all_recorded_at_stop : (plan : Plan) (commands : List Task) (s : Model) (why : Cause) → Invariant plan commands s → action_at plan s ≡ action.Stop why
     → (s.client.waiting ≡ []) × AreRecordedOnce commands s (reached plan commands s)
-    × (why ≡ cause.Done → (s.progress.left ≡ 0) × (s.progress.unsent ≡ 0))
-stopped plan commands s why fine stop =
+    × (why ≡ cause.Done → NothingIsLeft s.progress)
+all_recorded_at_stop plan commands s why fine stop =
     let p = s.progress in
     let w = waiting_of s in
     let is : HoldsBefore plan p w (action.Stop why) = subst (λ (o : Action). HoldsBefore plan p w o) stop (action_for plan p w) in
@@ -256,7 +265,7 @@ stopped plan commands s why fine stop =
       by_reason is.1,
     ) where
       -- if the run stops as done nothing is left: its phase says that it is done, as it isn't for its turns
-      by_reason : ((s.progress.phase ≡ Over why) ⊎ ((why ≡ cause.Turns) × (s.progress.turns ≡ 0))) → why ≡ cause.Done → (s.progress.left ≡ 0) × (s.progress.unsent ≡ 0)
+      by_reason : ((s.progress.phase ≡ Over why) ⊎ ((why ≡ cause.Turns) × (s.progress.turns ≡ 0))) → why ≡ cause.Done → NothingIsLeft s.progress
       by_reason (inl over) e = let it = fine.finished (ap says_done (over ∙ ap Over e)) in (it.0, it.1)
       by_reason (inr turns) e = let other : cause.Turns ≡ cause.Done = sym turns.0 ∙ e in cc
 
@@ -268,9 +277,9 @@ each_once plan commands scope acts =
     let fine = invariant_holds plan commands scope acts in
     record {
       each = fine.each;
-      settled = λ why stop. (stopped plan commands s why fine stop).1;
+      settled = λ why stop. (all_recorded_at_stop plan commands s why fine stop).1;
       done = λ stop.
-          let it = stopped plan commands s cause.Done fine stop in
+          let it = all_recorded_at_stop plan commands s cause.Done fine stop in
           let none = it.2 refl in
           let cycles : cycles_begun plan s.progress ≡ plan.cycles = omega (arith, none.0) in
           let place : place_next commands s.progress ≡ length commands = omega (arith, none.1) in

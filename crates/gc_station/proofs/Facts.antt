@@ -14,8 +14,8 @@ use Rattle.gc_station.specs.declared.progress.Action.TheVariants as action
 use Rattle.gc_station.specs.declared.progress.Progress.{Progress}
 use Rattle.gc_station.specs.declared.progress.Until.TheVariants.{Limit, Due}
 use Rattle.gc_station.specs.declared.progress.Waiting.{Waiting}
-use Rattle.gc_station.specs.Reasons.{HoldsBefore, IsFinished, IsHeld, HasRoomToAsk, MayGo, MayRetry, NothingMayGo, IsResting, StaysInItsChain, HasConnectionFor, MayPrepare, WantsNull}
-use Rattle.gc_station.specs.Deciding.{width_of, has_begun, is_up, is_dead, is_due, is_idle, is_finished, has_room_to_ask, action_of, action_in, action_on, action_of_phase, may_go, waits_for_all, action_again, action_ready, action_begun, action_beginning, action_sent, action_settled, action_done, action_next, action_room, action_waiting, action_without_turns, is_stale, is_between_chains, is_resting, is_stopping, is_held_back, action_cycle, action_next_of_setup, action_preparing, is_preparing}
+use Rattle.gc_station.specs.Reasons.{HoldsBefore, IsBetweenChains, IsFinished, IsHeld, HasRoomToAsk, MayGo, MayRetry, NothingMayGo, IsResting, StaysInItsChain, HasConnectionFor, MayPrepare, WantsNull}
+use Rattle.gc_station.specs.Deciding.{width_of, has_begun, is_up, is_dead, is_due, is_idle, is_finished, has_room_to_ask, action_of, action_in, action_on, action_of_phase, may_go, waits_for_all, action_again, action_ready, action_begun, action_beginning, action_held, action_settled, action_done, action_to_send, action_room, action_waiting, action_without_turns, is_stale, is_between_chains, is_resting, is_stopping, is_held_back, action_cycle, action_to_prepare, action_preparing, is_preparing}
 use Rattle.gc_station.specs.Stations.{SuitsAction}
 
 -- Tests.
@@ -35,25 +35,29 @@ pub and_second : (a b : Bool) → a ≡ true → (a && b) ≡ b
 and_second a b e = ap (λ (c : Bool). c && b) e
 
 -- a number that isn't above 0 is 0
-pub none_left : (n : ℕ) → nat_lt 0 n ≡ false → n ≡ 0
-none_left n e = grind (arith, nat_tests, e)
+pub zero_if_not_above : (n : ℕ) → nat_lt 0 n ≡ false → n ≡ 0
+zero_if_not_above n e = grind (arith, nat_tests, e)
 
 -- a number that isn't 0 is above 0
-pub some_left : (n : ℕ) → nat_eq n 0 ≡ false → 0 < n
-some_left n e = grind (arith, nat_tests, e)
+pub above_zero : (n : ℕ) → nat_eq n 0 ≡ false → 0 < n
+above_zero n e = grind (arith, nat_tests, e)
 
 -- a number above 0 isn't 0
-pub not_none : (n : ℕ) → 0 < n → nat_eq n 0 ≡ false
-not_none n some = grind (arith, nat_tests, some)
+pub not_zero : (n : ℕ) → 0 < n → nat_eq n 0 ≡ false
+not_zero n some = grind (arith, nat_tests, some)
 
 -- Room for a request.
 
 -- where `has_room_to_ask` says so, there is room
-room_there : (plan : Plan) (w : Waiting) → has_room_to_ask plan w ≡ true → HasRoomToAsk plan w
-room_there plan w e = let it = and_parts (nat_lt w.current (width_of plan)) (nat_lt w.all WINDOW) e in (ltb-true w.current (width_of plan) it.0, ltb-true w.all WINDOW it.1)
+room_by_test : (plan : Plan) (w : Waiting) → has_room_to_ask plan w ≡ true → HasRoomToAsk plan w
+room_by_test plan w e = let it = and_parts (nat_lt w.current (width_of plan)) (nat_lt w.all WINDOW) e in (ltb-true w.current (width_of plan) it.0, ltb-true w.all WINDOW it.1)
+
+-- there is no room for a request: one of the two tests of `has_room_to_ask` fails
+abbrev LacksRoom : Plan → Waiting → Type 0
+LacksRoom plan w = (nat_lt w.current (width_of plan) ≡ false) ⊎ (nat_lt w.all WINDOW ≡ false)
 
 -- if there is no room, no command may be sent
-no_room : (plan : Plan) (p : Progress) (w : Waiting) → (nat_lt w.current (width_of plan) ≡ false) ⊎ (nat_lt w.all WINDOW ≡ false) → NothingMayGo plan p w
+no_room : (plan : Plan) (p : Progress) (w : Waiting) → LacksRoom plan w → NothingMayGo plan p w
 no_room plan p w (inl e) = inr (inl (ltb-false w.current (width_of plan) e))
 no_room plan p w (inr e) = inr (inr (inl (ltb-false w.all WINDOW e)))
 
@@ -129,38 +133,38 @@ waiting_for plan p w work nothing full =
     (λ e. let none = eqb-true w.current 0 e in ((work.awake.1, work.begun, none, full none), tt, work.awake)) (λ e. (tt, awake_reads p work.awake, tt)))
 
 -- at least one request may be in flight
-some_wide : (plan : Plan) → 0 < width_of plan
-some_wide plan = omega arith
+width_above_zero : (plan : Plan) → 0 < width_of plan
+width_above_zero plan = omega arith
 
 -- if there is no room, seven are outstanding if all outstanding requests have timed out
-no_room_full : (plan : Plan) (w : Waiting) → (nat_lt w.current (width_of plan) ≡ false) ⊎ (nat_lt w.all WINDOW ≡ false) → SevenIfAllTimedOut w
-no_room_full plan w (inl e) none = let few : width_of plan ≤ w.current = ltb-false w.current (width_of plan) e in absurd (omega (arith, none, few, some_wide plan))
-no_room_full plan w (inr e) none = ltb-false w.all WINDOW e
+seven_if_no_room : (plan : Plan) (w : Waiting) → LacksRoom plan w → SevenIfAllTimedOut w
+seven_if_no_room plan w (inl e) none = let few : width_of plan ≤ w.current = ltb-false w.current (width_of plan) e in absurd (omega (arith, none, few, width_above_zero plan))
+seven_if_no_room plan w (inr e) none = ltb-false w.all WINDOW e
 
 -- `action_room` is the action o if there is room for a request, and the action of a station that waits if there is none. For a
 -- station at work, `Holds` is true of it, if `Holds` is true of o where there is room
 room_for : (plan : Plan) (p : Progress) (w : Waiting) (o : Action) → IsAtWork p → (HasRoomToAsk plan w → Holds plan p w o) → Holds plan p w (action_room plan p w o)
 room_for plan p w o work step =
-    cond_both (has_room_to_ask plan w) o _ (Holds plan p w) (λ e. step (room_there plan w e))
-    (λ e. let none = and_cases (nat_lt w.current (width_of plan)) (nat_lt w.all WINDOW) e in waiting_for plan p w work (no_room plan p w none) (no_room_full plan w none))
+    cond_both (has_room_to_ask plan w) o _ (Holds plan p w) (λ e. step (room_by_test plan w e))
+    (λ e. let none = and_cases (nat_lt w.current (width_of plan)) (nat_lt w.all WINDOW) e in waiting_for plan p w work (no_room plan p w none) (seven_if_no_room plan w none))
 
--- for a station at work, `Holds` is true of `action_next` with the action o, if it is true of o
+-- for a station at work, `Holds` is true of `action_to_send` with the action o, if it is true of o
 -- where there is room and the count `behind` is below seven, and a null procedure is wanted where that count isn't
-next_as : (plan : Plan) (p : Progress) (w : Waiting) (o : Action) → (work : IsAtWork p) → (near : p.behind < WINDOW → HasRoomToAsk plan w → Holds plan p w o)
-    → (far : WINDOW ≤ p.behind → WantsNull plan p w) → Holds plan p w (action_next plan p w o)
-next_as plan p w o work near far =
+to_send_for : (plan : Plan) (p : Progress) (w : Waiting) (o : Action) → (work : IsAtWork p) → (near : p.behind < WINDOW → HasRoomToAsk plan w → Holds plan p w o)
+    → (far : WINDOW ≤ p.behind → WantsNull plan p w) → Holds plan p w (action_to_send plan p w o)
+to_send_for plan p w o work near far =
     let P = Holds plan p w in
     cond_both (nat_lt p.behind WINDOW) _ _ P (λ below. room_for plan p w o work (near (ltb-true p.behind WINDOW below)))
     (λ above. let many = ltb-false p.behind WINDOW above in cond_both (nat_eq w.current 0) _ _ P
     (λ given. room_for plan p w action.Flush work (λ room. ((work.awake.1, work.begun, far many, eqb-true w.current 0 given, room), tt, work.awake)))
-    (λ current. let under = some_left w.current current in
+    (λ current. let under = above_zero w.current current in
     waiting_for plan p w work (inr (inr (inr (inr (inl (many, under)))))) (λ none. absurd (omega (arith, none, under)))))
 
--- for a station in its cycles (`IsMeasuring`), `Holds` is true of `action_next` with `Send` if a command is unsent, it may be
+-- for a station in its cycles (`IsMeasuring`), `Holds` is true of `action_to_send` with `Send` if a command is unsent, it may be
 -- sent (`MayGo`, `MayRetry`), and it goes on with its chain if the end of the run was asked for
-next_for : (plan : Plan) (p : Progress) (w : Waiting) → IsMeasuring plan p w → 0 < p.unsent → MayGo p w → MayRetry p w → StaysInItsChain p → Holds plan p w (action_next plan p w action.Send)
-next_for plan p w m some may retry stays =
-    next_as plan p w action.Send m.work (λ near room. ((m.work.awake.1, m.work.begun, some, room, may, near, retry, stays, m.set_up), tt, m.work.awake)) (λ many. inr (inl (some, may), many))
+send_for : (plan : Plan) (p : Progress) (w : Waiting) → IsMeasuring plan p w → 0 < p.unsent → MayGo p w → MayRetry p w → StaysInItsChain p → Holds plan p w (action_to_send plan p w action.Send)
+send_for plan p w m some may retry stays =
+    to_send_for plan p w action.Send m.work (λ near room. ((m.work.awake.1, m.work.begun, some, room, may, near, retry, stays, m.set_up), tt, m.work.awake)) (λ many. inr (inl (some, may), many))
 
 -- If the end of the run was asked for.
 
@@ -186,16 +190,16 @@ not_between true false begun none true some u b e f g is = cc
 not_between false up begun none true some u b e f g is = cc
 
 -- where the test for 0 fails, the test for more than 0 holds
-above_none : (n : ℕ) → nat_eq n 0 ≡ false → nat_lt 0 n ≡ true
-above_none n e = grind (arith, nat_tests, e)
+test_above_zero : (n : ℕ) → nat_eq n 0 ≡ false → nat_lt 0 n ≡ true
+test_above_zero n e = grind (arith, nat_tests, e)
 
--- if the station isn't between two chains, a command is left, and it is chained, and no setup comes first
-midway : (n : ℕ) (chained prepares : Bool) → ((nat_eq n 0 || not chained) || prepares) ≡ false → (0 < n) × (chained ≡ true) × (prepares ≡ false)
-midway n chained prepares e = by_test (nat_eq n 0) chained prepares refl e where
+-- if the test says that the station isn't between two chains, a command is left, and it is chained, and no setup comes first
+in_chain_by_test : (p : Progress) → is_between_chains p ≡ false → (0 < p.unsent) × (p.next_is_chained ≡ true) × (p.preparing ≡ false)
+in_chain_by_test p e = by_test (nat_eq p.unsent 0) p.next_is_chained p.preparing refl e where
   -- the lemma above, by whether a command is left
-  by_test : (none c b : Bool) → nat_eq n 0 ≡ none → ((none || not c) || b) ≡ false → (0 < n) × (c ≡ true) × (b ≡ false)
+  by_test : (none c b : Bool) → nat_eq p.unsent 0 ≡ none → ((none || not c) || b) ≡ false → (0 < p.unsent) × (c ≡ true) × (b ≡ false)
   by_test true c b is f = cc
-  by_test false true false is f = (some_left n is, refl, refl)
+  by_test false true false is f = (above_zero p.unsent is, refl, refl)
   by_test false true true is f = cc
   by_test false false b is f = cc
 
@@ -203,29 +207,28 @@ midway n chained prepares e = by_test (nat_eq n 0) chained prepares refl e where
 -- `IsInChainIfStopping` holds
 in_chain_if_stopping : (p : Progress) (w : Waiting) → is_up p.phase ≡ true → has_begun p ≡ true → is_stopping p w ≡ false → is_held_back p w ≡ false → IsInChainIfStopping p
 in_chain_if_stopping p w up begun goes free stops =
-    midway p.unsent p.next_is_chained p.preparing
-    (not_between p.stops (is_up p.phase) (has_begun p) (nat_eq w.current 0) (is_between_chains p) (nat_lt 0 w.current) up begun goes free (above_none w.current) stops)
+    in_chain_by_test p
+    (not_between p.stops (is_up p.phase) (has_begun p) (nat_eq w.current 0) (is_between_chains p) (nat_lt 0 w.current) up begun goes free (test_above_zero w.current) stops)
 
--- if the test says that the station is between two chains, it is: no command is left, or the next one isn't chained, or a setup
--- comes first
-between_so : (n : ℕ) (chained prepares : Bool) → ((nat_eq n 0 || not chained) || prepares) ≡ true → (n ≡ 0) ⊎ ((chained ≡ false) ⊎ (prepares ≡ true))
-between_so n chained prepares e = by_test (nat_eq n 0) chained prepares refl e where
+-- if the test says that the station is between two chains, it is
+between_by_test : (p : Progress) → is_between_chains p ≡ true → IsBetweenChains p
+between_by_test p e = by_test (nat_eq p.unsent 0) p.next_is_chained p.preparing refl e where
   -- the lemma above, by whether a command is left
-  by_test : (none c b : Bool) → nat_eq n 0 ≡ none → ((none || not c) || b) ≡ true → (n ≡ 0) ⊎ ((c ≡ false) ⊎ (b ≡ true))
-  by_test true c b is f = inl (eqb-true n 0 is)
+  by_test : (none c b : Bool) → nat_eq p.unsent 0 ≡ none → ((none || not c) || b) ≡ true → (p.unsent ≡ 0) ⊎ ((c ≡ false) ⊎ (b ≡ true))
+  by_test true c b is f = inl (eqb-true p.unsent 0 is)
   by_test false true false is f = cc
   by_test false true true is f = inr (inr refl)
   by_test false false b is f = inr (inl refl)
 
 -- if the test says that the run may end, it may
-resting_so : (p : Progress) (w : Waiting) → is_resting p w ≡ true → IsResting p w
-resting_so p w e = by_tests (is_up p.phase) (has_begun p) (nat_eq w.current 0) (is_between_chains p) refl refl refl refl e where
+resting_by_test : (p : Progress) (w : Waiting) → is_resting p w ≡ true → IsResting p w
+resting_by_test p w e = by_tests (is_up p.phase) (has_begun p) (nat_eq w.current 0) (is_between_chains p) refl refl refl refl e where
   -- the lemma above, by each of its four tests
   by_tests : (up begun none between : Bool) → (up_is : is_up p.phase ≡ up) → (begun_is : has_begun p ≡ begun) → (none_is : nat_eq w.current 0 ≡ none) → (between_is : is_between_chains p ≡ between)
       → ((not up || not begun) || (none && between)) ≡ true → IsResting p w
   by_tests false begun none between u b n t f = inl u
   by_tests true false none between u b n t f = inr (inl b)
-  by_tests true true true true u b n t f = inr (inr (eqb-true w.current 0 n, between_so p.unsent p.next_is_chained p.preparing t))
+  by_tests true true true true u b n t f = inr (inr (eqb-true w.current 0 n, between_by_test p t))
   by_tests true true true false u b n t f = cc
   by_tests true true false between u b n t f = cc
 
@@ -241,7 +244,7 @@ held_back_for plan p w work held =
     let it = and_parts (p.stops && is_between_chains p) (nat_lt 0 w.current) held in
     let asked = and_parts p.stops (is_between_chains p) it.0 in
     let under : 0 < w.current = ltb-true 0 w.current it.1 in
-    waiting_for plan p w work (inr (inr (inr (inr (inr (asked.0, between_so p.unsent p.next_is_chained p.preparing asked.1, under)))))) (λ none. absurd (omega (arith, none, under)))
+    waiting_for plan p w work (inr (inr (inr (inr (inr (asked.0, between_by_test p asked.1, under)))))) (λ none. absurd (omega (arith, none, under)))
 
 -- for a station in its cycles (`IsMeasuring`), `Holds` is true of `action_done` if no command of the cycle is unsent or
 -- outstanding, and the end of the run wasn't asked for
@@ -251,12 +254,12 @@ done_for plan p w m sent settled unasked =
     let P = Holds plan p w in
     cond_both (nat_eq p.left 0) (action.Close cause.Done) _ P (λ e. ((awake_up p m.work.awake, inr (eqb-true p.left 0 e, sent, settled)), tt, tt))
     (λ e. cond_both (is_due plan p) action.Begin (action.Read Due) P
-    (λ d. ((m.work.awake.1, m.work.begun, sent, settled, some_left p.left e, unasked, m.set_up), d, tt)) (λ d. (tt, awake_reads p m.work.awake, tt)))
+    (λ d. ((m.work.awake.1, m.work.begun, sent, settled, above_zero p.left e, unasked, m.set_up), d, tt)) (λ d. (tt, awake_reads p m.work.awake, tt)))
 
 -- if no command may be sent before those that are outstanding are settled (`IsHeld`), one is unsent, and it begins no further
 -- attempt, that one is chained
 held_is_chained : (p : Progress) → IsHeld p → nat_eq p.unsent 0 ≡ false → p.next_others ≡ 0 → p.next_is_chained ≡ true
-held_is_chained p (inl none) e first = let some : 0 < p.unsent = some_left p.unsent e in absurd (omega (arith, none, some))
+held_is_chained p (inl none) e first = let some : 0 < p.unsent = above_zero p.unsent e in absurd (omega (arith, none, some))
 held_is_chained p (inr (inl next_is_chained)) e first = next_is_chained
 held_is_chained p (inr (inr more)) e first = absurd (omega (arith, more, first))
 
@@ -267,7 +270,7 @@ again_for : (plan : Plan) (p : Progress) (w : Waiting) → IsMeasuring plan p w 
 again_for plan p w m some settled more stays =
     cond_both (w.listed && not p.next_is_chained) _ action.Pass (Holds plan p w)
     (λ e. let it = and_parts w.listed (not p.next_is_chained) e in
-    next_for plan p w m some (inl (not-true p.next_is_chained it.1)) (inr (settled, it.0)) stays)
+    send_for plan p w m some (inl (not-true p.next_is_chained it.1)) (inr (settled, it.0)) stays)
     (λ e. ((m.work.awake.1, m.work.begun, some, settled, more, by_test (and_cases w.listed (not p.next_is_chained) e), m.set_up), tt, tt)) where
       -- why the attempt is left out, by which of the two tests fails
       by_test : ((w.listed ≡ false) ⊎ (not p.next_is_chained ≡ false)) → (w.listed ≡ false) ⊎ (p.next_is_chained ≡ true)
@@ -280,25 +283,25 @@ settled_for : (plan : Plan) (p : Progress) (w : Waiting) → IsMeasuring plan p 
 settled_for plan p w m held settled only =
     let P = Holds plan p w in
     cond_both (nat_eq p.unsent 0) _ _ P (λ e. done_for plan p w m (eqb-true p.unsent 0 e) settled (not_asked_to_stop p only (eqb-true p.unsent 0 e)))
-    (λ e. cond_both (nat_lt 0 p.next_others) _ _ P (λ more. again_for plan p w m (some_left p.unsent e) settled (ltb-true 0 p.next_others more) (λ stops. (only stops).1))
-    (λ first. let none = none_left p.next_others first in cond_both (may_go p w) _ action.Skip P
-    (λ well. let it = and_parts w.well p.chain_unbroken well in next_for plan p w m (some_left p.unsent e) (inr (settled, it.0, it.1)) (inl none) (λ stops. (only stops).1))
-    (λ broken. ((m.work.awake.1, m.work.begun, some_left p.unsent e, settled, held_is_chained p held e none, broken, m.set_up), tt, tt))))
+    (λ e. cond_both (nat_lt 0 p.next_others) _ _ P (λ more. again_for plan p w m (above_zero p.unsent e) settled (ltb-true 0 p.next_others more) (λ stops. (only stops).1))
+    (λ first. let none = zero_if_not_above p.next_others first in cond_both (may_go p w) _ action.Skip P
+    (λ well. let it = and_parts w.well p.chain_unbroken well in send_for plan p w m (above_zero p.unsent e) (inr (settled, it.0, it.1)) (inl none) (λ stops. (only stops).1))
+    (λ broken. ((m.work.awake.1, m.work.begun, above_zero p.unsent e, settled, held_is_chained p held e none, broken, m.set_up), tt, tt))))
 
--- for a station in its cycles (`IsMeasuring`), `Holds` is true of `action_sent` if no command may be sent before all that were
+-- for a station in its cycles (`IsMeasuring`), `Holds` is true of `action_held` if no command may be sent before all that were
 -- sent are settled (`IsHeld`), and a chain goes on if the end of the run was asked for
-sent_for : (plan : Plan) (p : Progress) (w : Waiting) → IsMeasuring plan p w → IsHeld p → IsInChainIfStopping p → Holds plan p w (action_sent plan p w)
-sent_for plan p w m held only =
+held_for : (plan : Plan) (p : Progress) (w : Waiting) → IsMeasuring plan p w → IsHeld p → IsInChainIfStopping p → Holds plan p w (action_held plan p w)
+held_for plan p w m held only =
     let P = Holds plan p w in
     cond_both (nat_eq w.commands 0) _ _ P (λ e. settled_for plan p w m held (eqb-true w.commands 0 e) only)
     (λ e. cond_both (nat_eq w.current 0) _ _ P
-    (λ given. room_for plan p w action.Flush m.work (λ room. ((m.work.awake.1, m.work.begun, inl (inl held, some_left w.commands e), eqb-true w.current 0 given, room), tt, m.work.awake)))
-    (λ some. let many = some_left w.current some in
-    waiting_for plan p w m.work (inr (inr (inr (inl (inl held, some_left w.commands e, many))))) (λ none. absurd (omega (arith, none, many)))))
+    (λ given. room_for plan p w action.Flush m.work (λ room. ((m.work.awake.1, m.work.begun, inl (inl held, above_zero w.commands e), eqb-true w.current 0 given, room), tt, m.work.awake)))
+    (λ some. let many = above_zero w.current some in
+    waiting_for plan p w m.work (inr (inr (inr (inl (inl held, above_zero w.commands e, many))))) (λ none. absurd (omega (arith, none, many)))))
 
 -- if no command is left, or the next one is sent only once all are settled, `IsHeld` holds
-held_so : (p : Progress) → (nat_lt 0 p.unsent && not (waits_for_all p)) ≡ false → IsHeld p
-held_so p e = by_half (and_cases (nat_lt 0 p.unsent) (not (waits_for_all p)) e) where
+held_by_test : (p : Progress) → (nat_lt 0 p.unsent && not (waits_for_all p)) ≡ false → IsHeld p
+held_by_test p e = by_half (and_cases (nat_lt 0 p.unsent) (not (waits_for_all p)) e) where
   -- the lemma above for a command to wait for all, by which of the two tests holds: that it is chained, or that it begins a
   -- further attempt
   by_test : (b c : Bool) → p.next_is_chained ≡ b → nat_lt 0 p.next_others ≡ c → (b || c) ≡ true → IsHeld p
@@ -306,19 +309,19 @@ held_so p e = by_half (and_cases (nat_lt 0 p.unsent) (not (waits_for_all p)) e) 
   by_test false true bound more e = inr (inr (ltb-true 0 p.next_others more))
   by_test false false bound more e = cc
 
-  -- the lemma above, by which of the two tests fails: that a command is unsent, or that it needn't wait
+  -- `held_by_test` by which of the two tests fails: that a command is unsent, or that it needn't wait
   by_half : ((nat_lt 0 p.unsent ≡ false) ⊎ (not (waits_for_all p) ≡ false)) → IsHeld p
-  by_half (inl none) = inl (none_left p.unsent none)
+  by_half (inl none) = inl (zero_if_not_above p.unsent none)
   by_half (inr waits) = by_test p.next_is_chained (nat_lt 0 p.next_others) refl refl (not-false (waits_for_all p) waits)
 
 -- a command that needn't wait for all isn't chained, and begins no further attempt
-free_both : (p : Progress) → not (waits_for_all p) ≡ true → (p.next_is_chained ≡ false) × (p.next_others ≡ 0)
-free_both p e = by_test p.next_is_chained (nat_lt 0 p.next_others) refl refl e where
+unchained_if_free : (p : Progress) → not (waits_for_all p) ≡ true → (p.next_is_chained ≡ false) × (p.next_others ≡ 0)
+unchained_if_free p e = by_test p.next_is_chained (nat_lt 0 p.next_others) refl refl e where
   -- the lemma above, by both tests
   by_test : (b c : Bool) → p.next_is_chained ≡ b → nat_lt 0 p.next_others ≡ c → not (b || c) ≡ true → (p.next_is_chained ≡ false) × (p.next_others ≡ 0)
   by_test true c bound more e = cc
   by_test false true bound more e = cc
-  by_test false false bound more e = (bound, none_left p.next_others more)
+  by_test false false bound more e = (bound, zero_if_not_above p.next_others more)
 
 -- for a station in its cycles (`IsMeasuring`), `Holds` is true of `action_cycle` if a chain goes on in case the end of the run
 -- was asked for (`IsInChainIfStopping`)
@@ -326,29 +329,29 @@ cycle_for : (plan : Plan) (p : Progress) (w : Waiting) → IsMeasuring plan p w 
 cycle_for plan p w m only =
     cond_both (nat_lt 0 p.unsent && not (waits_for_all p)) _ _ (Holds plan p w)
     (λ some. let it = and_parts (nat_lt 0 p.unsent) (not (waits_for_all p)) some in
-    let free = free_both p it.1 in
-    next_for plan p w m (ltb-true 0 p.unsent it.0) (inl free.0) (inl free.1) (λ stops. (only stops).1))
-    (λ none. sent_for plan p w m (held_so p none) only)
+    let free = unchained_if_free p it.1 in
+    send_for plan p w m (ltb-true 0 p.unsent it.0) (inl free.0) (inl free.1) (λ stops. (only stops).1))
+    (λ none. held_for plan p w m (held_by_test p none) only)
 
 -- if the test says that all is done, `IsFinished` holds: no cycle and no command is left, and none is outstanding
-pub finished_so : (count : ℕ) (p : Progress) → is_finished count p ≡ true → IsFinished count p
-finished_so count p e =
+pub finished_by_test : (count : ℕ) (p : Progress) → is_finished count p ≡ true → IsFinished count p
+finished_by_test count p e =
     let it = and_parts (nat_eq p.left 0 && nat_eq p.unsent 0) (nat_eq count 0) e in
     let sent = and_parts (nat_eq p.left 0) (nat_eq p.unsent 0) it.0 in
     (eqb-true p.left 0 sent.0, eqb-true p.unsent 0 sent.1, eqb-true count 0 it.1)
 
--- for a station at work, `Holds` is true of `action_next` with `Prepare`, if the next command of the
+-- for a station at work, `Holds` is true of `action_to_send` with `Prepare`, if the next command of the
 -- setup may be sent (`MayPrepare`), and the end of the run wasn't asked for
-prepare_for : (plan : Plan) (p : Progress) (w : Waiting) → IsAtWork p → p.stops ≡ false → MayPrepare plan p w → Holds plan p w (action_next plan p w action.Prepare)
+prepare_for : (plan : Plan) (p : Progress) (w : Waiting) → IsAtWork p → p.stops ≡ false → MayPrepare plan p w → Holds plan p w (action_to_send plan p w action.Prepare)
 prepare_for plan p w work unasked may =
-    next_as plan p w action.Prepare work (λ near room. ((work.awake.1, work.begun, may, room, near, unasked), tt, work.awake)) (λ many. inr (inr may, many))
+    to_send_for plan p w action.Prepare work (λ near room. ((work.awake.1, work.begun, may, room, near, unasked), tt, work.awake)) (λ many. inr (inr may, many))
 
--- for a station at work, `Holds` is true of `action_next_of_setup`, if it is preparing, the next
+-- for a station at work, `Holds` is true of `action_to_prepare`, if it is preparing, the next
 -- command of the setup is the first or those before it are settled and answered well, and the end of the run wasn't asked for
-next_of_setup_for : (plan : Plan) (p : Progress) (w : Waiting) → (work : IsAtWork p) → (unasked : p.stops ≡ false) → (preparing : is_preparing plan p w ≡ true)
+to_prepare_for : (plan : Plan) (p : Progress) (w : Waiting) → (work : IsAtWork p) → (unasked : p.stops ≡ false) → (preparing : is_preparing plan p w ≡ true)
     → (turn : (p.prepared ≡ 0) ⊎ ((w.commands ≡ 0) × (w.well ≡ true)))
-    → Holds plan p w (action_next_of_setup plan p w)
-next_of_setup_for plan p w work unasked on first =
+    → Holds plan p w (action_to_prepare plan p w)
+to_prepare_for plan p w work unasked on first =
     cond_both (nat_lt p.prepared plan.setup) _ (action.Read Limit) (Holds plan p w) (λ e. prepare_for plan p w work unasked (on, ltb-true p.prepared plan.setup e, first))
     (λ e. (tt, awake_reads p work.awake, tt))
 
@@ -357,17 +360,17 @@ next_of_setup_for plan p w work unasked on first =
 preparing_for : (plan : Plan) (p : Progress) (w : Waiting) → IsAtWork p → p.stops ≡ false → is_preparing plan p w ≡ true → Holds plan p w (action_preparing plan p w)
 preparing_for plan p w work unasked on =
     let P = Holds plan p w in
-    cond_both (is_finished w.commands p) (action.Close cause.Done) _ P (λ none. ((awake_up p work.awake, inr (finished_so w.commands p none)), tt, tt))
+    cond_both (is_finished w.commands p) (action.Close cause.Done) _ P (λ none. ((awake_up p work.awake, inr (finished_by_test w.commands p none)), tt, tt))
     (λ more. cond_both (is_idle plan p) (action.Read Due) _ P (λ idle. (tt, awake_reads p work.awake, tt))
-    (λ busy. cond_both (nat_eq p.prepared 0) _ _ P (λ e. next_of_setup_for plan p w work unasked on (inl (eqb-true p.prepared 0 e)))
+    (λ busy. cond_both (nat_eq p.prepared 0) _ _ P (λ e. to_prepare_for plan p w work unasked on (inl (eqb-true p.prepared 0 e)))
     (λ sent. cond_both (nat_eq w.commands 0) _ _ P
-    (λ e. cond_both w.well _ (action.Close cause.SetUp) P (λ well. next_of_setup_for plan p w work unasked on (inr (eqb-true w.commands 0 e, well)))
-    (λ ill. ((awake_up p work.awake, inr (on, some_left p.prepared sent, eqb-true w.commands 0 e, ill)), tt, tt)))
+    (λ e. cond_both w.well _ (action.Close cause.SetUp) P (λ well. to_prepare_for plan p w work unasked on (inr (eqb-true w.commands 0 e, well)))
+    (λ ill. ((awake_up p work.awake, inr (on, above_zero p.prepared sent, eqb-true w.commands 0 e, ill)), tt, tt)))
     (λ waiting. cond_both (nat_eq w.current 0) _ _ P
     (λ given. room_for plan p w action.Flush work (λ room.
-    ((work.awake.1, work.begun, inl (inr (on, some_left p.prepared sent), some_left w.commands waiting), eqb-true w.current 0 given, room), tt, work.awake)))
-    (λ some. let many = some_left w.current some in
-    waiting_for plan p w work (inr (inr (inr (inl (inr (on, some_left p.prepared sent), some_left w.commands waiting, many))))) (λ none. absurd (omega (arith, none, many))))))))
+    ((work.awake.1, work.begun, inl (inr (on, above_zero p.prepared sent), above_zero w.commands waiting), eqb-true w.current 0 given, room), tt, work.awake)))
+    (λ some. let many = above_zero w.current some in
+    waiting_for plan p w work (inr (inr (inr (inl (inr (on, above_zero p.prepared sent), above_zero w.commands waiting, many))))) (λ none. absurd (omega (arith, none, many))))))))
 
 -- for a station at work, `Holds` is true of `action_begun`, unless the run ends because that was
 -- asked for (`is_stopping`)
@@ -384,7 +387,7 @@ begun_for plan p w work goes =
 beginning_for : (plan : Plan) (p : Progress) (w : Waiting) → Awake p → has_begun p ≡ false → Holds plan p w (action_beginning plan p w)
 beginning_for plan p w awake begun =
     let P = Holds plan p w in
-    cond_both (is_finished w.commands p) (action.Close cause.Done) _ P (λ none. ((awake_up p awake, inr (finished_so w.commands p none)), tt, tt))
+    cond_both (is_finished w.commands p) (action.Close cause.Done) _ P (λ none. ((awake_up p awake, inr (finished_by_test w.commands p none)), tt, tt))
     (λ more. cond_both (is_idle plan p) (action.Read Due) _ P (λ idle. (tt, awake_reads p awake, tt))
     (λ busy. cond_both (is_dead plan p w) (action.Close cause.Dead) _ P (λ d. ((awake_up p awake, inr (inl begun, d)), tt, inr awake))
     (λ d. cond_both (nat_le p.again p.moment.elapsed) action.Ask (action.Read Limit) P
@@ -423,7 +426,7 @@ on_for plan p w =
     cond_both (nat_eq p.turns 0) _ _ P (λ e. without_turns_for plan p w (is_up p.phase) refl (eqb-true p.turns 0 e))
     (λ e. cond_both (is_stale plan p w) (action.Close cause.Stale) _ P (λ old. ((tt, inr old), tt, tt))
     (λ some. cond_both (is_stopping p w) (action.Close cause.Stopped) _ P
-    (λ asked. let it = and_parts p.stops (is_resting p w) asked in ((tt, inr (it.0, resting_so p w it.1)), tt, tt))
+    (λ asked. let it = and_parts p.stops (is_resting p w) asked in ((tt, inr (it.0, resting_by_test p w it.1)), tt, tt))
     (λ goes. cond_both p.clock_due action.ReadClock _ P (λ old. (tt, old, tt)) (λ now. of_phase_for plan p.phase p w refl now goes))))
 
 -- `Holds` is true of `action_in` in each phase
@@ -451,14 +454,14 @@ pub action_wakes : (plan : Plan) (p : Progress) (w : Waiting) → Wakes p (actio
 action_wakes plan p w = (in_for plan p.phase p w refl).2
 
 -- the conditions of an action give what its call needs (`SuitsAction`)
-suits : (plan : Plan) (p : Progress) (w : Waiting) (next : Action) → HoldsBefore plan p w next → SuitsAction p w.all next
-suits plan p w action.Ask is = is.1
-suits plan p w action.Prepare is = is.3.1
-suits plan p w action.Send is = (is.2, is.3.1)
-suits plan p w action.Skip is = is.2
-suits plan p w action.Flush is = is.4.1
-suits plan p w next is = tt
+suits_if_holds : (plan : Plan) (p : Progress) (w : Waiting) (next : Action) → HoldsBefore plan p w next → SuitsAction p w.all next
+suits_if_holds plan p w action.Ask is = is.1
+suits_if_holds plan p w action.Prepare is = is.3.1
+suits_if_holds plan p w action.Send is = (is.2, is.3.1)
+suits_if_holds plan p w action.Skip is = is.2
+suits_if_holds plan p w action.Flush is = is.4.1
+suits_if_holds plan p w next is = tt
 
 -- the action that is next has what its call needs
 pub action_suits : (plan : Plan) (p : Progress) (w : Waiting) → SuitsAction p w.all (action_of plan p w)
-action_suits plan p w = suits plan p w (action_of plan p w) (action_for plan p w)
+action_suits plan p w = suits_if_holds plan p w (action_of plan p w) (action_for plan p w)

@@ -24,15 +24,15 @@ module _ (plan : Plan) (commands : List Task) (scope : Scope) (text : Record →
   FailedWith why = Ran plan commands scope text told told' taken taken' (Err why)
 
   -- a run that stopped for a cause failed with the fault of that cause
-  pub faulty : (cause : Cause) (why : RunFault) → fault_of_cause cause ≡ Some why → StoppedFor cause → FailedWith why
-  faulty Done why e ran = absurd (cc)
-  faulty Dead why e ran = let same : fault.Mute ≡ why = cc in subst FailedWith same (Dead, tally, ran, refl)
-  faulty Read why e ran = let same : fault.Read ≡ why = cc in subst FailedWith same (Read, tally, ran, refl)
-  faulty End why e ran = let same : fault.LinkClosed ≡ why = cc in subst FailedWith same (End, tally, ran, refl)
-  faulty (Write requests bytes) why e ran = let same : fault.Write requests bytes ≡ why = cc in subst FailedWith same (Write requests bytes, tally, ran, refl)
-  faulty Clock why e ran = let same : fault.Clock ≡ why = cc in subst FailedWith same (Clock, tally, ran, refl)
-  faulty Open why e ran = let same : fault.Socket ≡ why = cc in subst FailedWith same (Open, tally, ran, refl)
-  faulty SetUp why e ran = let same : fault.SetUp ≡ why = cc in subst FailedWith same (SetUp, tally, ran, refl)
-  faulty Turns why e ran = let same : fault.TooManyReads ≡ why = cc in subst FailedWith same (Turns, tally, ran, refl)
-  faulty Stale why e ran = let same : fault.Stale ≡ why = cc in subst FailedWith same (Stale, tally, ran, refl)
-  faulty Stopped why e ran = absurd (cc)
+  pub failed_with_its_fault : (cause : Cause) (why : RunFault) → fault_of_cause cause ≡ Some why → StoppedFor cause → FailedWith why
+  failed_with_its_fault Done why e ran = absurd (cc)
+  failed_with_its_fault Dead why e ran = let same : fault.Mute ≡ why = cc in subst FailedWith same (Dead, tally, ran, refl)
+  failed_with_its_fault Read why e ran = let same : fault.Read ≡ why = cc in subst FailedWith same (Read, tally, ran, refl)
+  failed_with_its_fault End why e ran = let same : fault.LinkClosed ≡ why = cc in subst FailedWith same (End, tally, ran, refl)
+  failed_with_its_fault (Write requests bytes) why e ran = let same : fault.Write requests bytes ≡ why = cc in subst FailedWith same (Write requests bytes, tally, ran, refl)
+  failed_with_its_fault Clock why e ran = let same : fault.Clock ≡ why = cc in subst FailedWith same (Clock, tally, ran, refl)
+  failed_with_its_fault Open why e ran = let same : fault.Socket ≡ why = cc in subst FailedWith same (Open, tally, ran, refl)
+  failed_with_its_fault SetUp why e ran = let same : fault.SetUp ≡ why = cc in subst FailedWith same (SetUp, tally, ran, refl)
+  failed_with_its_fault Turns why e ran = let same : fault.TooManyReads ≡ why = cc in subst FailedWith same (Turns, tally, ran, refl)
+  failed_with_its_fault Stale why e ran = let same : fault.Stale ≡ why = cc in subst FailedWith same (Stale, tally, ran, refl)
+  failed_with_its_fault Stopped why e ran = absurd (cc)

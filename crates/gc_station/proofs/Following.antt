@@ -3,7 +3,6 @@
 -- line, to read the clock and to restart. `BooksInParts` says that these steps, part by part, write the records of a model.
 use Rattle.std.proofs.Common.{◌≡◌, ℕ, ◌&&◌, Bool, true, false, List, [], ◌∷◌, ◌++◌, length, map, drop, Option, refl, sym, ◌∙◌, ap, subst, append_assoc, append-nil}
 use Rattle.std.proofs.lemmas.List.{nil_from_length}
-use Rattle.gc_catalogue.specs.declared.answer.Reading.{Reading}
 use Rattle.gc_catalogue.specs.declared.asked.Asked.{Asked}
 use Rattle.gc_client.specs.OneForOne.{Step}
 use Rattle.gc_client.specs.Rule.{ById, fresh, lost}
@@ -16,25 +15,29 @@ use Rattle.gc_station.specs.Marks.{records_of}
 use Rattle.gc_station.specs.Parts.{SyncStep, Part, idle_part, parts_joined, part_of_act, in_front, parts_of, sent_of}
 use Rattle.gc_station.specs.Progressing.{turned, loses_all}
 use Rattle.gc_station.specs.Records.{Record}
-use Rattle.gc_station.specs.Model.{Model, action_at, waiting_of, with_progress, moved, losing, after, after_all, Runs, ended}
+use Rattle.gc_station.specs.Model.{Model, action_at, waiting_of, with_progress, moved, losing, after, after_all, Runs, with_losses}
+use Rattle.gc_station.specs.Scopes.{Reads}
 use Rattle.gc_station.proofs.Booking.{Books, books_both, books_nothing, books_restart, sent_of-append_records, restarting}
 use Rattle.gc_station.proofs.Counts.{losing_progress}
 use Rattle.gc_station.proofs.EachRun.{invariant_after, mid_moved}
 use Rattle.gc_station.proofs.Facts.{action_for}
 use Rattle.gc_station.proofs.Invariant.{Paired, Invariant}
-use Rattle.gc_station.proofs.Parting.{LeadsBy, Leads, leads, keeps_action}
+use Rattle.gc_station.proofs.Parting.{LeadsBy, Leads, leads, keeps_new_client}
 use Rattle.gc_station.proofs.Readings.{moved_reads, losing_reads}
 use Rattle.gc_station.proofs.Records.{records-none}
 
 -- three parts joined are the same, whether the first two are joined first or the last two
 pub joined_assoc : (p q r : Part) → parts_joined (parts_joined p q) r ≡ parts_joined p (parts_joined q r)
 joined_assoc p q r =
-    ap (λ (sync_steps : List SyncStep). record { sync_steps = sync_steps; steps = (p.steps ++ q.steps) ++ r.steps; marks = (p.marks ++ q.marks) ++ r.marks }) (append_assoc p.sync_steps q.sync_steps r.sync_steps)
-    ∙ ap (λ (steps : List (Step Asked)). record { sync_steps = p.sync_steps ++ (q.sync_steps ++ r.sync_steps); steps = steps; marks = (p.marks ++ q.marks) ++ r.marks }) (append_assoc p.steps q.steps r.steps)
-    ∙ ap (λ (marks : List (Option Mark)). record { sync_steps = p.sync_steps ++ (q.sync_steps ++ r.sync_steps); steps = p.steps ++ (q.steps ++ r.steps); marks = marks }) (append_assoc p.marks q.marks r.marks)
+    ap (λ (sync_steps : List SyncStep). record { sync_steps = sync_steps; steps = (p.steps ++ q.steps) ++ r.steps; marks = (p.marks ++ q.marks) ++ r.marks })
+    (append_assoc p.sync_steps q.sync_steps r.sync_steps)
+    ∙ ap (λ (steps : List (Step Asked)). record { sync_steps = p.sync_steps ++ (q.sync_steps ++ r.sync_steps); steps = steps; marks = (p.marks ++ q.marks) ++ r.marks })
+    (append_assoc p.steps q.steps r.steps)
+    ∙ ap (λ (marks : List (Option Mark)). record { sync_steps = p.sync_steps ++ (q.sync_steps ++ r.sync_steps); steps = p.steps ++ (q.steps ++ r.steps); marks = marks })
+    (append_assoc p.marks q.marks r.marks)
 
 -- each reply says of its call what `reads` gives
-module _ (reads : Asked → List ℕ → Reading) (commands : List Task) where
+module _ (reads : Reads) (commands : List Task) where
   -- there is a part, and the steps of these parts, from this client, these marks and these records on, lead to the model `end`:
   -- after each part but the last the client restarts, and what is outstanding is recorded as lost
   abbrev pub BooksInParts : ById Asked → List (Option Mark) → List Record → List Part → Model → Type 0
@@ -82,7 +85,7 @@ losing_none t false is = refl
 
 -- if the client is new, nothing is outstanding, so the part in which nothing happens leads to the marks and the records after the
 -- loss of what is outstanding
-leads_idle : (reads : Asked → List ℕ → Reading) (commands : List Task) (c : ById Asked) (ms : List (Option Mark)) (rs : List Record) (utc : ℕ) → c ≡ fresh
+leads_idle : (reads : Reads) (commands : List Task) (c : ById Asked) (ms : List (Option Mark)) (rs : List Record) (utc : ℕ) → c ≡ fresh
     → Books reads commands c ms (sent_of rs) idle_part fresh (drop (length (map lost c.waiting)) ms) (sent_of (rs ++ records_of reads utc ms (map lost c.waiting)))
 leads_idle reads commands c ms rs utc is =
     subst (λ (d : ById Asked). Books reads commands d ms (sent_of rs) idle_part fresh (drop (length (map lost d.waiting)) ms) (sent_of (rs ++ records_of reads utc ms (map lost d.waiting)))) (sym is)
@@ -102,15 +105,15 @@ joined_nothing p =
     ∙ ap (λ (marks : List (Option Mark)). record { sync_steps = p.sync_steps; steps = p.steps; marks = marks }) (append-nil p.marks)
 
 -- `Leads` gives `LeadsBy` with the model's own readings
-leads_by : (reads : Asked → List ℕ → Reading) (commands : List Task) (s : Model) (p : Part) (t : Model) → s.reads ≡ reads → Leads commands s p t → LeadsBy reads commands s p t
-leads_by reads commands s p t is h = subst (λ (r : Asked → List ℕ → Reading). LeadsBy r commands s p t) is h
+leads_by : (reads : Reads) (commands : List Task) (s : Model) (p : Part) (t : Model) → s.reads ≡ reads → Leads commands s p t → LeadsBy reads commands s p t
+leads_by reads commands s p t is h = subst (λ (r : Reads). LeadsBy r commands s p t) is h
 
-module _ (plan : Plan) (commands : List Task) (reads : Asked → List ℕ → Reading) where
+module _ (plan : Plan) (commands : List Task) (reads : Reads) where
   -- if `LeadsBy` holds from s to t, and the client of t is new, as while the station synchronizes, `LeadsBy` holds from s to the
   -- model after the loss, too
-  leads_to_ended : (s : Model) (p : Part) (t : Model) → t.reads ≡ reads → t.client ≡ fresh → LeadsBy reads commands s p t → LeadsBy reads commands s p (ended t)
-  leads_to_ended s p t same is h =
-      let u = ended t in
+  leads_to_with_losses : (s : Model) (p : Part) (t : Model) → t.reads ≡ reads → t.client ≡ fresh → LeadsBy reads commands s p t → LeadsBy reads commands s p (with_losses t)
+  leads_to_with_losses s p t same is h =
+      let u = with_losses t in
       subst (λ (x : Part). LeadsBy reads commands s x u) (joined_nothing p)
       (books_both reads commands s.client t.client u.client s.marks t.marks u.marks (sent_of s.records) (sent_of t.records) (sent_of u.records) p idle_part h
       (leads_by reads commands t idle_part u same (idle_lost commands t (loses_all t.progress) is)))
@@ -119,26 +122,26 @@ module _ (plan : Plan) (commands : List Task) (reads : Asked → List ℕ → Re
   -- also to the model after the loss. `Invariant` holds after the act, and each outstanding request of t has a mark
   record LeadsOn (s : Model) (p : Part) (t : Model) : Type 0 where
     same_reads : t.reads ≡ reads
-    fine : Invariant plan commands (ended t)
+    fine : Invariant plan commands (with_losses t)
     paired : Paired t
     led : LeadsBy reads commands s p t
-    led_idle : has_begun s.progress ≡ false → LeadsBy reads commands s p (ended t)
+    led_idle : has_begun s.progress ≡ false → LeadsBy reads commands s p (with_losses t)
 
   -- where `LeadsOn` holds of an act's part p, and the parts `ps` of later acts lead from the model after the act to `end`, p
   -- and `ps` lead from s to `end` (`BooksInParts`). p is a part of its own if the station had synchronized and all that is
   -- outstanding is lost, and else the front of the first part of `ps`
   follows_act : (s : Model) (p : Part) (t : Model) (ps : List Part) (end : Model) (begun lost_all : Bool) → (is_begun : has_begun s.progress ≡ begun) → (is_lost : loses_all t.progress ≡ lost_all)
-      → LeadsOn s p t → (let u = ended t in BooksInParts reads commands u.client u.marks (sent_of u.records) ps end)
+      → LeadsOn s p t → (let u = with_losses t in BooksInParts reads commands u.client u.marks (sent_of u.records) ps end)
       → BooksInParts reads commands s.client s.marks (sent_of s.records) (in_front p (begun && lost_all) ps) end
   follows_act s p t ps end false lost_all w l a others =
-      let u = ended t in
+      let u = with_losses t in
       follows_on reads commands s.client u.client s.marks u.marks (sent_of s.records) (sent_of u.records) p ps end (a.led_idle w) others
   follows_act s p t ps end true false w l a others =
       let kept = losing_none t (loses_all t.progress) l in
       follows_on reads commands s.client t.client s.marks t.marks (sent_of s.records) (sent_of t.records) p ps end a.led
       (subst (λ (u : Model). BooksInParts reads commands u.client u.marks (sent_of u.records) ps end) kept others)
   follows_act s p t ps end true true w l a others =
-      let u = ended t in
+      let u = with_losses t in
       let new : u.client ≡ fresh = lost_fresh t (loses_all t.progress) l in
       let none : u.marks ≡ [] = nil_from_length u.marks (a.fine.paired ∙ ap (λ (c : ById Asked). length c.waiting) new) in
       let lost_here = leads_by reads commands t restarting u a.same_reads (leads_lost commands t (loses_all t.progress) l a.paired) in
@@ -171,6 +174,6 @@ module _ (plan : Plan) (commands : List Task) (reads : Asked → List ℕ → Re
         fine = later;
         paired = (mid_moved plan commands s o act fine is).0.paired;
         led = h;
-        led_idle = λ w. leads_to_ended s p t same (keeps_action plan commands s o act is runs.0 w (fine.begins w)).0 h;
+        led_idle = λ w. leads_to_with_losses s p t same (keeps_new_client plan commands s o act is runs.0 w (fine.begins w)).0 h;
       })
       (follows u acts (losing_reads (loses_all t.progress) t ∙ same) later runs.1))

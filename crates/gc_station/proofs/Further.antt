@@ -14,7 +14,7 @@ use Rattle.gc_station.specs.Reasons.{HoldsBefore}
 use Rattle.gc_station.specs.Runs.{state_after}
 use Rattle.gc_station.specs.Model.{Model, cycle_length, opening, action_at, waiting_of, with_progress, moved, after, after_all}
 use Rattle.gc_station.proofs.Going.{after_all-append}
-use Rattle.gc_station.proofs.Counts.{KeepsCounts, ChangesCounts, moved_counts, ended_progress}
+use Rattle.gc_station.proofs.Counts.{KeepsCounts, ChangesCounts, moved_counts, with_losses_progress}
 use Rattle.gc_station.proofs.EachRun.{invariant_holds}
 use Rattle.gc_station.proofs.Facts.{action_for}
 use Rattle.gc_station.proofs.Invariant.{Invariant}
@@ -47,7 +47,7 @@ not_back_after plan commands s act =
     let done = moved plan commands (action_at plan s) (with_progress turned s) act in
     let on = not_back_by_counts plan (cycle_length plan commands) (waiting_of s) (action_at plan s) s.progress (turned s.progress) done.progress refl refl
     (action_for plan s.progress (waiting_of s)) (moved_counts plan commands (action_at plan s) (with_progress turned s) act) in
-    subst (λ (p : Progress). NotBack s.progress p) (sym (ended_progress done)) on
+    subst (λ (p : Progress). NotBack s.progress p) (sym (with_losses_progress done)) on
 
 -- `NotBack` holds over two steps if it does over each
 not_back_twice : (p q r : Progress) → NotBack p q → NotBack q r → NotBack p r
@@ -64,10 +64,10 @@ not_back_all plan commands s acts =
 
 -- after an act that makes one command fewer unsent (q), and further acts that don't go back (t), a station is further than before
 -- (s)
-further : (plan : Plan) (commands : List Task) (s t : Model) (q : Progress) → Invariant plan commands s → Invariant plan commands t → (some : 0 < s.progress.unsent)
+further_if_one_fewer : (plan : Plan) (commands : List Task) (s t : Model) (q : Progress) → Invariant plan commands s → Invariant plan commands t → (some : 0 < s.progress.unsent)
     → (left : q.left ≡ s.progress.left) → (unsent : q.unsent ≡ s.progress.unsent - 1) → NotBack q t.progress → IsFurther plan commands s t
-further plan commands s t q fine there some left unsent (inl less) = inl (omega (arith, less, left, fine.left, there.left))
-further plan commands s t q fine there some left unsent (inr same) =
+further_if_one_fewer plan commands s t q fine there some left unsent (inl less) = inl (omega (arith, less, left, fine.left, there.left))
+further_if_one_fewer plan commands s t q fine there some left unsent (inr same) =
     inr (ap (λ (n : ℕ). plan.cycles - n) (sym (same.0 ∙ left)), omega (arith, same.1, unsent, some, fine.unsent, there.unsent))
 
 -- after an act that sends a command, and any further acts, a station is at a later place of the cycle, or in a later cycle
@@ -80,10 +80,10 @@ send_goes_on plan commands scope earlier later act is =
     let needs = subst (λ (o : Action). HoldsBefore plan s.progress w o) is (action_for plan s.progress w) in
     let done = moved plan commands (action_at plan s) (with_progress turned s) act in
     let sends = moved plan commands action.Send (with_progress turned s) act in
-    let next_is : next.progress ≡ sends.progress = ended_progress done ∙ ap (λ (o : Action). (moved plan commands o (with_progress turned s) act).progress) is in
+    let next_is : next.progress ≡ sends.progress = with_losses_progress done ∙ ap (λ (o : Action). (moved plan commands o (with_progress turned s) act).progress) is in
     let k = moved_counts plan commands action.Send (with_progress turned s) act in
     let whole = after_all-append plan commands (opening plan scope) earlier (act ∷ later) in
     let on = subst (λ (t : Model). NotBack next.progress t.progress) (sym whole) (not_back_all plan commands next later) in
-    further plan commands s (state_after plan commands scope (earlier ++ act ∷ later)) next.progress (invariant_holds plan commands scope earlier)
+    further_if_one_fewer plan commands s (state_after plan commands scope (earlier ++ act ∷ later)) next.progress (invariant_holds plan commands scope earlier)
     (invariant_holds plan commands scope (earlier ++ act ∷ later)) needs.2
     (ap (λ (p : Progress). p.left) next_is ∙ k.left) (ap (λ (p : Progress). p.unsent) next_is ∙ k.unsent) on

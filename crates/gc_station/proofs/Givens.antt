@@ -57,16 +57,16 @@ rest_one_more heard act bytes = refl
 
 -- if the bytes that are kept are the rest of `bytes`, after any acts they are the rest of what `bytes_heard_from` makes of
 -- `bytes`
-along_given : (plan : Plan) (commands : List Task) (s : Model) (bytes : List ℕ) (acts : List Act) → s.rest ≡ rest_of bytes → Runs plan commands s acts
+rest_along : (plan : Plan) (commands : List Task) (s : Model) (bytes : List ℕ) (acts : List Act) → s.rest ≡ rest_of bytes → Runs plan commands s acts
     → (after_all plan commands s acts).rest ≡ rest_of (bytes_heard_from plan commands s bytes acts)
-along_given plan commands s bytes [] same runs = same
-along_given plan commands s bytes (act ∷ acts) same runs =
+rest_along plan commands s bytes [] same runs = same
+rest_along plan commands s bytes (act ∷ acts) same runs =
     let heard = is_heard s.progress.phase in
-    along_given plan commands (after plan commands s act) (bytes_heard_with heard act bytes) acts
+    rest_along plan commands (after plan commands s act) (bytes_heard_with heard act bytes) acts
     (after_rest plan commands s act runs.0 ∙ ap (λ r. rest_with heard act r) same ∙ rest_one_more heard act bytes) runs.1
 
 -- the bytes of a line that a station keeps are what comes after the last line feed (`rest_of`) of what was heard on its
 -- connection
 pub rest_given : (plan : Plan) (commands : List Task) (scope : Scope) (acts : List Act) → Runs plan commands (opening plan scope) acts
     → (state_after plan commands scope acts).rest ≡ rest_of (bytes_heard plan commands scope acts)
-rest_given plan commands scope acts runs = along_given plan commands (opening plan scope) [] acts refl runs
+rest_given plan commands scope acts runs = rest_along plan commands (opening plan scope) [] acts refl runs

@@ -24,18 +24,18 @@ use Rattle.gc_station.specs.Deciding.{has_begun, is_none_left}
 use Rattle.gc_station.specs.Parts.{Part, parts_joined, put_part, first_request_part, heard_steps, client_part, sync_part, part_of_act, in_front, parts_of, client_after}
 use Rattle.gc_station.specs.Progressing.{one_more_in_window, turned, time_passed, loses_all}
 use Rattle.gc_station.specs.Reasons.{HoldsBefore}
-use Rattle.gc_station.specs.Model.{Model, SendsCommand, opening, action_at, waiting_of, is_heard, with_progress, with_rest, line_came, lines_came, lines_completed, after_piece, moved, losing, after, Performs, Runs, ended}
+use Rattle.gc_station.specs.Model.{Model, SendsCommand, opening, action_at, waiting_of, is_heard, with_progress, with_rest, line_came, lines_came, lines_completed, after_piece, moved, losing, after, Performs, Runs, with_losses}
 use Rattle.gc_station.specs.NextCommand.{place_next, mark_next}
-use Rattle.gc_station.proofs.Behind.{behind_by, CountsBehind, counts_steps, near_so, course_of, course_append}
+use Rattle.gc_station.proofs.Behind.{behind_by, CountsBehind, counts_steps, near_by_count, course_of, course_append}
 use Rattle.gc_station.proofs.Booking.{sent_by, course_sent, course_client, sent_append, marks_ask_length}
 use Rattle.gc_station.proofs.Counts.{losing_progress}
 use Rattle.gc_station.proofs.EachRun.{invariant_after, invariant_opening}
 use Rattle.gc_station.proofs.Facts.{action_for}
 use Rattle.gc_station.proofs.Invariant.{Invariant}
-use Rattle.gc_station.proofs.Parting.{Leads, leads, keeps_action}
+use Rattle.gc_station.proofs.Parting.{Leads, leads, keeps_new_client}
 use Rattle.gc_station.proofs.Walk.{losing_along, quieted_along, closed_along, walk, piece_before}
 use Rattle.gc_station.proofs.Lists.{all_at, get_behind}
-use Rattle.gc_station.proofs.Asked.{steps_none, goes_begun}
+use Rattle.gc_station.proofs.Asked.{steps_none, begun_if_nothing_lost}
 use Rattle.gc_station.specs.Links.{parts}
 
 -- What an act does.
@@ -114,10 +114,10 @@ all_heard_steps P each true rest piece = all_hears P each (lines_completed rest 
 all_heard_steps P each false rest piece = tt
 
 -- in a list of one step, no step comes before a send
-one_step : (x : Step Asked) (front later : List (Step Asked)) (target : ℕ) (call : Asked) (deadline : ℕ) → x ∷ [] ≡ front ++ Send target call deadline ∷ later → front ≡ []
-one_step x [] later target call deadline e = refl
-one_step x (f ∷ []) later target call deadline e = cc
-one_step x (f ∷ g ∷ front) later target call deadline e = cc
+no_step_before_send : (x : Step Asked) (front later : List (Step Asked)) (target : ℕ) (call : Asked) (deadline : ℕ) → x ∷ [] ≡ front ++ Send target call deadline ∷ later → front ≡ []
+no_step_before_send x [] later target call deadline e = refl
+no_step_before_send x (f ∷ []) later target call deadline e = cc
+no_step_before_send x (f ∷ g ∷ front) later target call deadline e = cc
 
 module _ (plan : Plan) (commands : List Task) (s : Model) (k : ById Asked) (more : List (Option Mark)) (front later : List (Step Asked)) (target : ℕ) (call : Asked) (deadline : ℕ) (mark : Mark) where
   -- in this part, with the marks `more` of later requests after its own, a command with the mark `mark` is sent after the steps
@@ -128,7 +128,7 @@ module _ (plan : Plan) (commands : List Task) (s : Model) (k : ById Asked) (more
   -- in the part of a request for the first of some commands, no step comes before the send of a command
   first_goes_out : (now : ℕ) (its : Mark) (left : List Task) → GoesOut (first_request_part now its left) → front ≡ []
   first_goes_out now its [] h = absurd (no_send [] front later target call deadline tt h.0)
-  first_goes_out now its (task ∷ others) h = one_step _ front later target call deadline h.0
+  first_goes_out now its (task ∷ others) h = no_step_before_send _ front later target call deadline h.0
 
   -- with no step before it, the request of a null procedure isn't one with the mark of a command
   null_has_no_mark : front ≡ [] → slice_get ((None ∷ []) ++ more) (length (sent_by k front)) ≡ Some (Some mark) → ⊥
@@ -137,9 +137,9 @@ module _ (plan : Plan) (commands : List Task) (s : Model) (k : ById Asked) (more
   -- if a command is sent in the part of an action that puts bytes, no step of the part comes before the send, and the action
   -- sends a command
   put_goes_out : (o : Action) → GoesOut (put_part plan commands s o) → (front ≡ []) × SendsCommand o
-  put_goes_out action.Flush h = absurd (null_has_no_mark (one_step _ front later target call deadline h.0) h.1)
+  put_goes_out action.Flush h = absurd (null_has_no_mark (no_step_before_send _ front later target call deadline h.0) h.1)
   put_goes_out action.Send h = (first_goes_out s.progress.moment.elapsed (mark_next plan commands s.progress) (drop (place_next commands s.progress) commands) h, inl refl)
-  put_goes_out action.Prepare h = (one_step _ front later target call deadline h.0, inr refl)
+  put_goes_out action.Prepare h = (no_step_before_send _ front later target call deadline h.0, inr refl)
   put_goes_out o h = absurd (no_send [] front later target call deadline tt h.0)
 
   -- if a command is sent in the part of an act, once the station has synchronized, no step of the part comes before the send, and
@@ -185,14 +185,14 @@ split (x ∷ xs) ys (f ∷ front) a later e =
 
 -- Runs.
 
--- `IsNearTheTable` holds wherever a command is sent in this part, if the steps `done` of the same part come before those of p
-abbrev IsSentNear : List (Step Asked) → Part → Type 0
+-- `IsNearTheTable` holds wherever a command is sent in the part p, if the steps `done` come before those of p in the same part
+abbrev IsSentNear : (done : List (Step Asked)) → (p : Part) → Type 0
 IsSentNear done p =
     (front later : List (Step Asked)) (target : ℕ) (call : Asked) (deadline : ℕ) (mark : Mark) → p.steps ≡ front ++ Send target call deadline ∷ later
     → slice_get p.marks (length (sent_by (course_of done).client front)) ≡ Some (Some mark) → IsNearTheTable (course_of (done ++ front))
 
 -- `IsSentNear` holds of each of these parts; the steps `done` come before those of the first
-abbrev AreSentNear : List (Step Asked) → List Part → Type 0
+abbrev AreSentNear : (done : List (Step Asked)) → List Part → Type 0
 AreSentNear done [] = Unit {0}
 AreSentNear done (p ∷ ps) = IsSentNear done p × AllByRecursion (IsSentNear []) ps
 
@@ -219,9 +219,9 @@ module _ (plan : Plan) (commands : List Task) (s : Model) (o : Action) (act : Ac
       let so = act_goes_out plan commands s (course_of done).client more front later target call deadline mark o act (has_begun s.progress) (e, at) in
       let near = by_action so.1 in
       subst (λ (l : List (Step Asked)). IsNearTheTable (course_of l)) (sym (ap (λ l. done ++ l) so.0 ∙ append-nil done))
-      (near_so (course_of done) s.progress.behind counts near) where
+      (near_by_count (course_of done) s.progress.behind counts near) where
         -- if a command is sent next, fewer than seven requests were sent after the last call of the table that a reply ended
-        by_action : SendsCommand o → s.progress.behind < 7
+        by_action : SendsCommand o → s.progress.behind < WINDOW
         by_action (inl sends) = (subst (λ (x : Action). HoldsBefore plan s.progress (waiting_of s) x) sends is).5
         by_action (inr prepares) = (subst (λ (x : Action). HoldsBefore plan s.progress (waiting_of s) x) prepares is).4
 
@@ -252,7 +252,7 @@ module _ (plan : Plan) (commands : List Task) (s : Model) (o : Action) (act : Ac
   alone_near front later target call deadline mark e at =
       sends_near [] front later target call deadline mark e (ap (λ l. slice_get l (length (sent_by (course_of done).client front))) (append-nil p.marks) ∙ at)
 
-  -- `AreSentNear` holds with the part of the act joined to the first of the others, if it holds of these after the steps of the act
+  -- `AreSentNear` holds with the act's part joined to the first of the others, if it holds of these after the act's steps
   front_near : (ps : List Part) → AreSentNear (done ++ p.steps) ps → AreSentNear done (in_front p false ps)
   front_near [] h = (alone_near, tt)
   front_near (q ∷ ps) h = (joined_near q h.0, h.1)
@@ -262,8 +262,8 @@ none_sent_counts : (b : ℕ) → CountsBehind (course_of []) b
 none_sent_counts b low = inl (omega arith)
 
 -- a client that is new stays new, whether what is outstanding is lost or not
-new_client : (t : Model) (all : Bool) → t.client ≡ fresh → (losing all t).client ≡ fresh
-new_client t all e = losing_along (λ (u : Model). u.client ≡ fresh) all t refl e
+fresh_client_stays : (t : Model) (all : Bool) → t.client ≡ fresh → (losing all t).client ≡ fresh
+fresh_client_stays t all e = losing_along (λ (u : Model). u.client ≡ fresh) all t refl e
 
 -- one act more, before the parts `ps` of the acts after it
 module _ (plan : Plan) (commands : List Task) (s : Model) (act : Act) (done : List (Step Asked)) (fine : Invariant plan commands s)
@@ -287,7 +287,7 @@ module _ (plan : Plan) (commands : List Task) (s : Model) (act : Act) (done : Li
 
   -- the model after the act
   abbrev u : Model
-  u = ended t
+  u = with_losses t
 
   -- the steps of the act's part, by whether the station has synchronized (b)
   part_is : (b : Bool) → has_begun s.progress ≡ b → part.steps ≡ (if b then client_part plan commands s o act else sync_part s o act).steps
@@ -296,7 +296,8 @@ module _ (plan : Plan) (commands : List Task) (s : Model) (act : Act) (done : Li
   -- if the station has synchronized before the act and after it, the act changes the count as the steps of its part do
   part_counted : has_begun s.progress ≡ true → has_begun t.progress ≡ true → t.progress.behind ≡ behind_by (course_of done).client s.progress.behind part.steps
   part_counted w still =
-      behind_counted plan commands s o act fine its obeys w still ∙ ap (behind_by s.client s.progress.behind) (sym (part_is true w)) ∙ ap (λ (c : ById Asked). behind_by c s.progress.behind part.steps) client
+      behind_counted plan commands s o act fine its obeys w still
+      ∙ ap (behind_by s.client s.progress.behind) (sym (part_is true w)) ∙ ap (λ (c : ById Asked). behind_by c s.progress.behind part.steps) client
 
   -- the client after the act, before what is outstanding is lost, is that of the course after the steps of the act's part
   part_client : (course_of (done ++ part.steps)).client ≡ t.client
@@ -313,19 +314,19 @@ module _ (plan : Plan) (commands : List Task) (s : Model) (act : Act) (done : Li
       (alone_near plan commands s o act done fine its obeys client counts, near_all ps (next [] (ap (λ b. (losing b t).client) l) (λ e. refl) (none_sent_counts u.progress.behind)))
   near_with_part true false w l next =
       let same : u ≡ t = ap (λ b. losing b t) l in
-      let still = goes_begun t l in
+      let still = begun_if_nothing_lost t l in
       front_near plan commands s o act done fine its obeys client counts ps
       (next (done ++ part.steps) (ap (λ (x : Model). x.client) same ∙ sym part_client)
       (λ e. absurd (both_ways (has_begun t.progress) (ap (λ (x : Model). has_begun x.progress) (sym same) ∙ e) still))
       (subst (λ (x : Model). CountsBehind (course_of (done ++ part.steps)) x.progress.behind) (sym same)
       (subst (λ (n : ℕ). CountsBehind (course_of (done ++ part.steps)) n) (sym (part_counted w still)) (counts_steps done part.steps s.progress.behind counts))))
   near_with_part false all w l next =
-      let kept = keeps_action plan commands s o act its obeys w (fine.begins w) in
+      let kept = keeps_new_client plan commands s o act its obeys w (fine.begins w) in
       let steps : part.steps ≡ [] = part_is false w ∙ steps_none s o act in
       let none_done : done ++ part.steps ≡ [] = ap (λ l. l ++ part.steps) (new w) ∙ steps in
       front_near plan commands s o act done fine its obeys client counts ps
       (subst (λ (l : List (Step Asked)). AreSentNear l ps) (sym none_done)
-      (next [] (new_client t (loses_all t.progress) kept.0) (λ e. refl) (none_sent_counts u.progress.behind)))
+      (next [] (fresh_client_stays t (loses_all t.progress) kept.0) (λ e. refl) (none_sent_counts u.progress.behind)))
 
 module _ (plan : Plan) (commands : List Task) where
   -- `AreSentNear` holds of the parts of a run from the model s on, if s has the client of the course after the steps `done`, its

@@ -15,15 +15,15 @@ use Rattle.gc_links.specs.Acts.{Act, Closed, AddsActs}
 use Rattle.gc_station.specs.Progressing.{turned, loses_all}
 use Rattle.gc_station.specs.Records.{Record, texts_of}
 use Rattle.gc_station.specs.Runs.{state_after, FailedAtRecord, FailedAtSync}
-use Rattle.gc_station.specs.Model.{Model, opening, action_at, Performs, after, after_all, moved, ended, stepped, Runs, with_progress, cycle_length}
+use Rattle.gc_station.specs.Model.{Model, opening, action_at, Performs, after, after_all, moved, with_losses, stepped, Runs, with_progress, cycle_length}
 use Rattle.gc_station.specs.Stations.{waiting_of_station, Refines, Makes, Breaks, OnCall, as_seen, Does, KeepsToModel, Steps}
 use Rattle.gc_station.specs.Deciding.{action_of}
-use Rattle.gc_station.proofs.Counts.{unsent_within, ended_progress}
+use Rattle.gc_station.proofs.Counts.{unsent_within, with_losses_progress}
 use Rattle.gc_station.proofs.Growing.{losing_records, moved_grew}
-use Rattle.gc_station.proofs.Hearing.{tells_more}
+use Rattle.gc_station.proofs.Hearing.{adds_acts_append}
 use Rattle.gc_station.proofs.Making.{refines_with}
 use Rattle.gc_station.proofs.Readings.{losing_reads, stepped_reads, reads_as_in_scope, same_readings}
-use Rattle.gc_station.proofs.Records.{part_grew, part_grows}
+use Rattle.gc_station.proofs.Records.{part_since_grew, part_more_grew}
 use Rattle.gc_station.proofs.Turns.{left_to_do, less_stepped}
 use Rattle.gc_station.specs.Scopes.{Scope, AreReadings}
 
@@ -51,7 +51,7 @@ module _ (plan : Plan) (commands : List Task) (action : Action) (text : Record �
   -- in it (`Made`)
   pub makes_step : {X E : Type 0} (taken'' : Option (List ℕ)) (station mid new : Station) (p : Progress) (result : Result X E)
       → p ≡ turned station.progress → Does plan commands action (as_seen told text taken (record station { progress = p })) (as_seen told' text taken' mid)
-      → KeepsToModel ended text taken' taken'' mid new result → Steps plan commands action (as_seen told text taken station) (as_seen told' text taken'' new) result
+      → KeepsToModel with_losses text taken' taken'' mid new result → Steps plan commands action (as_seen told text taken station) (as_seen told' text taken'' new) result
   makes_step taken'' station mid new p (Ok r) e makes ends = record {
     act = makes.act;
     tells = makes.tells;
@@ -68,7 +68,7 @@ module _ (plan : Plan) (commands : List Task) (action : Action) (text : Record �
         let mid : Model = moved plan commands action (with_progress turned s) makes.act in
         let part = ends mid start one.1 one.2 in (
           turn_obeys commands action s makes.act one.0,
-          λ are. part_grew text s.records mid.records (ended mid).records start taken''
+          λ are. part_since_grew text s.records mid.records (with_losses mid).records start taken''
               (moved_grew plan commands action (with_progress turned s) makes.act) (part are),
         );
   }
@@ -86,8 +86,8 @@ module _ (plan : Plan) (commands : List Task) (action : Action) (text : Record �
         let one = breaks.goes (with_progress turned s) start (refines_with station p turned s stands e) so in
         let more = losing_records (loses_all mid.progress) mid in (
           turn_obeys commands action s breaks.act one.0,
-          λ are. part_grows text s.records mid.records (ended mid).records start taken' more
-              (one.1 (same_readings mid.reads (ended mid).reads (sym (losing_reads (loses_all mid.progress) mid)) are)),
+          λ are. part_more_grew text s.records mid.records (with_losses mid).records start taken' more
+              (one.1 (same_readings mid.reads (with_losses mid).reads (sym (losing_reads (loses_all mid.progress) mid)) are)),
         );
   }
 
@@ -103,9 +103,9 @@ pub record Went (plan : Plan) (commands : List Task) (scope : Scope) (text : Rec
   pub took : Appends taken taken' (texts_of text (state_after plan commands scope acts).records)
 
 -- a link that recorded nothing more recorded no acts
-pub tells_none : (a : Option (List Act)) → AddsActs a a []
-tells_none None = tt
-tells_none (Some a) = sym (append-nil a)
+pub adds_no_acts : (a : Option (List Act)) → AddsActs a a []
+adds_no_acts None = tt
+adds_no_acts (Some a) = sym (append-nil a)
 
 -- if what a book has taken is the same, it took nothing more, as `Keeps` says
 pub kept_same : (taken taken' : Option (List ℕ)) → taken' ≡ taken → Keeps taken taken'
@@ -137,7 +137,7 @@ module _ (plan : Plan) (commands : List Task) (scope : Scope) (text : Record →
   abbrev pub went_nothing : (taken : Option (List ℕ)) (station : Station) → Refines station (opening plan scope) → Went plan commands scope text told told taken taken station
   went_nothing taken station stands = record {
     acts = [];
-    tells = tells_none told;
+    tells = adds_no_acts told;
     runs = tt;
     stands = stands;
     took = Appends-nil taken;
@@ -156,11 +156,11 @@ module _ (plan : Plan) (commands : List Task) (scope : Scope) (text : Record →
 
   -- if `Went` holds, and the link recorded a close after that, the run is as `FailedAtSync` says: its book has all records, but
   -- couldn't make them last
-  pub went_left : (told' told'' : Option (List Act)) (taken taken' : Option (List ℕ)) (station : Station)
+  pub fails_at_sync : (told' told'' : Option (List Act)) (taken taken' : Option (List ℕ)) (station : Station)
       → Went plan commands scope text told told' taken taken' station → AddsActs told' told'' (Closed ∷ []) → FailedAtSync plan commands scope text told told'' taken taken'
-  went_left told' told'' taken taken' station w closed = record {
+  fails_at_sync told' told'' taken taken' station w closed = record {
     acts = w.acts;
-    tells = tells_more told told' told'' w.acts (Closed ∷ []) w.tells closed;
+    tells = adds_acts_append told told' told'' w.acts (Closed ∷ []) w.tells closed;
     runs = w.runs;
     took = w.took;
   }
@@ -181,7 +181,7 @@ module _ (plan : Plan) (commands : List Task) (scope : Scope) (text : Record →
       let obeys : Performs commands s (action_at plan s) makes.act = subst (λ (o : Action). Performs commands s o makes.act) is one.0 in
       record {
         acts = w.acts ++ makes.act ∷ [];
-        tells = tells_more told told' told'' w.acts (makes.act ∷ []) w.tells makes.tells;
+        tells = adds_acts_append told told' told'' w.acts (makes.act ∷ []) w.tells makes.tells;
         runs = runs-append plan commands (opening plan scope) w.acts (makes.act ∷ []) w.runs (obeys, tt);
         stands = rw (whole, ← is) one.1;
         took = rw (whole, ← is) took;
@@ -189,13 +189,13 @@ module _ (plan : Plan) (commands : List Task) (scope : Scope) (text : Record →
 
   -- if `Went` holds, the book failed at a record of the next act (`Breaks`), and the link recorded a close after that, the run is
   -- as `FailedAtRecord` says, if the scope has the readings of all lines (`AreReadings`)
-  pub went_wrong : (told' told'' told''' : Option (List Act)) (taken taken' taken'' : Option (List ℕ)) (station : Station) (action : Action)
+  pub fails_at_record : (told' told'' told''' : Option (List Act)) (taken taken' taken'' : Option (List ℕ)) (station : Station) (action : Action)
       → (w : Went plan commands scope text told told' taken taken' station)
       → action ≡ action_at plan (state_after plan commands scope w.acts)
       → Breaks commands action (stepped plan commands action) (as_seen told' text taken' station) told'' taken''
       → AddsActs told'' told''' (Closed ∷ [])
       → AreReadings scope.reads → FailedAtRecord plan commands scope text told told''' taken taken''
-  went_wrong told' told'' told''' taken taken' taken'' station action w is breaks closed are =
+  fails_at_record told' told'' told''' taken taken' taken'' station action w is breaks closed are =
       let s = state_after plan commands scope w.acts in
       let one = breaks.goes s taken w.stands (λ ok. w.took) in
       let same = stepped_reads plan commands action s breaks.act ∙ reads_as_in_scope plan commands scope w.acts in
@@ -205,7 +205,7 @@ module _ (plan : Plan) (commands : List Task) (scope : Scope) (text : Record →
       record {
         acts = w.acts;
         last = breaks.act;
-        tells = tells_more told told' told''' w.acts (breaks.act ∷ (Closed ∷ [])) w.tells (tells_more told' told'' told''' (breaks.act ∷ []) (Closed ∷ []) breaks.tells closed);
+        tells = adds_acts_append told told' told''' w.acts (breaks.act ∷ (Closed ∷ [])) w.tells (adds_acts_append told' told'' told''' (breaks.act ∷ []) (Closed ∷ []) breaks.tells closed);
         runs = runs-append plan commands (opening plan scope) w.acts (breaks.act ∷ []) w.runs (obeys, tt);
         took = rw (whole, ← is) took;
       }
@@ -240,10 +240,10 @@ module _ (plan : Plan) (commands : List Task) (text : Record → List ℕ) (told
       let o : action ≡ action_of plan s.progress w = is ∙ ap (λ (q : Progress). action_of plan q w) some.1.progress in
       let obeys : Performs commands s (action_of plan s.progress w) makes.act = subst (λ (x : Action). Performs commands s x makes.act) o one.0 in
       let mid : Model = moved plan commands action (with_progress turned s) makes.act in
-      let next : new.progress ≡ (ended mid).progress = one.1.progress in
+      let next : new.progress ≡ (with_losses mid).progress = one.1.progress in
       let below : s.progress.unsent ≤ cycle_length plan commands = subst (λ (p : Progress). p.unsent ≤ cycle_length plan commands) some.1.progress within in
       record {
-        within = subst (λ (p : Progress). p.unsent ≤ cycle_length plan commands) (sym (next ∙ ended_progress mid)) (unsent_within plan commands action (with_progress turned s) makes.act below);
+        within = subst (λ (p : Progress). p.unsent ≤ cycle_length plan commands) (sym (next ∙ with_losses_progress mid)) (unsent_within plan commands action (with_progress turned s) makes.act below);
         less = subst (λ (q : Progress). left_to_do q < left_to_do p) (sym (next ∙ ap (λ (x : Action). (stepped plan commands x s makes.act).progress) o))
             (subst (λ (q : Progress). left_to_do (stepped plan commands (action_of plan s.progress w) s makes.act).progress < left_to_do q)
             (sym some.1.progress) (less_stepped plan commands s w makes.act obeys));

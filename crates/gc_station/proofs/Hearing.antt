@@ -46,7 +46,7 @@ use Rattle.gc_station.specs.Writing.{recorded_after}
 use Rattle.gc_station.proofs.Growing.{lines_records}
 use Rattle.gc_station.proofs.Making.{refines_with}
 use Rattle.gc_station.proofs.Readings.{lines_reads, same_readings}
-use Rattle.gc_station.proofs.Records.{grew_none, grew_then, part_grew, part_grows, tallied-append, last-append}
+use Rattle.gc_station.proofs.Records.{grew_none, grew_then, part_since_grew, part_more_grew, tallied-append, last-append}
 
 -- the lines of a frame and of the frames after it: first its line, if it has one
 pub lines_split : (frame : Frame) (later : List Frame) → filter_map line_in (completed frame ++ later) ≡ option_to_list (line_in frame) ++ filter_map line_in later
@@ -77,7 +77,7 @@ pub lines_rest : (s : Model) (rest : List ℕ) (lines : List (List ℕ)) → lin
 lines_rest s rest [] = refl
 lines_rest s rest (line ∷ others) = lines_rest (line_came s line) rest others
 
--- no lines leave the model as it is
+-- without lines the model stays as it is
 pub taken_none : (begun : Bool) (s : Model) → lines_taken begun [] s ≡ s
 taken_none true s = refl
 taken_none false s = refl
@@ -102,7 +102,7 @@ pub record HeardSoFar (begun : Bool) (text : Record → List ℕ) (start taken :
   pub goes : piece_came begun left now ≡ piece_came begun piece s
 
 -- the model s after a frame: the line of the frame was heard, if it is a line, and the bytes `rest` of the next one are kept
-abbrev pub after_frame : (begun : Bool) (rest : List ℕ) → Frame → Model → Model
+abbrev pub after_frame : (begun : Bool) (rest : List ℕ) → Frame → (s : Model) → Model
 after_frame begun rest frame s = lines_taken begun (option_to_list (line_in frame)) (with_rest rest s)
 
 -- what isn't heard yet of a piece, `left`, begins with `frame` (`seen`); `later` comes after it, with the bytes `rest` kept
@@ -170,9 +170,9 @@ module _ (begun : Bool) (text : Record → List ℕ) (start taken taken' : Optio
       let more = taken_records begun (with_rest (rest_behind mid.rest later) mid) (lines_completed mid.rest later) in
       let same : mid.reads ≡ (piece_came begun piece s).reads =
       sym (taken_reads begun (with_rest (rest_behind mid.rest later) mid) (lines_completed mid.rest later)) ∙ ap (λ (x : Model). x.reads) whole in
-      let all = part_grows text h.now.records mid.records (piece_came begun later mid).records start taken' more
+      let all = part_more_grew text h.now.records mid.records (piece_came begun later mid).records start taken' more
       (part (same_readings mid.reads (piece_came begun piece s).reads same are)) in
-      part_grew text s.records h.now.records (piece_came begun piece s).records start taken' h.grown
+      part_since_grew text s.records h.now.records (piece_came begun piece s).records start taken' h.grown
       (subst (λ (x : Model). WritesPart text h.now.records x.records start taken') whole all)
 
 -- if nothing is left of the piece, the station is as the model after the whole piece, and the book has taken the records of that
@@ -187,8 +187,8 @@ hearing_end begun text start taken station s piece h =
     )
 
 -- a station with this assembler in place of its own is as the model with the bytes that this assembler keeps
-pub with_kept : (station : Station) (kept : Kept) (rest : List ℕ) (s : Model) → Refines station s → StandsFor kept rest → Refines (record station { assembler = kept }) (with_rest rest s)
-with_kept station kept rest s stands is = record {
+pub refines_kept : (station : Station) (kept : Kept) (rest : List ℕ) (s : Model) → Refines station s → StandsFor kept rest → Refines (record station { assembler = kept }) (with_rest rest s)
+refines_kept station kept rest s stands is = record {
   progress = stands.progress;
   ids = stands.ids;
   width = stands.width;
@@ -211,7 +211,7 @@ settle_less (suc k) line (p ∷ ps) = let more = settle_less k line ps in omega 
 
 -- each request that is left after these settlements has a mark, where `marks` are those before: as many of them go as there are
 -- settlements
-abbrev pub StayPaired : List (Option Mark) → Settled Asked (ById Asked) → Type 0
+abbrev pub StayPaired : (marks : List (Option Mark)) → Settled Asked (ById Asked) → Type 0
 StayPaired marks x = length (drop (length x.settlements) marks) ≡ length x.client.waiting
 
 -- if each request had a mark, `StayPaired` holds after a line, whether it has the id of the request at place k (`b`) or no id
@@ -307,21 +307,21 @@ module _ (text : Record → List ℕ) (old mid : Station) (s : Model) (x : Settl
   settles_either new n start taken' (Err r) many paired wrote is notes = settles_part start taken' wrote
 
 -- a link that recorded the acts `xs` and then the acts `ys` recorded `xs ++ ys`
-pub tells_more : (a b c : Option (List Act)) (xs ys : List Act) → AddsActs a b xs → AddsActs b c ys → AddsActs a c (xs ++ ys)
-tells_more None b c xs ys p q = tt
-tells_more (Some a) None c xs ys p q = absurd p
-tells_more (Some a) (Some b) None xs ys p q = absurd q
-tells_more (Some a) (Some b) (Some c) xs ys p q = q ∙ ap (λ zs. zs ++ ys) p ∙ append_assoc a xs ys
+pub adds_acts_append : (a b c : Option (List Act)) (xs ys : List Act) → AddsActs a b xs → AddsActs b c ys → AddsActs a c (xs ++ ys)
+adds_acts_append None b c xs ys p q = tt
+adds_acts_append (Some a) None c xs ys p q = absurd p
+adds_acts_append (Some a) (Some b) None xs ys p q = absurd q
+adds_acts_append (Some a) (Some b) (Some c) xs ys p q = q ∙ ap (λ zs. zs ++ ys) p ∙ append_assoc a xs ys
 
 -- a station that noted whether a line was a reply is as the model that noted it
-pub with_noted : (mid : Station) (p : Progress) (b b' : Bool) (s : Model) → Refines mid s → b ≡ b' → p ≡ line_noted b mid.progress
+pub refines_noted : (mid : Station) (p : Progress) (b b' : Bool) (s : Model) → Refines mid s → b ≡ b' → p ≡ line_noted b mid.progress
     → Refines (record mid { progress = p }) (with_progress (line_noted b') s)
-with_noted mid p b b' s stands e is = refines_with mid p (line_noted b') s stands (is ∙ ap (λ t. line_noted t mid.progress) e)
+refines_noted mid p b b' s stands e is = refines_with mid p (line_noted b') s stands (is ∙ ap (λ t. line_noted t mid.progress) e)
 
 -- a station that noted what a line settled is as the model that noted it
-pub with_behind_noted : (mid : Station) (p : Progress) (t t' : Bool) (n n' : ℕ) (s : Model) → Refines mid s → t ≡ t' → n ≡ n' → p ≡ behind_noted t n mid.progress
+pub refines_settled : (mid : Station) (p : Progress) (t t' : Bool) (n n' : ℕ) (s : Model) → Refines mid s → t ≡ t' → n ≡ n' → p ≡ behind_noted t n mid.progress
     → Refines (record mid { progress = p }) (with_progress (behind_noted t' n') s)
-with_behind_noted mid p t t' n n' s stands e f is =
+refines_settled mid p t t' n n' s stands e f is =
     refines_with mid p (behind_noted t' n') s stands (is ∙ ap (λ b. behind_noted b n mid.progress) e ∙ ap (λ m. behind_noted t' m mid.progress) f)
 
 -- a station whose progress changed, and whose requests timed out at a moment, is as the model at that moment

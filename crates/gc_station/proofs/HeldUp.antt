@@ -10,16 +10,14 @@ use Rattle.std.proofs.lemmas.List.{length-map, length-append}
 use Rattle.gc_values.proofs.Every.{every_drop}
 use Rattle.gc_catalogue.specs.Asked.{is_of_table}
 use Rattle.gc_catalogue.specs.declared.asked.Asked.{Asked}
-use Rattle.gc_catalogue.specs.declared.asked.Asked.TheVariants.{Table}
-use Rattle.gc_catalogue.specs.declared.call.Call.TheVariants.{SetDate}
 use Rattle.gc_client.specs.OneForOne.{Step, Send, Hear, Expire, Restart, sent_on}
 use Rattle.gc_client.specs.Rule.{ById, fresh, heard, hears, settles_at, send_unless_full, settle, expired, pending_of}
 use Rattle.gc_client.specs.declared.pending.Pending.{Pending}
 use Rattle.gc_client.specs.declared.window.TheConstants.{WINDOW}
 use Rattle.gc_client.proofs.OneForOne.{length-settle}
-use Rattle.gc_texts.specs.Stamps.{date_time}
 use Rattle.gc_texts.specs.Tasks.{call_at}
 use Rattle.gc_texts.specs.declared.tasks.Task.{Task}
+use Rattle.gc_texts.proofs.TaskMoments.{at_any_moment}
 use Rattle.gc_links.specs.declared.link.Moment.{Moment}
 use Rattle.gc_links.specs.Acts.{Act, Told, Put, Cut, Gave, Silent}
 use Rattle.gc_station.specs.declared.mark.Mark.{Mark}
@@ -29,12 +27,12 @@ use Rattle.gc_station.specs.declared.progress.Action.TheVariants as action
 use Rattle.gc_station.specs.declared.progress.Progress.{Progress}
 use Rattle.gc_station.specs.declared.progress.Waiting.{Waiting}
 use Rattle.gc_station.specs.Behind.{AreOfTable, TheTableIsNeverHeldUp}
-use Rattle.gc_station.specs.Deciding.{has_begun, is_none_left, action_next, action_room, action_waiting, width_of}
+use Rattle.gc_station.specs.Deciding.{has_begun, is_none_left, action_to_send, action_room, action_waiting, width_of}
 use Rattle.gc_station.specs.Parts.{put_part, request_part, first_request_part, client_part, sync_part, part_of_act, client_stepped, client_after, course_at}
 use Rattle.gc_station.specs.Progressing.{one_more_in_window, turned, time_passed, is_over, loses_all}
 use Rattle.gc_station.specs.Reasons.{HoldsBefore}
 use Rattle.gc_station.specs.Runs.{state_after}
-use Rattle.gc_station.specs.Model.{Model, opening, action_at, waiting_of, is_some_of_table, ends_with_table, is_heard, with_progress, with_rest, lines_completed, after_piece, moved, losing, after, Performs, ended, request_or_null}
+use Rattle.gc_station.specs.Model.{Model, opening, action_at, waiting_of, is_some_of_table, ends_with_table, is_heard, with_progress, with_rest, lines_completed, after_piece, moved, losing, after, Performs, with_losses, request_or_null}
 use Rattle.gc_station.specs.NextCommand.{place_next, mark_next, mark_setup}
 use Rattle.gc_station.proofs.Always.{always}
 use Rattle.gc_station.proofs.Behind.{behind_by, behind_step}
@@ -43,7 +41,7 @@ use Rattle.gc_station.proofs.EachRun.{invariant_holds}
 use Rattle.gc_station.proofs.Facts.{action_for}
 use Rattle.gc_station.proofs.GoesBehind.{behind_counted, all_heard_steps}
 use Rattle.gc_station.proofs.Invariant.{Invariant}
-use Rattle.gc_station.proofs.Parting.{leads, keeps_action}
+use Rattle.gc_station.proofs.Parting.{leads, keeps_new_client}
 use Rattle.gc_station.proofs.Turns.{no_act_once_over}
 use Rattle.gc_station.proofs.Walk.{asked_along, quieted_along, closed_along, walk, piece_before}
 use Rattle.gc_station.proofs.Words.{renews_only}
@@ -67,7 +65,7 @@ SendsTableCalls Restart = ⊥
 -- table that a reply ended, is how many wait
 record Level (c : ById Asked) (b : ℕ) : Type 0 where
   tables : AllByRecursion IsTableCall c.waiting
-  few : length c.waiting ≤ 7
+  few : length c.waiting ≤ WINDOW
   same : b ≡ length c.waiting
 
 -- requests that are calls of the table still are once they may have timed out
@@ -82,18 +80,18 @@ settle_tables zero line (p ∷ ps) low all = all.0
 settle_tables (suc k) line (p ∷ ps) low all = settle_tables k line ps (omega (arith, low)) all.1
 
 -- `one_more_in_window` of a number below seven is that number plus 1
-one_more_below : (n : ℕ) → n < 7 → one_more_in_window n ≡ n + 1
+one_more_below : (n : ℕ) → n < WINDOW → one_more_in_window n ≡ n + 1
 one_more_below n low = cond-true (nat_lt n WINDOW) (n + 1) n (lt-ltb n WINDOW low)
 
 -- a send of a call of the table preserves `Level`, whether the window is full (`full`), so that the send is refused, or not
-level_sent : (c : ById Asked) (b target : ℕ) (call : Asked) (deadline : ℕ) → is_of_table call ≡ true → Level c b → (full : Bool) → nat_eq (length c.waiting) 7 ≡ full
+level_sent : (c : ById Asked) (b target : ℕ) (call : Asked) (deadline : ℕ) → is_of_table call ≡ true → Level c b → (full : Bool) → nat_eq (length c.waiting) WINDOW ≡ full
     → Level (sent_on (course_at c) target call (send_unless_full c target call deadline full)).client (one_more_in_window b)
 level_sent c b target call deadline table h true e =
     let seven = eqb-true (length c.waiting) 7 e in
     let same : one_more_in_window b ≡ length c.waiting = ap one_more_in_window (h.same ∙ seven) ∙ sym seven in
     record { tables = h.tables; few = h.few; same = same }
 level_sent c b target call deadline table h false e =
-    let low : length c.waiting < 7 = less (length c.waiting) h.few e in
+    let low : length c.waiting < WINDOW = less (length c.waiting) h.few e in
     let more = length-append c.waiting (pending_of target call deadline ∷ []) in
     record {
       tables = all_append IsTableCall c.waiting (pending_of target call deadline ∷ []) h.tables (table, tt);
@@ -129,11 +127,11 @@ level_heard c b line (Some id) h = by_test _ _ refl where
 
 -- a step that sends calls of the table alone preserves `Level`
 level_step : (c : ById Asked) (b : ℕ) (step : Step Asked) → SendsTableCalls step → Level c b → Level (client_stepped c step) (behind_step c b step)
-level_step c b (Send target call deadline) table h = level_sent c b target call deadline table h (nat_eq (length c.waiting) 7) refl
+level_step c b (Send target call deadline) table h = level_sent c b target call deadline table h (nat_eq (length c.waiting) WINDOW) refl
 level_step c b (Hear line) table h = level_heard c b line (heard line) h
 level_step c b (Expire now) table h =
     let many = length-map c.waiting (expired now) in
-    record { tables = expired_tables now c.waiting h.tables; few = subst (λ n. n ≤ 7) (sym many) h.few; same = h.same ∙ sym many }
+    record { tables = expired_tables now c.waiting h.tables; few = subst (λ n. n ≤ WINDOW) (sym many) h.few; same = h.same ∙ sym many }
 level_step c b Restart table h = absurd table
 
 -- steps that send calls of the table alone preserve `Level`
@@ -144,17 +142,13 @@ level_steps c b (step ∷ steps) all h = level_steps (client_stepped c step) (be
 -- Acts.
 
 -- if a task asks for a call of the table, it does so at any moment
-table_at : (task : Task) (utc : ℕ) → is_of_table task.command.call ≡ true → is_of_table (call_at task utc) ≡ true
-table_at task utc is = by_clock task.now where
-  -- the lemma above, whether the task sets the clock (`true`)
-  by_clock : (b : Bool) → is_of_table (if b then Table (SetDate (date_time utc)) else task.command.call) ≡ true
-  by_clock true = refl
-  by_clock false = is
+of_table_at_any_moment : (task : Task) (utc : ℕ) → is_of_table task.command.call ≡ true → is_of_table (call_at task utc) ≡ true
+of_table_at_any_moment task utc is = at_any_moment (λ call. is_of_table call ≡ true) task utc refl is
 
 -- the step that sends the first of these commands sends a call of the table, if all of them are
 first_tables : (now : ℕ) (mark : Mark) (left : List Task) → AreOfTable left → AllByRecursion SendsTableCalls (first_request_part now mark left).steps
 first_tables now mark [] all = tt
-first_tables now mark (task ∷ others) all = (table_at task mark.sent all.0, tt)
+first_tables now mark (task ∷ others) all = (of_table_at_any_moment task mark.sent all.0, tt)
 
 -- the step that sends the first of these commands of the setup, or a null procedure if there is none, sends a call of the table,
 -- if all of them are
@@ -179,7 +173,7 @@ came_none true (asked ∷ others) piece s begins e = asked_along (λ (q : Progre
 came_none false word piece s begins e = e
 
 -- if the station has synchronized, and the run isn't over, the client stays at the end of an act, as nothing is lost
-kept_client : (t : Model) → has_begun t.progress ≡ true → is_over t.progress ≡ false → (ended t).client ≡ t.client
+kept_client : (t : Model) → has_begun t.progress ≡ true → is_over t.progress ≡ false → (with_losses t).client ≡ t.client
 kept_client t begun going = ap (λ (b : Bool). (losing b t).client) (loses_nothing (has_begun t.progress) (is_over t.progress) begun going)
 
 module _ (plan : Plan) (commands : List Task) where
@@ -249,7 +243,7 @@ module _ (plan : Plan) (commands : List Task) (all : AreOfTable commands) where
 
     -- the model after the act
     abbrev u : Model
-    u = ended t
+    u = with_losses t
 
     -- the loss of what is outstanding changes no progress
     same_progress : u.progress ≡ t.progress
@@ -273,8 +267,8 @@ module _ (plan : Plan) (commands : List Task) (all : AreOfTable commands) where
     wasnt_over false e = e
 
     -- `CountsWaiting` holds after the act, by whether the station had synchronized before
-    counts_waiting_so : (b : Bool) → has_begun s.progress ≡ b → CountsWaiting u
-    counts_waiting_so true begun = record {
+    counts_waiting_by_begun : (b : Bool) → has_begun s.progress ≡ b → CountsWaiting u
+    counts_waiting_by_begun true begun = record {
       begins = λ anew.
           let it = renews_only plan commands s o act obeys begun (sym (ap has_begun same_progress) ∙ anew) in
           ap (λ (p : Progress). p.behind) same_progress ∙ renewed_none plan commands s o act it.1 it.0 it.2;
@@ -284,9 +278,9 @@ module _ (plan : Plan) (commands : List Task) (all : AreOfTable commands) where
           subst (λ (c : ById Asked). Level c u.progress.behind) (sym (kept_client t now on))
           (subst (λ (p : Progress). Level t.client p.behind) (sym same_progress) (level_moved begun now (wasnt_over (is_over s.progress) refl)));
     }
-    counts_waiting_so false begins =
+    counts_waiting_by_begun false begins =
         let none = none_behind plan commands s o act its obeys begins (h.begins begins) in
-        let kept = keeps_action plan commands s o act its obeys begins (fine.begins begins) in
+        let kept = keeps_new_client plan commands s o act its obeys begins (fine.begins begins) in
         record {
           begins = λ anew. ap (λ (p : Progress). p.behind) same_progress ∙ none;
           level = λ still going.
@@ -299,16 +293,16 @@ module _ (plan : Plan) (commands : List Task) (all : AreOfTable commands) where
 
   -- each act preserves `CountsWaiting`
   counts_waiting_after : (s : Model) (act : Act) → Invariant plan commands s → Performs commands s (action_at plan s) act → CountsWaiting s → CountsWaiting (after plan commands s act)
-  counts_waiting_after s act fine obeys h = counts_waiting_so s act fine obeys h (has_begun s.progress) refl
+  counts_waiting_after s act fine obeys h = counts_waiting_by_begun s act fine obeys h (has_begun s.progress) refl
 
 -- if the window is full, `action_room` is the action of a station that waits
 full_waits : (plan : Plan) (p : Progress) (w : Waiting) (o : Action) → nat_lt w.all WINDOW ≡ false → action_room plan p w o ≡ action_waiting plan p w
 full_waits plan p w o full = ap (λ (b : Bool). if b then o else action_waiting plan p w) (and_right (nat_lt w.current (width_of plan)) (nat_lt w.all WINDOW) full)
 
--- if as many requests were sent after the last call of the table that a reply ended (`behind`) as are outstanding, `action_next`
--- is the action o as soon as there is room (`action_room`)
-sends_on : (plan : Plan) (p : Progress) (w : Waiting) (o : Action) → p.behind ≡ w.all → action_next plan p w o ≡ action_room plan p w o
-sends_on plan p w o e = by_test (nat_lt p.behind WINDOW) refl where
+-- if as many requests were sent after the last call of the table that a reply ended (`behind`) as are outstanding,
+-- `action_to_send` is the action o as soon as there is room (`action_room`)
+to_send_is_room : (plan : Plan) (p : Progress) (w : Waiting) (o : Action) → p.behind ≡ w.all → action_to_send plan p w o ≡ action_room plan p w o
+to_send_is_room plan p w o e = by_test (nat_lt p.behind WINDOW) refl where
   -- the lemma above, by whether the count is below seven
   by_test : (b : Bool) → nat_lt p.behind WINDOW ≡ b
       → (if b then action_room plan p w o else (if nat_eq w.current 0 then action_room plan p w action.Flush else action_waiting plan p w)) ≡ action_room plan p w o
@@ -316,7 +310,7 @@ sends_on plan p w o e = by_test (nat_lt p.behind WINDOW) refl where
   by_test false is =
       let full : nat_lt w.all WINDOW ≡ false = ap (λ n. nat_lt n WINDOW) (sym e) ∙ is in
       either_way (nat_eq w.current 0) (full_waits plan p w action.Flush full) ∙ sym (full_waits plan p w o full) where
-        -- the station doesn't send a null procedure in place of the command either
+        -- the station waits, whether a null procedure is wanted, since all outstanding requests have timed out (b), or not
         either_way : (b : Bool) → action_room plan p w action.Flush ≡ action_waiting plan p w → (if b then action_room plan p w action.Flush else action_waiting plan p w) ≡ action_waiting plan p w
         either_way true f = f
         either_way false f = refl
@@ -330,4 +324,4 @@ never_held_up plan commands scope acts runs all begun going =
     (λ done act before obeys h. counts_waiting_after plan commands all (state_after plan commands scope done) act (invariant_holds plan commands scope done) obeys h)
     (record { begins = λ e. refl; level = λ e f. cc }) acts runs in
     let level = free.level begun going in
-    (level.same, sends_on plan s.progress (waiting_of s) action.Send level.same, sends_on plan s.progress (waiting_of s) action.Prepare level.same)
+    (level.same, to_send_is_room plan s.progress (waiting_of s) action.Send level.same, to_send_is_room plan s.progress (waiting_of s) action.Prepare level.same)

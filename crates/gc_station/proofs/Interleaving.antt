@@ -33,12 +33,6 @@ interleave_past {A} xs ys [] us h = subst (λ (l : List A). Interleave xs (l ++ 
 interleave_past {A} xs ys (z ∷ zs) us (inl k) = inl (k.0, k.1, interleave_past k.0 ys zs us k.2)
 interleave_past {A} xs ys (z ∷ zs) us (inr k) = inr (k.0 ++ us, ap (λ (l : List A). l ++ us) k.1, interleave_past xs k.0 zs us k.2)
 
--- what was kept and what was left out are together as many as what had its turn
-pub interleave_length : {A : Type 0} (xs ys zs : List A) → Interleave xs ys zs → length xs + length ys ≡ length zs
-interleave_length xs ys [] h = let a = ap length h.0 in let b = ap length h.1 in omega (arith, a, b)
-interleave_length xs ys (z ∷ zs) (inl k) = let a = ap length k.1 in let b = interleave_length k.0 ys zs k.2 in omega (arith, a, b)
-interleave_length xs ys (z ∷ zs) (inr k) = let a = ap length k.1 in let b = interleave_length xs k.0 zs k.2 in omega (arith, a, b)
-
 -- what holds of all that had its turn holds of what was left out
 pub interleave_all : {A : Type 0} (P : A → Type 0) (xs ys zs : List A) → Interleave xs ys zs → AllByRecursion P zs → AllByRecursion P ys
 interleave_all P xs ys [] h all = subst (AllByRecursion P) (sym h.1) tt

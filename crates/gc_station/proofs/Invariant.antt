@@ -1,6 +1,7 @@
 -- What every run keeps, after each of its acts, whatever the link does.
 use Rattle.std.proofs.Common.{◌≡◌, ◌<◌, ◌≤◌, Bool, true, false, List, [], length, map}
 use Rattle.std.specs.List.{AllByRecursion}
+use Rattle.gc_client.specs.declared.window.TheConstants.{WINDOW, IDS}
 use Rattle.gc_client.specs.OneForOne.{of_pending}
 use Rattle.gc_client.specs.Rule.{fresh}
 use Rattle.gc_texts.specs.declared.tasks.Task.{Task}
@@ -18,15 +19,16 @@ use Rattle.gc_station.specs.Parts.{MarksAsk}
 use Rattle.gc_station.specs.Reasons.{IsFinished}
 use Rattle.gc_station.specs.Tasked.{IsOfItsTask}
 
--- whether a phase is without a connection, or before requests are sent: no byte of a line is kept in it
-abbrev pub is_bare : Phase → Bool
-is_bare Down = true
-is_bare Pausing = true
-is_bare Clearing = true
-is_bare Draining = true
-is_bare Ready = false
-is_bare (Closing why) = false
-is_bare (Over why) = false
+-- whether a phase is one of the four before requests are sent, `Down` to `Draining`; in these no byte of a line is kept
+-- (`Invariant.rest`). `Over`, which is without a connection too, isn't one of them
+abbrev pub is_before_requests : Phase → Bool
+is_before_requests Down = true
+is_before_requests Pausing = true
+is_before_requests Clearing = true
+is_before_requests Draining = true
+is_before_requests Ready = false
+is_before_requests (Closing why) = false
+is_before_requests (Over why) = false
 
 -- whether a cause is that all is done
 abbrev pub is_done : Cause → Bool
@@ -44,19 +46,19 @@ abbrev pub Paired : Model → Type 0
 Paired s = length s.marks ≡ length s.client.waiting
 
 -- what every run keeps: the counts lie within the plan and the commands, and no command is unsent before the first cycle; each
--- outstanding request has a mark, at most seven are outstanding, and the next id is below 8; no bytes of a line are kept in a
--- phase that `is_bare`; if the run is over nothing is outstanding, and if it is done nothing is left; and each command had its
--- turn once, in order
+-- outstanding request has a mark, at most seven are outstanding, and the next id is below 8; no bytes of a line are kept
+-- before requests are sent (`is_before_requests`); if the run is over nothing is outstanding, and if it is done nothing is left;
+-- and each command had its turn once, in order
 pub record Invariant (plan : Plan) (commands : List Task) (s : Model) : Type 0 where
   pub unsent : s.progress.unsent ≤ cycle_length plan commands
   pub left : s.progress.left ≤ plan.cycles
   pub begun : 0 < s.progress.unsent → s.progress.left < plan.cycles
   pub paired : Paired s
-  pub window : length s.client.waiting ≤ 7
-  pub digit : s.client.next < 8
+  pub window : length s.client.waiting ≤ WINDOW
+  pub digit : s.client.next < IDS
   -- while it synchronizes nothing is outstanding, and the client is new
   pub begins : has_begun s.progress ≡ false → s.client ≡ fresh
-  pub rest : is_bare s.progress.phase ≡ true → s.rest ≡ []
+  pub rest : is_before_requests s.progress.phase ≡ true → s.rest ≡ []
   pub over : is_over s.progress ≡ true → s.client.waiting ≡ []
   pub finished : says_done s.progress.phase ≡ true → IsFinished (commands_in s.marks) s.progress
   pub each : IsEachOnce plan commands s

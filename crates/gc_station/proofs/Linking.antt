@@ -25,13 +25,13 @@ use Rattle.gc_station.specs.Model.{Model, Runs, opening, action_at, cycle_to_sen
 use Rattle.gc_station.specs.NextCommand.{place_next, commands_left, cycles_begun, expected_first, mark_next}
 use Rattle.gc_station.proofs.Chaining.{StaysBegun, SendsNoSetup, PreparesNothing, each_act_append, chain_linked, IsLinkedStill}
 use Rattle.gc_station.proofs.EachRun.{invariant_holds}
-use Rattle.gc_station.proofs.Outs.{of_a_cycle, send_cycle, send_place, sends_of_cycle}
+use Rattle.gc_station.proofs.Outs.{sends_next_of_cycle, send_cycle, send_place, sends_of_cycle}
 use Rattle.gc_station.proofs.Further.{send_goes_on}
 use Rattle.gc_station.proofs.Going.{after_all-append, runs_front, runs_behind}
 use Rattle.gc_station.proofs.SentAt.{records_stay, SentAt, sent_at}
 use Rattle.gc_station.proofs.OnePart.{puts_text, same_part}
-use Rattle.gc_station.proofs.PartFronts.{HasSome, IsFront, front_parts, front_no_longer, some_parts}
-use Rattle.gc_station.proofs.Lists.{get_more, get_behind, cons_head, cons_tail, fronts}
+use Rattle.gc_station.proofs.PartFronts.{HasSome, IsFront, front_parts, front_not_longer, some_parts}
+use Rattle.gc_station.proofs.Lists.{get_more, get_behind, cons_head, cons_tail, one_front_begins_other}
 use Rattle.gc_station.proofs.Closings.{needs_of}
 use Rattle.gc_station.proofs.Interleaving.{before_not_after}
 
@@ -40,10 +40,10 @@ use Rattle.gc_station.proofs.Interleaving.{before_not_after}
 module _ (plan : Plan) (commands : List Task) (scope : Scope) where
   -- if a command of a cycle is to be sent after the acts `xs`, the station is further (`IsFurther`) after the act that sends it
   -- and any acts more (`ys`) than after `xs`
-  further_on : (xs ys more : List Act) → action_at plan (state_after plan commands scope xs) ≡ Send → ys ≡ xs ++ more → (more ≡ [] → ⊥)
+  further_after_send : (xs ys more : List Act) → action_at plan (state_after plan commands scope xs) ≡ Send → ys ≡ xs ++ more → (more ≡ [] → ⊥)
       → IsFurther plan commands (state_after plan commands scope xs) (state_after plan commands scope ys)
-  further_on xs ys [] sends e some = absurd (some refl)
-  further_on xs ys (act ∷ more) sends e some =
+  further_after_send xs ys [] sends e some = absurd (some refl)
+  further_after_send xs ys (act ∷ more) sends e some =
       subst (λ l. IsFurther plan commands (state_after plan commands scope xs) (state_after plan commands scope l)) (sym e) (send_goes_on plan commands scope xs more act sends)
 
   -- of two commands that were sent (x before y, in the order of parts and requests), the second one was sent at least one
@@ -51,17 +51,17 @@ module _ (plan : Plan) (commands : List Task) (scope : Scope) where
   goes_before : (acts : List Act) (i j m n : ℕ) (a b : Mark) → IsBefore i m j n → (x : SentAt plan commands (opening plan scope) acts i m a)
       → (y : SentAt plan commands (opening plan scope) acts j n b) → (more : List Act) × (y.before ≡ x.before ++ more) × (more ≡ [] → ⊥)
   goes_before acts i j m n a b l x y =
-      elim (fronts x.before (x.act ∷ x.rest) y.before (y.act ∷ y.rest) (sym x.order ∙ y.order)) [
-        | inl h ↦ (h.0, h.1, λ none. behind [] (sym (h.1 ∙ ap (λ l. x.before ++ l) none ∙ append-nil x.before) ∙ sym (append-nil y.before)))
-        | inr h ↦ absurd (behind h.0 h.1)
+      elim (one_front_begins_other x.before (x.act ∷ x.rest) y.before (y.act ∷ y.rest) (sym x.order ∙ y.order)) [
+        | inl h ↦ (h.0, h.1, λ none. not_later [] (sym (h.1 ∙ ap (λ l. x.before ++ l) none ∙ append-nil x.before) ∙ sym (append-nil y.before)))
+        | inr h ↦ absurd (not_later h.0 h.1)
       ]
     where
       -- the first command isn't sent at the act that sends the second one, or after it
-      behind : (more : List Act) → x.before ≡ y.before ++ more → ⊥
-      behind more e =
+      not_later : (more : List Act) → x.before ≡ y.before ++ more → ⊥
+      not_later more e =
           let front = subst (λ l. IsFront (parts plan commands scope y.before) (parts plan commands scope l)) (sym e)
           (front_parts plan commands (opening plan scope) y.before more) in
-          let there = front_no_longer (parts plan commands scope y.before)
+          let there = front_not_longer (parts plan commands scope y.before)
           (parts plan commands scope x.before) j i y.so_far x.so_far front y.last x.last y.of_parts x.of_parts in
           let counts_x : length x.so_far.marks ≡ m = x.count in
           let counts_y : length y.so_far.marks ≡ n = y.count in
@@ -72,10 +72,10 @@ module _ (plan : Plan) (commands : List Task) (scope : Scope) where
 
   -- of two commands that were sent (x before y, in the order of parts and requests), the first one by `Send`, the second one is
   -- of a later place or cycle
-  further_than : (acts : List Act) (i j m n : ℕ) (a b : Mark) → IsBefore i m j n → (x : SentAt plan commands (opening plan scope) acts i m a)
+  second_is_further : (acts : List Act) (i j m n : ℕ) (a b : Mark) → IsBefore i m j n → (x : SentAt plan commands (opening plan scope) acts i m a)
       → action_at plan (state_after plan commands scope x.before) ≡ Send → (y : SentAt plan commands (opening plan scope) acts j n b)
       → IsFurther plan commands (state_after plan commands scope x.before) (state_after plan commands scope y.before)
-  further_than acts i j m n a b l x sends y = let h = goes_before acts i j m n a b l x y in further_on x.before y.before h.0 sends h.1 h.2
+  second_is_further acts i j m n a b l x sends y = let h = goes_before acts i j m n a b l x y in further_after_send x.before y.before h.0 sends h.1 h.2
 
 -- the law: of two commands of cycles that are sent, the later one is of a later place in its cycle, or of a later cycle
 pub marks_go_on : MarksGoOn
@@ -83,10 +83,10 @@ marks_go_on plan commands scope acts runs i j m n p q a b e f g h l above below 
     let x = sent_at plan commands (opening plan scope) acts i m p a e g in
     let y = sent_at plan commands (opening plan scope) acts j n q b f h in
     let at_x = mark_next plan commands (state_after plan commands scope x.before).progress in
-    let x_is = of_a_cycle plan commands (state_after plan commands scope x.before) (action_at plan (state_after plan commands scope x.before)) a x.its above in
-    let y_is = of_a_cycle plan commands (state_after plan commands scope y.before) (action_at plan (state_after plan commands scope y.before)) b y.its below in
+    let x_is = sends_next_of_cycle plan commands (state_after plan commands scope x.before) (action_at plan (state_after plan commands scope x.before)) a x.its above in
+    let y_is = sends_next_of_cycle plan commands (state_after plan commands scope y.before) (action_at plan (state_after plan commands scope y.before)) b y.its below in
     subst (λ (u : Mark). IsBefore u.cycle u.place b.cycle b.place) (sym x_is.1)
-    (subst (λ (u : Mark). IsBefore at_x.cycle at_x.place u.cycle u.place) (sym y_is.1) (further_than plan commands scope acts i j m n a b l x x_is.0 y))
+    (subst (λ (u : Mark). IsBefore at_x.cycle at_x.place u.cycle u.place) (sym y_is.1) (second_is_further plan commands scope acts i j m n a b l x x_is.0 y))
 
 -- The mark of a request.
 
@@ -109,51 +109,51 @@ put_asks plan commands s act bytes puts begun some = subst (λ (b : Bool). slice
       by_act a puts = absurd puts
 
 -- part i of these parts, counted from 0, has a request with this mark
-abbrev HasMark : List Part → ℕ → Mark → Type 0
+abbrev HasMark : List Part → (i : ℕ) → Mark → Type 0
 HasMark ps i mark = (part : Part) × (slice_get ps i ≡ Some part) × (m : ℕ) × (slice_get part.marks m ≡ Some (Some mark))
 
 -- if the first request of the part p has this mark, the first of the parts `ps` with p before them (`in_front`) has a request
 -- with it
-first_has : (p : Part) (ends : Bool) (ps : List Part) (mark : Mark) → slice_get p.marks 0 ≡ Some (Some mark) → HasMark (in_front p ends ps) 0 mark
-first_has p true ps mark e = (p, refl, 0, e)
-first_has p false [] mark e = (p, refl, 0, e)
-first_has p false (q ∷ ps) mark e = (parts_joined p q, refl, 0, get_more p.marks q.marks 0 (Some mark) e)
+first_has_mark : (p : Part) (ends : Bool) (ps : List Part) (mark : Mark) → slice_get p.marks 0 ≡ Some (Some mark) → HasMark (in_front p ends ps) 0 mark
+first_has_mark p true ps mark e = (p, refl, 0, e)
+first_has_mark p false [] mark e = (p, refl, 0, e)
+first_has_mark p false (q ∷ ps) mark e = (parts_joined p q, refl, 0, get_more p.marks q.marks 0 (Some mark) e)
 
 -- if part i has a request with a mark, it still has it once another part is joined to the front of the first one
-on_has : (p : Part) (qs : List Part) (i : ℕ) (mark : Mark) → HasMark qs i mark → HasMark (in_front p false qs) i mark
-on_has p [] i mark h = absurd (none-some h.0 h.1)
-on_has p (y ∷ qs) zero mark h =
+still_has_mark : (p : Part) (qs : List Part) (i : ℕ) (mark : Mark) → HasMark qs i mark → HasMark (in_front p false qs) i mark
+still_has_mark p [] i mark h = absurd (none-some h.0 h.1)
+still_has_mark p (y ∷ qs) zero mark h =
     let same : h.0 ≡ y = sym (same_Some y h.0 h.1) in
     (parts_joined p y, refl, length p.marks + h.2, get_behind p.marks y.marks (length p.marks + h.2) h.2 refl ∙ subst (λ (x : Part). slice_get x.marks h.2 ≡ Some (Some mark)) same h.3)
-on_has p (y ∷ qs) (suc i) mark h = h
+still_has_mark p (y ∷ qs) (suc i) mark h = h
 
 -- `ps` are the parts of some first acts, and `qs` those of all acts. If the part of `qs` at the place of the last part of `ps`
 -- has a request with a mark, it still has it once one act more, whose part is p, is put before both
-step_has : (p : Part) (ends : Bool) (ps qs : List Part) (i : ℕ) (mark : Mark) → HasSome ps → length (in_front p ends ps) ≡ suc i
+last_has_mark : (p : Part) (ends : Bool) (ps qs : List Part) (i : ℕ) (mark : Mark) → HasSome ps → length (in_front p ends ps) ≡ suc i
     → ((j : ℕ) → length ps ≡ suc j → HasMark qs j mark) → HasMark (in_front p ends qs) i mark
-step_has p true [] qs i mark some size has = absurd some
-step_has p true (x ∷ ps) qs zero mark some size has = absurd (omega (arith, size))
-step_has p true (x ∷ ps) qs (suc i) mark some size has = has i (omega (arith, size))
-step_has p false [] qs i mark some size has = absurd some
-step_has p false (x ∷ ps) qs i mark some size has = on_has p qs i mark (has i size)
+last_has_mark p true [] qs i mark some size has = absurd some
+last_has_mark p true (x ∷ ps) qs zero mark some size has = absurd (omega (arith, size))
+last_has_mark p true (x ∷ ps) qs (suc i) mark some size has = has i (omega (arith, size))
+last_has_mark p false [] qs i mark some size has = absurd some
+last_has_mark p false (x ∷ ps) qs i mark some size has = still_has_mark p qs i mark (has i size)
 
 -- the first request of this act, by a station with the model u, has the mark of the next command of a cycle
-abbrev SendsNextFirst : Plan → List Task → Model → Act → Type 0
+abbrev SendsNextFirst : Plan → List Task → (u : Model) → Act → Type 0
 SendsNextFirst plan commands u act = slice_get (part_of_act plan commands u (action_at plan u) act).marks 0 ≡ Some (Some (mark_next plan commands u.progress))
 
 -- part i is the last one after the acts `start`. If the first request of the act that follows has the next command's mark, part i
 -- of all acts (`start`, that act and `rest`) has that mark, too
-mark_there : (plan : Plan) (commands : List Task) (s : Model) (start : List Act) (act : Act) (rest : List Act) (i : ℕ) → length (parts_of plan commands s start) ≡ suc i
+has_mark_after_all : (plan : Plan) (commands : List Task) (s : Model) (start : List Act) (act : Act) (rest : List Act) (i : ℕ) → length (parts_of plan commands s start) ≡ suc i
     → SendsNextFirst plan commands (after_all plan commands s start) act
     → HasMark (parts_of plan commands s (start ++ act ∷ rest)) i (mark_next plan commands (after_all plan commands s start).progress)
-mark_there plan commands s [] act rest zero size e =
-    first_has (part_of_act plan commands s (action_at plan s) act) (ends_part plan commands s act) (parts_of plan commands (after plan commands s act) rest) (mark_next plan commands s.progress) e
-mark_there plan commands s [] act rest (suc i) size e = absurd (omega (arith, size))
-mark_there plan commands s (x ∷ start) act rest i size e =
+has_mark_after_all plan commands s [] act rest zero size e =
+    first_has_mark (part_of_act plan commands s (action_at plan s) act) (ends_part plan commands s act) (parts_of plan commands (after plan commands s act) rest) (mark_next plan commands s.progress) e
+has_mark_after_all plan commands s [] act rest (suc i) size e = absurd (omega (arith, size))
+has_mark_after_all plan commands s (x ∷ start) act rest i size e =
     let u = after plan commands s x in
-    step_has (part_of_act plan commands s (action_at plan s) x) (ends_part plan commands s x) (parts_of plan commands u start)
+    last_has_mark (part_of_act plan commands s (action_at plan s) x) (ends_part plan commands s x) (parts_of plan commands u start)
     (parts_of plan commands u (start ++ act ∷ rest)) i (mark_next plan commands (after_all plan commands u start).progress) (some_parts plan commands u start) size
-    (λ j many. mark_there plan commands u start act rest j many e)
+    (λ j many. has_mark_after_all plan commands u start act rest j many e)
 
 -- Back along a chain.
 
@@ -166,7 +166,7 @@ module _ (plan : Plan) (commands : List Task) (scope : Scope) where
   same_send : (acts xs us ys vs : List Act) → (first : acts ≡ xs ++ us) → (second : acts ≡ ys ++ vs) → (sends : action_at plan (at xs) ≡ Send) → (sends_too : action_at plan (at ys) ≡ Send)
       → (cycle : cycles_begun plan (at xs).progress ≡ cycles_begun plan (at ys).progress) → (place : place_next commands (at xs).progress ≡ place_next commands (at ys).progress) → xs ≡ ys
   same_send acts xs us ys vs e f go_x go_y cycle place =
-      elim (fronts xs us ys vs (sym e ∙ f)) [
+      elim (one_front_begins_other xs us ys vs (sym e ∙ f)) [
         | inl h ↦ sym (none_between h.0 xs ys h.1 go_x cycle place)
         | inr h ↦ none_between h.0 ys xs h.1 go_y (sym cycle) (sym place)
       ]
@@ -204,9 +204,9 @@ module _ (plan : Plan) (commands : List Task) (scope : Scope) where
       (λ xs. Runs plan commands (opening plan scope) xs) l.order runs) keeps (subst (λ xs. action_at plan (at xs) ≡ Send) l.order next))
 
   -- if a chained command is to be sent, at place a + 1, `AnsweredInPart` holds of the command before it (`IsLinkedStill`)
-  one_back : (acts : List Act) (a : ℕ) → (runs : Runs plan commands (opening plan scope) acts) → (sends : action_at plan (at acts) ≡ Send)
+  answered_one_before : (acts : List Act) (a : ℕ) → (runs : Runs plan commands (opening plan scope) acts) → (sends : action_at plan (at acts) ≡ Send)
       → (place : place_next commands (at acts).progress ≡ a + 1) → IsLinkedStill plan commands scope acts → AnsweredInPart acts (cycles_begun plan (at acts).progress) a
-  one_back acts a runs next place (l, keeps, no_setup) =
+  answered_one_before acts a runs next place (l, keeps, no_setup) =
       let t = l.in_time.reply in
       let b = at l.before in
       let some_cycle = (invariant_holds plan commands scope l.before).begun (needs_of plan b Send l.sends).2 in
@@ -243,9 +243,9 @@ module _ (plan : Plan) (commands : List Task) (scope : Scope) where
 
   -- a chained command is to be sent, and `it` has the acts before the command that precedes it (`it.0.before`). If
   -- `AnsweredInPart` holds after these acts of an earlier command of the cycle, it holds of that command still
-  more_back : (acts : List Act) (a : ℕ) → (runs : Runs plan commands (opening plan scope) acts) → (sends : action_at plan (at acts) ≡ Send) → (it : IsLinkedStill plan commands scope acts)
+  answered_still : (acts : List Act) (a : ℕ) → (runs : Runs plan commands (opening plan scope) acts) → (sends : action_at plan (at acts) ≡ Send) → (it : IsLinkedStill plan commands scope acts)
       → AnsweredInPart it.0.before (cycles_begun plan (at it.0.before).progress) a → AnsweredInPart acts (cycles_begun plan (at acts).progress) a
-  more_back acts a runs next (l, keeps, no_setup) h =
+  answered_still acts a runs next (l, keeps, no_setup) h =
       let grown = records_stay plan commands scope l.before (l.request ∷ l.between) in
       record {
         its = record {
@@ -272,18 +272,18 @@ module _ (plan : Plan) (commands : List Task) (scope : Scope) where
 
   -- if a command is to be sent, `AnsweredInPart` holds of the command d + 1 places before it, at place a, if that is one of a
   -- cycle, and all commands after it up to the next one are chained
-  back_to : (d a : ℕ) (acts : List Act) → (runs : Runs plan commands (opening plan scope) acts) → (sends : action_at plan (at acts) ≡ Send)
+  answered_any_before : (d a : ℕ) (acts : List Act) → (runs : Runs plan commands (opening plan scope) acts) → (sends : action_at plan (at acts) ≡ Send)
       → (place : place_next commands (at acts).progress ≡ a + suc d) → (low : plan.setup ≤ a) → AreChained commands a (place_next commands (at acts).progress)
       → AnsweredInPart acts (cycles_begun plan (at acts).progress) a
-  back_to zero a acts runs next place low chained =
+  answered_any_before zero a acts runs next place low chained =
       let x = chain_linked plan commands scope acts runs next (omega (arith, place, low), chained (place_next commands (at acts).progress) (omega (arith, place)) (omega arith)) in
-      one_back acts a runs next (omega (arith, place)) x
-  back_to (suc d) a acts runs next place low chained =
+      answered_one_before acts a runs next (omega (arith, place)) x
+  answered_any_before (suc d) a acts runs next place low chained =
       let x = chain_linked plan commands scope acts runs next (omega (arith, place, low), chained (place_next commands (at acts).progress) (omega (arith, place)) (omega arith)) in
       let l = x.0 in
       let on : place_next commands (at acts).progress ≡ place_next commands (at l.before).progress + 1 = l.place in
-      more_back acts a runs next x
-      (back_to d a l.before (runs_front plan commands (opening plan scope) l.before (l.request ∷ l.between)
+      answered_still acts a runs next x
+      (answered_any_before d a l.before (runs_front plan commands (opening plan scope) l.before (l.request ∷ l.between)
       (subst (λ xs. Runs plan commands (opening plan scope) xs) l.order runs)) l.sends (omega (arith, on, place)) low
       (λ p above upto. chained p above (omega (arith, on, upto))))
 
@@ -306,7 +306,7 @@ module _ (plan : Plan) (commands : List Task) (scope : Scope) where
       let own = mark_next plan commands (at h.start).progress in
       let p = sent_at plan commands (opening plan scope) acts i m first own of_parts got in
       let q = sent_at plan commands (opening plan scope) acts i x first mark of_parts found in
-      let p_is = of_a_cycle plan commands (at p.before) (action_at plan (at p.before)) own p.its many in
+      let p_is = sends_next_of_cycle plan commands (at p.before) (action_at plan (at p.before)) own p.its many in
       let one : p.before ≡ h.start = same_send acts p.before (p.act ∷ p.rest) h.start (h.act ∷ h.rest) p.order h.order p_is.0 h.sends
       (ap (λ (k : Mark). k.cycle) (sym p_is.1)) (ap (λ (k : Mark). k.place) (sym p_is.1)) in
       let more = goes_before plan commands scope acts i i m x own mark (inr (refl, later)) p q in
@@ -324,10 +324,10 @@ module _ (plan : Plan) (commands : List Task) (scope : Scope) where
       ]
 
   -- where `AnsweredInPart` holds of a command, `IsAnsweredEarlier` does: its request is one of the last part
-  in_part : (acts : List Act) (i cycle a : ℕ) (first : Part) → Runs plan commands (opening plan scope) acts
+  answered_earlier : (acts : List Act) (i cycle a : ℕ) (first : Part) → Runs plan commands (opening plan scope) acts
       → slice_get (parts plan commands scope acts) i ≡ Some first → length (parts plan commands scope acts) ≡ suc i → AnsweredInPart acts cycle a
       → IsAnsweredEarlier plan commands scope acts first cycle a
-  in_part acts i cycle a first runs of_parts last h =
+  answered_earlier acts i cycle a first runs of_parts last h =
       let s = at h.start in
       let on = runs_behind plan commands (opening plan scope) h.start (h.act ∷ h.rest) (subst (λ xs. Runs plan commands (opening plan scope) xs) h.order runs) in
       let fine = invariant_holds plan commands scope h.start in
@@ -336,7 +336,7 @@ module _ (plan : Plan) (commands : List Task) (scope : Scope) where
       let many : length (drop (place_next commands s.progress) commands) ≡ length commands - place_next commands s.progress = length-drop (place_next commands s.progress) commands in
       let asks = put_asks plan commands s h.act _ (puts_text commands plan s h.act h.sends on.0) needs.1 (omega (arith, many, unsent, fine.unsent)) in
       let asks_here = subst (λ (o : Action). slice_get (part_of_act plan commands s o h.act).marks 0 ≡ Some (Some (mark_next plan commands s.progress))) (sym h.sends) asks in
-      let has = mark_there plan commands (opening plan scope) h.start h.act h.rest i (sym h.same ∙ last) asks_here in
+      let has = has_mark_after_all plan commands (opening plan scope) h.start h.act h.rest i (sym h.same ∙ last) asks_here in
       let same : has.0 ≡ first = same_Some has.0 first (sym has.1 ∙ ap (λ xs. slice_get (parts plan commands scope xs) i) (sym h.order) ∙ of_parts) in
       record {
         its = h.its;
@@ -355,7 +355,7 @@ pub chains_stay : ChainsStay
 chains_stay plan commands scope acts runs i n part mark e f above =
     let x = sent_at plan commands (opening plan scope) acts i n part mark e f in
     let runs_there = runs_front plan commands (opening plan scope) x.before (x.act ∷ x.rest) (subst (λ xs. Runs plan commands (opening plan scope) xs) x.order runs) in
-    let is = of_a_cycle plan commands (state_after plan commands scope x.before) (action_at plan (state_after plan commands scope x.before)) mark x.its above in
+    let is = sends_next_of_cycle plan commands (state_after plan commands scope x.before) (action_at plan (state_after plan commands scope x.before)) mark x.its above in
     let cycle : mark.cycle ≡ cycles_begun plan (state_after plan commands scope x.before).progress = ap (λ (k : Mark). k.cycle) is.1 in
     let place : mark.place ≡ place_next commands (state_after plan commands scope x.before).progress = ap (λ (k : Mark). k.place) is.1 in
     record {
@@ -368,6 +368,6 @@ chains_stay plan commands scope acts runs i n part mark e f above =
       count = x.count;
       chain = λ a low less chained.
           subst (λ c. IsAnsweredEarlier plan commands scope x.before x.so_far c a) (sym cycle)
-          (in_part plan commands scope x.before i (cycles_begun plan (state_after plan commands scope x.before).progress) a x.so_far runs_there x.of_parts x.last
-          (back_to plan commands scope (mark.place - suc a) a x.before runs_there is.0 (omega (arith, place, less)) low (subst (λ p. AreChained commands a p) place chained)));
+          (answered_earlier plan commands scope x.before i (cycles_begun plan (state_after plan commands scope x.before).progress) a x.so_far runs_there x.of_parts x.last
+          (answered_any_before plan commands scope (mark.place - suc a) a x.before runs_there is.0 (omega (arith, place, less)) low (subst (λ p. AreChained commands a p) place chained)));
     }

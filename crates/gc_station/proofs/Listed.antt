@@ -19,6 +19,7 @@ use Rattle.gc_station.specs.Marks.{end_of, answer_as}
 use Rattle.gc_station.specs.NextCommand.{expected_of_setup}
 use Rattle.gc_station.specs.Records.{Record}
 use Rattle.gc_station.specs.Retries.{code_of_end, is_listed, HasListed, BeginNoAttempt}
+use Rattle.gc_station.specs.Scopes.{Reads}
 use Rattle.gc_station.proofs.Facts.{or_first}
 use Rattle.gc_station.proofs.Meets.{answer_line}
 
@@ -29,15 +30,15 @@ answered_line : (expected : Expected) (x zeroed : Reading) (q : Quality) (line l
 answered_line expected x zeroed q line l said e = same_Some line l (sym (answer_line expected x zeroed line) ∙ ap line_of e)
 
 -- if a request ended as answered by the line l, the code of its outcome is the code in that line
-pub code_there : (reads : Asked → List ℕ → Reading) (expected : Expected) (call : Asked) (outcome : Rule.Outcome) (q : Quality) (said : Option Answer) (l : List ℕ)
+pub code_is_in_line : (reads : Reads) (expected : Expected) (call : Asked) (outcome : Rule.Outcome) (q : Quality) (said : Option Answer) (l : List ℕ)
     → end_of reads expected call outcome ≡ Answered q said l → code_of reads call outcome ≡ code_in (reads call l)
-code_there reads expected call (Rule.Answered line) q said l e = ap (λ k. code_in (reads call k)) (answered_line expected (reads call line) (reads call (as_zero line)) q line l said e)
-code_there reads expected call Rule.Late q said l e = cc
-code_there reads expected call Rule.Lost q said l e = cc
+code_is_in_line reads expected call (Rule.Answered line) q said l e = ap (λ k. code_in (reads call k)) (answered_line expected (reads call line) (reads call (as_zero line)) q line l said e)
+code_is_in_line reads expected call Rule.Late q said l e = cc
+code_is_in_line reads expected call Rule.Lost q said l e = cc
 
 -- whether a rule names an end is the same with the code `code` as with the code that the end's line has, if an answered end has
 -- that code in its line
-pub named_by : (reads : Asked → List ℕ → Reading) (again : Again) (call : Asked) (code : Option ℕ) (end : End)
+pub named_by : (reads : Reads) (again : Again) (call : Asked) (code : Option ℕ) (end : End)
     → ((q : Quality) (said : Option Answer) (l : List ℕ) → end ≡ Answered q said l → code ≡ code_in (reads call l))
     → repeats_after again code end ≡ repeats_after again (code_of_end reads call end) end
 named_by reads again call code (Answered q said l) is = ap (has_code again.codes) (is q said l refl)
@@ -53,19 +54,19 @@ named_by reads again call code Missed is = refl
 -- whether a command of the last attempt among these records ended as its rule names, where a record with link 0 begins an
 -- attempt. b says whether one had before these records, and counts as long as none of them begins an attempt; so it is b if there
 -- are no records
-abbrev pub any_listed : (Asked → List ℕ → Reading) → List Task → Bool → List Record → Bool
+abbrev pub any_listed : Reads → List Task → (b : Bool) → List Record → Bool
 any_listed reads commands b [] = b
 any_listed reads commands b (r ∷ rs) = any_listed reads commands ((if nat_eq r.turn.link 0 then false else b) || is_listed reads commands r) rs
 
 -- `any_listed` of two lists of records, one after the other, is that of the second, from that of the first on
-pub any_append : (reads : Asked → List ℕ → Reading) (commands : List Task) (xs ys : List Record) (b : Bool)
+pub any_append : (reads : Reads) (commands : List Task) (xs ys : List Record) (b : Bool)
     → any_listed reads commands b (xs ++ ys) ≡ any_listed reads commands (any_listed reads commands b xs) ys
 any_append reads commands [] ys b = refl
 any_append reads commands (x ∷ xs) ys b = any_append reads commands xs ys ((if nat_eq x.turn.link 0 then false else b) || is_listed reads commands x)
 
 -- if `any_listed` holds of records, one of them ended as its rule names, with no attempt begun after it (`HasListed`); or b is
 -- true, and none of them begins an attempt
-listed_or_before : (reads : Asked → List ℕ → Reading) (commands : List Task) (rs : List Record) (b : Bool) → any_listed reads commands b rs ≡ true
+listed_or_before : (reads : Reads) (commands : List Task) (rs : List Record) (b : Bool) → any_listed reads commands b rs ≡ true
     → ((b ≡ true) × BeginNoAttempt rs) ⊎ HasListed reads commands rs
 listed_or_before reads commands [] b e = inl (e, tt)
 listed_or_before reads commands (r ∷ rs) b e = by_rest (listed_or_before reads commands rs ((if nat_eq r.turn.link 0 then false else b) || is_listed reads commands r) e) where
@@ -76,7 +77,7 @@ listed_or_before reads commands (r ∷ rs) b e = by_rest (listed_or_before reads
   by_tests true false t l is all = cc
   by_tests false false t l is all = inl (or_first b false is refl, (eqb-false r.turn.link 0 t, all))
 
-  -- the lemma above, by what it gives for the others
+  -- `listed_or_before` by what it gives for the records after the first
   by_rest : ((((if nat_eq r.turn.link 0 then false else b) || is_listed reads commands r) ≡ true) × BeginNoAttempt rs) ⊎ HasListed reads commands rs
       → ((b ≡ true) × BeginNoAttempt (r ∷ rs)) ⊎ HasListed reads commands (r ∷ rs)
   by_rest (inl it) = by_tests (nat_eq r.turn.link 0) (is_listed reads commands r) refl refl it.0 it.1
@@ -84,15 +85,15 @@ listed_or_before reads commands (r ∷ rs) b e = by_rest (listed_or_before reads
 
 -- if `any_listed` holds of records, with none before them, one of them ended as its rule names, with no attempt begun after it
 -- (`HasListed`)
-pub listed_has : (reads : Asked → List ℕ → Reading) (commands : List Task) (rs : List Record) → any_listed reads commands false rs ≡ true → HasListed reads commands rs
-listed_has reads commands rs e = by_case (listed_or_before reads commands rs false e) where
+pub has_if_listed : (reads : Reads) (commands : List Task) (rs : List Record) → any_listed reads commands false rs ≡ true → HasListed reads commands rs
+has_if_listed reads commands rs e = by_case (listed_or_before reads commands rs false e) where
   -- the lemma above, of which one case can't be
   by_case : ((false ≡ true) × BeginNoAttempt rs) ⊎ HasListed reads commands rs → HasListed reads commands rs
   by_case (inl it) = cc
   by_case (inr h) = h
 
 -- `any_listed` stays true over records that begin no attempt
-stays_listed : (reads : Asked → List ℕ → Reading) (commands : List Task) (rs : List Record) → BeginNoAttempt rs → any_listed reads commands true rs ≡ true
+stays_listed : (reads : Reads) (commands : List Task) (rs : List Record) → BeginNoAttempt rs → any_listed reads commands true rs ≡ true
 stays_listed reads commands [] all = refl
 stays_listed reads commands (r ∷ rs) all = by_test (λ b. stays_listed reads commands rs all.1) (nat_eq r.turn.link 0) refl where
   -- the lemma above, whether the first record begins an attempt
@@ -102,15 +103,15 @@ stays_listed reads commands (r ∷ rs) all = by_test (λ b. stays_listed reads c
   by_test ih false t = ih true
 
 -- if one of the records ended as its rule names, and no attempt begins after it, `any_listed` holds of all
-pub has_listed : (reads : Asked → List ℕ → Reading) (commands : List Task) (rs : List Record) (b : Bool) → HasListed reads commands rs → any_listed reads commands b rs ≡ true
-has_listed reads commands rs b h =
+pub listed_if_has : (reads : Reads) (commands : List Task) (rs : List Record) (b : Bool) → HasListed reads commands rs → any_listed reads commands b rs ≡ true
+listed_if_has reads commands rs b h =
     ap (any_listed reads commands b) h.order ∙ any_append reads commands h.front (h.one ∷ h.behind) b
     ∙ ap (λ x. any_listed reads commands ((if nat_eq h.one.turn.link 0 then false else any_listed reads commands b h.front) || x) h.behind) h.listed
     ∙ ap (λ x. any_listed reads commands x h.behind) (or_right (if nat_eq h.one.turn.link 0 then false else any_listed reads commands b h.front) true refl)
     ∙ stays_listed reads commands h.behind h.same
 
--- what is expected of a command's answer, of which the text says this; if it is of the setup (`true`), in this attempt
-abbrev pub expected_as : Bool → ℕ → Expected → Expected
+-- what is expected of a command's answer, of which the text says this; if it is of the setup (`is_setup`), in this attempt
+abbrev pub expected_as : (is_setup : Bool) → (attempt : ℕ) → Expected → Expected
 expected_as is_setup attempt expected = if is_setup then expected_of_setup attempt expected else expected
 
 -- the target's place in `expected_as` is that of the command

@@ -28,14 +28,14 @@ all_split P Q front (x ∷ xs) all e step p = (step front x xs e p.0, all_split 
 
 -- P holds of each element of the first list, with its place (k for the first one) and the element beside it in the second list,
 -- as far as that has one
-abbrev pub AllAt : {A B : Type 0} → (ℕ → A → B → Type 0) → ℕ → List A → List B → Type 0
+abbrev pub AllAt : {A B : Type 0} → (P : ℕ → A → B → Type 0) → (k : ℕ) → List A → List B → Type 0
 AllAt P k [] ys = Unit {0}
 AllAt P k (x ∷ xs) [] = Unit {0}
 AllAt P k (x ∷ xs) (y ∷ ys) = P k x y × AllAt P (suc k) xs ys
 
 -- P holds of each element of the first list, with a number, its place (k for the first one) and the element beside it in the
 -- second list, which must have one. The numbers are at least `low`, and rise
-abbrev pub AllRisingAt : {A B : Type 0} → (ℕ → ℕ → A → B → Type 0) → (low k : ℕ) → List A → List B → Type 0
+abbrev pub AllRisingAt : {A B : Type 0} → (P : ℕ → ℕ → A → B → Type 0) → (low k : ℕ) → List A → List B → Type 0
 AllRisingAt P low k [] ys = Unit {0}
 AllRisingAt P low k (x ∷ xs) [] = ⊥
 AllRisingAt P low k (x ∷ xs) (y ∷ ys) = (n : ℕ) × (low ≤ n) × P n k x y × AllRisingAt P (suc n) (suc k) xs ys
@@ -54,16 +54,16 @@ rising_follow P Q low k (x ∷ xs) [] step p = absurd p
 rising_follow P Q low k (x ∷ xs) (y ∷ ys) step p = (p.0, p.1, step p.0 k x y p.2, rising_follow P Q (suc p.0) (suc k) xs ys step p.3)
 
 -- `AllRisingAt` of one property, at places that are higher by d, gives `AllRisingAt` of another that follows from it
-pub rising_on : {A B : Type 0} (P Q : ℕ → ℕ → A → B → Type 0) (d low k : ℕ) (xs : List A) (ys : List B)
+pub rising_shifted : {A B : Type 0} (P Q : ℕ → ℕ → A → B → Type 0) (d low k : ℕ) (xs : List A) (ys : List B)
     → ((n j : ℕ) (x : A) (y : B) → j < k + length xs → P n (d + j) x y → Q n j x y) → AllRisingAt P low (d + k) xs ys → AllRisingAt Q low k xs ys
-rising_on P Q d low k [] ys step p = tt
-rising_on P Q d low k (x ∷ xs) [] step p = absurd p
-rising_on P Q d low k (x ∷ xs) (y ∷ ys) step p =
+rising_shifted P Q d low k [] ys step p = tt
+rising_shifted P Q d low k (x ∷ xs) [] step p = absurd p
+rising_shifted P Q d low k (x ∷ xs) (y ∷ ys) step p =
     let next : suc (d + k) ≡ d + suc k = omega arith in (
       p.0,
       p.1,
       step p.0 k x y (omega arith) p.2,
-      rising_on P Q d (suc p.0) (suc k) xs ys (λ n j a b below. step n j a b (omega (arith, below)))
+      rising_shifted P Q d (suc p.0) (suc k) xs ys (λ n j a b below. step n j a b (omega (arith, below)))
           (subst (λ (i : ℕ). AllRisingAt P (suc p.0) i xs ys) next p.3),
     )
 
@@ -132,12 +132,12 @@ rising_all P Q f low k (x ∷ xs) (y ∷ ys) step p = (step p.0 k x y p.2, risin
 -- Lists cut at an element.
 
 -- of two fronts of the same list, one is a front of the other
-pub fronts : {A : Type 0} (xs ys fs gs : List A) → xs ++ ys ≡ fs ++ gs → ((more : List A) × (fs ≡ xs ++ more)) ⊎ ((more : List A) × (xs ≡ fs ++ more))
-fronts [] ys fs gs e = inl (fs, refl)
-fronts (x ∷ xs) ys [] gs e = inr (x ∷ xs, refl)
-fronts (x ∷ xs) ys (f ∷ fs) gs e =
+pub one_front_begins_other : {A : Type 0} (xs ys fs gs : List A) → xs ++ ys ≡ fs ++ gs → ((more : List A) × (fs ≡ xs ++ more)) ⊎ ((more : List A) × (xs ≡ fs ++ more))
+one_front_begins_other [] ys fs gs e = inl (fs, refl)
+one_front_begins_other (x ∷ xs) ys [] gs e = inr (x ∷ xs, refl)
+one_front_begins_other (x ∷ xs) ys (f ∷ fs) gs e =
     let head : x ≡ f = cons_head x f (xs ++ ys) (fs ++ gs) e in
-    elim (fronts xs ys fs gs (cons_tail x f (xs ++ ys) (fs ++ gs) e)) [
+    elim (one_front_begins_other xs ys fs gs (cons_tail x f (xs ++ ys) (fs ++ gs) e)) [
       | inl h ↦ inl (h.0, ap (λ y. y ∷ fs) (sym head) ∙ ap (λ l. x ∷ l) h.1)
       | inr h ↦ inr (h.0, ap (λ y. y ∷ xs) head ∙ ap (λ l. f ∷ l) h.1)
     ]
@@ -168,12 +168,12 @@ pub data CutOf {A : Type 0} (xs : List A) (last : A) (front behind : List A) (x 
   Before : (between : List A) → (at : xs ≡ front ++ x ∷ between) → (tail : behind ≡ between ++ last ∷ []) → CutOf xs last front behind x
 
 -- a cut of a list with a last element is at that element, or before it
-pub cut_at : {A : Type 0} (xs front behind : List A) (last x : A) → xs ++ last ∷ [] ≡ front ++ x ∷ behind → CutOf xs last front behind x
-cut_at [] [] behind last x e = AtEnd refl
-cut_at [] (b ∷ []) behind last x e = cc
-cut_at [] (b ∷ c ∷ front) behind last x e = cc
-cut_at (a ∷ xs) [] behind last x e = let head : a ≡ x = cc in let others : xs ++ last ∷ [] ≡ behind = cc in Before xs (ap (λ z. z ∷ xs) head) (sym others)
-cut_at (a ∷ xs) (b ∷ front) behind last x e = on (cut_at xs front behind last x others) where
+pub cut_at_end_or_before : {A : Type 0} (xs front behind : List A) (last x : A) → xs ++ last ∷ [] ≡ front ++ x ∷ behind → CutOf xs last front behind x
+cut_at_end_or_before [] [] behind last x e = AtEnd refl
+cut_at_end_or_before [] (b ∷ []) behind last x e = cc
+cut_at_end_or_before [] (b ∷ c ∷ front) behind last x e = cc
+cut_at_end_or_before (a ∷ xs) [] behind last x e = let head : a ≡ x = cc in let others : xs ++ last ∷ [] ≡ behind = cc in Before xs (ap (λ z. z ∷ xs) head) (sym others)
+cut_at_end_or_before (a ∷ xs) (b ∷ front) behind last x e = on (cut_at_end_or_before xs front behind last x others) where
   -- equal lists have the same first element
   head : a ≡ b
   head = cc

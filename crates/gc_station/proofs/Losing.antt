@@ -4,7 +4,6 @@ use Rattle.std.proofs.Common.{◌≡◌, ◌⊎◌, inl, inr, ℕ, ◌&&◌, ◌
 use Rattle.std.specs.List.{AllByRecursion}
 use Rattle.std.proofs.lemmas.List.{nil_from_length}
 use Rattle.std.proofs.lemmas.Bool.{both_ways, not-true}
-use Rattle.gc_catalogue.specs.declared.answer.Reading.{Reading}
 use Rattle.gc_catalogue.specs.declared.asked.Asked.{Asked}
 use Rattle.gc_client.specs.declared.pending.Pending.{Pending}
 use Rattle.gc_client.specs.Ids.{id_of}
@@ -29,24 +28,24 @@ use Rattle.gc_station.specs.Progressing.{turned, sent, failing, is_over, is_over
 use Rattle.gc_station.specs.Reasons.{HoldsBefore}
 use Rattle.gc_station.specs.Records.{Record}
 use Rattle.gc_station.specs.Runs.{state_after}
-use Rattle.gc_station.specs.Model.{Model, opening, action_at, waiting_of, Performs, with_progress, asks_next, after_put, moved, losing, ended, after, SendsCommand, IsSending, asks_setup}
+use Rattle.gc_station.specs.Model.{Model, opening, action_at, waiting_of, Performs, with_progress, asks_next, after_put, moved, losing, with_losses, after, SendsCommand, IsSending, asks_setup}
 use Rattle.gc_station.specs.NextCommand.{upcoming_after}
-use Rattle.gc_station.proofs.Counts.{ended_progress}
+use Rattle.gc_station.proofs.Counts.{with_losses_progress}
 use Rattle.gc_station.proofs.Facts.{action_for, or_first}
 use Rattle.gc_station.proofs.Invariant.{Invariant}
 use Rattle.gc_station.proofs.Going.{after_all-append}
 use Rattle.gc_station.proofs.Growing.{moved_grew}
-use Rattle.gc_station.proofs.Lists.{all_append, all_split, CutOf, AtEnd, Before, cut_at, rising_all}
+use Rattle.gc_station.proofs.Lists.{all_append, all_split, CutOf, AtEnd, Before, cut_at_end_or_before, rising_all}
 use Rattle.gc_station.proofs.Meets.{IsRecordOf, is_record_of, own_request, all_records_at, was_answered, was_late}
 use Rattle.gc_station.proofs.Waiting.{WasAsked, TimedOutAsRead, StillWaits, IsJustified, IsHonest}
-use Rattle.gc_station.proofs.Parting.{keeps_action}
-use Rattle.gc_station.proofs.Walk.{is_sent, moved_changed}
+use Rattle.gc_station.proofs.Parting.{keeps_new_client}
+use Rattle.gc_station.proofs.Walk.{sent_same, moved_changed}
 use Rattle.gc_station.proofs.Words.{renews_only, renews_needs}
-use Rattle.gc_station.specs.Scopes.{Scope}
+use Rattle.gc_station.specs.Scopes.{Scope, Reads}
 
 -- with these marks no record is written, whatever is settled
 abbrev Unwritten : List (Option Mark) → Type 0
-Unwritten marks = (reads : Asked → List ℕ → Reading) (utc : ℕ) (settlements : List (Settlement Asked)) → records_of reads utc marks settlements ≡ []
+Unwritten marks = (reads : Reads) (utc : ℕ) (settlements : List (Settlement Asked)) → records_of reads utc marks settlements ≡ []
 
 -- if there are no marks, no record is written
 unwritten_none : (marks : List (Option Mark)) → marks ≡ [] → Unwritten marks
@@ -69,17 +68,17 @@ over_stops plan p w over = by_phase p.phase refl over where
   by_phase phase is e = cc
 
 -- in the phase `Ready` the run isn't over
-pub going_on : (p : Progress) → p.phase ≡ Ready → is_over p ≡ false
-going_on p is = ap (λ (phase : Phase). is_over_in phase || (not (is_up phase) && nat_eq p.turns 0)) is
+pub ready_not_over : (p : Progress) → p.phase ≡ Ready → is_over p ≡ false
+ready_not_over p is = ap (λ (phase : Phase). is_over_in phase || (not (is_up phase) && nat_eq p.turns 0)) is
 
 -- in the phase `Ready` a failure doesn't end the run: the connection is to be closed first
-failing_goes : (why : Cause) (p : Progress) → p.phase ≡ Ready → is_over (failing why p) ≡ false
-failing_goes why p is = ap (λ (phase : Phase). is_over_in (if is_up phase then Closing why else Over why) || (not (is_up (if is_up phase then Closing why else Over why)) && nat_eq p.turns 0)) is
+failing_not_over : (why : Cause) (p : Progress) → p.phase ≡ Ready → is_over (failing why p) ≡ false
+failing_not_over why p is = ap (λ (phase : Phase). is_over_in (if is_up phase then Closing why else Over why) || (not (is_up (if is_up phase then Closing why else Over why)) && nat_eq p.turns 0)) is
 
 -- the run isn't over after a write, whole or cut, if the model that `f` gives is in the phase `Ready`
-put_goes : (requests : ℕ) (f : Model → Model) (s : Model) (act : Act) → (f s).progress.phase ≡ Ready → is_over (after_put requests f s act).progress ≡ false
-put_goes requests f s (Cut bytes n) is = failing_goes (cause.Write requests n) (f s).progress is
-put_goes requests f s act is = going_on (f s).progress is
+put_not_over : (requests : ℕ) (f : Model → Model) (s : Model) (act : Act) → (f s).progress.phase ≡ Ready → is_over (after_put requests f s act).progress ≡ false
+put_not_over requests f s (Cut bytes n) is = failing_not_over (cause.Write requests n) (f s).progress is
+put_not_over requests f s act is = ready_not_over (f s).progress is
 
 -- if the station has synchronized (a), and the run isn't over (b), nothing is lost
 pub loses_nothing : (a b : Bool) → a ≡ true → b ≡ false → (not a || b) ≡ false
@@ -97,12 +96,12 @@ sending_loses_none plan commands s act sends = by_action (action_at plan s) send
       let t = with_progress turned s in
       let f = λ (x : Model). with_progress (sent (upcoming_after 1 commands x.progress)) (asks_next plan commands x) in
       loses_nothing (has_begun (moved plan commands actions.Send t act).progress) _ (ap (λ (x : Model). has_begun x.progress) (moved_changed plan commands actions.Send t act) ∙ needs.1)
-      (put_goes _ f t act (sym (ap (λ (x : Model). x.progress.phase) (is_sent plan commands t)) ∙ needs.0))
+      (put_not_over _ f t act (sym (ap (λ (x : Model). x.progress.phase) (sent_same plan commands t)) ∙ needs.0))
   by_action actions.Prepare is needs =
       let t = with_progress turned s in
       let f = λ (x : Model). with_progress (setup_sent plan) (asks_setup plan commands x) in
       loses_nothing (has_begun (moved plan commands actions.Prepare t act).progress) _ (ap (λ (x : Model). has_begun x.progress) (moved_changed plan commands actions.Prepare t act) ∙ needs.1)
-      (put_goes _ f t act needs.0)
+      (put_not_over _ f t act needs.0)
   by_action next (inl is) needs = cc
   by_action next (inr is) needs = cc
 
@@ -144,7 +143,7 @@ module _ (plan : Plan) (commands : List Task) (scope : Scope) (acts : List Act) 
   loses_why : Invariant plan commands s → Performs commands s (action_at plan s) act → loses_all t.progress ≡ true → Unwritten t.marks ⊎ EndsPart
   loses_why fine obeys loses = by_test (is_over t.progress) refl loses where
     -- the model after the whole act
-    next : state_after plan commands scope (acts ++ act ∷ []) ≡ ended t
+    next : state_after plan commands scope (acts ++ act ∷ []) ≡ with_losses t
     next = after_all-append plan commands (opening plan scope) acts (act ∷ [])
 
     -- while the station synchronizes no request is outstanding, so none is recorded
@@ -152,7 +151,7 @@ module _ (plan : Plan) (commands : List Task) (scope : Scope) (acts : List Act) 
     none_waits begins =
         let new = fine.begins begins in
         unwritten_none t.marks
-        ((keeps_action plan commands s (action_at plan s) act (action_for plan s.progress (waiting_of s)) obeys begins new).1
+        ((keeps_new_client plan commands s (action_at plan s) act (action_for plan s.progress (waiting_of s)) obeys begins new).1
         ∙ nil_from_length s.marks (fine.paired ∙ ap (λ (c : ById Asked). length c.waiting) new))
 
     -- if the station hasn't synchronized after the act: it hadn't before it, or it resynchronizes at it
@@ -166,7 +165,7 @@ module _ (plan : Plan) (commands : List Task) (scope : Scope) (acts : List Act) 
     -- the lemma above, by whether the run is over after the act (`true`)
     by_test : (b : Bool) → is_over t.progress ≡ b → (not (has_begun t.progress) || b) ≡ true → Unwritten t.marks ⊎ EndsPart
     by_test true over e =
-        let stops = over_stops plan (ended t).progress (waiting_of (ended t)) (ap is_over (ended_progress t) ∙ over) in
+        let stops = over_stops plan (with_losses t).progress (waiting_of (with_losses t)) (ap is_over (with_losses_progress t) ∙ over) in
         inr (inr (record { none = refl; why = stops.0; stops = ap (λ (x : Model). action_at plan x) next ∙ stops.1 }))
     by_test false on e = renews (has_begun s.progress) refl (not-true (has_begun t.progress) (or_first (not (has_begun t.progress)) false e refl))
 
@@ -178,7 +177,7 @@ module _ (plan : Plan) (commands : List Task) (scope : Scope) (acts : List Act) 
   lost_justified r news earlier later loses why ends it = record {
     answered = λ line e. absurd (not_answered line (sym outcome ∙ was_answered r it.0 it.1 it.2 line e));
     late = λ e. absurd (not_late (sym outcome ∙ was_late r it.0 it.1 it.2 e));
-    lost = λ e. on (cut_at acts a.before a.between act a.request a.order);
+    lost = λ e. on (cut_at_end_or_before acts a.before a.between act a.request a.order);
   } where
     -- the settlement is of a request that is lost
     x : LostOf plan commands scope all it.1 (Some it.0)

@@ -19,9 +19,9 @@ use Rattle.gc_station.specs.declared.progress.Action.TheVariants.{Read}
 use Rattle.gc_station.specs.declared.progress.Progress.{Progress}
 use Rattle.gc_station.specs.declared.progress.Until.{Until}
 use Rattle.gc_station.specs.declared.station.Station.{Station}
-use Rattle.gc_links.specs.Acts.{Act, AddsActs, put_act, IsPart}
+use Rattle.gc_links.specs.Acts.{Act, AddsActs, put_act, IsPartIfErr}
 use Rattle.gc_station.specs.Deciding.{later}
-use Rattle.gc_station.specs.Marks.{is_well, last_well, unsent_as}
+use Rattle.gc_station.specs.Marks.{is_well, last_well, record_with}
 use Rattle.gc_station.specs.Progressing.{failing, unsent_at}
 use Rattle.gc_station.specs.Records.{Record}
 use Rattle.gc_station.specs.ActKinds.{Puts, ReadsLink}
@@ -54,9 +54,9 @@ refines_with station p f s stands is = record {
 
 -- Bytes are put.
 
--- the act of a write of `bytes` with the result `put`, which says that all of them were written or fewer (`IsPart`), puts the
--- bytes `want`, whole or in part (`Puts`), if `bytes` is equal to `want`
-pub put_puts : (put : Result (Unit {0}) ℕ) (bytes want : List ℕ) → bytes ≡ want → IsPart put bytes → Puts want (put_act put bytes)
+-- the act of a write of `bytes` with the result `put`, which says that all of them were written or fewer (`IsPartIfErr`), puts
+-- the bytes `want`, whole or in part (`Puts`), if `bytes` is equal to `want`
+pub put_puts : (put : Result (Unit {0}) ℕ) (bytes want : List ℕ) → bytes ≡ want → IsPartIfErr put bytes → Puts want (put_act put bytes)
 put_puts (Ok r) bytes want is part = is
 put_puts (Err n) bytes want is part = (is, subst (λ (xs : List ℕ). n < length xs) is part)
 
@@ -80,7 +80,8 @@ put_took text start taken (Err n) bytes requests f s so = so
 -- Requests are sent.
 
 -- if the window isn't full (`full` is false), one request more waits after a send
-sent_count : (c : ById Asked) (target : ℕ) (call : Asked) (deadline : ℕ) (full : Bool) → full ≡ false → length (client_sent c (send_unless_full c target call deadline full)).waiting ≡ length c.waiting + 1
+sent_count : (c : ById Asked) (target : ℕ) (call : Asked) (deadline : ℕ) (full : Bool) → full ≡ false
+    → length (client_sent c (send_unless_full c target call deadline full)).waiting ≡ length c.waiting + 1
 sent_count c target call deadline true e = cc
 sent_count c target call deadline false e = length-append c.waiting _
 
@@ -132,13 +133,13 @@ setup_text plan client mark (task ∷ others) = refl
 
 -- if `list` begins with `task`, and the two marks are equal, the record of `task` as missed or skipped (`end`), with the moment
 -- of `unsent_at`, is the one record that the model adds (`first_unsent_record`)
-pub skips_as : (p : Progress) (m : Moment) (mark mark' : Mark) (utc : ℕ) (end : End) (list : List Task) (task : Task) (others : List Task)
+pub skip_record_same : (p : Progress) (m : Moment) (mark mark' : Mark) (utc : ℕ) (end : End) (list : List Task) (task : Task) (others : List Task)
     → list ≡ task ∷ others → mark ≡ mark' → utc ≡ unsent_at m p → end ≡ end_unsent p.missed
-    → unsent_as utc mark task.command end ∷ [] ≡ first_unsent_record p m mark' list
-skips_as p m mark mark' utc end list task others is e at ends =
-    ap (λ (u : ℕ). unsent_as u mark task.command end ∷ []) at
-    ∙ ap (λ (x : Mark). unsent_as (unsent_at m p) x task.command end ∷ []) e
-    ∙ ap (λ (x : End). unsent_as (unsent_at m p) mark' task.command x ∷ []) ends
+    → record_with utc mark None task.command end ∷ [] ≡ first_unsent_record p m mark' list
+skip_record_same p m mark mark' utc end list task others is e at ends =
+    ap (λ (u : ℕ). record_with u mark None task.command end ∷ []) at
+    ∙ ap (λ (x : Mark). record_with (unsent_at m p) x None task.command end ∷ []) e
+    ∙ ap (λ (x : End). record_with (unsent_at m p) mark' None task.command x ∷ []) ends
     ∙ sym (ap (first_unsent_record p m mark') is)
 
 -- neither ending of a command that isn't sent, as missed or as skipped, is that of one that was answered well

@@ -5,6 +5,7 @@ use Rattle.std.proofs.lemmas.Bool.{both_ways}
 use Rattle.gc_catalogue.specs.declared.asked.Asked.{Asked}
 use Rattle.gc_catalogue.specs.declared.asked.Asked.TheVariants.{Table}
 use Rattle.gc_catalogue.specs.declared.call.Call.TheVariants.{NullProc}
+use Rattle.gc_client.specs.declared.window.TheConstants.{WINDOW}
 use Rattle.gc_client.specs.OneForOne.{Send}
 use Rattle.gc_texts.specs.declared.tasks.Task.{Task}
 use Rattle.gc_station.specs.declared.mark.Mark.{Mark}
@@ -30,14 +31,14 @@ pub record IsSent (s : Model) (bytes : List ℕ) (p : Part) : Type 0 where
   pub mark : Option Mark
   pub part : p ≡ record { sync_steps = []; steps = Send target call deadline ∷ []; marks = mark ∷ [] }
   pub text : bytes ≡ next_request_text s.client call
-  pub room : length s.client.waiting < 7
+  pub room : length s.client.waiting < WINDOW
 
 -- these bytes are a line feed, and nothing happens in the part p
-abbrev pub IsLineFeed : List ℕ → Part → Type 0
+abbrev pub IsLineFeed : List ℕ → (p : Part) → Type 0
 IsLineFeed bytes p = (bytes ≡ 10 ∷ []) × (p ≡ idle_part)
 
 -- once the station has synchronized: these bytes are a line feed, or the line of a request whose part is p
-abbrev pub IsPutByClient : Model → List ℕ → Part → Type 0
+abbrev pub IsPutByClient : Model → List ℕ → (p : Part) → Type 0
 IsPutByClient s bytes p = IsLineFeed bytes p ⊎ IsSent s bytes p
 
 -- the bytes that an act puts, whole or in part; none by any other act
@@ -60,7 +61,7 @@ never_puts act bytes e h = cc
 
 -- while the station synchronizes: these bytes are a line feed; or they are the null procedure of the first id that isn't
 -- answered, and the part p is one step, `Asks`
-abbrev pub IsPutBySync : Model → List ℕ → Part → Type 0
+abbrev pub IsPutBySync : Model → List ℕ → (p : Part) → Type 0
 IsPutBySync s bytes p = IsLineFeed bytes p ⊎ ((bytes ≡ null_text s.progress.word) × (p ≡ only_sync_steps (Asks ∷ [])))
 
 -- the part of an act of the action `Ask` that puts bytes is one step, `Asks`
@@ -70,7 +71,7 @@ asked_step s (Cut out count) bytes e = refl
 asked_step s act bytes e = cc
 
 -- if fewer than seven requests wait, the bytes of a request that is sent are its line (`IsSent`)
-request_put : (s : Model) (x : Outgoing) (bytes : List ℕ) → length s.client.waiting < 7 → bytes ≡ next_request_text s.client x.command.call
+request_put : (s : Model) (x : Outgoing) (bytes : List ℕ) → length s.client.waiting < WINDOW → bytes ≡ next_request_text s.client x.command.call
     → IsSent s bytes (request_part s.progress.moment.elapsed x)
 request_put s x bytes room e = record {
   target = x.command.target;
@@ -85,14 +86,14 @@ request_put s x bytes room e = record {
 module _ (plan : Plan) (commands : List Task) where
   -- if fewer than seven requests wait, and there is a command, the bytes of the first of these commands with this mark are the
   -- line of the request of its part (`IsSent`)
-  first_put : (s : Model) (mark : Mark) (left : List Task) (bytes : List ℕ) → 0 < length left → length s.client.waiting < 7 → bytes ≡ first_text mark.sent s.client left
+  first_put : (s : Model) (mark : Mark) (left : List Task) (bytes : List ℕ) → 0 < length left → length s.client.waiting < WINDOW → bytes ≡ first_text mark.sent s.client left
       → IsSent s bytes (first_request_part s.progress.moment.elapsed mark left)
   first_put s mark [] bytes some room e = absurd (omega (arith, some))
   first_put s mark (task ∷ others) bytes some room e = request_put s (request_for mark task) bytes room e
 
   -- if fewer than seven requests wait, the bytes of the first of these commands of the setup, or of a null procedure if there is
   -- none, are the line of the request of its part (`IsSent`)
-  setup_put : (s : Model) (left : List Task) (bytes : List ℕ) → length s.client.waiting < 7 → bytes ≡ text_or_null s.progress.moment.utc s.client left
+  setup_put : (s : Model) (left : List Task) (bytes : List ℕ) → length s.client.waiting < WINDOW → bytes ≡ text_or_null s.progress.moment.utc s.client left
       → IsSent s bytes (request_part s.progress.moment.elapsed (request_or_null plan (mark_setup commands s.progress) left))
   setup_put s [] bytes room e = request_put s (null_request plan) bytes room e
   setup_put s (task ∷ others) bytes room e = request_put s (request_for (mark_setup commands s.progress) task) bytes room e
@@ -120,9 +121,9 @@ module _ (plan : Plan) (commands : List Task) where
   put_by_action s (action.Stop why) act bytes fine is obeys e begun = absurd obeys
 
   -- once the station has synchronized, the bytes that an act of a run puts are as `IsPutByClient` says of its part
-  pub put_is : (s : Model) (act : Act) (bytes : List ℕ) → Invariant plan commands s → Performs commands s (action_at plan s) act → put_by act ≡ Some bytes
+  pub put_by_client : (s : Model) (act : Act) (bytes : List ℕ) → Invariant plan commands s → Performs commands s (action_at plan s) act → put_by act ≡ Some bytes
       → has_begun s.progress ≡ true → IsPutByClient s bytes (put_part plan commands s (action_at plan s))
-  put_is s act bytes fine obeys e begun = put_by_action s (action_at plan s) act bytes fine (action_for plan s.progress (waiting_of s)) obeys e begun
+  put_by_client s act bytes fine obeys e begun = put_by_action s (action_at plan s) act bytes fine (action_for plan s.progress (waiting_of s)) obeys e begun
 
   -- while the station synchronizes, the bytes that an act of this action puts are as `IsPutBySync` says of its part
   asked_by_action : (s : Model) (o : Action) (act : Act) (bytes : List ℕ) → HoldsBefore plan s.progress (waiting_of s) o → Performs commands s o act
@@ -143,6 +144,6 @@ module _ (plan : Plan) (commands : List Task) where
   asked_by_action s (action.Stop why) act bytes is obeys e begins = absurd obeys
 
   -- while the station synchronizes, the bytes that an act of a run puts are as `IsPutBySync` says of its part
-  pub asked_is : (s : Model) (act : Act) (bytes : List ℕ) → Performs commands s (action_at plan s) act → put_by act ≡ Some bytes
+  pub put_by_sync : (s : Model) (act : Act) (bytes : List ℕ) → Performs commands s (action_at plan s) act → put_by act ≡ Some bytes
       → has_begun s.progress ≡ false → IsPutBySync s bytes (sync_part s (action_at plan s) act)
-  asked_is s act bytes obeys e begins = asked_by_action s (action_at plan s) act bytes (action_for plan s.progress (waiting_of s)) obeys e begins
+  put_by_sync s act bytes obeys e begins = asked_by_action s (action_at plan s) act bytes (action_for plan s.progress (waiting_of s)) obeys e begins

@@ -7,11 +7,12 @@ use Rattle.std.proofs.lemmas.Bool.{ltb-true}
 use Rattle.std.proofs.lemmas.List.{length-drop}
 use Rattle.gc_catalogue.specs.declared.answer.Reading.{Reading}
 use Rattle.gc_catalogue.specs.declared.asked.Asked.{Asked}
+use Rattle.gc_client.specs.declared.window.TheConstants.{IDS}
 use Rattle.gc_client.specs.declared.pending.Pending.{Pending}
 use Rattle.gc_client.specs.Ids
 use Rattle.gc_client.specs.Ids.{id_at_place, IsWithinLimits, id_of}
 use Rattle.gc_client.specs.Rule.{ById, Outcome, Settlement, Settled, Answered, Late, Lost, place_in, settled_by_line, settle, hears, settles_at}
-use Rattle.gc_client.proofs.Digits.{settling}
+use Rattle.gc_client.proofs.Digits.{settling_keeps_ids}
 use Rattle.gc_client.proofs.OneForOne.{length-settle}
 use Rattle.gc_texts.specs.declared.wish.Wish.{Wish}
 use Rattle.gc_texts.specs.declared.tasks.Task.{Task}
@@ -28,10 +29,10 @@ use Rattle.gc_station.specs.Runs.{state_after}
 use Rattle.gc_station.specs.ActKinds.{Puts}
 use Rattle.gc_station.specs.Answers.{IsOwnRequest}
 use Rattle.gc_station.specs.Model.{next_request_text}
-use Rattle.gc_station.proofs.Lists.{AllAt, AllRisingAt, RisingAt, rising_on, rising_drop, rising_at}
+use Rattle.gc_station.proofs.Lists.{AllAt, AllRisingAt, RisingAt, rising_shifted, rising_drop, rising_at}
 use Rattle.gc_station.proofs.Records.{answer_along}
-use Rattle.gc_station.proofs.Waiting.{WasAsked, TimedOutAsReadBy, StillWaitsAt, asked_as}
-use Rattle.gc_station.specs.Scopes.{Scope}
+use Rattle.gc_station.proofs.Waiting.{WasAsked, TimedOutAsReadBy, StillWaitsAt, asked_with_equal_id}
+use Rattle.gc_station.specs.Scopes.{Scope, Reads}
 
 -- an id was heard, and this is the place (`place_in`) of the outstanding request that has it, if one has
 pub record HasPlace (c : ById Asked) (o : Option ℕ) (at : ℕ) : Type 0 where
@@ -58,18 +59,22 @@ pub record EndedBy (P : ℕ → ℕ → Pending Asked → Option Mark → Type 0
   pub late : x.outcome ≡ Late → (pending.given_up ≡ true) × HasPlace c o at
   pub lost : x.outcome ≡ Lost → Overtakes P c o number at
 
+-- how a request settles whose own reply, `line`, comes: late if it has timed out (`given_up`), and else answered
+abbrev pub met_outcome : (given_up : Bool) (line : List ℕ) → Outcome
+met_outcome given_up line = if given_up then Late else Answered line
+
 -- if a request whose own reply comes settles as answered by l, l is that reply's line, and the request hasn't timed out
-met_answered : (given_up : Bool) (line l : List ℕ) → (if given_up then Late else Answered line) ≡ Answered l → (l ≡ line) × (given_up ≡ false)
+met_answered : (given_up : Bool) (line l : List ℕ) → met_outcome given_up line ≡ Answered l → (l ≡ line) × (given_up ≡ false)
 met_answered true line l e = cc
 met_answered false line l e = let same : l ≡ line = cc in (same, refl)
 
 -- if a request whose own reply comes settles as late, it has timed out
-met_late : (given_up : Bool) (line : List ℕ) → (if given_up then Late else Answered line) ≡ Late → given_up ≡ true
+met_late : (given_up : Bool) (line : List ℕ) → met_outcome given_up line ≡ Late → given_up ≡ true
 met_late true line e = refl
 met_late false line e = cc
 
 -- a request whose own reply comes isn't lost
-pub met_lost : (given_up : Bool) (line : List ℕ) → (if given_up then Late else Answered line) ≡ Lost → ⊥
+pub met_lost : (given_up : Bool) (line : List ℕ) → met_outcome given_up line ≡ Lost → ⊥
 met_lost true line e = cc
 met_lost false line e = cc
 
@@ -149,30 +154,32 @@ pub left_count : (c : ById Asked) (x : Settled Asked (ById Asked)) (l : SettlesO
 left_count c x l = ap length l.waiting ∙ length-drop l.count c.waiting
 
 -- a line after which `SettlesOldest` holds preserves `IsWithinLimits`
-pub left_window : (c : ById Asked) (x : Settled Asked (ById Asked)) → SettlesOldest c x → IsWithinLimits c → IsWithinLimits x.client
-left_window c x l w = let many = left_count c x l in record { digit = subst (λ (n : ℕ). n < 8) (sym l.next) w.digit; few = omega (arith, many, w.few) }
+pub left_within_limits : (c : ById Asked) (x : Settled Asked (ById Asked)) → SettlesOldest c x → IsWithinLimits c → IsWithinLimits x.client
+left_within_limits c x l w = let many = left_count c x l in record { digit = subst (λ (n : ℕ). n < IDS) (sym l.next) w.digit; few = omega (arith, many, w.few) }
 
--- the requests that a line leaves waiting are as they were (`StillWaitsAt`), with the same numbers, at places that are lower by as
--- many requests as the line settled
-pub left_waits : (plan : Plan) (commands : List Task) (scope : Scope) (acts : List Act) (first : ById Asked) (now : ℕ) (c : ById Asked) (x : Settled Asked (ById Asked))
+-- the requests that a line leaves waiting are as they were (`StillWaitsAt`), with the same numbers, at places that are lower by
+-- as many requests as the line settled
+pub left_still_wait : (plan : Plan) (commands : List Task) (scope : Scope) (acts : List Act) (first : ById Asked) (now : ℕ) (c : ById Asked) (x : Settled Asked (ById Asked))
     (marks : List (Option Mark)) → SettlesOldest c x → IsWithinLimits c
     → AllRisingAt (StillWaitsAt plan commands scope acts first now c.next (length c.waiting)) 0 0 c.waiting marks
     → AllRisingAt (StillWaitsAt plan commands scope acts first now x.client.next (length x.client.waiting)) 0 0 x.client.waiting (drop (length x.settlements) marks)
-left_waits plan commands scope acts first now c x marks l w all =
+left_still_wait plan commands scope acts first now c x marks l w all =
     let n = l.count in
     let d = x.client in
     let W = StillWaitsAt plan commands scope acts first now c.next (length c.waiting) in
     let dropped = rising_drop W n 0 0 c.waiting marks all in
     let there = subst (λ (ps : List (Pending Asked)). AllRisingAt W 0 (n + 0) ps (drop n marks)) (sym l.waiting) dropped in
     let marked = subst (λ (k : ℕ). AllRisingAt W 0 (n + 0) d.waiting (drop k marks)) (sym l.settled) there in
-    rising_on W (StillWaitsAt plan commands scope acts first now d.next (length d.waiting)) n 0 0 d.waiting (drop (length x.settlements) marks)
+    rising_shifted W (StillWaitsAt plan commands scope acts first now d.next (length d.waiting)) n 0 0 d.waiting (drop (length x.settlements) marks)
     (λ number j p mark low wait.
     let many = left_count c x l in
     let enough = l.enough in
     let below : n + j < length c.waiting = omega (arith, low, many) in
     let ids : id_of d j ≡ id_of c (n + j) =
-    ap (λ (y : ℕ). id_at_place y (length d.waiting) j) l.next ∙ ap (λ (y : ℕ). id_at_place c.next y j) many ∙ settling c.next (length c.waiting) w.few n j below in
-    (asked_as plan commands scope acts (TimedOutAsReadBy now) number (n + j) j _ _ p mark (λ above. omega (arith, above)) ids wait.0, subst (λ (i : ℕ). Ids.Waits first i) (sym ids) wait.1)) marked
+    ap (λ (y : ℕ). id_at_place y (length d.waiting) j) l.next ∙ ap (λ (y : ℕ). id_at_place c.next y j) many ∙ settling_keeps_ids c.next (length c.waiting) w.few n j below in (
+      asked_with_equal_id plan commands scope acts (TimedOutAsReadBy now) number (n + j) j _ _ p mark (λ above. omega (arith, above)) ids wait.0,
+      subst (λ (i : ℕ). Ids.Waits first i) (sym ids) wait.1,
+    )) marked
 
 -- a record is of this settlement, of the request with this mark: it has the cycle, the place and the moment of the mark, and the
 -- settlement's command and ending, by some function that reads replies
@@ -181,11 +188,11 @@ pub record IsRecordOf (r : Record) (mark : Mark) (x : Settlement Asked) : Type 0
   pub place : r.place ≡ mark.place
   pub sent : r.sent ≡ Some mark.sent
   pub command : r.command ≡ command_of x
-  pub reads : Asked → List ℕ → Reading
+  pub reads : Reads
   pub ended : r.end ≡ end_of reads mark.expected x.call x.outcome
 
 -- the record that `record_of` gives is of its settlement and mark
-pub is_record_of : (reads : Asked → List ℕ → Reading) (utc : ℕ) (mark : Mark) (x : Settlement Asked) → IsRecordOf (record_of reads utc mark x) mark x
+pub is_record_of : (reads : Reads) (utc : ℕ) (mark : Mark) (x : Settlement Asked) → IsRecordOf (record_of reads utc mark x) mark x
 is_record_of reads utc mark x = record { cycle = refl; place = refl; sent = refl; command = refl; reads = reads; ended = refl }
 
 -- if a record is of the settlement of a request that was put among these acts (`WasAsked`), the act that put it writes the
@@ -213,38 +220,38 @@ unanswered : (expected : Expected) (x y : Reading) (line : List ℕ) (end : End)
 unanswered expected x y line end none e = let bad : Some line ≡ None = sym (answer_line expected x y line) ∙ ap line_of e ∙ none in cc
 
 -- if the ending of a command by `o` has the line l, `o` is an answer by l
-pub answered_so : (reads : Asked → List ℕ → Reading) (expected : Expected) (call : Asked) (o : Outcome) (l : List ℕ) → line_of (end_of reads expected call o) ≡ Some l → o ≡ Answered l
-answered_so reads expected call (Answered line) l e = let same : Some line ≡ Some l = sym (answer_line expected (reads call line) (reads call (as_zero line)) line) ∙ e in cc
-answered_so reads expected call Late l e = cc
-answered_so reads expected call Lost l e = cc
+pub settled_answered : (reads : Reads) (expected : Expected) (call : Asked) (o : Outcome) (l : List ℕ) → line_of (end_of reads expected call o) ≡ Some l → o ≡ Answered l
+settled_answered reads expected call (Answered line) l e = let same : Some line ≡ Some l = sym (answer_line expected (reads call line) (reads call (as_zero line)) line) ∙ e in cc
+settled_answered reads expected call Late l e = cc
+settled_answered reads expected call Lost l e = cc
 
 -- a command that ended as late was settled as late
-late_so : (reads : Asked → List ℕ → Reading) (expected : Expected) (call : Asked) (o : Outcome) → end_of reads expected call o ≡ ends.Late → o ≡ Late
-late_so reads expected call (Answered line) e = absurd (unanswered expected (reads call line) (reads call (as_zero line)) line ends.Late refl e)
-late_so reads expected call Late e = refl
-late_so reads expected call Lost e = cc
+settled_late : (reads : Reads) (expected : Expected) (call : Asked) (o : Outcome) → end_of reads expected call o ≡ ends.Late → o ≡ Late
+settled_late reads expected call (Answered line) e = absurd (unanswered expected (reads call line) (reads call (as_zero line)) line ends.Late refl e)
+settled_late reads expected call Late e = refl
+settled_late reads expected call Lost e = cc
 
 -- a command that ended as lost was settled as lost
-lost_so : (reads : Asked → List ℕ → Reading) (expected : Expected) (call : Asked) (o : Outcome) → end_of reads expected call o ≡ ends.Lost → o ≡ Lost
-lost_so reads expected call (Answered line) e = absurd (unanswered expected (reads call line) (reads call (as_zero line)) line ends.Lost refl e)
-lost_so reads expected call Late e = cc
-lost_so reads expected call Lost e = refl
+settled_lost : (reads : Reads) (expected : Expected) (call : Asked) (o : Outcome) → end_of reads expected call o ≡ ends.Lost → o ≡ Lost
+settled_lost reads expected call (Answered line) e = absurd (unanswered expected (reads call line) (reads call (as_zero line)) line ends.Lost refl e)
+settled_lost reads expected call Late e = cc
+settled_lost reads expected call Lost e = refl
 
 -- if the ending of a record has a line, its settlement is an answer by that line
 pub was_answered : (r : Record) (mark : Mark) (x : Settlement Asked) → IsRecordOf r mark x → (l : List ℕ) → line_of r.end ≡ Some l → x.outcome ≡ Answered l
-was_answered r mark x is l e = answered_so is.reads mark.expected x.call x.outcome l (ap line_of (sym is.ended) ∙ e)
+was_answered r mark x is l e = settled_answered is.reads mark.expected x.call x.outcome l (ap line_of (sym is.ended) ∙ e)
 
 -- the settlement of a late record is late
 pub was_late : (r : Record) (mark : Mark) (x : Settlement Asked) → IsRecordOf r mark x → r.end ≡ ends.Late → x.outcome ≡ Late
-was_late r mark x is e = late_so is.reads mark.expected x.call x.outcome (sym is.ended ∙ e)
+was_late r mark x is e = settled_late is.reads mark.expected x.call x.outcome (sym is.ended ∙ e)
 
 -- the settlement of a lost record is lost
 pub was_lost : (r : Record) (mark : Mark) (x : Settlement Asked) → IsRecordOf r mark x → r.end ≡ ends.Lost → x.outcome ≡ Lost
-was_lost r mark x is e = lost_so is.reads mark.expected x.call x.outcome (sym is.ended ∙ e)
+was_lost r mark x is e = settled_lost is.reads mark.expected x.call x.outcome (sym is.ended ∙ e)
 
 -- where Q of a settlement, at whatever place, and of its mark, if it has one, gives R of its record, and Q holds of these
 -- settlements and marks, one for one, with places from j on, R holds of all their records
-pub all_records_at : (Q : ℕ → Settlement Asked → Option Mark → Type 0) (R : Record → Type 0) (reads : Asked → List ℕ → Reading) (utc j : ℕ) (xs : List (Settlement Asked)) (marks : List (Option Mark))
+pub all_records_at : (Q : ℕ → Settlement Asked → Option Mark → Type 0) (R : Record → Type 0) (reads : Reads) (utc j : ℕ) (xs : List (Settlement Asked)) (marks : List (Option Mark))
     → ((i : ℕ) (x : Settlement Asked) (m : Mark) → Q i x (Some m) → R (record_of reads utc m x)) → AllAt Q j xs marks → AllByRecursion R (records_of reads utc marks xs)
 all_records_at Q R reads utc j xs [] step all = tt
 all_records_at Q R reads utc j [] (mark ∷ marks) step all = tt

@@ -1,5 +1,5 @@
--- What holds in the midst of an act, before what is outstanding is lost: `Mid`, which has the counts and the records, and what
--- the phase says. At the end of an act it gives the invariant of every run (`Invariant`).
+-- What holds in the midst of an act, before what is outstanding is lost: `HoldsMidAct`, which has the counts and the records, and
+-- what the phase says. At the end of an act it gives the invariant of every run (`Invariant`).
 use Rattle.std.proofs.Common.{◌≡◌, ℕ, nat_lt, ltb-true, ltb-false, take, ◌+◌, ◌-◌, ◌%◌, ◌<◌, ◌≤◌, ◌⊎◌, inl, inr, ◌&&◌, ◌||◌, Bool, true, false, not, List, [], ◌∷◌, ◌++◌, length, drop, map, nat_eq, Option, Some, None, refl, sym, ap, ◌∙◌, subst, arith, length-append, append-nil}
 use Rattle.std.specs.Prelude.{slice_get}
 use Rattle.std.specs.List.{AllByRecursion}
@@ -7,7 +7,6 @@ use Rattle.std.proofs.Math.Nat.{mod-lt}
 use Rattle.std.proofs.lemmas.Bool.Decides.{nat_tests}
 use Rattle.std.proofs.lemmas.List.{length-map, length-drop, nil_from_length}
 use Rattle.std.proofs.lemmas.Bool.{both_ways}
-use Rattle.gc_catalogue.specs.declared.answer.Reading.{Reading}
 use Rattle.gc_catalogue.specs.declared.asked.Asked.{Asked}
 use Rattle.gc_client.specs.declared.window.TheConstants.{WINDOW, IDS}
 use Rattle.gc_client.specs.declared.pending.Pending.{Pending}
@@ -26,15 +25,16 @@ use Rattle.gc_station.specs.declared.progress.Progress.{Progress}
 use Rattle.gc_station.specs.Deciding.{has_begun, is_up}
 use Rattle.gc_station.specs.EachOnce.{of_text, Interleave, RunRequest, requests, of_task, commands_reached}
 use Rattle.gc_station.proofs.Interleaving.{interleave_more, interleave_past}
-use Rattle.gc_station.specs.Marks.{commands_in, records_of, unsent_as}
+use Rattle.gc_station.specs.Marks.{commands_in, records_of, record_with}
 use Rattle.gc_station.specs.Progressing.{is_over_in, is_over, loses_all}
 use Rattle.gc_station.specs.Parts.{MarksAsk, MarkAsks, went_out}
 use Rattle.gc_station.specs.Records.{Record}
 use Rattle.gc_station.specs.Reasons.{IsFinished}
 use Rattle.gc_station.specs.Tasked.{IsOfItsTask}
-use Rattle.gc_station.specs.Model.{Model, client_sent, losing, ended, cycle_length}
-use Rattle.gc_station.proofs.Each.{each_moment, each_settles, each_null, each_sent, each_skipped, reached_past, reached_next, reached_whole, reached_none, each_prepared, row}
-use Rattle.gc_station.proofs.Invariant.{Invariant, is_bare, says_done}
+use Rattle.gc_station.specs.Model.{Model, client_sent, losing, with_losses, cycle_length}
+use Rattle.gc_station.specs.Scopes.{Reads}
+use Rattle.gc_station.proofs.Each.{row_in_text_moment, row_in_text_settles, row_in_text_null, row_in_text_sent, row_in_text_skipped, reached_past, reached_next, reached_whole, reached_none, row_in_text_prepared, row}
+use Rattle.gc_station.proofs.Invariant.{Invariant, is_before_requests, says_done}
 use Rattle.gc_station.proofs.Lists.{all_append}
 use Rattle.gc_station.proofs.Tasked.{marks_ask_more, marks_ask_settled, settled_tasked, unsent_tasked}
 
@@ -49,28 +49,32 @@ pub record Ledger : Type 0 where
   pub passes : List RunRequest
 
 -- the ledger of the model s, with the counts of the progress p
-abbrev pub ledger_at : Model → Progress → Ledger
+abbrev pub ledger_at : (s : Model) → (p : Progress) → Ledger
 ledger_at s p = record { left = p.left; unsent = p.unsent; client = s.client; marks = s.marks; records = s.records; passes = s.passes }
 
 -- the counts of the ledger b lie within the plan and the commands, and none is unsent before the first cycle. The records that
 -- are of cycles, and after them the outstanding commands of cycles, with those that were left out between them, are the commands
--- that had their turn, in order. Each outstanding request has its mark, at most 7 are outstanding, and the next id is below 8.
--- Each asks what its mark says, and each record is of its task
+-- that had their turn, in order. Each outstanding request has its mark, at most seven are outstanding, and the next id is below
+-- 8. Each asks what its mark says, and each record is of its task
 pub record Sound (plan : Plan) (commands : List Task) (b : Ledger) : Type 0 where
   pub unsents : b.unsent ≤ cycle_length plan commands
   pub lefts : b.left ≤ plan.cycles
   pub begun : 0 < b.unsent → b.left < plan.cycles
   pub paired : length b.marks ≡ length b.client.waiting
-  pub window : length b.client.waiting ≤ 7
-  pub digit : b.client.next < 8
+  pub window : length b.client.waiting ≤ WINDOW
+  pub digit : b.client.next < IDS
   pub each : Interleave (of_text commands (row b.marks b.client.waiting b.records)) b.passes (commands_reached plan.setup commands (plan.cycles - b.left) (length commands - b.unsent))
   pub own : MarksAsk commands b.marks (map of_pending b.client.waiting)
   pub tasked : AllByRecursion (IsOfItsTask commands) b.records
 
--- in a phase that `is_bare` no bytes are kept; in one that says that the run is done (`says_done`) no cycle and no command is
--- left to be sent, and no command is outstanding unless the run is over
+-- no cycle and no command is left to be sent
+abbrev pub NothingIsLeft : Progress → Type 0
+NothingIsLeft p = (p.left ≡ 0) × (p.unsent ≡ 0)
+
+-- before requests are sent (`is_before_requests`) no bytes are kept; in a phase that says that the run is done (`says_done`) no
+-- cycle and no command is left to be sent, and no command is outstanding unless the run is over
 pub record PhaseFits (phase : Phase) (left unsent : ℕ) (rest : List ℕ) (marks : List (Option Mark)) : Type 0 where
-  pub empty : is_bare phase ≡ true → rest ≡ []
+  pub empty : is_before_requests phase ≡ true → rest ≡ []
   pub finished : says_done phase ≡ true → (left ≡ 0) × (unsent ≡ 0) × ((is_over_in phase ≡ true) ⊎ (commands_in marks ≡ 0))
 
 -- `PhaseFits` by the phase and the counts of this progress
@@ -79,16 +83,16 @@ PhaseFitsAt p rest marks = PhaseFits p.phase p.left p.unsent rest marks
 
 -- what holds of a model in the midst of an act, with this progress in place of its own: `Sound` of its ledger, and `PhaseFits` of
 -- its phase
-abbrev pub MidAt : Plan → List Task → Model → Progress → Type 0
-MidAt plan commands s p = Sound plan commands (ledger_at s p) × PhaseFitsAt p s.rest s.marks
+abbrev pub HoldsMidActAt : Plan → List Task → Model → Progress → Type 0
+HoldsMidActAt plan commands s p = Sound plan commands (ledger_at s p) × PhaseFitsAt p s.rest s.marks
 
--- `MidAt` with the model's own progress
-abbrev pub Mid : Plan → List Task → Model → Type 0
-Mid plan commands s = MidAt plan commands s s.progress
+-- `HoldsMidActAt` with the model's own progress
+abbrev pub HoldsMidAct : Plan → List Task → Model → Type 0
+HoldsMidAct plan commands s = HoldsMidActAt plan commands s s.progress
 
--- the invariant of every run gives `Mid`
-pub mid_of : (plan : Plan) (commands : List Task) (s : Model) → Invariant plan commands s → Mid plan commands s
-mid_of plan commands s fine = (
+-- the invariant of every run gives `HoldsMidAct`
+pub mid_act_of : (plan : Plan) (commands : List Task) (s : Model) → Invariant plan commands s → HoldsMidAct plan commands s
+mid_act_of plan commands s fine = (
   record {
     unsents = fine.unsent;
     lefts = fine.left;
@@ -123,15 +127,15 @@ sound_moment plan commands b m sound =
       paired = sound.paired ∙ sym same;
       window = omega (arith, same, sound.window);
       digit = sound.digit;
-      each = interleave_by_equal _ _ _ _ (each_moment commands b.marks b.client.waiting b.records (of_text commands (row b.marks b.client.waiting b.records)) m refl) sound.each;
+      each = interleave_by_equal _ _ _ _ (row_in_text_moment commands b.marks b.client.waiting b.records (of_text commands (row b.marks b.client.waiting b.records)) m refl) sound.each;
       own = subst (MarksAsk commands b.marks) (sym (expired_parts m b.client.waiting)) sound.own;
       tasked = sound.tasked;
     }
 
 -- `Sound` is preserved by settlements `ss` of the oldest requests, with their records, if the other requests wait at the client
 -- `next`, whose next id is below 8
-pub sound_settles : (reads : Asked → List ℕ → Reading) (plan : Plan) (commands : List Task) (b : Ledger) (next : ById Asked) (utc : ℕ) (ss : List (Settlement Asked))
-    → map of_settled ss ++ map of_pending next.waiting ≡ map of_pending b.client.waiting → next.next < 8 → Sound plan commands b
+pub sound_settles : (reads : Reads) (plan : Plan) (commands : List Task) (b : Ledger) (next : ById Asked) (utc : ℕ) (ss : List (Settlement Asked))
+    → map of_settled ss ++ map of_pending next.waiting ≡ map of_pending b.client.waiting → next.next < IDS → Sound plan commands b
     → Sound plan commands (record b { client = next; marks = drop (length ss) b.marks; records = b.records ++ records_of reads utc b.marks ss })
 sound_settles reads plan commands b next utc ss parts low sound =
     let ended = map of_settled ss in
@@ -148,7 +152,7 @@ sound_settles reads plan commands b next utc ss parts low sound =
       paired = omega (arith, ends, behind, count, fewer, sound.paired);
       window = omega (arith, ends, behind, count, sound.window);
       digit = low;
-      each = interleave_by_equal _ _ _ _ (each_settles reads commands utc b.marks b.client.waiting next.waiting ss b.records
+      each = interleave_by_equal _ _ _ _ (row_in_text_settles reads commands utc b.marks b.client.waiting next.waiting ss b.records
           (of_text commands (row b.marks b.client.waiting b.records)) parts refl) sound.each;
       own = marks_ask_settled commands b.marks ss waits all;
       tasked = all_append (IsOfItsTask commands) b.records _ sound.tasked (settled_tasked reads commands utc b.marks ss waits all);
@@ -160,7 +164,7 @@ abbrev pub with_sent : ById Asked → (target : ℕ) → Asked → (deadline : �
 with_sent client target call deadline = record { next = (client.next + 1) % IDS; waiting = client.waiting ++ pending_of target call deadline ∷ [] }
 
 -- if there is room, a send makes of the client what `with_sent` says
-pub sent_with_room : (client : ById Asked) (target : ℕ) (call : Asked) (deadline : ℕ) → length client.waiting < 7
+pub sent_with_room : (client : ById Asked) (target : ℕ) (call : Asked) (deadline : ℕ) → length client.waiting < WINDOW
     → client_sent client (sends WINDOW client target call deadline) ≡ with_sent client target call deadline
 sent_with_room client target call deadline room =
     ap (λ (b : Bool). client_sent client (send_unless_full client target call deadline b)) (room_left (length client.waiting) room) where
@@ -174,12 +178,12 @@ paired_more marks ws m p paired = length-append marks (m ∷ []) ∙ ap (λ n. n
 
 -- the ledger b once the client sent a request with this target, call and deadline, unless it refused it; the request has this
 -- mark
-abbrev pub with_request : Ledger → (target : ℕ) → Asked → (deadline : ℕ) → Option Mark → Ledger
+abbrev pub with_request : (b : Ledger) → (target : ℕ) → Asked → (deadline : ℕ) → Option Mark → Ledger
 with_request b target call deadline mark = record b { client = client_sent b.client (sends WINDOW b.client target call deadline); marks = b.marks ++ mark ∷ [] }
 
 -- to send a null procedure for no target (`MarkAsks` without a mark), for which there is room, preserves `Sound`
 pub sound_null : (plan : Plan) (commands : List Task) (b : Ledger) (target : ℕ) (call : Asked) (deadline : ℕ)
-    → length b.client.waiting < 7 → MarkAsks commands None (record { target = target; call = call }) → Sound plan commands b
+    → length b.client.waiting < WINDOW → MarkAsks commands None (record { target = target; call = call }) → Sound plan commands b
     → Sound plan commands (with_request b target call deadline None)
 sound_null plan commands b target call deadline room is sound =
     let p = pending_of target call deadline in
@@ -192,18 +196,18 @@ sound_null plan commands b target call deadline room is sound =
       window = omega (arith, more, room);
       digit = mod-lt (b.client.next + 1) (omega arith);
       each = interleave_by_equal _ _ _ _
-          (each_null commands b.marks b.client.waiting p b.records (of_text commands (row b.marks b.client.waiting b.records)) sound.paired refl) sound.each;
+          (row_in_text_null commands b.marks b.client.waiting p b.records (of_text commands (row b.marks b.client.waiting b.records)) sound.paired refl) sound.each;
       own = marks_ask_more commands b.marks b.client.waiting None p sound.own is;
       tasked = sound.tasked;
     })
 
 -- the mark of the cycle's next command in the ledger b, at the moment `utc`
-abbrev pub ledger_mark : Plan → List Task → Ledger → (utc : ℕ) → Expected → Mark
+abbrev pub ledger_mark : Plan → List Task → (b : Ledger) → (utc : ℕ) → Expected → Mark
 ledger_mark plan commands b utc expected = record { cycle = plan.cycles - b.left; place = length commands - b.unsent; sent = utc; expected = expected }
 
 -- to send the cycle's next command, `task`, for which there is room, preserves `Sound`, with one command fewer unsent
 pub sound_sent : (plan : Plan) (commands : List Task) (b : Ledger) (utc deadline : ℕ) (expected : Expected) (task : Task) (others : List Task)
-    → length b.client.waiting < 7 → 0 < b.unsent → drop (length commands - b.unsent) commands ≡ task ∷ others → Sound plan commands b
+    → length b.client.waiting < WINDOW → 0 < b.unsent → drop (length commands - b.unsent) commands ≡ task ∷ others → Sound plan commands b
     → Sound plan commands (with_request (record b { unsent = b.unsent - 1 }) task.command.target (call_at task utc) deadline (Some (ledger_mark plan commands b utc expected)))
 sound_sent plan commands b utc deadline expected task others room some at sound =
     let p = pending_of task.command.target (call_at task utc) deadline in
@@ -221,7 +225,7 @@ sound_sent plan commands b utc deadline expected task others room some at sound 
     (commands_reached plan.setup commands begun (place + 1)) =
     subst (λ (xs : List RunRequest). Interleave (of_text commands (row (b.marks ++ Some mark ∷ []) (b.client.waiting ++ p ∷ []) b.records)) b.passes xs)
     (reached_next plan.setup commands begun place task others at within many)
-    (interleave_by_equal _ _ _ _ (each_sent commands b.marks b.client.waiting b.records task others kept refl mark p sound.paired at refl many)
+    (interleave_by_equal _ _ _ _ (row_in_text_sent commands b.marks b.client.waiting b.records task others kept refl mark p sound.paired at refl many)
     (interleave_more kept b.passes (commands_reached plan.setup commands begun place) one sound.each)) in
     subst (λ (c : ById Asked). Sound plan commands (record b { unsent = b.unsent - 1; client = c; marks = b.marks ++ Some mark ∷ [] }))
     (sym (sent_with_room b.client task.command.target (call_at task utc) deadline room)) (record {
@@ -239,7 +243,7 @@ sound_sent plan commands b utc deadline expected task others room some at sound 
 
 -- to send `task`, a command of the setup for which there is room, with a mark of cycle 0 and of its place, preserves `Sound`
 pub sound_prepared : (plan : Plan) (commands : List Task) (b : Ledger) (deadline : ℕ) (mark : Mark) (task : Task)
-    → length b.client.waiting < 7 → mark.cycle ≡ 0 → slice_get commands mark.place ≡ Some task → Sound plan commands b
+    → length b.client.waiting < WINDOW → mark.cycle ≡ 0 → slice_get commands mark.place ≡ Some task → Sound plan commands b
     → Sound plan commands (with_request b task.command.target (call_at task mark.sent) deadline (Some mark))
 sound_prepared plan commands b deadline mark task room none at sound =
     let p = pending_of task.command.target (call_at task mark.sent) deadline in
@@ -252,7 +256,7 @@ sound_prepared plan commands b deadline mark task room none at sound =
       paired = paired_more b.marks b.client.waiting (Some mark) p sound.paired;
       window = omega (arith, more, room);
       digit = mod-lt (b.client.next + 1) (omega arith);
-      each = interleave_by_equal _ _ _ _ (each_prepared commands mark b.marks b.client.waiting p b.records
+      each = interleave_by_equal _ _ _ _ (row_in_text_prepared commands mark b.marks b.client.waiting p b.records
           (of_text commands (row b.marks b.client.waiting b.records)) none sound.paired refl) sound.each;
       own = marks_ask_more commands b.marks b.client.waiting (Some mark) p sound.own (task, at, refl);
       tasked = sound.tasked;
@@ -262,12 +266,13 @@ sound_prepared plan commands b deadline mark task room none at sound =
 -- `Sound`, with one command fewer unsent
 pub sound_skipped : (plan : Plan) (commands : List Task) (b : Ledger) (utc : ℕ) (end : End) (expected : Expected) (task : Task) (others : List Task)
     → (none : commands_in b.marks ≡ 0) → (some : 0 < b.unsent) → (there : drop (length commands - b.unsent) commands ≡ task ∷ others) → (out : went_out end ≡ false)
-    → Sound plan commands b → Sound plan commands (record b { unsent = b.unsent - 1; records = b.records ++ unsent_as utc (ledger_mark plan commands b utc expected) task.command end ∷ [] })
+    → Sound plan commands b
+    → Sound plan commands (record b { unsent = b.unsent - 1; records = b.records ++ record_with utc (ledger_mark plan commands b utc expected) None task.command end ∷ [] })
 sound_skipped plan commands b utc end expected task others none some at out sound =
     let begun = plan.cycles - b.left in
     let place = length commands - b.unsent in
     let mark = ledger_mark plan commands b utc expected in
-    let r : Record = unsent_as utc mark task.command end in
+    let r : Record = record_with utc mark None task.command end in
     let below = sound.begun some in
     let many : 0 < begun = omega (arith, below) in
     let place_is : length commands - (b.unsent - 1) ≡ place + 1 = omega (arith, some, sound.unsents) in
@@ -283,7 +288,7 @@ sound_skipped plan commands b utc end expected task others none some at out soun
           let one = requests begun place (of_task task ∷ []) in
           subst (λ (xs : List RunRequest). Interleave (of_text commands (row b.marks b.client.waiting (b.records ++ r ∷ []))) b.passes xs)
           (reached_next plan.setup commands begun place task others at (omega (arith, some, sound.unsents)) many ∙ ap (λ (n : ℕ). commands_reached plan.setup commands begun n) (sym place_is))
-          (interleave_by_equal _ _ _ _ (each_skipped commands b.marks b.client.waiting b.records task others kept refl begun place r none at refl many)
+          (interleave_by_equal _ _ _ _ (row_in_text_skipped commands b.marks b.client.waiting b.records task others kept refl begun place r none at refl many)
           (interleave_more kept b.passes (commands_reached plan.setup commands begun place) one sound.each));
       own = sound.own;
       tasked = all_append (IsOfItsTask commands) b.records _ sound.tasked (unsent_tasked commands utc mark end task (head_of_drop commands place task others at) out, tt);
@@ -357,8 +362,8 @@ still_finished : (p : Progress) (marks : List (Option Mark)) → is_over p ≡ f
 still_finished p marks not_over (left, unsent, inl over) = absurd (both_ways (is_over p) not_over (ap (λ b. b || (not (is_up p.phase) && nat_eq p.turns 0)) over))
 still_finished p marks not_over (left, unsent, inr none) = (left, unsent, none)
 
--- once all that is outstanding is lost where `loses_all` says so, `Mid` gives the invariant of every run
-invariant_losing : (plan : Plan) (commands : List Task) (s : Model) (all : Bool) → loses_all s.progress ≡ all → Mid plan commands s → Invariant plan commands (losing all s)
+-- once all that is outstanding is lost where `loses_all` says so, `HoldsMidAct` gives the invariant of every run
+invariant_losing : (plan : Plan) (commands : List Task) (s : Model) (all : Bool) → loses_all s.progress ≡ all → HoldsMidAct plan commands s → Invariant plan commands (losing all s)
 invariant_losing plan commands s true is (sound, placed) =
     let p = s.progress in
     let ss = map lost s.client.waiting in
@@ -399,6 +404,6 @@ invariant_losing plan commands s false is (sound, placed) =
       tasked = sound.tasked;
     }
 
--- `Mid` gives the invariant of every run after the whole act
-pub invariant_ended : (plan : Plan) (commands : List Task) (s : Model) → Mid plan commands s → Invariant plan commands (ended s)
-invariant_ended plan commands s mid = invariant_losing plan commands s (loses_all s.progress) refl mid
+-- `HoldsMidAct` gives the invariant of every run after the whole act
+pub invariant_with_losses : (plan : Plan) (commands : List Task) (s : Model) → HoldsMidAct plan commands s → Invariant plan commands (with_losses s)
+invariant_with_losses plan commands s mid = invariant_losing plan commands s (loses_all s.progress) refl mid

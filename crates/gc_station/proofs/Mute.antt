@@ -31,13 +31,13 @@ use Rattle.gc_station.specs.Silences.{latest, IsNoReply, BringsNoReply, IsMute, 
 use Rattle.gc_station.specs.Model.{Model, next_request_text, null_text, first_text, opening, action_at, waiting_of, with_progress, with_moment, with_rest, lines_came, lines_completed, after_piece, is_heard, after, after_all, Runs, text_or_null}
 use Rattle.gc_station.specs.NextCommand.{place_next}
 use Rattle.gc_station.proofs.Closings.{came_phase}
-use Rattle.gc_station.proofs.Connected.{is_in_use, OnLine, on_line_always}
-use Rattle.gc_station.proofs.Since.{Since, since_now, since_on, cut_on}
+use Rattle.gc_station.proofs.Connected.{is_in_use, HoldsInUse, holds_in_use_always}
+use Rattle.gc_station.proofs.Since.{Since, since_now, since_on, extend_cut}
 use Rattle.gc_station.proofs.EachRun.{invariant_holds}
 use Rattle.gc_station.proofs.Facts.{or_first, action_for, action_wakes, Awake, Wakes}
 use Rattle.gc_station.proofs.Going.{after_all-append}
 use Rattle.gc_station.proofs.Lists.{all_append}
-use Rattle.gc_station.proofs.Silences.{LastTells, awake_last, not_closing, end_here, second_holds}
+use Rattle.gc_station.proofs.Silences.{LastTells, awake_last, not_closing, closes_at_its_end, second_holds}
 use Rattle.gc_station.proofs.Invariant.{Invariant}
 use Rattle.gc_station.proofs.Walk.{asked_along, came_along}
 use Rattle.gc_station.specs.Scopes.{Scope}
@@ -46,7 +46,7 @@ use Rattle.gc_station.proofs.Ticking.{latest_more}
 
 -- whether a reply line is waited for on the connection: the station has synchronized (no id of `word` is left), or a null
 -- procedure was sent on it (`again`), or a request after the last reply line (`asked`)
-abbrev is_sought : List ℕ → ℕ → Bool → Bool
+abbrev is_sought : (word : List ℕ) → (again : ℕ) → (asked : Bool) → Bool
 is_sought word again asked = is_none_left word || (nat_lt 0 again || asked)
 
 -- once the station has synchronized, a reply line is waited for
@@ -63,28 +63,28 @@ sought_asked word again asked e =
     ap (λ b. is_none_left word || (nat_lt 0 again || b)) e
     ∙ ap (λ b. is_none_left word || b) (or_right (nat_lt 0 again) true refl) ∙ or_right (is_none_left word) true refl
 
--- of the acts `behind`, after a silence began at the moment `from`. If no request was sent after the last reply line (`false`),
--- each of these acts only listens (`IsListening`); otherwise the first of them put all its bytes, or the clock went back to
--- `from` after the acts `before` (`WentBack`)
-abbrev AsksInSilence : Bool → (from : ℕ) → (before behind : List Act) → Type 0
+-- of the acts `behind`, after a silence began at the moment `from`. If no request was sent after the last reply line (`asked` is
+-- false), each of these acts only listens (`IsListening`); otherwise the first of them put all its bytes, or the clock went back
+-- to `from` after the acts `before` (`WentBack`)
+abbrev AsksInSilence : (asked : Bool) → (from : ℕ) → (before behind : List Act) → Type 0
 AsksInSilence false from before behind = AllByRecursion IsListening behind
 AsksInSilence true from before behind = PutsFirst behind ⊎ WentBack from before
 
 -- `AsksInSilence` with `true` is preserved by any act
-asks_still : (from : ℕ) (before behind : List Act) (act : Act) → AsksInSilence true from before behind → AsksInSilence true from before (behind ++ act ∷ [])
-asks_still from before behind act (inl put) = inl (put.0, put.1 ++ act ∷ [], ap (λ xs. xs ++ act ∷ []) put.2)
-asks_still from before behind act (inr back) = inr back
+asks_kept : (from : ℕ) (before behind : List Act) (act : Act) → AsksInSilence true from before behind → AsksInSilence true from before (behind ++ act ∷ [])
+asks_kept from before behind act (inl put) = inl (put.0, put.1 ++ act ∷ [], ap (λ xs. xs ++ act ∷ []) put.2)
+asks_kept from before behind act (inr back) = inr back
 
 -- an act that only listens (`IsListening`) preserves `AsksInSilence`
-asks_on : (asked : Bool) (from : ℕ) (before behind : List Act) (act : Act) → IsListening act → AsksInSilence asked from before behind → AsksInSilence asked from before (behind ++ act ∷ [])
-asks_on false from before behind act listens asks = all_append IsListening behind (act ∷ []) asks (listens, tt)
-asks_on true from before behind act listens asks = asks_still from before behind act asks
+asks_listening : (asked : Bool) (from : ℕ) (before behind : List Act) (act : Act) → IsListening act → AsksInSilence asked from before behind → AsksInSilence asked from before (behind ++ act ∷ [])
+asks_listening false from before behind act listens asks = all_append IsListening behind (act ∷ []) asks (listens, tt)
+asks_listening true from before behind act listens asks = asks_kept from before behind act asks
 
 -- whether a request was sent after the last reply line (`asked`) or not, `AsksInSilence` gives what `IsMuteFor` says of requests
-asks_any : (asked : Bool) (from : ℕ) (before behind : List Act) → AsksInSilence asked from before behind
+asks_as_is_mute : (asked : Bool) (from : ℕ) (before behind : List Act) → AsksInSilence asked from before behind
     → AllByRecursion IsListening behind ⊎ (PutsFirst behind ⊎ WentBack from before)
-asks_any false from before behind asks = inl asks
-asks_any true from before behind asks = inr asks
+asks_as_is_mute false from before behind asks = inl asks
+asks_as_is_mute true from before behind asks = inr asks
 
 module _ (plan : Plan) (commands : List Task) (scope : Scope) where
   -- a silence began with `start`, which reads the moment `alive`: after it no act brings a reply line, or closes the connection
@@ -114,7 +114,8 @@ module _ (plan : Plan) (commands : List Task) (scope : Scope) where
   -- a silence goes on after an act that stays on the connection, brings no reply line, preserves `AsksInSilence`, and reads no moment
   -- before `alive`
   muted_on : (asked : Bool) (alive now : ℕ) (acts : List Act) (act : Act) → (stays : StaysConnected act) → (none : BringsNoReply (state_after plan commands scope acts).rest act)
-      → (asks : (before behind : List Act) → AsksInSilence asked alive before behind → AsksInSilence asked alive before (behind ++ act ∷ [])) → (least : alive ≤ latest now (act ∷ [])) → IsMuted asked alive now acts
+      → (asks : (before behind : List Act) → AsksInSilence asked alive before behind → AsksInSilence asked alive before (behind ++ act ∷ []))
+      → (least : alive ≤ latest now (act ∷ [])) → IsMuted asked alive now acts
       → IsMuted asked alive (latest now (act ∷ [])) (acts ++ act ∷ [])
   muted_on asked alive now acts act stays none asks least q =
       since_on (Mutes asked alive now) (Mutes asked alive (latest now (act ∷ []))) acts (act ∷ [])
@@ -137,7 +138,7 @@ module _ (plan : Plan) (commands : List Task) (scope : Scope) where
         before = front;
         start = last;
         behind = Put out ∷ [];
-        order = cut_on (acts ++ Put out ∷ []) acts front (last ∷ []) (Put out ∷ []) refl order;
+        order = extend_cut (acts ++ Put out ∷ []) acts front (last ∷ []) (Put out ∷ []) refl order;
         holds = (tells, (tt, tt), (tt, tt), inl (out, [], refl), refl, least);
       }
 
@@ -176,7 +177,8 @@ module _ (plan : Plan) (commands : List Task) (scope : Scope) where
       let low = leb-true alive m.elapsed e in
       let least : alive ≤ latest now (act ∷ []) = omega (arith, is, low) in
       subst (λ n. IsMuted asked n m.elapsed (acts ++ act ∷ [])) (sym (min-eq_left low))
-      (subst (λ n. IsMuted asked alive n (acts ++ act ∷ [])) is (muted_on asked alive now acts act r.stays r.none (λ before behind asks. asks_on asked alive before behind act r.listens asks) least q))
+      (subst (λ n. IsMuted asked alive n (acts ++ act ∷ [])) is
+      (muted_on asked alive now acts act r.stays r.none (λ before behind asks. asks_listening asked alive before behind act r.listens asks) least q))
   muted_clock asked alive now m acts act false e r q =
       let low = leb-false alive m.elapsed e in
       let below : m.elapsed < alive = omega (arith, low) in
@@ -306,7 +308,7 @@ module _ (plan : Plan) (commands : List Task) (scope : Scope) where
   -- begins with the moment read last
   muted_asks : (asked : Bool) (alive now : ℕ) (acts : List Act) (out : List ℕ) → LastTells now acts → (asked ≡ true → IsMuted true alive now acts)
       → IsMuted true (if asked then alive else now) now (acts ++ Put out ∷ [])
-  muted_asks true alive now acts out tells q = let it = q refl in muted_on true alive now acts (Put out) tt tt (λ before behind asks. asks_still alive before behind (Put out) asks) it.holds.5 it
+  muted_asks true alive now acts out tells q = let it = q refl in muted_on true alive now acts (Put out) tt tt (λ before behind asks. asks_kept alive before behind (Put out) asks) it.holds.5 it
   muted_asks false alive now acts out tells q = muted_asking now acts out tells
 
   -- if this action sends a request, the last of the acts read the progress's moment
@@ -347,22 +349,22 @@ module _ (plan : Plan) (commands : List Task) (scope : Scope) where
 
   -- `Mute` is preserved if the station resynchronizes, where a request that was sent after the last reply line counts only if
   -- `on`
-  mute_where : (asked on : Bool) (alive now : ℕ) (at : Phase) (acts : List Act) → Mute (is_sought the_word 0 asked) asked alive now at acts
+  mute_resynchronizing : (asked on : Bool) (alive now : ℕ) (at : Phase) (acts : List Act) → Mute (is_sought the_word 0 asked) asked alive now at acts
       → Mute (is_sought the_word 0 (asked && on)) (asked && on) alive now at acts
-  mute_where true true alive now at acts q = q
-  mute_where true false alive now phase.Ready acts q = λ so. cc
-  mute_where true false alive now at acts q = tt
-  mute_where false on alive now at acts q = q
+  mute_resynchronizing true true alive now at acts q = q
+  mute_resynchronizing true false alive now phase.Ready acts q = λ so. cc
+  mute_resynchronizing true false alive now at acts q = tt
+  mute_resynchronizing false on alive now at acts q = q
 
   -- `MuteAt` is preserved by an act of any action that leaves a connection in use, if `HoldsBefore` and `ReadsBeforeAsking` hold
   -- of the action
   mute_line : (next : Action) (s : Model) (acts : List Act) → HoldsBefore plan s.progress (waiting_of s) next → ReadsBeforeAsking s.progress acts next
-      → (state_after plan commands scope acts).rest ≡ s.rest → MuteAt s.progress acts → OnLine plan commands MuteAt next (with_progress turned s) acts
+      → (state_after plan commands scope acts).rest ≡ s.rest → MuteAt s.progress acts → HoldsInUse plan commands MuteAt next (with_progress turned s) acts
   mute_line actions.Open s acts needs tells rest q = λ m. tt
   mute_line actions.Clear s acts needs tells rest q = λ m. cleared_mute (has_begun s.progress) s.progress (acts ++ Put (10 ∷ []) ∷ []) refl
   mute_line actions.Renew s acts needs tells rest q =
       let p = s.progress in
-      λ m. mute_where p.asked (goes_on plan (moment_noted m p)) (min p.alive m.elapsed) m.elapsed p.phase (acts ++ Told m ∷ [])
+      λ m. mute_resynchronizing p.asked (goes_on plan (moment_noted m p)) (min p.alive m.elapsed) m.elapsed p.phase (acts ++ Told m ∷ [])
       (told_mute (is_sought the_word 0 p.asked) p m acts (λ ready so. sought_begun p.word p.again p.asked needs.1) q)
   mute_line actions.Ask s acts needs tells rest q =
       let p = s.progress in λ m. asks_mute (is_sought p.word (later p.moment.elapsed plan.deadline) true) p acts (null_text p.word) needs.0 tells q
@@ -398,15 +400,16 @@ module _ (plan : Plan) (commands : List Task) (scope : Scope) where
   -- `MuteAt` holds after every run
   mute_holds : (acts : List Act) → Runs plan commands (opening plan scope) acts → MuteAt (state_after plan commands scope acts).progress acts
   mute_holds acts runs =
-      on_line_always plan commands MuteAt (λ x acts none. mute_none (is_sought x.word x.again x.asked) x.asked x.alive x.moment.elapsed x.phase acts none) scope (λ done runs q.
+      holds_in_use_always plan commands MuteAt (λ x acts none. mute_none (is_sought x.word x.again x.asked) x.asked x.alive x.moment.elapsed x.phase acts none) scope (λ done runs q.
       let s = state_after plan commands scope done in
       let p = s.progress in
       let tells = reads_before_asking p done (action_at plan s) (action_wakes plan p (waiting_of s)) (λ awake. awake_last plan commands scope done runs awake) in
       mute_line (action_at plan s) s done (action_for plan p (waiting_of s)) tells refl q) tt acts runs
 
   -- if a request is outstanding, or a null procedure was sent on this connection, a reply line is waited for
-  sought_dead : (s : Model) → Invariant plan commands s → (nat_lt 0 (length s.client.waiting) || nat_lt 0 s.progress.again) ≡ true → is_sought s.progress.word s.progress.again s.progress.asked ≡ true
-  sought_dead s fine e = by_again (nat_lt 0 s.progress.again) refl where
+  outstanding_is_sought : (s : Model) → Invariant plan commands s → (nat_lt 0 (length s.client.waiting) || nat_lt 0 s.progress.again) ≡ true
+      → is_sought s.progress.word s.progress.again s.progress.asked ≡ true
+  outstanding_is_sought s fine e = by_again (nat_lt 0 s.progress.again) refl where
     -- the progress after the acts
     p : Progress
     p = s.progress
@@ -436,7 +439,7 @@ module _ (plan : Plan) (commands : List Task) (scope : Scope) where
     starts = q.holds.0;
     stays = q.holds.1;
     mute = q.holds.2;
-    asked = asks_any s.progress.asked s.progress.alive q.before q.behind q.holds.3;
+    asked = asks_as_is_mute s.progress.asked s.progress.alive q.before q.behind q.holds.3;
     long = subst (λ n. dead_after plan ≤ n - s.progress.alive) (sym q.holds.4) (leb-true (dead_after plan) (s.progress.moment.elapsed - s.progress.alive) dead.1);
   } where
     -- the model after the acts
@@ -454,8 +457,8 @@ module _ (plan : Plan) (commands : List Task) (scope : Scope) where
     -- a reply line is waited for, and for long enough none came
     dead : ((nat_lt 0 (length s.client.waiting) || nat_lt 0 s.progress.again) ≡ true) × (nat_le (dead_after plan) (s.progress.moment.elapsed - s.progress.alive) ≡ true)
     dead = and_parts (nat_lt 0 (length s.client.waiting) || nat_lt 0 s.progress.again)
-        (nat_le (dead_after plan) (s.progress.moment.elapsed - s.progress.alive)) (end_here plan s cause.Dead is never).1
+        (nat_le (dead_after plan) (s.progress.moment.elapsed - s.progress.alive)) (closes_at_its_end plan s cause.Dead is never).1
 
     -- a silence has lasted since `alive`
     q : IsMutedAt s.progress acts
-    q = in_phase s.progress phase.Ready acts awake.1 (mute_holds acts runs) (sought_dead s (invariant_holds plan commands scope acts) dead.0)
+    q = in_phase s.progress phase.Ready acts awake.1 (mute_holds acts runs) (outstanding_is_sought s (invariant_holds plan commands scope acts) dead.0)

@@ -13,6 +13,6 @@ at_their_targets plan commands scope acts =
 
 -- the law: after any acts, the quality of each answered command is as listed: what its line says, by the codes that are
 -- accepted of it
-pub as_listed : QualitiesAreAsListed
-as_listed plan commands scope acts =
+pub qualities_as_listed : QualitiesAreAsListed
+qualities_as_listed plan commands scope acts =
     all_on (IsAsItsText plan commands scope) (λ r. IsAsListed scope.reads commands r) (state_after plan commands scope acts).records (λ r so. so.3) (kept_all plan commands scope acts).records

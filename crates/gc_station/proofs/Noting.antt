@@ -22,7 +22,7 @@ use Rattle.gc_station.specs.Scopes.{Scope, AreReadings}
 use Rattle.gc_station.specs.Stations.{Refines, Makes, Breaks, as_seen}
 use Rattle.gc_station.specs.declared.tally.Tally.{Tally}
 use Rattle.gc_station.proofs.Going.{Went, went_nothing, went_kept, went_on, runs-append}
-use Rattle.gc_station.proofs.Hearing.{tells_more}
+use Rattle.gc_station.proofs.Hearing.{adds_acts_append}
 
 module _ (plan : Plan) (commands : List Task) (scope : Scope) (text : Record → List ℕ) (told : Option (List Act)) (taken : Option (List ℕ)) where
   -- the station `went` through acts, before each of which one of `turns` was seen, after the turns of `saw`; and at each turn,
@@ -100,7 +100,7 @@ module _ (plan : Plan) (commands : List Task) (scope : Scope) (text : Record →
       → Noted told' taken' station saw saw' → AddsActs told' told'' (Closed ∷ []) → KeepsUpHere told'' saw saw' (Closed ∷ [])
   noted_closed told' told'' taken' station saw saw' n closed = record {
     acts = n.went.acts;
-    tells = tells_more told told' told'' n.went.acts (Closed ∷ []) n.went.tells closed;
+    tells = adds_acts_append told told' told'' n.went.acts (Closed ∷ []) n.went.tells closed;
     runs = n.went.runs;
     turns = n.turns;
     saw = n.all;
@@ -123,7 +123,7 @@ module _ (plan : Plan) (commands : List Task) (scope : Scope) (text : Record →
       subst (λ (o : Action). Performs commands s o breaks.act) is (breaks.goes s taken w.stands (λ ok. w.took)).0 in
       record {
         acts = w.acts ++ breaks.act ∷ [];
-        tells = tells_more told told'' told''' (w.acts ++ breaks.act ∷ []) (Closed ∷ []) (tells_more told told' told'' w.acts (breaks.act ∷ []) w.tells breaks.tells) closed;
+        tells = adds_acts_append told told'' told''' (w.acts ++ breaks.act ∷ []) (Closed ∷ []) (adds_acts_append told told' told'' w.acts (breaks.act ∷ []) w.tells breaks.tells) closed;
         runs = runs-append plan commands (opening plan scope) w.acts (breaks.act ∷ []) w.runs (obeys, tt);
         turns = n.turns ++ seen_now told' taken' lasts ∷ [];
         saw = saw_more saw saw' saw'' n.turns (seen_now told' taken' lasts) n.all one;

@@ -20,7 +20,7 @@ use Rattle.gc_station.proofs.Going.{after_all-append, runs_behind}
 use Rattle.gc_station.proofs.Turns.{no_act_once_over}
 use Rattle.gc_station.proofs.SentAt.{joined_length}
 use Rattle.gc_station.proofs.Closings.{needs_of}
-use Rattle.gc_station.proofs.Losing.{going_on}
+use Rattle.gc_station.proofs.Losing.{ready_not_over}
 
 -- if the run isn't over after acts, it wasn't before them, as no act follows once it is over
 not_over_before : (plan : Plan) (commands : List Task) (u : Model) (acts : List Act) (over : Bool) → is_over u.progress ≡ over → Runs plan commands u acts
@@ -84,6 +84,6 @@ module _ (plan : Plan) (commands : List Task) (scope : Scope) where
   same_part before between request runs keeps next =
       let s = state before in
       let on = runs_behind plan commands (opening plan scope) before (request ∷ between) runs in
-      let last = going_on (state (before ++ request ∷ between)).progress (needs_of plan (state (before ++ request ∷ between)) Send next).0 in
+      let last = ready_not_over (state (before ++ request ∷ between)).progress (needs_of plan (state (before ++ request ∷ between)) Send next).0 in
       let end = subst (λ (t : Model). is_over t.progress ≡ false) (after_all-append plan commands (opening plan scope) before (request ∷ between)) last in
       parts_more plan commands (opening plan scope) before (request ∷ between) (are_one_part plan commands s (request ∷ between) on keeps end)

@@ -16,17 +16,17 @@ use Rattle.gc_station.specs.Progressing.{failing, turned, cleared, time_passed, 
 use Rattle.gc_station.specs.Reasons.{HoldsBefore, HasConnectionFor}
 use Rattle.gc_station.specs.Model.{Model, waiting_of, with_progress, is_heard, after_open, Performs, moved}
 use Rattle.gc_station.specs.NextCommand.{commands_before}
-use Rattle.gc_station.specs.Tries.{endings_in, openings_in}
+use Rattle.gc_station.specs.Tries.{disconnections_in, openings_in}
 use Rattle.gc_station.proofs.Closings.{came_phase, cleared_up}
 use Rattle.gc_station.proofs.Silences.{quieted_up}
 use Rattle.gc_station.proofs.Walk.{walk, piece_before}
-use Rattle.gc_station.proofs.Turns.{up_count, again_down, closed_down}
+use Rattle.gc_station.proofs.Turns.{up_count, after_failure_down, closed_down}
 use Rattle.gc_station.proofs.Unbroken.{failure_keeps_line}
 
 -- an act balances connections: those that it asks for, and 1 if there is one before it (`before`), are as many as those that it
 -- ends or can't make, and 1 if there is one after it (`behind`)
-abbrev pub IsBalanced : Bool → Act → Bool → Type 0
-IsBalanced before act behind = openings_in (act ∷ []) + up_count before ≡ endings_in (act ∷ []) + up_count behind
+abbrev pub IsBalanced : (before : Bool) → Act → (behind : Bool) → Type 0
+IsBalanced before act behind = openings_in (act ∷ []) + up_count before ≡ disconnections_in (act ∷ []) + up_count behind
 
 -- `IsBalanced`, by the phases of models
 abbrev pub IsBalancedAt : Model → Act → Model → Type 0
@@ -52,17 +52,17 @@ Quits (actions.Close cause.Stopped) = Unit {0}
 Quits next = ⊥
 
 -- if `HasConnectionFor` holds for a cause, and a close for this cause isn't one of `Quits`, there is a connection
-up_for : (why : Cause) (p : Progress) → HasConnectionFor why p → (Quits (actions.Close why) → ⊥) → is_up p.phase ≡ true
-up_for cause.Stale p has never = absurd (never tt)
-up_for cause.Stopped p has never = absurd (never tt)
-up_for why p has never = has
+up_unless_quits : (why : Cause) (p : Progress) → HasConnectionFor why p → (Quits (actions.Close why) → ⊥) → is_up p.phase ≡ true
+up_unless_quits cause.Stale p has never = absurd (never tt)
+up_unless_quits cause.Stopped p has never = absurd (never tt)
+up_unless_quits why p has never = has
 
 -- `IsBalanced` holds of an act of each action but those of `Quits`, if `HoldsBefore` holds of the action
 pub moved_balanced : (plan : Plan) (commands : List Task) (next : Action) (s : Model) (act : Act) → Performs commands s next act → HoldsBefore plan s.progress (waiting_of s) next → (Quits next → ⊥)
     → IsBalancedAt s act (moved plan commands next (with_progress turned s) act)
 moved_balanced plan commands actions.Open s act o needs never =
     let down : up_count (is_up s.progress.phase) ≡ 0 = ap (λ at. up_count (is_up at)) needs in
-    let again : up_count (is_up (after_open plan (with_progress turned s) Unopened).progress.phase) ≡ 0 = ap up_count (again_down plan (commands_in s.marks) cause.Open (turned s.progress)) in
+    let again : up_count (is_up (after_open plan (with_progress turned s) Unopened).progress.phase) ≡ 0 = ap up_count (after_failure_down plan (commands_in s.marks) cause.Open (turned s.progress)) in
     walk plan commands (IsBalancedAt s) actions.Open (with_progress turned s) act o (λ m. omega (arith, down), λ n. omega (arith, down, again))
 moved_balanced plan commands actions.Clear s act o needs never =
     let at = (cleared (turned s.progress)).phase in
@@ -89,7 +89,7 @@ moved_balanced plan commands (actions.Read until) s act o needs never =
     )
 moved_balanced plan commands (actions.Close why) s act o needs never =
     walk plan commands (IsBalancedAt s) (actions.Close why) (with_progress turned s) act o
-    (close_balanced (is_up s.progress.phase) (is_up (closed plan (waiting_of s) why (turned s.progress)).phase) (up_for why s.progress needs.0 never)
+    (close_balanced (is_up s.progress.phase) (is_up (closed plan (waiting_of s) why (turned s.progress)).phase) (up_unless_quits why s.progress needs.0 never)
     (closed_down plan (waiting_of s) why (turned s.progress)))
 moved_balanced plan commands (actions.Stop why) s act o needs never = absurd o
 moved_balanced plan commands next s act o needs never = walk plan commands (IsBalancedAt s) next (with_progress turned s) act o (λ m. refl, λ n. failure_balanced s cause.Clock)

@@ -47,11 +47,11 @@ sending_asks plan s (inl is) = subst IsAsking (sym is) tt
 sending_asks plan s (inr is) = subst IsAsking (sym is) tt
 
 -- the action o sends the command with this mark: the next of a cycle, or the next of the setup
-abbrev pub SendsMarked : Plan → List Task → Model → Action → Mark → Type 0
+abbrev pub SendsMarked : Plan → List Task → Model → (o : Action) → Mark → Type 0
 SendsMarked plan commands s o mark = ((o ≡ Send) × (mark ≡ mark_next plan commands s.progress)) ⊎ ((o ≡ Prepare) × (mark ≡ mark_setup commands s.progress))
 
 -- if the mark is of a cycle, the action sends the next command of a cycle, and the mark is that command's
-pub of_a_cycle : (plan : Plan) (commands : List Task) (s : Model) (o : Action) (mark : Mark) → SendsMarked plan commands s o mark → 0 < mark.cycle
+pub sends_next_of_cycle : (plan : Plan) (commands : List Task) (s : Model) (o : Action) (mark : Mark) → SendsMarked plan commands s o mark → 0 < mark.cycle
     → (o ≡ Send) × (mark ≡ mark_next plan commands s.progress)
-of_a_cycle plan commands s o mark (inl it) many = it
-of_a_cycle plan commands s o mark (inr it) many = let none : mark.cycle ≡ 0 = ap (λ (m : Mark). m.cycle) it.1 in absurd (omega (arith, none, many))
+sends_next_of_cycle plan commands s o mark (inl it) many = it
+sends_next_of_cycle plan commands s o mark (inr it) many = let none : mark.cycle ≡ 0 = ap (λ (m : Mark). m.cycle) it.1 in absurd (omega (arith, none, many))

@@ -72,21 +72,21 @@ front_last (x ∷ next ∷ ps) (y ∷ qs) (suc i) p q h size e f = front_last (n
 
 -- if `ps` are a front of `qs`, the last part of `ps`, at place j, comes before the last part of `qs`, at place i; or j is i, and
 -- it has no more requests
-pub front_no_longer : (ps qs : List Part) (j i : ℕ) (p q : Part) → IsFront ps qs → (last : length ps ≡ suc j) → (last_of_all : length qs ≡ suc i) → (here : slice_get ps j ≡ Some p)
+pub front_not_longer : (ps qs : List Part) (j i : ℕ) (p q : Part) → IsFront ps qs → (last : length ps ≡ suc j) → (last_of_all : length qs ≡ suc i) → (here : slice_get ps j ≡ Some p)
     → (there : slice_get qs i ≡ Some q) → (j < i) ⊎ ((j ≡ i) × (length p.marks ≤ length q.marks))
-front_no_longer [] qs j i p q h a b e f = absurd h
-front_no_longer (x ∷ ps) [] j i p q h a b e f = absurd h
-front_no_longer (x ∷ []) (y ∷ qs) zero zero p q h a b e f =
+front_not_longer [] qs j i p q h a b e f = absurd h
+front_not_longer (x ∷ ps) [] j i p q h a b e f = absurd h
+front_not_longer (x ∷ []) (y ∷ qs) zero zero p q h a b e f =
     let long : length y.marks ≡ length x.marks + length h.0.marks = ap (λ (z : Part). length z.marks) h.1 ∙ length-append x.marks h.0.marks in
     let fewer : length x.marks ≤ length y.marks = omega (arith, long) in
     inr (refl, subst (λ (z : Part). length z.marks ≤ length q.marks) (same_Some x p e) (subst (λ (z : Part). length x.marks ≤ length z.marks) (same_Some y q f) fewer))
-front_no_longer (x ∷ []) (y ∷ qs) zero (suc i) p q h a b e f = inl (omega arith)
-front_no_longer (x ∷ []) (y ∷ qs) (suc j) i p q h a b e f = absurd (omega (arith, a))
-front_no_longer (x ∷ next ∷ ps) (y ∷ qs) zero i p q h a b e f = absurd (omega (arith, a))
-front_no_longer (x ∷ next ∷ ps) (y ∷ []) (suc j) i p q h a b e f = absurd h.1
-front_no_longer (x ∷ next ∷ ps) (y ∷ z ∷ qs) (suc j) zero p q h a b e f = absurd (omega (arith, b))
-front_no_longer (x ∷ next ∷ ps) (y ∷ z ∷ qs) (suc j) (suc i) p q h a b e f =
-    elim (front_no_longer (next ∷ ps) (z ∷ qs) j i p q h.1 (omega (arith, a)) (omega (arith, b)) e f) [
+front_not_longer (x ∷ []) (y ∷ qs) zero (suc i) p q h a b e f = inl (omega arith)
+front_not_longer (x ∷ []) (y ∷ qs) (suc j) i p q h a b e f = absurd (omega (arith, a))
+front_not_longer (x ∷ next ∷ ps) (y ∷ qs) zero i p q h a b e f = absurd (omega (arith, a))
+front_not_longer (x ∷ next ∷ ps) (y ∷ []) (suc j) i p q h a b e f = absurd h.1
+front_not_longer (x ∷ next ∷ ps) (y ∷ z ∷ qs) (suc j) zero p q h a b e f = absurd (omega (arith, b))
+front_not_longer (x ∷ next ∷ ps) (y ∷ z ∷ qs) (suc j) (suc i) p q h a b e f =
+    elim (front_not_longer (next ∷ ps) (z ∷ qs) j i p q h.1 (omega (arith, a)) (omega (arith, b)) e f) [
       | inl l ↦ inl (omega (arith, l))
       | inr r ↦ inr (ap suc r.0, r.1)
     ]

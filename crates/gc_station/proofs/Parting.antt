@@ -6,8 +6,8 @@ use Rattle.std.proofs.Common.{◌≡◌, ℕ, ◌-◌, ◌<◌, Bool, true, fals
 use Rattle.std.proofs.lemmas.List.{length-map}
 use Rattle.std.proofs.lemmas.Bool.{both_ways, cond_both}
 use Rattle.gc_lines.specs.Frames.{rest_behind}
-use Rattle.gc_catalogue.specs.declared.answer.Reading.{Reading}
 use Rattle.gc_catalogue.specs.declared.asked.Asked.{Asked}
+use Rattle.gc_client.specs.declared.window.TheConstants.{WINDOW}
 use Rattle.gc_client.specs.OneForOne.{Hear, Expire}
 use Rattle.gc_client.specs.Rule.{ById, fresh, heard, hears, expired, expires}
 use Rattle.gc_client.proofs.Lists.{head_of_drop}
@@ -27,30 +27,31 @@ use Rattle.gc_station.specs.Records.{Record}
 use Rattle.gc_station.specs.declared.mark.Mark.{Mark}
 use Rattle.gc_station.specs.Model.{Model, waiting_of, Performs, with_progress, with_moment, with_rest, asks_first, unsent_record, first_unsent_record, line_came, lines_came, lines_completed, is_heard, after_piece, after_read, moved, request_for, null_request, request_or_null, asks_for}
 use Rattle.gc_station.specs.NextCommand.{place_next, mark_next, mark_setup}
+use Rattle.gc_station.specs.Scopes.{Reads}
 use Rattle.gc_station.proofs.Asked.{sync_part_only_sync_steps}
 use Rattle.gc_station.proofs.Booking.{Books, books_sync_steps, sent_of-append_records, books_both, books_nothing, books_moment, books_line, books_send}
 use Rattle.gc_station.proofs.Invariant.{Paired, Invariant}
 use Rattle.gc_station.proofs.Hearing.{hears_paired}
 use Rattle.gc_station.proofs.Tasked.{unsent_end}
-use Rattle.gc_station.proofs.Walk.{is_sent, walk, piece_before}
+use Rattle.gc_station.proofs.Walk.{sent_same, walk, piece_before}
 use Rattle.std.proofs.lemmas.List.Elements.{filter-append}
 
 -- the part p takes the client of one model, with its marks and records, to those of another, with these readings of replies
-abbrev pub LeadsBy : (Asked → List ℕ → Reading) → List Task → Model → Part → Model → Type 0
+abbrev pub LeadsBy : Reads → List Task → Model → (p : Part) → Model → Type 0
 LeadsBy reads commands s p t = Books reads commands s.client s.marks (sent_of s.records) p t.client t.marks (sent_of t.records)
 
 -- `LeadsBy` with the readings of the model s
-abbrev pub Leads : List Task → Model → Part → Model → Type 0
+abbrev pub Leads : List Task → (s : Model) → Part → Model → Type 0
 Leads commands s p t = LeadsBy s.reads commands s p t
 
 module _ (plan : Plan) (commands : List Task) where
   -- an act of this action leads from one model to another by the part that `client_part` gives it
-  abbrev LeadsSo : Action → Model → Act → Model → Type 0
-  LeadsSo o s act t = Leads commands s (client_part plan commands s o act) t
+  abbrev LeadsByPart : Action → Model → Act → Model → Type 0
+  LeadsByPart o s act t = Leads commands s (client_part plan commands s o act) t
 
   -- if each request that waits has a mark, a line that is heard leads on by the step that hears it
-  heard_books : (s : Model) (line : List ℕ) → Paired s → Leads commands s (only_steps (Hear line ∷ [])) (line_came s line)
-  heard_books s line paired =
+  leads_line : (s : Model) (line : List ℕ) → Paired s → Leads commands s (only_steps (Hear line ∷ [])) (line_came s line)
+  leads_line s line paired =
       let x = hears s.client line (heard line) in
       let written = sent_of-append_records s.reads s.records s.progress.moment.utc s.marks x.settlements in
       subst (λ (rs : List Record). Books s.reads commands s.client s.marks (sent_of s.records) (only_steps (Hear line ∷ [])) x.client (drop (length x.settlements) s.marks) rs) (sym written)
@@ -64,7 +65,7 @@ module _ (plan : Plan) (commands : List Task) where
       let u = lines_came t others in
       books_both s.reads commands s.client t.client u.client s.marks t.marks u.marks (sent_of s.records) (sent_of t.records) (sent_of u.records)
       (only_steps (Hear line ∷ [])) (only_steps (map Hear others))
-      (heard_books s line paired)
+      (leads_line s line paired)
       (leads_lines t others (hears_paired s.marks s.client line (heard line) paired))
 
   -- if each request that waits has a mark, and the station has synchronized (no id of `word` is left), a piece leads on by the
@@ -80,7 +81,7 @@ module _ (plan : Plan) (commands : List Task) where
 
   -- once the station has synchronized, and if each request that waits has a mark, a read that gave bytes leads on by its part
   leads_gave : (s : Model) (until : Until) (bytes : List ℕ) (m : Moment) → has_begun s.progress ≡ true → Paired s
-      → LeadsSo (action.Read until) s (Gave bytes m) (after_read plan until (with_progress turned s) (Gave bytes m))
+      → LeadsByPart (action.Read until) s (Gave bytes m) (after_read plan until (with_progress turned s) (Gave bytes m))
   leads_gave s until bytes m begun paired =
       let x = piece_before m s in
       let t = after_piece (is_heard s.progress.phase) s.progress.word bytes x in
@@ -91,7 +92,7 @@ module _ (plan : Plan) (commands : List Task) where
 
   -- `left` are the commands from the place of this mark on. The first of them, if there is one and room for it, leads on by the
   -- part of its request once it is sent with the mark
-  leads_first : (s : Model) (mark : Mark) (left : List Task) → drop mark.place commands ≡ left → 0 < length left → length s.client.waiting < 7
+  leads_first : (s : Model) (mark : Mark) (left : List Task) → drop mark.place commands ≡ left → 0 < length left → length s.client.waiting < WINDOW
       → Leads commands s (first_request_part s.progress.moment.elapsed mark left) (asks_first mark left (with_progress turned s))
   leads_first s mark [] at some room = absurd (omega (arith, some))
   leads_first s mark (task ∷ others) at some room =
@@ -99,12 +100,12 @@ module _ (plan : Plan) (commands : List Task) where
       (task, head_of_drop commands mark.place task others at, refl)
 
   -- a null procedure of the station's own, if there is room for it, leads on by the part of its request once it is sent
-  leads_null : (s : Model) → length s.client.waiting < 7 → Leads commands s (request_part s.progress.moment.elapsed (null_request plan)) (asks_for (null_request plan) s)
+  leads_null : (s : Model) → length s.client.waiting < WINDOW → Leads commands s (request_part s.progress.moment.elapsed (null_request plan)) (asks_for (null_request plan) s)
   leads_null s room = books_send s.reads commands s.client s.marks (sent_of s.records) s.progress.moment.elapsed (null_request plan) room refl
 
   -- `left` are the commands from the next place of the setup on. The first of them, or a null procedure if there is none, leads
   -- on by the part of its request once it is sent, if there is room for it
-  leads_setup : (s : Model) (left : List Task) → drop s.progress.prepared commands ≡ left → length s.client.waiting < 7
+  leads_setup : (s : Model) (left : List Task) → drop s.progress.prepared commands ≡ left → length s.client.waiting < WINDOW
       → Leads commands s (request_part s.progress.moment.elapsed (request_or_null plan (mark_setup commands s.progress) left))
       (asks_for (request_or_null plan (mark_setup commands s.progress) left) (with_progress turned s))
   leads_setup s [] at room = leads_null s room
@@ -124,44 +125,44 @@ module _ (plan : Plan) (commands : List Task) where
   unsent_add_none rs more none = filter-append _ rs more ∙ ap (λ xs. sent_of rs ++ xs) none ∙ append-nil (sent_of rs)
 
   -- a model leads to itself by the part in which nothing happens
-  none_booked : (s : Model) → Leads commands s idle_part s
-  none_booked s = books_nothing s.reads commands s.client s.marks (sent_of s.records)
+  leads_idle : (s : Model) → Leads commands s idle_part s
+  leads_idle s = books_nothing s.reads commands s.client s.marks (sent_of s.records)
 
   -- a moment leads on by the step that reads it
-  moment_booked : (s : Model) (m : Moment) → Leads commands s (only_steps (Expire m.elapsed ∷ [])) (with_moment m s)
-  moment_booked s m = books_moment s.reads commands s.client s.marks (sent_of s.records) m.elapsed
+  leads_moment : (s : Model) (m : Moment) → Leads commands s (only_steps (Expire m.elapsed ∷ [])) (with_moment m s)
+  leads_moment s m = books_moment s.reads commands s.client s.marks (sent_of s.records) m.elapsed
 
   -- once the station has synchronized, an act of each action leads on by its part, if `Invariant` holds before it, and
   -- `HoldsBefore` of the action
   leads_synchronized : (s : Model) (o : Action) (act : Act) → Invariant plan commands s → HoldsBefore plan s.progress (waiting_of s) o → Performs commands s o act → has_begun s.progress ≡ true
-      → LeadsSo o s act (moved plan commands o (with_progress turned s) act)
-  leads_synchronized s action.Open act fine is obeys begun = walk plan commands (LeadsSo action.Open s) action.Open (with_progress turned s) act obeys (λ m. none_booked s, λ n. none_booked s)
-  leads_synchronized s action.Clear act fine is obeys begun = walk plan commands (LeadsSo action.Clear s) action.Clear (with_progress turned s) act obeys (λ m. none_booked s, λ n. none_booked s)
+      → LeadsByPart o s act (moved plan commands o (with_progress turned s) act)
+  leads_synchronized s action.Open act fine is obeys begun = walk plan commands (LeadsByPart action.Open s) action.Open (with_progress turned s) act obeys (λ m. leads_idle s, λ n. leads_idle s)
+  leads_synchronized s action.Clear act fine is obeys begun = walk plan commands (LeadsByPart action.Clear s) action.Clear (with_progress turned s) act obeys (λ m. leads_idle s, λ n. leads_idle s)
   leads_synchronized s action.Ask act fine is obeys begun = absurd (both_ways (has_begun s.progress) is.1 begun)
   leads_synchronized s action.Flush act fine is obeys begun =
-      walk plan commands (LeadsSo action.Flush s) action.Flush (with_progress turned s) act obeys (λ m. leads_null s is.4.1, λ n. leads_null s is.4.1)
+      walk plan commands (LeadsByPart action.Flush s) action.Flush (with_progress turned s) act obeys (λ m. leads_null s is.4.1, λ n. leads_null s is.4.1)
   leads_synchronized s action.Prepare act fine is obeys begun =
       let prepares = leads_setup s (drop s.progress.prepared commands) refl is.3.1 in
-      walk plan commands (LeadsSo action.Prepare s) action.Prepare (with_progress turned s) act obeys (λ m. prepares, λ n. prepares)
+      walk plan commands (LeadsByPart action.Prepare s) action.Prepare (with_progress turned s) act obeys (λ m. prepares, λ n. prepares)
   leads_synchronized s action.Send act fine is obeys begun =
       let left = drop (place_next commands s.progress) commands in
       let many : length left ≡ length commands - place_next commands s.progress = length-drop (place_next commands s.progress) commands in
-      let sends = subst (λ (t : Model). Leads commands s (put_part plan commands s action.Send) t) (sym (is_sent plan commands (with_progress turned s)))
+      let sends = subst (λ (t : Model). Leads commands s (put_part plan commands s action.Send) t) (sym (sent_same plan commands (with_progress turned s)))
       (leads_first s (mark_next plan commands s.progress) left refl (omega (arith, many, is.2, fine.unsent)) is.3.1) in
-      walk plan commands (LeadsSo action.Send s) action.Send (with_progress turned s) act obeys (λ m. sends, λ n. sends)
+      walk plan commands (LeadsByPart action.Send s) action.Send (with_progress turned s) act obeys (λ m. sends, λ n. sends)
   leads_synchronized s action.Skip act fine is obeys begun =
       let books = Books s.reads commands s.client s.marks (sent_of s.records) in
-      walk plan commands (LeadsSo action.Skip s) action.Skip (with_progress turned s) act obeys (
+      walk plan commands (LeadsByPart action.Skip s) action.Skip (with_progress turned s) act obeys (
         λ m. subst (λ (rs : List Record). books (only_steps (Expire m.elapsed ∷ [])) (expires s.client m.elapsed) s.marks rs)
-            (sym (unsent_add_none s.records (unsent_record plan commands (turned s.progress) (Told m)) (skips_unsent (with_progress turned s) m))) (moment_booked s m),
-        λ n. subst (λ (rs : List Record). books idle_part s.client s.marks rs) (sym (unsent_add_none s.records [] refl)) (none_booked s),
+            (sym (unsent_add_none s.records (unsent_record plan commands (turned s.progress) (Told m)) (skips_unsent (with_progress turned s) m))) (leads_moment s m),
+        λ n. subst (λ (rs : List Record). books idle_part s.client s.marks rs) (sym (unsent_add_none s.records [] refl)) (leads_idle s),
       )
   leads_synchronized s (action.Read until) act fine is obeys begun =
-      walk plan commands (LeadsSo (action.Read until) s) (action.Read until) (with_progress turned s) act obeys
-      (λ bytes m. leads_gave s until bytes m begun fine.paired, λ m. moment_booked s m, none_booked s, none_booked s, none_booked s)
-  leads_synchronized s (action.Close why) act fine is obeys begun = walk plan commands (LeadsSo (action.Close why) s) (action.Close why) (with_progress turned s) act obeys (none_booked s)
+      walk plan commands (LeadsByPart (action.Read until) s) (action.Read until) (with_progress turned s) act obeys
+      (λ bytes m. leads_gave s until bytes m begun fine.paired, λ m. leads_moment s m, leads_idle s, leads_idle s, leads_idle s)
+  leads_synchronized s (action.Close why) act fine is obeys begun = walk plan commands (LeadsByPart (action.Close why) s) (action.Close why) (with_progress turned s) act obeys (leads_idle s)
   leads_synchronized s (action.Stop why) act fine is obeys begun = absurd obeys
-  leads_synchronized s o act fine is obeys begun = walk plan commands (LeadsSo o s) o (with_progress turned s) act obeys (λ m. moment_booked s m, λ n. none_booked s)
+  leads_synchronized s o act fine is obeys begun = walk plan commands (LeadsByPart o s) o (with_progress turned s) act obeys (λ m. leads_moment s m, λ n. leads_idle s)
 
   -- While the station synchronizes no step is taken.
 
@@ -182,18 +183,18 @@ module _ (plan : Plan) (commands : List Task) where
 
   -- while the station synchronizes, an act of each action of which `HoldsBefore` holds leaves a new client new, and the marks and
   -- the records as they are
-  pub keeps_action : (s : Model) (o : Action) (act : Act) → HoldsBefore plan s.progress (waiting_of s) o → Performs commands s o act → has_begun s.progress ≡ false
+  pub keeps_new_client : (s : Model) (o : Action) (act : Act) → HoldsBefore plan s.progress (waiting_of s) o → Performs commands s o act → has_begun s.progress ≡ false
       → s.client ≡ fresh → KeepsNewClient s (moved plan commands o (with_progress turned s) act)
-  keeps_action s action.Renew act is obeys begins new = absurd (both_ways (has_begun s.progress) begins is.1)
-  keeps_action s action.Begin act is obeys begins new = absurd (both_ways (has_begun s.progress) begins is.1)
-  keeps_action s action.Prepare act is obeys begins new = absurd (both_ways (has_begun s.progress) begins is.1)
-  keeps_action s action.Send act is obeys begins new = absurd (both_ways (has_begun s.progress) begins is.1)
-  keeps_action s action.Skip act is obeys begins new = absurd (both_ways (has_begun s.progress) begins is.1)
-  keeps_action s action.Pass act is obeys begins new = absurd (both_ways (has_begun s.progress) begins is.1)
-  keeps_action s action.Flush act is obeys begins new = absurd (both_ways (has_begun s.progress) begins is.1)
-  keeps_action s action.ReadClock act is obeys begins new = walk plan commands (λ a. KeepsNewClient s) action.ReadClock (with_progress turned s) act obeys
+  keeps_new_client s action.Renew act is obeys begins new = absurd (both_ways (has_begun s.progress) begins is.1)
+  keeps_new_client s action.Begin act is obeys begins new = absurd (both_ways (has_begun s.progress) begins is.1)
+  keeps_new_client s action.Prepare act is obeys begins new = absurd (both_ways (has_begun s.progress) begins is.1)
+  keeps_new_client s action.Send act is obeys begins new = absurd (both_ways (has_begun s.progress) begins is.1)
+  keeps_new_client s action.Skip act is obeys begins new = absurd (both_ways (has_begun s.progress) begins is.1)
+  keeps_new_client s action.Pass act is obeys begins new = absurd (both_ways (has_begun s.progress) begins is.1)
+  keeps_new_client s action.Flush act is obeys begins new = absurd (both_ways (has_begun s.progress) begins is.1)
+  keeps_new_client s action.ReadClock act is obeys begins new = walk plan commands (λ a. KeepsNewClient s) action.ReadClock (with_progress turned s) act obeys
       (λ m. (new_told s m new, refl, refl), λ n. (new, refl, refl))
-  keeps_action s (action.Read until) act is obeys begins new =
+  keeps_new_client s (action.Read until) act is obeys begins new =
       walk plan commands (λ a. KeepsNewClient s) (action.Read until) (with_progress turned s) act obeys (
         λ bytes m. keeps_came (is_heard s.progress.phase) s.progress.word bytes (piece_before m s) begins (new_told s m new),
         λ m. (new_told s m new, refl, refl),
@@ -201,13 +202,13 @@ module _ (plan : Plan) (commands : List Task) where
         (new, refl, refl),
         (new, refl, refl),
       )
-  keeps_action s (action.Close why) act is obeys begins new = walk plan commands (λ a. KeepsNewClient s) (action.Close why) (with_progress turned s) act obeys (new, refl, refl)
-  keeps_action s (action.Stop why) act is obeys begins new = absurd obeys
-  keeps_action s o act is obeys begins new = walk plan commands (λ a. KeepsNewClient s) o (with_progress turned s) act obeys (λ m. (new, refl, refl), λ n. (new, refl, refl))
+  keeps_new_client s (action.Close why) act is obeys begins new = walk plan commands (λ a. KeepsNewClient s) (action.Close why) (with_progress turned s) act obeys (new, refl, refl)
+  keeps_new_client s (action.Stop why) act is obeys begins new = absurd obeys
+  keeps_new_client s o act is obeys begins new = walk plan commands (λ a. KeepsNewClient s) o (with_progress turned s) act obeys (λ m. (new, refl, refl), λ n. (new, refl, refl))
 
   -- steps of a synchronization lead on to a model with the same client, marks and records
-  same_led : (s : Model) (sync_steps : List SyncStep) (t : Model) → s.client ≡ t.client → s.marks ≡ t.marks → s.records ≡ t.records → Leads commands s (only_sync_steps sync_steps) t
-  same_led s sync_steps t c ms rs =
+  leads_with_same_client : (s : Model) (sync_steps : List SyncStep) (t : Model) → s.client ≡ t.client → s.marks ≡ t.marks → s.records ≡ t.records → Leads commands s (only_sync_steps sync_steps) t
+  leads_with_same_client s sync_steps t c ms rs =
       let books = Books s.reads commands s.client s.marks (sent_of s.records) (only_sync_steps sync_steps) in
       subst (λ (x : ById Asked). books x t.marks (sent_of t.records)) c
       (subst (λ (x : List (Option Mark)). books s.client x (sent_of t.records)) ms
@@ -220,8 +221,8 @@ module _ (plan : Plan) (commands : List Task) where
   leads_synchronizing s o act fine is obeys begins =
       let t = moved plan commands o (with_progress turned s) act in
       let new = fine.begins begins in
-      let k = keeps_action s o act is obeys begins new in
-      subst (λ (p : Part). Leads commands s p t) (sym (sync_part_only_sync_steps s o act)) (same_led s (sync_part s o act).sync_steps t (new ∙ sym k.0) (sym k.1) (sym k.2))
+      let k = keeps_new_client s o act is obeys begins new in
+      subst (λ (p : Part). Leads commands s p t) (sym (sync_part_only_sync_steps s o act)) (leads_with_same_client s (sync_part s o act).sync_steps t (new ∙ sym k.0) (sym k.1) (sym k.2))
 
   -- an act of each action leads on by its part, if `Invariant` holds before it, and `HoldsBefore` of the action
   pub leads : (s : Model) (o : Action) (act : Act) → Invariant plan commands s → HoldsBefore plan s.progress (waiting_of s) o → Performs commands s o act

@@ -23,84 +23,84 @@ use Rattle.gc_station.proofs.Turns.{phase_by}
 use Rattle.gc_station.proofs.Walk.{moved_changed}
 
 -- twice a pause of 0, bounded (`pause_within`), is the pause after a first failure
-twice_none : (quiet : ℕ) → pause_within quiet (later 0 0) ≡ pause_within quiet quiet
-twice_none quiet = omega arith
+twice_no_pause : (quiet : ℕ) → pause_within quiet (later 0 0) ≡ pause_within quiet quiet
+twice_no_pause quiet = omega arith
 
 -- a time that is doubled n times is no shorter
-doubled_least : (n time : ℕ) → time ≤ doubled n time
-doubled_least zero time = omega arith
-doubled_least (suc n) time = let least = doubled_least n time in omega (arith, least)
+doubled_not_shorter : (n time : ℕ) → time ≤ doubled n time
+doubled_not_shorter zero time = omega arith
+doubled_not_shorter (suc n) time = let least = doubled_not_shorter n time in omega (arith, least)
 
 -- if d is at least the quiet time, twice the bounded d, bounded again (`pause_within`), is twice d, bounded
-twice_more : (d quiet : ℕ) → quiet ≤ d → pause_within quiet (later (pause_within quiet d) (pause_within quiet d)) ≡ pause_within quiet (2 * d)
-twice_more d quiet least = omega (arith, least)
+twice_pause : (d quiet : ℕ) → quiet ≤ d → pause_within quiet (later (pause_within quiet d) (pause_within quiet d)) ≡ pause_within quiet (2 * d)
+twice_pause d quiet least = omega (arith, least)
 
 -- twice the pause after n failures, bounded (`pause_within`), is the one after n + 1
-twice : (plan : Plan) (n : ℕ) → pause_within plan.quiet (later (pause_after plan n) (pause_after plan n)) ≡ pause_after plan (suc n)
-twice plan zero = twice_none plan.quiet
-twice plan (suc n) = twice_more (doubled n plan.quiet) plan.quiet (doubled_least n plan.quiet)
+pause_doubled : (plan : Plan) (n : ℕ) → pause_within plan.quiet (later (pause_after plan n) (pause_after plan n)) ≡ pause_after plan (suc n)
+pause_doubled plan zero = twice_no_pause plan.quiet
+pause_doubled plan (suc n) = twice_pause (doubled n plan.quiet) plan.quiet (doubled_not_shorter n plan.quiet)
 
 -- a failure that isn't spared makes the pause after n failures the one after n + 1
 failure_lengthens_pause : (plan : Plan) (count n : ℕ) (why : Cause) (p : Progress) → is_spared plan why p ≡ false → p.pause ≡ pause_after plan n
     → (after_failure plan count why p).pause ≡ pause_after plan (suc n)
 failure_lengthens_pause plan count n why p e is =
     cond-false (is_spared plan why p) (max p.pause plan.quiet) (pause_within plan.quiet (later p.pause p.pause)) e
-    ∙ ap (λ x. pause_within plan.quiet (later x x)) is ∙ twice plan n
+    ∙ ap (λ x. pause_within plan.quiet (later x x)) is ∙ pause_doubled plan n
 
 -- a failure that isn't spared takes one try, if at least one is left
-takes : (plan : Plan) (count : ℕ) (why : Cause) (p : Progress) → is_spared plan why p ≡ false → 0 < p.tries → (after_failure plan count why p).tries + 1 ≡ p.tries
-takes plan count why p e some = let less = cond-false (is_spared plan why p) p.tries (p.tries - 1) e in omega (arith, less, some)
+failure_takes_a_try : (plan : Plan) (count : ℕ) (why : Cause) (p : Progress) → is_spared plan why p ≡ false → 0 < p.tries → (after_failure plan count why p).tries + 1 ≡ p.tries
+failure_takes_a_try plan count why p e some = let less = cond-false (is_spared plan why p) p.tries (p.tries - 1) e in omega (arith, less, some)
 
 -- a failure that isn't spared (`spared`), without a try left (`some`), ends the run: as done, if all is done, else for its cause
-over_by : (done spared some : Bool) (why : Cause) → spared ≡ false → some ≡ false
+unspared_is_over : (done spared some : Bool) (why : Cause) → spared ≡ false → some ≡ false
     → (phase_by done (spared || some) why ≡ phase.Over cause.Done) ⊎ (phase_by done (spared || some) why ≡ phase.Over why)
-over_by true spared some why e f = inl refl
-over_by false true some why e f = cc
-over_by false false true why e f = cc
-over_by false false false why e f = inr refl
+unspared_is_over true spared some why e f = inl refl
+unspared_is_over false true some why e f = cc
+unspared_is_over false false true why e f = cc
+unspared_is_over false false false why e f = inr refl
 
 -- a failure that isn't spared, without a try left, ends the run: as done, or for its cause
 ends_without_try : (plan : Plan) (count : ℕ) (why : Cause) (p : Progress) → is_spared plan why p ≡ false → p.tries ≡ 0
     → ((after_failure plan count why p).phase ≡ phase.Over cause.Done) ⊎ ((after_failure plan count why p).phase ≡ phase.Over why)
-ends_without_try plan count why p e none = over_by (is_finished count p) (is_spared plan why p) (nat_lt 0 p.tries) why e (le-ltb 0 p.tries (omega (arith, none)))
+ends_without_try plan count why p e none = unspared_is_over (is_finished count p) (is_spared plan why p) (nat_lt 0 p.tries) why e (le-ltb 0 p.tries (omega (arith, none)))
 
 -- a bounded pause (`pause_within`) is the same once it is raised to the quiet time again
 spared_stays : (d quiet : ℕ) → max (pause_within quiet d) quiet ≡ pause_within quiet d
 spared_stays d quiet = omega arith
 
 -- a spared close takes no try, and leaves the pause as it is, if that is the pause after n + 1 failures
-spared : (plan : Plan) (count n : ℕ) (why : Cause) (p : Progress) → is_spared plan why p ≡ true → p.pause ≡ pause_after plan (suc n)
+spared_leaves_pause : (plan : Plan) (count n : ℕ) (why : Cause) (p : Progress) → is_spared plan why p ≡ true → p.pause ≡ pause_after plan (suc n)
     → HasTriesAndPause (after_failure plan count why p) p.tries (pause_after plan (suc n))
-spared plan count n why p e is = (
+spared_leaves_pause plan count n why p e is = (
   cond-true (is_spared plan why p) p.tries (p.tries - 1) e,
   cond-true (is_spared plan why p) (max p.pause plan.quiet) (pause_within plan.quiet (later p.pause p.pause)) e
       ∙ ap (λ x. max x plan.quiet) is ∙ spared_stays (doubled n plan.quiet) plan.quiet,
 )
 
 -- if there was no pause, the pause that a spared close makes, the quiet time, is the one after a first failure
-spared_none : (quiet : ℕ) → max 0 quiet ≡ pause_within quiet quiet
-spared_none quiet = omega arith
+spared_from_no_pause : (quiet : ℕ) → max 0 quiet ≡ pause_within quiet quiet
+spared_from_no_pause quiet = omega arith
 
 -- a spared close takes no try, and makes a pause of 0 that of one failure
-spared_first : (plan : Plan) (count : ℕ) (why : Cause) (p : Progress) → is_spared plan why p ≡ true → p.pause ≡ pause_after plan 0
+spared_makes_first_pause : (plan : Plan) (count : ℕ) (why : Cause) (p : Progress) → is_spared plan why p ≡ true → p.pause ≡ pause_after plan 0
     → HasTriesAndPause (after_failure plan count why p) p.tries (pause_after plan 1)
-spared_first plan count why p e is = (
+spared_makes_first_pause plan count why p e is = (
   cond-true (is_spared plan why p) p.tries (p.tries - 1) e,
   cond-true (is_spared plan why p) (max p.pause plan.quiet) (pause_within plan.quiet (later p.pause p.pause)) e
-      ∙ ap (λ x. max x plan.quiet) is ∙ spared_none plan.quiet,
+      ∙ ap (λ x. max x plan.quiet) is ∙ spared_from_no_pause plan.quiet,
 )
 
 -- a read that settled a command, and after which `preparing` is false, gives all tries back, and makes the pause 0
-settled : (plan : Plan) (until : Until) (before : ℕ) (after : Waiting) (p : Progress) → after.commands < before → p.preparing ≡ false
+settling_gives_tries_back : (plan : Plan) (until : Until) (before : ℕ) (after : Waiting) (p : Progress) → after.commands < before → p.preparing ≡ false
     → HasTriesAndPause (bytes_noted plan until before after p) plan.retries (pause_after plan 0)
-settled plan until before after p fewer done =
+settling_gives_tries_back plan until before after p fewer done =
     let e = and_from (nat_lt after.commands before) (not p.preparing) (lt-ltb after.commands before fewer) (not_from_false p.preparing done) in
     (cond-true (gives_back before after p) plan.retries p.tries e, cond-true (gives_back before after p) 0 p.pause e)
 
 -- a read that settled no command, or after which `preparing` is true, changes neither the tries nor the pause
-unsettled : (plan : Plan) (until : Until) (before : ℕ) (after : Waiting) (p : Progress) → (before ≤ after.commands) ⊎ (p.preparing ≡ true)
+unsettled_leaves_tries : (plan : Plan) (until : Until) (before : ℕ) (after : Waiting) (p : Progress) → (before ≤ after.commands) ⊎ (p.preparing ≡ true)
     → HasTriesAndPause (bytes_noted plan until before after p) p.tries p.pause
-unsettled plan until before after p why =
+unsettled_leaves_tries plan until before after p why =
     let e = by_cause (nat_lt after.commands before) (p.preparing) refl refl why in
     (cond-false (gives_back before after p) plan.retries p.tries e, cond-false (gives_back before after p) 0 p.pause e) where
       -- the first of the tests a and b is false, or the second is true: so `a && not b` is false
@@ -124,11 +124,11 @@ pub tries_counted : TriesAndPausesAreCounted
 tries_counted = record {
   start = λ plan turns. (refl, refl);
   failed = failure_lengthens_pause;
-  takes = takes;
+  takes = failure_takes_a_try;
   none_left = ends_without_try;
-  spared = spared;
-  spared_first = spared_first;
-  settled = settled;
-  unsettled = unsettled;
+  spared = spared_leaves_pause;
+  spared_first = spared_makes_first_pause;
+  settled = settling_gives_tries_back;
+  unsettled = unsettled_leaves_tries;
   other = leaves_tries;
 }

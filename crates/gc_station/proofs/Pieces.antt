@@ -4,7 +4,6 @@
 use Rattle.std.proofs.Common.{◌≡◌, inl, ℕ, ◌<◌, Bool, true, false, List, [], ◌∷◌, ◌++◌, length, Option, Some, refl, sym, ap, ◌∙◌, subst, arith, append_assoc, append-nil}
 use Rattle.std.specs.List.{AllByRecursion}
 use Rattle.gc_lines.specs.Frames.{rest_behind}
-use Rattle.gc_catalogue.specs.declared.answer.Reading.{Reading}
 use Rattle.gc_catalogue.specs.declared.asked.Asked.{Asked}
 use Rattle.gc_client.specs.declared.pending.Pending.{Pending}
 use Rattle.gc_client.specs.Ids.{Waits, IsWithinLimits, id_of}
@@ -25,9 +24,9 @@ use Rattle.gc_station.specs.ActKinds.{Puts}
 use Rattle.gc_station.specs.Model.{Model, action_at, next_request_text, with_rest, line_came, lines_came, lines_completed, after_piece}
 use Rattle.gc_station.proofs.Growing.{lines_records}
 use Rattle.gc_station.proofs.Lists.{all_append, all_split, cuts_on, AllRisingAt}
-use Rattle.gc_station.proofs.Meets.{HasPlace, EndedBy, heard_ended, hears_settles_oldest, left_window, left_waits, all_records_at, IsRecordOf, is_record_of, own_request, was_answered, was_late, was_lost}
-use Rattle.gc_station.proofs.Waiting.{WasAsked, TimedOutAsRead, TimedOutAsReadBy, StillWaitsAt, IsJustified, IsHonest, as_read_after_moment, still_wait_at_moment, expired_window, still_wait_after_moment, honest_after_moment}
-use Rattle.gc_station.specs.Scopes.{Scope}
+use Rattle.gc_station.proofs.Meets.{HasPlace, EndedBy, heard_ended, hears_settles_oldest, left_within_limits, left_still_wait, all_records_at, IsRecordOf, is_record_of, own_request, was_answered, was_late, was_lost}
+use Rattle.gc_station.proofs.Waiting.{WasAsked, TimedOutAsRead, TimedOutAsReadBy, StillWaitsAt, IsJustified, IsHonest, as_read_after_moment, still_wait_at_moment, expired_within_limits, still_wait_after_moment, honest_after_moment}
+use Rattle.gc_station.specs.Scopes.{Scope, Reads}
 use Rattle.gc_station.proofs.Walk.{piece_before}
 
 -- five lists of records and the record r, joined in two ways, give the same list
@@ -55,7 +54,7 @@ module _ (plan : Plan) (commands : List Task) (scope : Scope) (acts : List Act) 
 
   -- where `StillWaitsAt` holds of the requests that wait, with their marks, each record of a line is of a request that the line
   -- settles (`IsRecorded`)
-  line_written : (reads : Asked → List ℕ → Reading) (now utc : ℕ) (c : ById Asked) (marks : List (Option Mark)) (line : List ℕ)
+  line_written : (reads : Reads) (now utc : ℕ) (c : ById Asked) (marks : List (Option Mark)) (line : List ℕ)
       → AllRisingAt (StillWaitsAt plan commands scope acts (state acts).client now c.next (length c.waiting)) 0 0 c.waiting marks
       → AllByRecursion (IsRecorded now c line) (records_of reads utc marks (hears c line (heard line)).settlements)
   line_written reads now utc c marks line waits =
@@ -124,9 +123,9 @@ module _ (plan : Plan) (commands : List Task) (scope : Scope) (acts : List Act) 
         record { before = before; request = request; between = between; behind = []; order = down.order; own = down.own; written = down.written }
 
     -- the piece completes each of its lines (`Completes`), if the acts are `before`, `request` and `between`
-    completes : (c : ById Asked) (line : List ℕ) (before : List Act) (request : Act) (between : List Act) → IsLineOfPiece c line
+    piece_completes : (c : ById Asked) (line : List ℕ) (before : List Act) (request : Act) (between : List Act) → IsLineOfPiece c line
         → acts ≡ before ++ request ∷ between → Completes (state (before ++ request ∷ between)).rest piece line
-    completes c line before request between l order = record {
+    piece_completes c line before request between l order = record {
       front = l.front;
       others = l.others;
       is = sym (ap (λ (xs : List Act). lines_completed (state xs).rest piece) order) ∙ sym l.split;
@@ -134,37 +133,37 @@ module _ (plan : Plan) (commands : List Task) (scope : Scope) (acts : List Act) 
 
     -- a record that is `WrittenDown`, of a request that was put before, is as `IsRepliedIn` says of a line of the piece that has
     -- the request's id
-    abbrev replied : (c : ById Asked) (line : List ℕ) (number at : ℕ) (p : Pending Asked) (mark : Option Mark) (r : Record) → IsLineOfPiece c line
+    abbrev replied_in_piece : (c : ById Asked) (line : List ℕ) (number at : ℕ) (p : Pending Asked) (mark : Option Mark) (r : Record) → IsLineOfPiece c line
         → (s : WasPut c number at p mark) → WrittenDown s.before s.request s.between r → HasPlace c (heard line) at → IsRepliedIn plan commands scope up_to_piece r line
-    replied c line number at p mark r l s down has = record {
+    replied_in_piece c line number at p mark r l s down has = record {
       piece = piece;
       moment = m;
       its = recorded_by s.before s.request s.between r down;
-      came = completes c line s.before s.request s.between l s.order;
+      came = piece_completes c line s.before s.request s.between l s.order;
       id = id_heard c line at _ l.limits has s.id;
     }
 
     -- a record that is `WrittenDown`, of the request with this mark, is as `IsAnsweredIn` says of the line y, if that is the
     -- line of the piece that has the request's id, and the request hasn't timed out
-    answered : (c : ById Asked) (line y : List ℕ) (number at : ℕ) (p : Pending Asked) (mark : Mark) (r : Record) → IsLineOfPiece c line
+    answered_in_piece : (c : ById Asked) (line y : List ℕ) (number at : ℕ) (p : Pending Asked) (mark : Mark) (r : Record) → IsLineOfPiece c line
         → (s : WasPut c number at p (Some mark)) → WrittenDown s.before s.request s.between r → y ≡ line → p.given_up ≡ false → HasPlace c (heard line) at
         → IsAnsweredIn plan commands scope up_to_piece r y
-    answered c line y number at p mark r l s down same given has =
+    answered_in_piece c line y number at p mark r l s down same given has =
         let both : AllByRecursion (ReadsBefore p.deadline) s.between × (m.elapsed < p.deadline) = subst (λ (b : Bool). TimedOutAsReadBy m.elapsed b p.deadline s.between) given s.stays in
         subst (λ z. IsAnsweredIn plan commands scope up_to_piece r z) (sym same) (record {
-          reply = replied c line number at p (Some mark) r l s down has;
+          reply = replied_in_piece c line number at p (Some mark) r l s down has;
           waits = subst (λ (d : ℕ). AllByRecursion (ReadsBefore d) s.between) (s.deadline mark refl) both.0;
           in_time = subst (λ (d : ℕ). m.elapsed < d) (s.deadline mark refl) both.1;
         })
 
     -- a record that is `WrittenDown`, of the request with this mark, is as `IsLateIn` says, if a line of the piece has the
     -- request's id, and the request has timed out
-    late : (c : ById Asked) (line : List ℕ) (number at : ℕ) (p : Pending Asked) (mark : Mark) (r : Record) → IsLineOfPiece c line
+    late_in_piece : (c : ById Asked) (line : List ℕ) (number at : ℕ) (p : Pending Asked) (mark : Mark) (r : Record) → IsLineOfPiece c line
         → (s : WasPut c number at p (Some mark)) → WrittenDown s.before s.request s.between r → p.given_up ≡ true → HasPlace c (heard line) at
         → IsLateIn plan commands scope up_to_piece r
-    late c line number at p mark r l s down given has = record {
+    late_in_piece c line number at p mark r l s down given has = record {
       line = line;
-      reply = replied c line number at p (Some mark) r l s down has;
+      reply = replied_in_piece c line number at p (Some mark) r l s down has;
       too_late = subst (λ (d : ℕ). OneReadsPast d (s.between ++ Gave piece m ∷ [])) (s.deadline mark refl)
           (subst (λ (b : Bool). TimedOutAsRead b p.deadline (s.between ++ Gave piece m ∷ [])) given
           (as_read_after_moment (Gave piece m) m refl p.given_up p.deadline s.between s.stays));
@@ -172,10 +171,10 @@ module _ (plan : Plan) (commands : List Task) (scope : Scope) (acts : List Act) 
 
     -- if a line of the piece has the id of a request q that waits, and that was put after the request p, p is overtaken at the
     -- read that gave the piece (`IsOvertaken`)
-    overtaken : (c : ById Asked) (line : List ℕ) (number number' at there : ℕ) (p q : Pending Asked) (mark mark' : Option Mark) → IsLineOfPiece c line
+    overtaken_in_piece : (c : ById Asked) (line : List ℕ) (number number' at there : ℕ) (p q : Pending Asked) (mark mark' : Option Mark) → IsLineOfPiece c line
         → (s : WasPut c number at p mark) → StillWaitsAt plan commands scope acts (state acts).client m.elapsed c.next (length c.waiting) number' there q mark'
         → number < number' → at < there → HasPlace c (heard line) there → IsOvertaken plan commands scope s.before s.request s.between (Gave piece m)
-    overtaken c line number number' at there p q mark mark' l s waits low above has =
+    overtaken_in_piece c line number number' at there p q mark mark' l s waits low above has =
         let t = waits.0 in
         let longer : length s.before < length t.before = omega (arith, s.many, t.many, low) in
         let cut = cuts_on s.before t.before s.between t.between s.request t.request (sym s.order ∙ t.order) longer in
@@ -196,7 +195,7 @@ module _ (plan : Plan) (commands : List Task) (scope : Scope) (acts : List Act) 
           moment = m;
           reads = refl;
           line = line;
-          came = completes c line s.before s.request s.between l s.order;
+          came = piece_completes c line s.before s.request s.between l s.order;
           id = id_heard c line there _ l.limits has (t.id ∙ ap (λ (xs : List Act). (state xs).client.next) on);
         }
 
@@ -212,8 +211,8 @@ module _ (plan : Plan) (commands : List Task) (scope : Scope) (acts : List Act) 
         let s = x.holds.0 in
         let down = written_down c x.number at x.pending mark r it.2 news earlier later more of_it x.asks s ends in
         record {
-          answered = λ y e. let a = x.answered y (was_answered r mark it.2 of_it y e) in answered c line y x.number at x.pending mark r l s down a.0 a.1 a.2;
-          late = λ e. let a = x.late (was_late r mark it.2 of_it e) in late c line x.number at x.pending mark r l s down a.0 a.1;
+          answered = λ y e. let a = x.answered y (was_answered r mark it.2 of_it y e) in answered_in_piece c line y x.number at x.pending mark r l s down a.0 a.1 a.2;
+          late = λ e. let a = x.late (was_late r mark it.2 of_it e) in late_in_piece c line x.number at x.pending mark r l s down a.0 a.1;
           lost = λ e.
               let a = x.lost (was_lost r mark it.2 of_it e) in
               let f = a.found in
@@ -221,7 +220,7 @@ module _ (plan : Plan) (commands : List Task) (scope : Scope) (acts : List Act) 
               record {
                 act = Gave piece m;
                 its = recorded_by s.before s.request s.between r down;
-                shown = inl (overtaken c line x.number f.number at a.place x.pending f.one (Some mark) f.beside l s f.holds above a.above a.heard);
+                shown = inl (overtaken_in_piece c line x.number f.number at a.place x.pending f.one (Some mark) f.beside l s f.holds above a.above a.heard);
               };
         }
 
@@ -247,8 +246,8 @@ module _ (plan : Plan) (commands : List Task) (scope : Scope) (acts : List Act) 
         all_written in
         hear_all (front ++ line ∷ []) others (line_came x line) tail (append_assoc front (line ∷ []) others ∙ split) ends
         (record {
-          window = left_window c done left h.window;
-          waiting = left_waits plan commands scope acts (state acts).client m.elapsed c done x.marks left h.window h.waiting;
+          window = left_within_limits c done left h.window;
+          waiting = left_still_wait plan commands scope acts (state acts).client m.elapsed c done x.marks left h.window h.waiting;
           written = all_append R x.records written h.written true_written;
           news = h.news ++ written;
           grew = ap (λ xs. xs ++ written) h.grew ∙ append_assoc (state acts).records h.news written;
@@ -276,7 +275,7 @@ module _ (plan : Plan) (commands : List Task) (scope : Scope) (acts : List Act) 
         behind_piece _
         (hear_all [] (lines_completed s.rest piece) (with_rest (rest_behind s.rest piece) (piece_before m s)) tail refl ends
         (record {
-          window = expired_window s.client m.elapsed window;
+          window = expired_within_limits s.client m.elapsed window;
           waiting = still_wait_at_moment plan commands scope acts m.elapsed s.client s.marks h.waiting;
           written = h.written;
           news = [];

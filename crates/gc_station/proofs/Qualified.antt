@@ -23,9 +23,9 @@ use Rattle.gc_texts.specs.declared.quality.Quality.TheVariants as quality
 use Rattle.gc_station.specs.Marks.{value_as, warned_as, refused_as, answer_as, end_of}
 use Rattle.gc_station.specs.Nearness.{HasAnswer}
 use Rattle.gc_station.specs.Qualities.{answer_in, IsRefusedReading, IsOfQuality}
-use Rattle.gc_station.specs.Scopes.{AreReadings}
+use Rattle.gc_station.specs.Scopes.{AreReadings, Reads}
 use Rattle.gc_station.specs.Zeros.{IsZeroOf}
-use Rattle.gc_station.proofs.Meets.{answered_so}
+use Rattle.gc_station.proofs.Meets.{settled_answered}
 
 -- Where an answer was measured.
 
@@ -70,7 +70,7 @@ module _ (near : Option Near) (line : List ℕ) where
   refused_away true z e = (refl, warned_away z e)
   refused_away false z e = cc
 
-module _ (reads : Asked → List ℕ → Reading) (expected : Expected) (call : Asked) (line : List ℕ) where
+module _ (reads : Reads) (expected : Expected) (call : Asked) (line : List ℕ) where
   -- if a reply in time, which says x, ends a command as answered, with an answer, that answer isn't elsewhere
   answer_near : (x z : Reading) (k : Quality) (answer : Answer) → answer_as expected x z line ≡ Answered k (Some answer) line → is_elsewhere expected.near answer ≡ false
   answer_near (reading.Value a) z k answer e = value_near expected.near line quality.Fine k a answer (is_elsewhere expected.near a) refl e
@@ -81,7 +81,7 @@ module _ (reads : Asked → List ℕ → Reading) (expected : Expected) (call : 
   -- if a command ends as answered, with an answer, that answer isn't elsewhere
   pub ended_near : (o : Rule.Outcome) (k : Quality) (answer : Answer) → end_of reads expected call o ≡ Answered k (Some answer) line → is_elsewhere expected.near answer ≡ false
   ended_near o k answer e =
-      let is : o ≡ Rule.Answered line = answered_so reads expected call o line (ap line_of e) in
+      let is : o ≡ Rule.Answered line = settled_answered reads expected call o line (ap line_of e) in
       answer_near (reads call line) (reads call (as_zero line)) k answer (subst (λ (x : Rule.Outcome). end_of reads expected call x ≡ Answered k (Some answer) line) is e)
 
   -- the line has an answer that was measured elsewhere
@@ -100,7 +100,7 @@ module _ (reads : Asked → List ℕ → Reading) (expected : Expected) (call : 
   -- if a command ends as elsewhere, its line has an answer that was measured elsewhere
   pub ended_away : (o : Rule.Outcome) → end_of reads expected call o ≡ Elsewhere line → HasAwayAnswer
   ended_away o e =
-      let is : o ≡ Rule.Answered line = answered_so reads expected call o line (ap line_of e) in
+      let is : o ≡ Rule.Answered line = settled_answered reads expected call o line (ap line_of e) in
       answer_away (reads call line) (reads call (as_zero line)) refl refl (subst (λ (x : Rule.Outcome). end_of reads expected call x ≡ Elsewhere line) is e)
 
   -- The quality.
@@ -111,62 +111,65 @@ module _ (reads : Asked → List ℕ → Reading) (expected : Expected) (call : 
     LineIsOfQuality = IsOfQuality reads expected.accepted call k said line
 
     -- a line that says an answer has the quality with which it ends a command as answered: `Fine`, and that answer
-    fine : (a : Answer) (away : Bool) → reads call line ≡ reading.Value a → value_as quality.Fine away a line ≡ Answered k said line → LineIsOfQuality
-    fine a true is e = cc
-    fine a false is e =
+    value_quality : (a : Answer) (away : Bool) → reads call line ≡ reading.Value a → value_as quality.Fine away a line ≡ Answered k said line → LineIsOfQuality
+    value_quality a true is e = cc
+    value_quality a false is e =
         let same : quality.Fine ≡ k = cc in
         let has : Some a ≡ said = cc in
         subst (λ (q : Quality). IsOfQuality reads expected.accepted call q said line) same (a, sym has, is)
 
     module _ (code : ℕ) (is : reads call line ≡ reading.Refused code) where
       -- a line with an accepted code has the quality `Warning`, and the answer, if any, that it says with return code 0
-      warning : (z : Reading) → lists_code expected.accepted code ≡ true → reads call (as_zero line) ≡ z → quality.Warning ≡ k → answer_in z ≡ said → LineIsOfQuality
-      warning z listed zs same has = subst (λ (q : Quality). IsOfQuality reads expected.accepted call q said line) same (code, is, listed, sym has ∙ ap answer_in (sym zs))
+      warning_quality : (z : Reading) → lists_code expected.accepted code ≡ true → reads call (as_zero line) ≡ z → quality.Warning ≡ k → answer_in z ≡ said → LineIsOfQuality
+      warning_quality z listed zs same has = subst (λ (q : Quality). IsOfQuality reads expected.accepted call q said line) same (code, is, listed, sym has ∙ ap answer_in (sym zs))
 
       -- a line with an accepted code that says the answer a with return code 0 has the quality with which it ends a command as
       -- answered: `Warning`, and that answer
-      value_warned : (a : Answer) (away : Bool) → lists_code expected.accepted code ≡ true → reads call (as_zero line) ≡ reading.Value a
+      warned_value_quality : (a : Answer) (away : Bool) → lists_code expected.accepted code ≡ true → reads call (as_zero line) ≡ reading.Value a
           → value_as quality.Warning away a line ≡ Answered k said line → LineIsOfQuality
-      value_warned a true listed zs e = cc
-      value_warned a false listed zs e = let same : quality.Warning ≡ k = cc in let has : Some a ≡ said = cc in warning (reading.Value a) listed zs same has
+      warned_value_quality a true listed zs e = cc
+      warned_value_quality a false listed zs e = let same : quality.Warning ≡ k = cc in let has : Some a ≡ said = cc in warning_quality (reading.Value a) listed zs same has
 
       -- a line with an accepted code has the quality with which it ends a command as answered, whatever it says with return
       -- code 0
-      warned : (z : Reading) → lists_code expected.accepted code ≡ true → reads call (as_zero line) ≡ z → warned_as expected.near z line ≡ Answered k said line → LineIsOfQuality
-      warned (reading.Value a) listed zs e = value_warned a (is_elsewhere expected.near a) listed zs e
-      warned (reading.Refused c) listed zs e = let same : quality.Warning ≡ k = cc in let has : ◌≡◌ {A = Option Answer} None said = cc in warning (reading.Refused c) listed zs same has
-      warned (reading.ComFault c) listed zs e = let same : quality.Warning ≡ k = cc in let has : ◌≡◌ {A = Option Answer} None said = cc in warning (reading.ComFault c) listed zs same has
-      warned (reading.Unreadable fault) listed zs e = let same : quality.Warning ≡ k = cc in let has : ◌≡◌ {A = Option Answer} None said = cc in warning (reading.Unreadable fault) listed zs same has
+      warned_quality : (z : Reading) → lists_code expected.accepted code ≡ true → reads call (as_zero line) ≡ z → warned_as expected.near z line ≡ Answered k said line → LineIsOfQuality
+      warned_quality (reading.Value a) listed zs e = warned_value_quality a (is_elsewhere expected.near a) listed zs e
+      warned_quality (reading.Refused c) listed zs e =
+          let same : quality.Warning ≡ k = cc in let has : ◌≡◌ {A = Option Answer} None said = cc in warning_quality (reading.Refused c) listed zs same has
+      warned_quality (reading.ComFault c) listed zs e =
+          let same : quality.Warning ≡ k = cc in let has : ◌≡◌ {A = Option Answer} None said = cc in warning_quality (reading.ComFault c) listed zs same has
+      warned_quality (reading.Unreadable fault) listed zs e =
+          let same : quality.Warning ≡ k = cc in let has : ◌≡◌ {A = Option Answer} None said = cc in warning_quality (reading.Unreadable fault) listed zs same has
 
     -- a line that is a refusal without an accepted code has the quality `Refused`, and no answer
-    refusal : (x : Reading) → reads call line ≡ x → IsRefusedReading expected.accepted x → quality.Refused ≡ k → ◌≡◌ {A = Option Answer} None said → LineIsOfQuality
-    refusal x is none same has =
+    refusal_quality : (x : Reading) → reads call line ≡ x → IsRefusedReading expected.accepted x → quality.Refused ≡ k → ◌≡◌ {A = Option Answer} None said → LineIsOfQuality
+    refusal_quality x is none same has =
         subst (λ (q : Quality). IsOfQuality reads expected.accepted call q said line) same (sym has, subst (IsRefusedReading expected.accepted) (sym is) none)
 
     -- a refusal, whether its code is accepted (b) or not, has the quality with which it ends a command as answered
-    refused : (code : ℕ) (b : Bool) (z : Reading) → lists_code expected.accepted code ≡ b → reads call line ≡ reading.Refused code → reads call (as_zero line) ≡ z
+    refused_quality : (code : ℕ) (b : Bool) (z : Reading) → lists_code expected.accepted code ≡ b → reads call line ≡ reading.Refused code → reads call (as_zero line) ≡ z
         → refused_as b expected.near z line ≡ Answered k said line → LineIsOfQuality
-    refused code true z listed is zs e = warned code is z listed zs e
-    refused code false z none is zs e = let same : quality.Refused ≡ k = cc in let has : ◌≡◌ {A = Option Answer} None said = cc in refusal (reading.Refused code) is none same has
+    refused_quality code true z listed is zs e = warned_quality code is z listed zs e
+    refused_quality code false z none is zs e = let same : quality.Refused ≡ k = cc in let has : ◌≡◌ {A = Option Answer} None said = cc in refusal_quality (reading.Refused code) is none same has
 
     -- a line that says x has the quality with which it ends a command as answered
-    by_answer : (x z : Reading) → reads call line ≡ x → reads call (as_zero line) ≡ z → answer_as expected x z line ≡ Answered k said line → LineIsOfQuality
-    by_answer (reading.Value a) z is zs e = fine a (is_elsewhere expected.near a) is e
-    by_answer (reading.Refused code) z is zs e = refused code (lists_code expected.accepted code) z refl is zs e
-    by_answer (reading.ComFault code) z is zs e = let same : quality.Refused ≡ k = cc in let has : ◌≡◌ {A = Option Answer} None said = cc in refusal (reading.ComFault code) is tt same has
-    by_answer (reading.Unreadable fault) z is zs e = cc
+    answer_quality : (x z : Reading) → reads call line ≡ x → reads call (as_zero line) ≡ z → answer_as expected x z line ≡ Answered k said line → LineIsOfQuality
+    answer_quality (reading.Value a) z is zs e = value_quality a (is_elsewhere expected.near a) is e
+    answer_quality (reading.Refused code) z is zs e = refused_quality code (lists_code expected.accepted code) z refl is zs e
+    answer_quality (reading.ComFault code) z is zs e = let same : quality.Refused ≡ k = cc in let has : ◌≡◌ {A = Option Answer} None said = cc in refusal_quality (reading.ComFault code) is tt same has
+    answer_quality (reading.Unreadable fault) z is zs e = cc
 
     -- if a command ends as answered, its line has the quality and the answer of that ending
     pub ended_quality : (o : Rule.Outcome) → end_of reads expected call o ≡ Answered k said line → LineIsOfQuality
     ended_quality o e =
-        let is : o ≡ Rule.Answered line = answered_so reads expected call o line (ap line_of e) in
-        by_answer (reads call line) (reads call (as_zero line)) refl refl (subst (λ (x : Rule.Outcome). end_of reads expected call x ≡ Answered k said line) is e)
+        let is : o ≡ Rule.Answered line = settled_answered reads expected call o line (ap line_of e) in
+        answer_quality (reads call line) (reads call (as_zero line)) refl refl (subst (λ (x : Rule.Outcome). end_of reads expected call x ≡ Answered k said line) is e)
 
 -- What the code takes for the ending of a refused reply.
 
 -- `end` is what the code makes of a refused reply: the ending of the refusal, by whether its code is accepted, and by what the
 -- line says with return code 0 (`zeroed`). It is the ending that `end_of` gives the settlement
-pub refused_ends : (reads : Asked → List ℕ → Reading) (expected : Expected) (call : Asked) (outcome : Outcome) (code : ℕ) (line : _) (zeroed : Reading) (end : End)
+pub refused_ends : (reads : Reads) (expected : Expected) (call : Asked) (outcome : Outcome) (code : ℕ) (line : _) (zeroed : Reading) (end : End)
     → (are : AreReadings reads) → (is_refused : outcome ≡ outcomes.Answered (reading.Refused code) line) → (is_read : IsReadBy IsAskedReading call outcome) → (zero_is : IsZeroOf call outcome zeroed)
     → (ends : end ≡ refused_as (lists_code expected.accepted code) expected.near zeroed line.items) → end ≡ end_of reads expected call (outcome_seen outcome)
 refused_ends reads expected call outcome code line zeroed end are is read zero_is e =

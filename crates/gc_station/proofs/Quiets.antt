@@ -27,10 +27,10 @@ use Rattle.gc_station.specs.Runs.{state_after}
 use Rattle.gc_station.specs.Model.{Model, null_text, next_request_text, first_text, opening, action_at, waiting_of, with_progress, lines_completed, is_heard, Performs, Runs, text_or_null}
 use Rattle.gc_station.specs.NextCommand.{place_next}
 use Rattle.gc_station.proofs.Closings.{runs_split}
-use Rattle.gc_station.proofs.Connected.{is_in_use, OnLine, on_line_always}
+use Rattle.gc_station.proofs.Connected.{is_in_use, HoldsInUse, holds_in_use_always}
 use Rattle.gc_station.proofs.Facts.{action_for, action_timely, Timely}
 use Rattle.gc_station.proofs.Lists.{all_append, all_on}
-use Rattle.gc_station.proofs.Since.{Since, since_now, since_on, cut_on}
+use Rattle.gc_station.proofs.Since.{Since, since_now, since_on, extend_cut}
 use Rattle.gc_station.proofs.Walk.{asked_along, came_along, walk, piece_before}
 use Rattle.gc_station.specs.Scopes.{Scope}
 
@@ -41,29 +41,29 @@ abbrev pub IsOpened : List Act → Type 0
 IsOpened acts = (before : List Act) × (acts ≡ before ++ Opened ∷ [])
 
 -- `start` cleared the connection that the acts `before` made, and the acts after it only listen (`IsListening`)
-abbrev Clears : List Act → Act → List Act → Type 0
+abbrev Clears : (before : List Act) → (start : Act) → List Act → Type 0
 Clears before start behind = IsOpened before × (start ≡ Put (10 ∷ [])) × AllByRecursion IsListening behind
 
 -- the connection was cleared; then `start` read the moment `since`, and each act after it is a read that gave nothing
-abbrev Drains : ℕ → List Act → Act → List Act → Type 0
+abbrev Drains : (since : ℕ) → List Act → (start : Act) → List Act → Type 0
 Drains since before start behind = Since Clears before × TellsMoment since start × AllByRecursion IsSilent behind
 
 -- the connection was cleared; then one of these acts read the moment `since`, and each act after it is a read that gave nothing
-abbrev pub IsDrained : ℕ → List Act → Type 0
+abbrev pub IsDrained : (since : ℕ) → List Act → Type 0
 IsDrained since acts = Since (Drains since) acts
 
 -- the connection was cleared, then it was quiet for at least `quiet` milliseconds, until the read `start`, and the acts after
 -- that stay on it (`StaysConnected`)
-abbrev pub Quiets : ℕ → List Act → Act → List Act → Type 0
+abbrev pub Quiets : (quiet : ℕ) → List Act → (start : Act) → List Act → Type 0
 Quiets quiet before start behind = (from : ℕ) × (last : Moment) × IsDrained from before × (start ≡ Silent last) × (quiet ≤ last.elapsed - from) × AllByRecursion StaysConnected behind
 
 -- among these acts the connection was cleared and then quiet for at least so many milliseconds, and the acts since stay on it
 abbrev pub WasQuiet : ℕ → List Act → Type 0
 WasQuiet quiet acts = Since (Quiets quiet) acts
 
--- of a connection that is drained next: if the moment read last is out of date (`true`), the connection was cleared, and the acts
--- after that only listen; otherwise (`false`) it is `IsDrained` since the moment `since`
-abbrev pub IsDraining : Bool → ℕ → List Act → Type 0
+-- of a connection that is drained next: if the moment read last is out of date (`due`), the connection was cleared, and the acts
+-- after that only listen; otherwise it is `IsDrained` since the moment `since`
+abbrev pub IsDraining : (due : Bool) → (since : ℕ) → List Act → Type 0
 IsDraining true since acts = Since Clears acts
 IsDraining false since acts = IsDrained since acts
 
@@ -89,17 +89,17 @@ listening_stays act e = absurd (false≢true e)
 module _ (plan : Plan) (commands : List Task) (scope : Scope) where
   -- these acts end with a connection that was made when the station had synchronized (`true`), or while it synchronized
   -- (`false`)
-  abbrev pub IsOpenedSo : Bool → List Act → Type 0
-  IsOpenedSo begun acts = (before : List Act) × (acts ≡ before ++ Opened ∷ []) × (has_begun (state_after plan commands scope before).progress ≡ begun)
+  abbrev pub IsOpenedWhen : Bool → List Act → Type 0
+  IsOpenedWhen begun acts = (before : List Act) × (acts ≡ before ++ Opened ∷ []) × (has_begun (state_after plan commands scope before).progress ≡ begun)
 
   -- the connection was made while the station synchronized, and cleared by `start`, and the acts after that stay on it
   -- (`StaysConnected`)
-  abbrev pub Begins : List Act → Act → List Act → Type 0
-  Begins before start behind = IsOpenedSo false before × (start ≡ Put (10 ∷ [])) × AllByRecursion StaysConnected behind
+  abbrev pub ClearsInSync : List Act → Act → List Act → Type 0
+  ClearsInSync before start behind = IsOpenedWhen false before × (start ≡ Put (10 ∷ [])) × AllByRecursion StaysConnected behind
 
   -- where requests are sent: the connection was cleared, and was quiet; or it was cleared and a synchronization went on with it
   abbrev pub WasCleared : List Act → Type 0
-  WasCleared acts = WasQuiet plan.quiet acts ⊎ Since Begins acts
+  WasCleared acts = WasQuiet plan.quiet acts ⊎ Since ClearsInSync acts
 
   -- a connection that was quiet is as `IsClearedAndQuiet` says
   was_quiet : (acts : List Act) → WasQuiet plan.quiet acts → IsClearedAndQuiet plan commands scope acts
@@ -111,9 +111,9 @@ module _ (plan : Plan) (commands : List Task) (scope : Scope) where
       record {
         before = o.0;
         behind = c.behind ++ d.start ∷ tail;
-        order = cut_on acts c.before o.0 (Opened ∷ []) (c.start ∷ (c.behind ++ d.start ∷ (d.behind ++ q.start ∷ q.behind)))
-            (cut_on acts d.before c.before (c.start ∷ c.behind) (d.start ∷ (d.behind ++ q.start ∷ q.behind))
-            (cut_on acts q.before d.before (d.start ∷ d.behind) (q.start ∷ q.behind) q.order d.order) c.order) o.1
+        order = extend_cut acts c.before o.0 (Opened ∷ []) (c.start ∷ (c.behind ++ d.start ∷ (d.behind ++ q.start ∷ q.behind)))
+            (extend_cut acts d.before c.before (c.start ∷ c.behind) (d.start ∷ (d.behind ++ q.start ∷ q.behind))
+            (extend_cut acts q.before d.before (d.start ∷ d.behind) (q.start ∷ q.behind) q.order d.order) c.order) o.1
             ∙ ap (λ (x : Act). o.0 ++ Opened ∷ x ∷ (c.behind ++ d.start ∷ (d.behind ++ q.start ∷ q.behind))) c.holds.1
             ∙ ap (λ (x : Act). o.0 ++ Opened ∷ Put (10 ∷ []) ∷ (c.behind ++ d.start ∷ (d.behind ++ x ∷ q.behind))) q.holds.3;
         stays = all_append StaysConnected c.behind (d.start ∷ tail) (all_on IsListening StaysConnected c.behind listening_stays c.holds.2) (
@@ -143,7 +143,7 @@ module _ (plan : Plan) (commands : List Task) (scope : Scope) where
       record {
         before = o.0;
         behind = b.behind;
-        order = cut_on acts b.before o.0 (Opened ∷ []) (b.start ∷ b.behind) b.order o.1 ∙ ap (λ (x : Act). o.0 ++ Opened ∷ x ∷ b.behind) b.holds.1;
+        order = extend_cut acts b.before o.0 (Opened ∷ []) (b.start ∷ b.behind) b.order o.1 ∙ ap (λ (x : Act). o.0 ++ Opened ∷ x ∷ b.behind) b.holds.1;
         stays = b.holds.2;
         quiet = λ begun. absurd (both_ways (has_begun (state_after plan commands scope o.0).progress) o.2 begun);
       }
@@ -152,7 +152,7 @@ module _ (plan : Plan) (commands : List Task) (scope : Scope) where
   -- was cleared. `begun` is whether the station has synchronized, `due` whether the moment read last is out of date, and `since`
   -- the moment since which nothing came
   abbrev pub Stage : (begun due : Bool) → (since : ℕ) → Phase → List Act → Type 0
-  Stage begun due since phase.Clearing acts = (due ≡ false) × IsOpenedSo begun acts
+  Stage begun due since phase.Clearing acts = (due ≡ false) × IsOpenedWhen begun acts
   Stage begun due since phase.Draining acts = IsDraining due since acts
   Stage begun due since phase.Ready acts = WasCleared acts
   Stage begun due since _ acts = Unit {0}
@@ -198,14 +198,14 @@ draining_read false since acts now d = d
 
 -- where the start of the quiet time is bounded by the moment `now`, the quiet time is as long as without that, whether the clock
 -- went on (`rises`) or back
-not_longer : (now since : ℕ) (rises : Bool) → nat_le since now ≡ rises → now - min since now ≡ now - since
-not_longer now since true e = ap (λ n. now - n) (min-eq_left (leb-true since now e))
-not_longer now since false e =
+bounded_as_long : (now since : ℕ) (rises : Bool) → nat_le since now ≡ rises → now - min since now ≡ now - since
+bounded_as_long now since true e = ap (λ n. now - n) (min-eq_left (leb-true since now e))
+bounded_as_long now since false e =
     let low = leb-false since now e in
     let less : now ≤ since = omega (arith, low) in
     ap (λ n. now - n) (min-eq_right less) ∙ omega (arith, low)
 
--- if a read gave nothing the quiet time goes on, or starts again if the clock went back (`rises` is false)
+-- if a read gave nothing, the quiet time goes on, or starts again if the clock went back (`rises` is false)
 drained_if_silent : (since : ℕ) (m : Moment) (acts : List Act) (rises : Bool) → nat_le since m.elapsed ≡ rises → IsDrained since acts → IsDrained (min since m.elapsed) (acts ++ Silent m ∷ [])
 drained_if_silent since m acts true e d = subst (λ n. IsDrained n (acts ++ Silent m ∷ [])) (sym (min-eq_left (leb-true since m.elapsed e))) (drained_longer since acts m d)
 drained_if_silent since m acts false e d =
@@ -234,7 +234,8 @@ module _ (plan : Plan) (commands : List Task) (scope : Scope) where
   still_cleared acts act on (inl q) =
       inl (since_on (Quiets plan.quiet) (Quiets plan.quiet) acts (act ∷ []) (λ before start behind order h. (h.0, h.1, h.2, h.3, h.4, all_append StaysConnected behind (act ∷ []) h.5 (on, tt))) q)
   still_cleared acts act on (inr b) =
-      inr (since_on (Begins plan commands scope) (Begins plan commands scope) acts (act ∷ []) (λ before start behind order h. (h.0, h.1, all_append StaysConnected behind (act ∷ []) h.2 (on, tt))) b)
+      inr (since_on (ClearsInSync plan commands scope) (ClearsInSync plan commands scope) acts (act ∷ [])
+      (λ before start behind order h. (h.0, h.1, all_append StaysConnected behind (act ∷ []) h.2 (on, tt))) b)
 
   -- `Stage` is preserved, with the moment `now` for `since`, by an act that stays on the connection, if a drain goes on with it
   -- since `now`, and if in the phase `Clearing` the moment read last is out of date (so that there is no such act there)
@@ -257,16 +258,16 @@ module _ (plan : Plan) (commands : List Task) (scope : Scope) where
       → StageHereAt (drained (time_passed until m p)) (acts ++ Silent m ∷ [])
   stage_drained until m p acts past d =
       let long = leb-true plan.quiet (m.elapsed - min p.since m.elapsed) past in
-      let same = not_longer m.elapsed p.since (nat_le p.since m.elapsed) refl in
+      let same = bounded_as_long m.elapsed p.since (nat_le p.since m.elapsed) refl in
       let quiet : plan.quiet ≤ m.elapsed - p.since = omega (arith, long, same) in
       inl (quiet_now plan.quiet p.since acts m quiet d)
 
   -- `Stage` holds after the line feed of a connection that was just made: the connection is drained next, or a synchronization
   -- goes on with it
-  stage_cleared : (begun : Bool) (since : ℕ) (acts : List Act) → IsOpenedSo plan commands scope begun acts
+  stage_cleared : (begun : Bool) (since : ℕ) (acts : List Act) → IsOpenedWhen plan commands scope begun acts
       → StageHere begun true since (if begun then phase.Draining else phase.Ready) (acts ++ Put (10 ∷ []) ∷ [])
   stage_cleared true since acts o = since_now Clears acts (Put (10 ∷ [])) ((o.0, o.1), refl, tt)
-  stage_cleared false since acts o = inr (since_now (Begins plan commands scope) acts (Put (10 ∷ [])) (o, refl, tt))
+  stage_cleared false since acts o = inr (since_now (ClearsInSync plan commands scope) acts (Put (10 ∷ [])) (o, refl, tt))
 
   -- what `StageHereAt` says in this phase
   stage_in : (p : Progress) (at : Phase) (acts : List Act) → p.phase ≡ at → StageHereAt p acts → StageHere (has_begun p) p.clock_due p.since at acts
@@ -275,7 +276,7 @@ module _ (plan : Plan) (commands : List Task) (scope : Scope) where
   -- `Stage` is preserved by an act of any action that leaves a connection in use, if `HoldsBefore` and `Timely` hold of the
   -- action
   stage_line : (next : Action) (s : Model) (acts : List Act) → has_begun (state_after plan commands scope acts).progress ≡ has_begun s.progress
-      → HoldsBefore plan s.progress (waiting_of s) next → Timely plan s.progress next → StageHereAt s.progress acts → OnLine plan commands StageHereAt next (with_progress turned s) acts
+      → HoldsBefore plan s.progress (waiting_of s) next → Timely plan s.progress next → StageHereAt s.progress acts → HoldsInUse plan commands StageHereAt next (with_progress turned s) acts
   stage_line actions.ReadClock s acts there needs time st =
       let p = s.progress in
       λ m. stage_on (has_begun p) (has_begun p) p.clock_due p.since m.elapsed p.phase acts (Told m) tt (λ is now. both_ways p.clock_due now time) (draining_told p.clock_due p.since m acts time) st
@@ -318,7 +319,7 @@ module _ (plan : Plan) (commands : List Task) (scope : Scope) where
   -- `Stage` holds after every run
   stage_holds : (acts : List Act) → Runs plan commands (opening plan scope) acts → StageHereAt (state_after plan commands scope acts).progress acts
   stage_holds acts runs =
-      on_line_always plan commands StageHereAt (λ q acts none. stage_none (has_begun q) q.clock_due q.since q.phase acts none) scope (λ done runs st.
+      holds_in_use_always plan commands StageHereAt (λ q acts none. stage_none (has_begun q) q.clock_due q.since q.phase acts none) scope (λ done runs st.
       let s = state_after plan commands scope done in
       let p = s.progress in
       stage_line (action_at plan s) s done refl (action_for plan p (waiting_of s)) (action_timely plan p (waiting_of s)) st) tt acts runs
@@ -330,36 +331,36 @@ close_is_no_request : (act : Act) → act ≡ Closed → SendsRequest act → �
 close_is_no_request act o asks = subst SendsRequest o asks
 
 -- by any action but `Ask`, `Send`, `Flush` and `Prepare` no request is sent
-asks_not : (plan : Plan) (commands : List Task) (next : Action) (s : Model) (act : Act) → Performs commands s next act
+others_send_no_request : (plan : Plan) (commands : List Task) (next : Action) (s : Model) (act : Act) → Performs commands s next act
     → (next ≡ actions.Ask → ⊥) × (next ≡ actions.Send → ⊥) × (next ≡ actions.Flush → ⊥) × (next ≡ actions.Prepare → ⊥) → SendsRequest act → ⊥
-asks_not plan commands actions.Ask s act o other = absurd (other.0 refl)
-asks_not plan commands actions.Prepare s act o other = absurd (other.3 refl)
-asks_not plan commands actions.Send s act o other = absurd (other.1 refl)
-asks_not plan commands actions.Flush s act o other = absurd (other.2 refl)
-asks_not plan commands actions.Clear s act o other = walk plan commands (λ a (t : Model). SendsRequest a → ⊥) actions.Clear s act o (λ m asks. asks refl, λ n asks. asks refl)
-asks_not plan commands (actions.Read until) s act o other =
+others_send_no_request plan commands actions.Ask s act o other = absurd (other.0 refl)
+others_send_no_request plan commands actions.Prepare s act o other = absurd (other.3 refl)
+others_send_no_request plan commands actions.Send s act o other = absurd (other.1 refl)
+others_send_no_request plan commands actions.Flush s act o other = absurd (other.2 refl)
+others_send_no_request plan commands actions.Clear s act o other = walk plan commands (λ a (t : Model). SendsRequest a → ⊥) actions.Clear s act o (λ m asks. asks refl, λ n asks. asks refl)
+others_send_no_request plan commands (actions.Read until) s act o other =
     walk plan commands (λ a (t : Model). SendsRequest a → ⊥) (actions.Read until) s act o (λ bytes m asks. asks, λ m asks. asks, λ asks. asks, λ asks. asks, λ asks. asks)
-asks_not plan commands (actions.Close why) s act o other = close_is_no_request act o
-asks_not plan commands (actions.Stop why) s act o other = absurd o
-asks_not plan commands next s act o other = walk plan commands (λ a (t : Model). SendsRequest a → ⊥) next s act o (λ m asks. asks, λ n asks. asks)
+others_send_no_request plan commands (actions.Close why) s act o other = close_is_no_request act o
+others_send_no_request plan commands (actions.Stop why) s act o other = absurd o
+others_send_no_request plan commands next s act o other = walk plan commands (λ a (t : Model). SendsRequest a → ⊥) next s act o (λ m asks. asks, λ n asks. asks)
 
 -- the only request that is sent while the station synchronizes is that of `Ask`
-pub asks_only : (plan : Plan) (commands : List Task) (next : Action) (s : Model) (act : Act) → Performs commands s next act → SendsRequest act
+pub only_ask_sends : (plan : Plan) (commands : List Task) (next : Action) (s : Model) (act : Act) → Performs commands s next act → SendsRequest act
     → HoldsBefore plan s.progress (waiting_of s) next → has_begun s.progress ≡ false → next ≡ actions.Ask
-asks_only plan commands actions.Ask s act o asks needs begins = refl
-asks_only plan commands actions.Prepare s act o asks needs begins = absurd (both_ways (has_begun s.progress) begins needs.1)
-asks_only plan commands actions.Send s act o asks needs begins = absurd (both_ways (has_begun s.progress) begins needs.1)
-asks_only plan commands actions.Flush s act o asks needs begins = absurd (both_ways (has_begun s.progress) begins needs.1)
-asks_only plan commands next s act o asks needs begins = absurd (asks_not plan commands next s act o (λ is. cc, λ is. cc, λ is. cc, λ is. cc) asks)
+only_ask_sends plan commands actions.Ask s act o asks needs begins = refl
+only_ask_sends plan commands actions.Prepare s act o asks needs begins = absurd (both_ways (has_begun s.progress) begins needs.1)
+only_ask_sends plan commands actions.Send s act o asks needs begins = absurd (both_ways (has_begun s.progress) begins needs.1)
+only_ask_sends plan commands actions.Flush s act o asks needs begins = absurd (both_ways (has_begun s.progress) begins needs.1)
+only_ask_sends plan commands next s act o asks needs begins = absurd (others_send_no_request plan commands next s act o (λ is. cc, λ is. cc, λ is. cc, λ is. cc) asks)
 
 -- if a request is sent, the phase is `Ready`
-asks_there : (plan : Plan) (commands : List Task) (next : Action) (s : Model) (act : Act) → Performs commands s next act → SendsRequest act
+requests_in_ready : (plan : Plan) (commands : List Task) (next : Action) (s : Model) (act : Act) → Performs commands s next act → SendsRequest act
     → HoldsBefore plan s.progress (waiting_of s) next → s.progress.phase ≡ phase.Ready
-asks_there plan commands actions.Ask s act o asks needs = needs.0
-asks_there plan commands actions.Prepare s act o asks needs = needs.0
-asks_there plan commands actions.Send s act o asks needs = needs.0
-asks_there plan commands actions.Flush s act o asks needs = needs.0
-asks_there plan commands next s act o asks needs = absurd (asks_not plan commands next s act o (λ is. cc, λ is. cc, λ is. cc, λ is. cc) asks)
+requests_in_ready plan commands actions.Ask s act o asks needs = needs.0
+requests_in_ready plan commands actions.Prepare s act o asks needs = needs.0
+requests_in_ready plan commands actions.Send s act o asks needs = needs.0
+requests_in_ready plan commands actions.Flush s act o asks needs = needs.0
+requests_in_ready plan commands next s act o asks needs = absurd (others_send_no_request plan commands next s act o (λ is. cc, λ is. cc, λ is. cc, λ is. cc) asks)
 
 -- if a request is sent, its connection is as `IsClearedAndQuiet` says
 pub cleared_and_quiet : (plan : Plan) (commands : List Task) (scope : Scope) (earlier later : List Act) (act : Act)
@@ -367,5 +368,5 @@ pub cleared_and_quiet : (plan : Plan) (commands : List Task) (scope : Scope) (ea
 cleared_and_quiet plan commands scope earlier later act runs asks =
     let s = state_after plan commands scope earlier in
     let split = runs_split plan commands (opening plan scope) earlier later act runs in
-    let ready = asks_there plan commands (action_at plan s) s act split.1 asks (action_for plan s.progress (waiting_of s)) in
+    let ready = requests_in_ready plan commands (action_at plan s) s act split.1 asks (action_for plan s.progress (waiting_of s)) in
     was_cleared plan commands scope earlier (stage_in plan commands scope s.progress phase.Ready earlier ready (stage_holds plan commands scope earlier split.0))

@@ -16,7 +16,7 @@ use Rattle.gc_station.specs.declared.progress.Action.{Action}
 use Rattle.gc_links.specs.Acts.{Act}
 use Rattle.gc_station.specs.Progressing.{turned, loses_all}
 use Rattle.gc_station.specs.Runs.{state_after}
-use Rattle.gc_station.specs.Scopes.{Scope, AreReadings, OneReadingForALine, SomeReadings, ForEachReadings, ForReadings}
+use Rattle.gc_station.specs.Scopes.{Scope, AreReadings, OneReadingForALine, SomeReadings, ForEachReadings, ForReadings, Reads}
 use Rattle.gc_station.proofs.Walk.{lines_along, losing_along, acts_along, moved_changed}
 use Rattle.gc_station.specs.Model.{Model, opening, action_at, with_progress, lines_came, moved, losing, stepped, after_all}
 
@@ -48,8 +48,8 @@ pub reads_as_in_scope : (plan : Plan) (commands : List Task) (scope : Scope) (ac
 reads_as_in_scope plan commands scope acts = all_reads plan commands (opening plan scope) acts
 
 -- a function that equals one that gives readings gives them, too
-pub same_readings : (a b : Asked → List ℕ → Reading) → a ≡ b → AreReadings b → AreReadings a
-same_readings a b e are = subst (λ (r : Asked → List ℕ → Reading). AreReadings r) (sym e) are
+pub same_readings : (a b : Reads) → a ≡ b → AreReadings b → AreReadings a
+same_readings a b e are = subst (λ (r : Reads). AreReadings r) (sym e) are
 
 -- a line has at most one reading for a call
 pub one_for_a_line : OneReadingForALine
@@ -57,21 +57,21 @@ one_for_a_line call line x y p q =
     let same = one_reply line p.reply q.reply p.is_reply q.is_reply in
     one_asked_reading call q.reply x y (subst (λ (r : ReplyFields). IsAskedReading call r x) same p.is_reading) q.is_reading
 
--- the reading of a line for a call, by how the line reads: that of the reply; and `Refused 0`, or any other, if it is no reply
-said : Asked → Result ReplyFields LineFault → Reading
-said call (Ok reply) = (each_asked_reply call reply).0
-said call (Err fault) = Refused 0
+-- the reading of a line for a call, by how the line reads: that of the reply; or, if it is no reply, `Refused 0`, as any would do
+reading_by : Asked → Result ReplyFields LineFault → Reading
+reading_by call (Ok reply) = (each_asked_reply call reply).0
+reading_by call (Err fault) = Refused 0
 
 -- some function gives each line's reading for a call: it reads the line as a reply, and that for the call
 pub some_readings : SomeReadings
-unfolding said
+unfolding reading_by
 some_readings = (
-  λ call line. said call (reply_at line),
+  λ call line. reading_by call (reply_at line),
   λ call line reading is.
-      ap (said call) (reply_again line is.reply is.is_reply)
+      ap (reading_by call) (reply_again line is.reply is.is_reply)
       ∙ one_asked_reading call is.reply (each_asked_reply call is.reply).0 reading (each_asked_reply call is.reply).1 is.is_reading,
 )
 
 -- what holds for every function that gives the readings is `ForReadings`, because there is such a function
-pub for_readings : (Holds : (Asked → List ℕ → Reading) → Type 0) → ForEachReadings Holds → ForReadings Holds
+pub for_readings : (Holds : Reads → Type 0) → ForEachReadings Holds → ForReadings Holds
 for_readings Holds each = (each, (some_readings.0, some_readings.1, each some_readings.0 some_readings.1))

@@ -24,8 +24,9 @@ use Rattle.gc_texts.specs.declared.near.Near.{Near}
 use Rattle.gc_texts.specs.declared.quality.Quality.{Quality}
 use Rattle.gc_texts.specs.declared.quality.Quality.TheVariants.{Fine, Warning, Refused}
 use Rattle.gc_station.specs.Attempts.{code_of, listed_after, listed_by}
-use Rattle.gc_station.specs.Marks.{commands_in, first_mark, value_as, warned_as, refused_as, answer_as, end_of, record_as, record_of, records_of, is_well, last_well, fresh_after}
+use Rattle.gc_station.specs.Marks.{commands_in, first_mark, value_as, warned_as, refused_as, answer_as, end_of, command_of, record_with, record_of, records_of, is_well, last_well, fresh_after}
 use Rattle.gc_station.specs.Records.{Record, Grew, texts_of, WritesPart}
+use Rattle.gc_station.specs.Scopes.{Reads}
 use Rattle.gc_station.specs.Tallies.{counted_in, tallied}
 use Rattle.gc_station.specs.Writing.{recorded_after}
 use Rattle.gc_links.specs.declared.link.Moment.{Moment}
@@ -94,25 +95,25 @@ answer_along P expected (reading.Unreadable fault) zeroed line answered elsewher
 
 -- Records.
 
--- no settlements have no records
-pub records-none : (reads : Asked → List ℕ → Reading) (utc : ℕ) (marks : List (Option Mark)) → records_of reads utc marks [] ≡ []
+-- without settlements there are no records
+pub records-none : (reads : Reads) (utc : ℕ) (marks : List (Option Mark)) → records_of reads utc marks [] ≡ []
 records-none reads utc [] = refl
 records-none reads utc (mark ∷ marks) = refl
 
 -- the record of one settlement, which is of the oldest request, is made by the first mark alone
-records_here : (reads : Asked → List ℕ → Reading) (utc : ℕ) (mark : Option Mark) (marks : List (Option Mark)) (x : Rule.Settlement Asked)
+records_here : (reads : Reads) (utc : ℕ) (mark : Option Mark) (marks : List (Option Mark)) (x : Rule.Settlement Asked)
     → records_of reads utc (mark ∷ marks) (x ∷ []) ≡ records_of reads utc (mark ∷ []) (x ∷ [])
 records_here reads utc None marks x = records-none reads utc marks
 records_here reads utc (Some mark) marks x = ap (λ rs. record_of reads utc mark x ∷ rs) (records-none reads utc marks)
 
 -- the record of one settlement is made by the first mark alone
-records_first : (reads : Asked → List ℕ → Reading) (utc : ℕ) (marks : List (Option Mark)) (x : Rule.Settlement Asked)
+records_first : (reads : Reads) (utc : ℕ) (marks : List (Option Mark)) (x : Rule.Settlement Asked)
     → records_of reads utc marks (x ∷ []) ≡ records_of reads utc (first_mark marks ∷ []) (x ∷ [])
 records_first reads utc [] x = refl
 records_first reads utc (m ∷ marks) x = records_here reads utc m marks x
 
 -- the records of the settlements `xs` and then `ys` are those of `xs`, and after them those of `ys` by the marks that are left
-pub records-append : (reads : Asked → List ℕ → Reading) (utc : ℕ) (marks : List (Option Mark)) (xs ys : List (Rule.Settlement Asked))
+pub records-append : (reads : Reads) (utc : ℕ) (marks : List (Option Mark)) (xs ys : List (Rule.Settlement Asked))
     → records_of reads utc marks (xs ++ ys) ≡ records_of reads utc marks xs ++ records_of reads utc (drop (length xs) marks) ys
 records-append reads utc [] [] ys = refl
 records-append reads utc [] (x ∷ xs) ys = refl
@@ -121,37 +122,37 @@ records-append reads utc (None ∷ marks) (x ∷ xs) ys = records-append reads u
 records-append reads utc (Some mark ∷ marks) (x ∷ xs) ys = ap (λ rs. record_of reads utc mark x ∷ rs) (records-append reads utc marks xs ys)
 
 -- the records of settlements as the code has them
-abbrev records_seen : (reads : Asked → List ℕ → Reading) (utc : ℕ) (marks : List (Option Mark)) → List (Settlement Asked) → List Record
+abbrev records_seen : (reads : Reads) (utc : ℕ) (marks : List (Option Mark)) → List (Settlement Asked) → List Record
 records_seen reads utc marks ss = records_of reads utc marks (map settlement_seen ss)
 
 -- the records of all settlements are those of the first i, and after them those of the others by the marks that are left
-pub records_seen_left : (reads : Asked → List ℕ → Reading) (utc : ℕ) (marks : List (Option Mark)) (ss : List (Settlement Asked)) (i : ℕ)
+pub records_seen_left : (reads : Reads) (utc : ℕ) (marks : List (Option Mark)) (ss : List (Settlement Asked)) (i : ℕ)
     → records_seen reads utc marks ss ≡ records_seen reads utc marks (take i ss) ++ records_seen reads utc (drop (length (map settlement_seen (take i ss))) marks) (drop i ss)
 records_seen_left reads utc marks ss i =
     ap (λ xs. records_of reads utc marks (map settlement_seen xs)) (sym (take-append-drop i ss))
     ∙ ap (records_of reads utc marks) (map-append settlement_seen (take i ss) (drop i ss))
     ∙ records-append reads utc marks (map settlement_seen (take i ss)) (map settlement_seen (drop i ss))
 
--- `listed_by` of no settlements is b, which it was before them
-pub listed-none : (reads : Asked → List ℕ → Reading) (b : Bool) (marks : List (Option Mark)) → listed_by reads b marks [] ≡ b
+-- without settlements, `listed_by` stays as it was: b
+pub listed-none : (reads : Reads) (b : Bool) (marks : List (Option Mark)) → listed_by reads b marks [] ≡ b
 listed-none reads b [] = refl
 listed-none reads b (mark ∷ marks) = refl
 
 -- `listed_by` of one settlement, which is of the oldest request, depends, but for b, on the first mark alone
-listed_here : (reads : Asked → List ℕ → Reading) (b : Bool) (mark : Option Mark) (marks : List (Option Mark)) (x : Rule.Settlement Asked)
+listed_here : (reads : Reads) (b : Bool) (mark : Option Mark) (marks : List (Option Mark)) (x : Rule.Settlement Asked)
     → listed_by reads b (mark ∷ marks) (x ∷ []) ≡ listed_by reads b (mark ∷ []) (x ∷ [])
 listed_here reads b None marks x = listed-none reads b marks
 listed_here reads b (Some mark) marks x = listed-none reads _ marks
 
 -- `listed_by` of one settlement depends, but for b, on the first mark alone
-listed_first : (reads : Asked → List ℕ → Reading) (b : Bool) (marks : List (Option Mark)) (x : Rule.Settlement Asked)
+listed_first : (reads : Reads) (b : Bool) (marks : List (Option Mark)) (x : Rule.Settlement Asked)
     → listed_by reads b marks (x ∷ []) ≡ listed_by reads b (first_mark marks ∷ []) (x ∷ [])
 listed_first reads b [] x = refl
 listed_first reads b (m ∷ marks) x = listed_here reads b m marks x
 
 -- `listed_by` of the settlements `xs` and then `ys`, from b on, is that of `ys` with the marks that are left, from that of `xs`
 -- on
-listed-append : (reads : Asked → List ℕ → Reading) (marks : List (Option Mark)) (xs ys : List (Rule.Settlement Asked)) (b : Bool)
+listed-append : (reads : Reads) (marks : List (Option Mark)) (xs ys : List (Rule.Settlement Asked)) (b : Bool)
     → listed_by reads b marks (xs ++ ys) ≡ listed_by reads (listed_by reads b marks xs) (drop (length xs) marks) ys
 listed-append reads [] [] ys b = refl
 listed-append reads [] (x ∷ xs) ys b = refl
@@ -161,7 +162,7 @@ listed-append reads (Some mark ∷ marks) (x ∷ xs) ys b =
     listed-append reads marks xs ys (listed_after b mark.expected (code_of reads x.call x.outcome) (end_of reads mark.expected x.call x.outcome))
 
 -- `listed_by` of settlements as the code has them
-abbrev listed_seen : (reads : Asked → List ℕ → Reading) (listed : Bool) (marks : List (Option Mark)) → List (Settlement Asked) → Bool
+abbrev listed_seen : (reads : Reads) (listed : Bool) (marks : List (Option Mark)) → List (Settlement Asked) → Bool
 listed_seen reads listed marks ss = listed_by reads listed marks (map settlement_seen ss)
 
 -- Records are added, and none goes.
@@ -214,12 +215,12 @@ part_since text before front all old new w = record {
 
 -- `mid` is `before` and more records: a write that took `mid` whole, and then broke off, took `before` whole and broke off
 -- after it
-pub part_grew : (text : Record → List ℕ) (before mid all : List Record) (old new : Option (List ℕ)) → Grew before mid → WritesPart text mid all old new → WritesPart text before all old new
-part_grew text before mid all old new g w = part_since text before g.0 all old new (subst (λ (rs : List Record). WritesPart text rs all old new) g.1 w)
+pub part_since_grew : (text : Record → List ℕ) (before mid all : List Record) (old new : Option (List ℕ)) → Grew before mid → WritesPart text mid all old new → WritesPart text before all old new
+part_since_grew text before mid all old new g w = part_since text before g.0 all old new (subst (λ (rs : List Record). WritesPart text rs all old new) g.1 w)
 
 -- `all` is `mid` and more records: a write that broke off within `mid` broke off within `all`
-pub part_grows : (text : Record → List ℕ) (before mid all : List Record) (old new : Option (List ℕ)) → Grew mid all → WritesPart text before mid old new → WritesPart text before all old new
-part_grows text before mid all old new g w = subst (λ (rs : List Record). WritesPart text before rs old new) (sym g.1) (part_more text before mid g.0 old new w)
+pub part_more_grew : (text : Record → List ℕ) (before mid all : List Record) (old new : Option (List ℕ)) → Grew mid all → WritesPart text before mid old new → WritesPart text before all old new
+part_more_grew text before mid all old new g w = subst (λ (rs : List Record). WritesPart text before rs old new) (sym g.1) (part_more text before mid g.0 old new w)
 
 -- `all` begins with `front` and then `more`: a write that took `before` and `front`, and broke off within `more`, broke off
 -- within `all`
@@ -229,7 +230,7 @@ part_behind text before front next more all later start new is whole w =
     let order : before ++ all ≡ ((before ++ front) ++ more) ++ later =
     ap (λ rs. before ++ rs) (whole ∙ ap (λ rs. rs ++ later) is) ∙ ap (λ rs. before ++ rs) (append_assoc front more later)
     ∙ sym (append_assoc before front (more ++ later)) ∙ sym (append_assoc (before ++ front) more later) in
-    part_since text before front (before ++ all) start new (part_grows text (before ++ front) ((before ++ front) ++ more) (before ++ all) start new (later, order) w)
+    part_since text before front (before ++ all) start new (part_more_grew text (before ++ front) ((before ++ front) ++ more) (before ++ all) start new (later, order) w)
 
 -- f carries a value over records. If it takes two joined lists one after the other (`append`), b is what it makes of a and
 -- `front`, c of b and `one`, and `next` is `front` and then `one`, c is what it makes of a and `next`
@@ -261,15 +262,15 @@ recorded_same a b tally well listed fresh =
     ∙ ap (λ (x : Bool). record a { tally = b.tally; well = b.well; listed = x }) listed
     ∙ ap (λ (x : ℕ). record a { tally = b.tally; well = b.well; listed = b.listed; fresh = x }) fresh
 
--- no settlements leave what is kept of records as it was
-pub recorded-none : (reads : Asked → List ℕ → Reading) (now : Moment) (marks : List (Option Mark)) (r : Recorded) → recorded_after now marks [] reads r ≡ r
+-- without settlements, what is kept of records stays as it was
+pub recorded-none : (reads : Reads) (now : Moment) (marks : List (Option Mark)) (r : Recorded) → recorded_after now marks [] reads r ≡ r
 recorded-none reads now marks r =
     let none = records-none reads now.utc marks in
     recorded_same (recorded_after now marks [] reads r) r (ap (tallied r.tally) none) (ap (last_well r.well) none) (listed-none reads r.listed marks)
     (ap (fresh_after now.elapsed r.fresh) none)
 
 -- `s` is the settlement at place i, and `mark` the first of the marks from place i on
-module _ (reads : Asked → List ℕ → Reading) (marks : List (Option Mark)) (ss : List (Settlement Asked)) (i : ℕ) (s : Settlement Asked) (mark : Option Mark)
+module _ (reads : Reads) (marks : List (Option Mark)) (ss : List (Settlement Asked)) (i : ℕ) (s : Settlement Asked) (mark : Option Mark)
     (below : i < length ss) (is : s ≡ get_or ss i s) (first : mark ≡ first_mark (drop i marks)) where
   -- the first i settlements are i
   front_length : length (map settlement_seen (take i ss)) ≡ i
@@ -311,6 +312,6 @@ module _ (reads : Asked → List ℕ → Reading) (marks : List (Option Mark)) (
       (fold_more (fresh_after now.elapsed) (fresh-append now.elapsed) a.fresh b.fresh c.fresh front one _ (ap (λ (r : Recorded). r.fresh) so) (ap (λ (r : Recorded). r.fresh) more) next)
 
 -- the record with the ending that a settlement gives is the record of the settlement
-pub record_same : (reads : Asked → List ℕ → Reading) (utc : ℕ) (mark : Mark) (x : Rule.Settlement Asked) (end : End) → end ≡ end_of reads mark.expected x.call x.outcome
-    → record_as utc mark x end ≡ record_of reads utc mark x
-record_same reads utc mark x end is = ap (record_as utc mark x) is
+pub record_of_ending : (reads : Reads) (utc : ℕ) (mark : Mark) (x : Rule.Settlement Asked) (end : End) → end ≡ end_of reads mark.expected x.call x.outcome
+    → record_with utc mark (Some mark.sent) (command_of x) end ≡ record_of reads utc mark x
+record_of_ending reads utc mark x end is = ap (record_with utc mark (Some mark.sent) (command_of x)) is

@@ -47,8 +47,8 @@ lines_alive s (line ∷ others) = on (is_reply line) refl (lines_alive (line_cam
   on false e (inl none) = inl ((e, none.0), none.1 ∙ here false e, none.2 ∙ asks false e, tt)
 
 -- a line that doesn't read as a reply has no id
-no_reply : (line : List ℕ) → is_reply line ≡ false → heard line ≡ None
-no_reply line e = by_reply (reply_at line) e where
+no_id_without_reply : (line : List ℕ) → is_reply line ≡ false → heard line ≡ None
+no_id_without_reply line e = by_reply (reply_at line) e where
   -- the lemma above, by how the line reads
   by_reply : (r : Result ReplyFields LineFault) → is_ok r ≡ false → id_in r ≡ None
   by_reply (Ok fields) e = cc
@@ -90,5 +90,5 @@ asked_alive p (line ∷ others) = on (is_reply line) refl (asked_alive (line_syn
   on b e (inr now) = inr now
   on true e (inl none) = inr (none.1 ∙ here true e, none.2 ∙ asks true e)
   on false e (inl none) =
-      let silent = no_reply line e in
+      let silent = no_id_without_reply line e in
       inl ((e, none.0), none.1 ∙ here false e, none.2 ∙ asks false e, (none.3.0 ∙ left_same p.word (heard line) silent, none.3.1 ∙ again_same p.word (heard line) p.again silent))

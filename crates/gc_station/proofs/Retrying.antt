@@ -14,18 +14,18 @@ use Rattle.gc_station.specs.declared.progress.Action.{Action}
 use Rattle.gc_station.specs.declared.progress.Action.TheVariants as actions
 use Rattle.gc_station.specs.declared.progress.Progress.{Progress}
 use Rattle.gc_station.proofs.Lists.{all_on}
-use Rattle.gc_station.proofs.Walk.{moved_changed, model_sent, is_sent}
+use Rattle.gc_station.proofs.Walk.{moved_changed, model_sent, sent_same}
 use Rattle.std.proofs.lemmas.Bool.{ltb-true, ltb-false, both_ways}
 use Rattle.gc_station.specs.declared.cause.Cause.TheVariants as cause
 use Rattle.gc_station.specs.declared.progress.Waiting.{Waiting}
 use Rattle.gc_station.specs.Reasons.{HoldsBefore}
 use Rattle.gc_station.specs.Retries.{HasListed, IsFurtherAttempt, MayLeaveOut, FurtherAttemptsHaveACause, EachRecordHasItsTurn, HasItsTurn}
 use Rattle.gc_station.proofs.Always.{always_of_progress}
-use Rattle.gc_station.proofs.Chaining.{chained_as_text_says, none_behind}
+use Rattle.gc_station.proofs.Chaining.{chained_as_text_says, no_next_command}
 use Rattle.gc_station.proofs.Interleaving.{drop_past}
 use Rattle.gc_station.proofs.EachRun.{invariant_holds}
 use Rattle.gc_station.proofs.Facts.{action_for}
-use Rattle.gc_station.proofs.Listed.{listed_has, has_listed}
+use Rattle.gc_station.proofs.Listed.{has_if_listed, listed_if_has}
 use Rattle.gc_station.proofs.Closings.{needs_of}
 use Rattle.gc_station.proofs.AsText.{IsAsItsText, kept_all}
 
@@ -71,11 +71,11 @@ module _ (plan : Plan) (commands : List Task) (scope : Scope) where
   moved_others actions.Send s w (Cut bytes n) needs within h =
       let t = with_progress turned s in
       let q = failing (cause.Write (commands_before plan commands t.progress) n) (model_sent plan commands t).progress in
-      subst (λ (x : Model). OthersFit (failing (cause.Write (commands_before plan commands t.progress) n) x.progress)) (is_sent plan commands t)
+      subst (λ (x : Model). OthersFit (failing (cause.Write (commands_before plan commands t.progress) n) x.progress)) (sent_same plan commands t)
       (others_after_turns 1 s.progress q refl refl needs.2 (omega arith) within)
   moved_others actions.Send s w act needs within h =
       let t = with_progress turned s in
-      subst (λ (x : Model). OthersFit x.progress) (is_sent plan commands t) (others_after_turns 1 s.progress (model_sent plan commands t).progress refl refl needs.2 (omega arith) within)
+      subst (λ (x : Model). OthersFit x.progress) (sent_same plan commands t) (others_after_turns 1 s.progress (model_sent plan commands t).progress refl refl needs.2 (omega arith) within)
   moved_others actions.Skip s w (Told m) needs within h = others_after_turns 1 s.progress (progress_after actions.Skip s (Told m)) refl refl needs.2 (omega arith) within
   moved_others actions.Pass s w (Told m) needs within h = others_after_turns s.progress.next_others s.progress (progress_after actions.Pass s (Told m)) refl refl needs.2 needs.4 within
   moved_others actions.Begin s w act needs within h = others_kept s.progress (progress_after actions.Begin s act) refl refl h
@@ -92,7 +92,7 @@ module _ (plan : Plan) (commands : List Task) (scope : Scope) where
       (λ done act runs' o h.
       let s = state done in
       moved_others (action_at plan s) s (waiting_of s) act (action_for plan s.progress (waiting_of s)) (invariant_holds plan commands scope done).unsent h)
-      (λ above. sym (ap others_in (none_behind commands)), λ none. refl) acts runs
+      (λ above. sym (ap others_in (no_next_command commands)), λ none. refl) acts runs
 
   -- if the next command begins a further attempt and is sent, each command before it is settled, and one of the attempt before
   -- ended as its rule names (`HasListed`)
@@ -107,7 +107,7 @@ module _ (plan : Plan) (commands : List Task) (scope : Scope) where
     -- the lemma above, by why the command may be sent (`MayRetry`): as it begins a further attempt, all before it are settled
     by_may : ((s.progress.next_others ≡ 0) ⊎ ((commands_in s.marks ≡ 0) × (s.listed ≡ true))) → (commands_in s.marks ≡ 0) × HasListed scope.reads commands s.records
     by_may (inl none) = let others = (others_hold acts runs).0 further.0 in let more = further.1 in absurd (omega (arith, none, others, more))
-    by_may (inr may) = (may.0, listed_has scope.reads commands s.records (sym (kept_all plan commands scope acts).listed ∙ may.1))
+    by_may (inr may) = (may.0, has_if_listed scope.reads commands s.records (sym (kept_all plan commands scope acts).listed ∙ may.1))
 
   -- if attempts are left out, they are further ones, each command before them is settled, and there is a reason (`MayLeaveOut`)
   passes_over : (acts : List Act) → Runs plan commands (opening plan scope) acts → action_at plan (state acts) ≡ actions.Pass
@@ -146,7 +146,7 @@ module _ (plan : Plan) (commands : List Task) (scope : Scope) where
     -- why the attempt is left out
     by_why : ((s.listed ≡ false) ⊎ (s.progress.next_is_chained ≡ true))
         → MayLeaveOut scope.reads commands s
-    by_why (inl none) = inl (λ h. both_ways s.listed none ((kept_all plan commands scope acts).listed ∙ has_listed scope.reads commands s.records false h))
+    by_why (inl none) = inl (λ h. both_ways s.listed none ((kept_all plan commands scope acts).listed ∙ listed_if_has scope.reads commands s.records false h))
     by_why (inr bound) =
         inr (by_missed s.progress.missed (first_is_chained (drop (place_next commands s.progress) commands)) refl (sym (chained_as_text_says plan commands scope acts runs above) ∙ bound))
 
@@ -155,6 +155,6 @@ pub goes_out_again : FurtherAttemptsHaveACause
 goes_out_again = record { goes = goes_again; passes = passes_over }
 
 -- the law: each record has its command's turn
-pub turns_are : EachRecordHasItsTurn
-turns_are plan commands scope acts =
+pub each_has_its_turn : EachRecordHasItsTurn
+each_has_its_turn plan commands scope acts =
     all_on (IsAsItsText plan commands scope) (HasItsTurn commands) (state_after plan commands scope acts).records (λ r so. so.0) (kept_all plan commands scope acts).records

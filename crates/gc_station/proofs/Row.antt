@@ -6,6 +6,7 @@ use Rattle.std.proofs.lemmas.List.{length-drop, map-append}
 use Rattle.std.proofs.lemmas.Bool.{both_ways}
 use Rattle.gc_catalogue.specs.declared.asked.Asked.TheVariants.{Table}
 use Rattle.gc_catalogue.specs.declared.call.Call.TheVariants.{NullProc}
+use Rattle.gc_client.specs.declared.window.TheConstants.{WINDOW}
 use Rattle.gc_client.specs.Rule.{heard, hears, lost, pending_of}
 use Rattle.gc_client.specs.OneForOne.{of_pending, of_settled}
 use Rattle.gc_client.proofs.OneForOne.{heard_parts, lost_parts}
@@ -31,7 +32,7 @@ use Rattle.gc_station.specs.NextCommand.{cycles_begun, place_next, mark_next}
 use Rattle.gc_station.proofs.Always.{always}
 use Rattle.gc_station.proofs.Each.{row, row_moment, row_settles, more_waiting, marked_none, waiting_marked}
 use Rattle.gc_station.proofs.EachRun.{invariant_holds}
-use Rattle.gc_station.proofs.Facts.{action_for, not_none}
+use Rattle.gc_station.proofs.Facts.{action_for, not_zero}
 use Rattle.gc_station.proofs.Invariant.{Paired, Invariant}
 use Rattle.gc_station.proofs.Midway.{sent_with_room}
 use Rattle.gc_station.proofs.Walk.{came_along, losing_along, closed_along, moved_changed, walk}
@@ -77,7 +78,7 @@ row_read plan commands o s act bytes m obeys is =
 -- If a chain is unbroken, the last request of the row is of a cycle.
 
 -- the cycle of the last of these requests; `n` if there is none
-abbrev pub last_cycle : ℕ → List RunRequest → ℕ
+abbrev pub last_cycle : (n : ℕ) → List RunRequest → ℕ
 last_cycle n [] = n
 last_cycle n (x ∷ xs) = last_cycle x.cycle xs
 
@@ -92,12 +93,12 @@ LastIsOfCycle s = s.progress.chain_unbroken ≡ true → 0 < last_cycle 0 (row_o
 
 -- what `LastIsOfCycle` says of the row `xs`, where b is whether the chain is unbroken, holds of the row `ys` that is equal to
 -- `xs`
-of_same_row : {xs ys : List RunRequest} {b : Bool} → ys ≡ xs → (b ≡ true → 0 < last_cycle 0 xs) → b ≡ true → 0 < last_cycle 0 ys
-of_same_row same h e = subst (λ (zs : List RunRequest). 0 < last_cycle 0 zs) (sym same) (h e)
+last_cycle_of_same_row : {xs ys : List RunRequest} {b : Bool} → ys ≡ xs → (b ≡ true → 0 < last_cycle 0 xs) → b ≡ true → 0 < last_cycle 0 ys
+last_cycle_of_same_row same h e = subst (λ (zs : List RunRequest). 0 < last_cycle 0 zs) (sym same) (h e)
 
 -- if each request that waits has a mark, there is room, and the first of these commands, of which there are some, is sent with a
 -- mark of a cycle, the last request of the row is of a cycle
-sent_last : (mark : Mark) (left : List Task) (s : Model) → Paired s → length s.client.waiting < 7 → 0 < length left → 0 < mark.cycle
+sent_last : (mark : Mark) (left : List Task) (s : Model) → Paired s → length s.client.waiting < WINDOW → 0 < length left → 0 < mark.cycle
     → 0 < last_cycle 0 (row (asks_first mark left s).marks (asks_first mark left s).client.waiting s.records)
 sent_last mark [] s paired room some many = absurd (omega (arith, some))
 sent_last mark (task ∷ others) s paired room some many =
@@ -127,13 +128,13 @@ module _ (plan : Plan) (commands : List Task) where
   last_moved action.Prepare s act fine is o h = walk plan commands (λ a (u : Model). LastIsOfCycle u) action.Prepare (with_progress turned s) act o (λ m e. cc, λ n e. cc)
   last_moved action.Skip s act fine is o h =
       walk plan commands (λ a (u : Model). LastIsOfCycle u) action.Skip (with_progress turned s) act o
-      (λ m e. cc, λ n. of_same_row (ap (λ rs. row s.marks s.client.waiting rs) (append-nil s.records)) h)
+      (λ m e. cc, λ n. last_cycle_of_same_row (ap (λ rs. row s.marks s.client.waiting rs) (append-nil s.records)) h)
   last_moved action.Pass s act fine is o h = walk plan commands (λ a (u : Model). LastIsOfCycle u) action.Pass (with_progress turned s) act o (λ m e. cc, λ n. h)
   last_moved action.Begin s act fine is o h = walk plan commands (λ a (u : Model). LastIsOfCycle u) action.Begin (with_progress turned s) act o (λ m e. cc, λ n. h)
   last_moved action.Renew s act fine is o h = walk plan commands (λ a (u : Model). LastIsOfCycle u) action.Renew (with_progress turned s) act o (λ m e. cc, λ n. h)
   last_moved action.ReadClock s act fine is o h =
       walk plan commands (λ a (u : Model). LastIsOfCycle u) action.ReadClock (with_progress turned s) act o
-      (λ m. of_same_row (row_moment s.marks s.client.waiting s.records m.elapsed) h, λ n. h)
+      (λ m. last_cycle_of_same_row (row_moment s.marks s.client.waiting s.records m.elapsed) h, λ n. h)
   last_moved action.Open s act fine is o h = walk plan commands (λ a (u : Model). LastIsOfCycle u) action.Open (with_progress turned s) act o (λ m. h, λ n e. cc)
   last_moved action.Clear s act fine is o h = walk plan commands (λ a (u : Model). LastIsOfCycle u) action.Clear (with_progress turned s) act o (λ m. h, λ n. h)
   last_moved action.Ask s act fine is o h = walk plan commands (λ a (u : Model). LastIsOfCycle u) action.Ask (with_progress turned s) act o (λ m. h, λ n. h)
@@ -143,13 +144,13 @@ module _ (plan : Plan) (commands : List Task) where
       let same : row_of (asks_for (null_request plan) (with_progress turned s)) ≡ row_of s =
       ap (λ (c : _). row (s.marks ++ None ∷ []) c.waiting s.records) (sent_with_room s.client 0 (Table NullProc) d is.4.1)
       ∙ ap (λ xs. map of_record s.records ++ xs) (more_waiting s.marks s.client.waiting None p fine.paired ∙ append-nil _) in
-      walk plan commands (λ a (u : Model). LastIsOfCycle u) action.Flush (with_progress turned s) act o (λ m. of_same_row same h, λ n. of_same_row same h)
+      walk plan commands (λ a (u : Model). LastIsOfCycle u) action.Flush (with_progress turned s) act o (λ m. last_cycle_of_same_row same h, λ n. last_cycle_of_same_row same h)
   last_moved (action.Read until) s act fine is o h =
       let t = with_progress turned s in
       let back = λ (a : Act). ap (λ (x : Model). x.progress.chain_unbroken) (moved_changed plan commands (action.Read until) t a) in
       walk plan commands (λ a (u : Model). LastIsOfCycle u) (action.Read until) t act o (
-        λ bytes m. of_same_row (row_gave plan until t bytes m) (λ e. h (sym (back (Gave bytes m)) ∙ e)),
-        λ m. of_same_row (row_moment s.marks s.client.waiting s.records m.elapsed) (λ e. h (sym (back (Silent m)) ∙ e)),
+        λ bytes m. last_cycle_of_same_row (row_gave plan until t bytes m) (λ e. h (sym (back (Gave bytes m)) ∙ e)),
+        λ m. last_cycle_of_same_row (row_moment s.marks s.client.waiting s.records m.elapsed) (λ e. h (sym (back (Silent m)) ∙ e)),
         h,
         h,
         h,
@@ -167,7 +168,7 @@ module _ (plan : Plan) (commands : List Task) where
       let s = state_after plan commands scope done in
       let t = moved plan commands (action_at plan s) (with_progress turned s) act in
       let one = last_moved (action_at plan s) s act (invariant_holds plan commands scope done) (action_for plan s.progress (waiting_of s)) obeys h in
-      of_same_row (row_losing (loses_all t.progress) t) (λ e. one (by_loss (loses_all t.progress) t e))) (λ e. cc) acts runs where
+      last_cycle_of_same_row (row_losing (loses_all t.progress) t) (λ e. one (by_loss (loses_all t.progress) t e))) (λ e. cc) acts runs where
         -- the loss of what is outstanding mends no chain
         by_loss : (all : Bool) (t : Model) → (losing all t).progress.chain_unbroken ≡ true → t.progress.chain_unbroken ≡ true
         by_loss true t e = e
@@ -190,7 +191,7 @@ module _ (plan : Plan) (commands : List Task) (scope : Scope) where
 
 -- if the last of some requests is of a cycle, it is also the last of those among them that are (`of_cycles`)
 of_cycles_last : (xs : List RunRequest) (x : RunRequest) → 0 < x.cycle → of_cycles (xs ++ x ∷ []) ≡ of_cycles xs ++ x ∷ []
-of_cycles_last xs x many = filter-append _ xs (x ∷ []) ∙ ap (λ b. of_cycles xs ++ (if not b then x ∷ [] else [])) (not_none x.cycle many)
+of_cycles_last xs x many = filter-append _ xs (x ∷ []) ∙ ap (λ b. of_cycles xs ++ (if not b then x ∷ [] else [])) (not_zero x.cycle many)
 
 -- if the last of some requests is of a cycle, it is, as the text has it, also the last of those that `of_text` gives
 pub of_text_last : (commands : List Task) (xs : List RunRequest) (x : RunRequest) → 0 < x.cycle → of_text commands (xs ++ x ∷ []) ≡ of_text commands xs ++ in_text commands x ∷ []

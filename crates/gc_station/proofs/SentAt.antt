@@ -81,12 +81,12 @@ setup_mark plan now its [] n mark e = absurd (null_mark n mark e)
 setup_mark plan now its (task ∷ others) n mark e = put_mark now its (task ∷ others) n mark e
 
 -- this action sends the command with this mark, as request n of its part, which has no other: n is 0
-abbrev pub IsSend : Plan → List Task → Model → Action → ℕ → Mark → Type 0
-IsSend plan commands s o n mark = (n ≡ 0) × SendsMarked plan commands s o mark
+abbrev pub SendsMarkedAt : Plan → List Task → Model → Action → (n : ℕ) → Mark → Type 0
+SendsMarkedAt plan commands s o n mark = (n ≡ 0) × SendsMarked plan commands s o mark
 
 -- a mark in the part of bytes that are put is of a command that the action sends
 pub put_part_sends : (plan : Plan) (commands : List Task) (s : Model) (o : Action) (n : ℕ) (mark : Mark)
-    → slice_get (put_part plan commands s o).marks n ≡ Some (Some mark) → IsSend plan commands s o n mark
+    → slice_get (put_part plan commands s o).marks n ≡ Some (Some mark) → SendsMarkedAt plan commands s o n mark
 put_part_sends plan commands s Prepare n mark e =
     let h = setup_mark plan s.progress.moment.elapsed (mark_setup commands s.progress) (drop s.progress.prepared commands) n mark e in (h.0, inr (refl, h.1))
 put_part_sends plan commands s Send n mark e =
@@ -96,7 +96,7 @@ put_part_sends plan commands s o n mark e = absurd (none-some (Some mark) e)
 
 -- a mark in the part of an act is of a command that is sent, once the station has synchronized
 pub client_part_sends : (plan : Plan) (commands : List Task) (s : Model) (o : Action) (act : Act) (n : ℕ) (mark : Mark)
-    → slice_get (client_part plan commands s o act).marks n ≡ Some (Some mark) → IsSend plan commands s o n mark
+    → slice_get (client_part plan commands s o act).marks n ≡ Some (Some mark) → SendsMarkedAt plan commands s o n mark
 client_part_sends plan commands s o (Put bytes) n mark e = put_part_sends plan commands s o n mark e
 client_part_sends plan commands s o (Cut bytes count) n mark e = put_part_sends plan commands s o n mark e
 client_part_sends plan commands s o act n mark e = absurd (none-some (Some mark) e)
@@ -107,9 +107,9 @@ sync_part_sends_none s o act n mark e = none-some (Some mark) (ap (λ marks. sli
 
 -- a mark in the part of an act is of a command that is sent
 pub act_part_sends : (plan : Plan) (commands : List Task) (s : Model) (o : Action) (act : Act) (n : ℕ) (mark : Mark)
-    → slice_get (part_of_act plan commands s o act).marks n ≡ Some (Some mark) → IsSend plan commands s o n mark
+    → slice_get (part_of_act plan commands s o act).marks n ≡ Some (Some mark) → SendsMarkedAt plan commands s o n mark
 act_part_sends plan commands s o act n mark =
-    cond_both (has_begun s.progress) (client_part plan commands s o act) (sync_part s o act) (λ (p : Part). slice_get p.marks n ≡ Some (Some mark) → IsSend plan commands s o n mark)
+    cond_both (has_begun s.progress) (client_part plan commands s o act) (sync_part s o act) (λ (p : Part). slice_get p.marks n ≡ Some (Some mark) → SendsMarkedAt plan commands s o n mark)
     (λ begun e. client_part_sends plan commands s o act n mark e) (λ begins e. absurd (sync_part_sends_none s o act n mark e))
 
 -- among these acts the command with this mark is sent, as request n of part i, both counted from 0: after the acts `before`, part
@@ -126,14 +126,14 @@ pub record SentAt (plan : Plan) (commands : List Task) (s : Model) (acts : List 
   pub count : length so_far.marks ≡ n
 
 -- where a part p is joined to the first of these parts, q, the first is then p and q in one (`parts_joined`)
-pub joined_at : (p : Part) (ps : List Part) (q : Part) → slice_get ps 0 ≡ Some q → slice_get (in_front p false ps) 0 ≡ Some (parts_joined p q)
-joined_at p [] q e = absurd (none-some q e)
-joined_at p (x ∷ ps) q e = ap (λ y. Some (parts_joined p y)) (same_Some x q e)
+pub joined_first : (p : Part) (ps : List Part) (q : Part) → slice_get ps 0 ≡ Some q → slice_get (in_front p false ps) 0 ≡ Some (parts_joined p q)
+joined_first p [] q e = absurd (none-some q e)
+joined_first p (x ∷ ps) q e = ap (λ y. Some (parts_joined p y)) (same_Some x q e)
 
 -- the parts after the first stay at their places where a part is joined to the first
-pub joined_on : (p : Part) (ps : List Part) (i : ℕ) (q : Part) → slice_get ps (suc i) ≡ Some q → slice_get (in_front p false ps) (suc i) ≡ Some q
-joined_on p [] i q e = absurd (none-some q e)
-joined_on p (x ∷ ps) i q e = e
+pub joined_later : (p : Part) (ps : List Part) (i : ℕ) (q : Part) → slice_get ps (suc i) ≡ Some q → slice_get (in_front p false ps) (suc i) ≡ Some q
+joined_later p [] i q e = absurd (none-some q e)
+joined_later p (x ∷ ps) i q e = e
 
 -- once a part is joined to the first of some parts, of which there is at least one, there are as many as before
 pub joined_length : (p : Part) (ps : List Part) (i : ℕ) → length ps ≡ suc i → length (in_front p false ps) ≡ suc i
@@ -146,8 +146,8 @@ module _ (plan : Plan) (commands : List Task) where
   Sent s acts i n mark = SentAt plan commands s acts i n mark
 
   -- the model after an act
-  abbrev next : Model → Act → Model
-  next s act = after plan commands s act
+  abbrev next_state : Model → Act → Model
+  next_state s act = after plan commands s act
 
   -- the part of an act that performs the action that is next
   abbrev part_at : Model → Act → Part
@@ -162,7 +162,7 @@ module _ (plan : Plan) (commands : List Task) where
 
   -- if the acts after the first one send the command with this mark (`h`), all acts send it as request n of part i, where that is
   -- the last part of the first act and of those before `h.act`, and has n requests so far
-  one_before : (s : Model) (act : Act) (acts : List Act) (i n j k : ℕ) (mark : Mark) (so_far : Part) → (h : Sent (next s act) acts j k mark)
+  one_before : (s : Model) (act : Act) (acts : List Act) (i n j k : ℕ) (mark : Mark) (so_far : Part) → (h : Sent (next_state s act) acts j k mark)
       → slice_get (parts_of plan commands s (act ∷ h.before)) i ≡ Some so_far → length (parts_of plan commands s (act ∷ h.before)) ≡ suc i → length so_far.marks ≡ n
       → Sent s (act ∷ acts) i n mark
   one_before s act acts i n j k mark so_far h there last count = record {
@@ -180,40 +180,40 @@ module _ (plan : Plan) (commands : List Task) where
   -- if a part ends with the first act, a command that the acts after it send as request n of part i is, with the first act
   -- counted, request n of part i + 1
   pub sent_cut : (s : Model) (act : Act) (acts : List Act) (i n : ℕ) (mark : Mark) → ends_part plan commands s act ≡ true
-      → Sent (next s act) acts i n mark → Sent s (act ∷ acts) (suc i) n mark
+      → Sent (next_state s act) acts i n mark → Sent s (act ∷ acts) (suc i) n mark
   sent_cut s act acts i n mark is h =
       let p = part_at s act in
-      let ps = parts_of plan commands (next s act) h.before in
+      let ps = parts_of plan commands (next_state s act) h.before in
       one_before s act acts (suc i) n i n mark h.so_far h (subst (λ b. slice_get (in_front p b ps) (suc i) ≡ Some h.so_far) (sym is) h.of_parts)
       (subst (λ b. length (in_front p b ps) ≡ suc (suc i)) (sym is) (ap suc h.last)) h.count
 
   -- if no part ends with the first act, a command that the acts after it send as request k of the first part is, with the first
   -- act counted, in the first part still, after the requests of the first act
   pub sent_on : (s : Model) (act : Act) (acts : List Act) (n k : ℕ) (mark : Mark) → ends_part plan commands s act ≡ false → n ≡ length (part_at s act).marks + k
-      → Sent (next s act) acts 0 k mark → Sent s (act ∷ acts) 0 n mark
+      → Sent (next_state s act) acts 0 k mark → Sent s (act ∷ acts) 0 n mark
   sent_on s act acts n k mark is at h =
       let p = part_at s act in
-      let ps = parts_of plan commands (next s act) h.before in
+      let ps = parts_of plan commands (next_state s act) h.before in
       let size : length (p.marks ++ h.so_far.marks) ≡ length p.marks + length h.so_far.marks = length-append p.marks h.so_far.marks in
       let count : length h.so_far.marks ≡ k = h.count in
       one_before s act acts 0 n 0 k mark (parts_joined p h.so_far) h
-      (subst (λ b. slice_get (in_front p b ps) 0 ≡ Some (parts_joined p h.so_far)) (sym is) (joined_at p ps h.so_far h.of_parts))
+      (subst (λ b. slice_get (in_front p b ps) 0 ≡ Some (parts_joined p h.so_far)) (sym is) (joined_first p ps h.so_far h.of_parts))
       (subst (λ b. length (in_front p b ps) ≡ 1) (sym is) (joined_length p ps 0 h.last)) (omega (arith, size, count, at))
 
   -- if no part ends with the first act, a command that the acts after it send in a later part than the first is at the same place
   -- with the first act counted
   pub sent_later : (s : Model) (act : Act) (acts : List Act) (i n : ℕ) (mark : Mark) → ends_part plan commands s act ≡ false
-      → Sent (next s act) acts (suc i) n mark → Sent s (act ∷ acts) (suc i) n mark
+      → Sent (next_state s act) acts (suc i) n mark → Sent s (act ∷ acts) (suc i) n mark
   sent_later s act acts i n mark is h =
       let p = part_at s act in
-      let ps = parts_of plan commands (next s act) h.before in
-      one_before s act acts (suc i) n (suc i) n mark h.so_far h (subst (λ b. slice_get (in_front p b ps) (suc i) ≡ Some h.so_far) (sym is) (joined_on p ps i h.so_far h.of_parts))
+      let ps = parts_of plan commands (next_state s act) h.before in
+      one_before s act acts (suc i) n (suc i) n mark h.so_far h (subst (λ b. slice_get (in_front p b ps) (suc i) ≡ Some h.so_far) (sym is) (joined_later p ps i h.so_far h.of_parts))
       (subst (λ b. length (in_front p b ps) ≡ suc (suc i)) (sym is) (joined_length p ps (suc i) h.last)) h.count
 
   -- if the acts after the first one send each request with this mark that the parts `ps` have, all acts send each that these
   -- parts have with the first act's part before them, whether the first act ends a part (b) or not
   pub sent_by : (s : Model) (act : Act) (acts : List Act) (b : Bool) (ps : List Part) (i n : ℕ) (part : Part) (mark : Mark) → ends_part plan commands s act ≡ b
-      → ((j k : ℕ) (p : Part) → slice_get ps j ≡ Some p → slice_get p.marks k ≡ Some (Some mark) → Sent (next s act) acts j k mark)
+      → ((j k : ℕ) (p : Part) → slice_get ps j ≡ Some p → slice_get p.marks k ≡ Some (Some mark) → Sent (next_state s act) acts j k mark)
       → slice_get (in_front (part_at s act) b ps) i ≡ Some part → slice_get part.marks n ≡ Some (Some mark) → Sent s (act ∷ acts) i n mark
   sent_by s act acts true ps zero n part mark is again e f =
       sent_here s act acts n mark (subst (λ (p : Part). slice_get p.marks n ≡ Some (Some mark)) (sym (same_Some (part_at s act) part e)) f)
@@ -235,5 +235,5 @@ module _ (plan : Plan) (commands : List Task) where
   sent_at s [] zero n part mark e f = absurd (none-some (Some mark) (subst (λ (p : Part). slice_get p.marks n ≡ Some (Some mark)) (sym (same_Some idle_part part e)) f))
   sent_at s [] (suc i) n part mark e f = absurd (none-some part e)
   sent_at s (act ∷ acts) i n part mark e f =
-      sent_by s act acts (ends_part plan commands s act) (parts_of plan commands (next s act) acts) i n part mark refl
-      (λ j k p g h. sent_at (next s act) acts j k p mark g h) e f
+      sent_by s act acts (ends_part plan commands s act) (parts_of plan commands (next_state s act) acts) i n part mark refl
+      (λ j k p g h. sent_at (next_state s act) acts j k p mark g h) e f

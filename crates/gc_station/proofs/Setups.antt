@@ -3,7 +3,6 @@
 -- sent, or recorded without being sent.
 use Rattle.std.proofs.Common.{◌≡◌, ◌⊎◌, inl, inr, ℕ, ◌+◌, ◌-◌, ◌<◌, ◌≤◌, Bool, if◌then◌else◌, nat_eq, min, List, [], ◌∷◌, ◌++◌, length, drop, map, Option, Some, None, refl, sym, ap, ◌∙◌, subst, arith, append_assoc, append-nil}
 use Rattle.std.proofs.lemmas.List.{length-drop, map-append}
-use Rattle.gc_catalogue.specs.declared.answer.Reading.{Reading}
 use Rattle.gc_catalogue.specs.declared.asked.Asked.{Asked}
 use Rattle.gc_client.specs.Rule.{Settlement, heard, hears, lost}
 use Rattle.gc_texts.specs.declared.tasks.Task.{Task}
@@ -21,13 +20,13 @@ use Rattle.gc_station.specs.Progressing.{moment_noted, turned, loses_all, next_a
 use Rattle.gc_station.specs.Reasons.{HoldsBefore}
 use Rattle.gc_station.specs.Records.{Record}
 use Rattle.gc_station.specs.Runs.{state_after}
-use Rattle.gc_station.specs.Scopes.{Scope}
+use Rattle.gc_station.specs.Scopes.{Scope, Reads}
 use Rattle.gc_station.specs.Model.{Model, opening, action_at, waiting_of, is_heard, asks_first, after_piece, line_came, losing, moved, piece_at, first_unsent_record, with_progress, with_moment, with_rest, after, after_all, request_or_null, asks_for}
 use Rattle.gc_station.specs.NextCommand.{cycles_begun, place_next, commands_left, mark_next, mark_setup}
 use Rattle.gc_station.specs.Setups.{Dispatch, dispatch_of_record, dispatch_of_mark, dispatches_of, of_setup, sent_first, setup_sent_at, setup_sent_by, EachSetUpOnce, IsNextAfter, GoOn, AreInOrder, SetUpsGoOn, dispatch_row}
-use Rattle.gc_station.proofs.Counts.{ended_progress}
-use Rattle.gc_station.proofs.EachRun.{invariant_all, invariant_opening, invariant_holds, stopped}
-use Rattle.gc_station.proofs.Facts.{action_for, not_none}
+use Rattle.gc_station.proofs.Counts.{with_losses_progress}
+use Rattle.gc_station.proofs.EachRun.{invariant_all, invariant_opening, invariant_holds, all_recorded_at_stop}
+use Rattle.gc_station.proofs.Facts.{action_for, not_zero}
 use Rattle.gc_station.proofs.Invariant.{Invariant}
 use Rattle.gc_station.proofs.Walk.{came_along, losing_along, closed_along, moved_changed}
 use Rattle.std.proofs.lemmas.List.Elements.{filter-append}
@@ -35,37 +34,37 @@ use Rattle.std.proofs.lemmas.List.Elements.{filter-append}
 -- The row.
 
 -- the commands of the records of settlements, and after them those of the marks that are left, are those of all marks
-settled_row : (reads : Asked → List ℕ → Reading) (utc : ℕ) (ms : List (Option Mark)) (ss : List (Settlement Asked))
+dispatches_of_settled : (reads : Reads) (utc : ℕ) (ms : List (Option Mark)) (ss : List (Settlement Asked))
     → map dispatch_of_record (records_of reads utc ms ss) ++ dispatches_of (drop (length ss) ms) ≡ dispatches_of ms
-settled_row reads utc [] [] = refl
-settled_row reads utc [] (x ∷ ss) = refl
-settled_row reads utc (None ∷ ms) [] = refl
-settled_row reads utc (Some mark ∷ ms) [] = refl
-settled_row reads utc (None ∷ ms) (x ∷ ss) = settled_row reads utc ms ss
-settled_row reads utc (Some mark ∷ ms) (x ∷ ss) = ap (λ xs. dispatch_of_mark mark ∷ xs) (settled_row reads utc ms ss)
+dispatches_of_settled reads utc [] [] = refl
+dispatches_of_settled reads utc [] (x ∷ ss) = refl
+dispatches_of_settled reads utc (None ∷ ms) [] = refl
+dispatches_of_settled reads utc (Some mark ∷ ms) [] = refl
+dispatches_of_settled reads utc (None ∷ ms) (x ∷ ss) = dispatches_of_settled reads utc ms ss
+dispatches_of_settled reads utc (Some mark ∷ ms) (x ∷ ss) = ap (λ xs. dispatch_of_mark mark ∷ xs) (dispatches_of_settled reads utc ms ss)
 
--- settlements leave the row as it is: their records take the place of the requests
-dispatch_row_settles : (reads : Asked → List ℕ → Reading) (utc : ℕ) (ms : List (Option Mark)) (ss : List (Settlement Asked)) (rs : List Record)
+-- settlements leave the row of dispatches as it is: their records take the place of the requests
+dispatch_row_settles : (reads : Reads) (utc : ℕ) (ms : List (Option Mark)) (ss : List (Settlement Asked)) (rs : List Record)
     → map dispatch_of_record (rs ++ records_of reads utc ms ss) ++ dispatches_of (drop (length ss) ms) ≡ map dispatch_of_record rs ++ dispatches_of ms
 dispatch_row_settles reads utc ms ss rs =
     let left = dispatches_of (drop (length ss) ms) in
     let news = records_of reads utc ms ss in
     ap (λ xs. xs ++ left) (map-append dispatch_of_record rs news) ∙ append_assoc (map dispatch_of_record rs) (map dispatch_of_record news) left ∙ ap
-    (λ xs. map dispatch_of_record rs ++ xs) (settled_row reads utc ms ss)
+    (λ xs. map dispatch_of_record rs ++ xs) (dispatches_of_settled reads utc ms ss)
 
--- a line that is heard leaves the row as it is
+-- a line that is heard leaves `dispatch_row` as it is
 dispatch_row_line : (s : Model) (line : List ℕ) → dispatch_row (line_came s line) ≡ dispatch_row s
 dispatch_row_line s line = let x = hears s.client line (heard line) in dispatch_row_settles s.reads s.progress.moment.utc s.marks x.settlements s.records
 
--- a piece leaves the row as it is, heard or not
+-- a piece leaves `dispatch_row` as it is, heard or not
 dispatch_row_came : (heard : Bool) (word piece : List ℕ) (s : Model) → dispatch_row (after_piece heard word piece s) ≡ dispatch_row s
 dispatch_row_came h word piece s = came_along (λ (t : Model). dispatch_row t ≡ dispatch_row s) (λ t line e. dispatch_row_line t line ∙ e) h word piece s refl refl refl
 
--- a read that gave bytes leaves the row as it is
+-- a read that gave bytes leaves `dispatch_row` as it is
 dispatch_row_gave : (plan : Plan) (until : Until) (s : Model) (bytes : List ℕ) (m : Moment) → dispatch_row (piece_at plan until bytes m s) ≡ dispatch_row s
 dispatch_row_gave plan until s bytes m = dispatch_row_came (is_heard s.progress.phase) s.progress.word bytes (with_moment m (with_progress (moment_noted m) s))
 
--- the loss of what is outstanding leaves the row as it is
+-- the loss of what is outstanding leaves `dispatch_row` as it is
 pub dispatch_row_losing : (all : Bool) (s : Model) → dispatch_row (losing all s) ≡ dispatch_row s
 dispatch_row_losing all s =
     losing_along (λ (t : Model). dispatch_row t ≡ dispatch_row s) all s (dispatch_row_settles s.reads s.progress.moment.utc s.marks (map lost s.client.waiting) s.records) refl
@@ -76,56 +75,56 @@ dispatches-append [] ys = refl
 dispatches-append (None ∷ xs) ys = dispatches-append xs ys
 dispatches-append (Some mark ∷ xs) ys = ap (λ zs. dispatch_of_mark mark ∷ zs) (dispatches-append xs ys)
 
--- one mark more adds its command, if it is a command's, to the row, after the others
-row_more : (rs : List Record) (ms : List (Option Mark)) (m : Option Mark)
+-- one mark more adds its command, if it is a command's, to the row of dispatches, after the others
+dispatch_row_more : (rs : List Record) (ms : List (Option Mark)) (m : Option Mark)
     → map dispatch_of_record rs ++ dispatches_of (ms ++ m ∷ []) ≡ (map dispatch_of_record rs ++ dispatches_of ms) ++ dispatches_of (m ∷ [])
-row_more rs ms m = ap (λ xs. map dispatch_of_record rs ++ xs) (dispatches-append ms (m ∷ [])) ∙ sym (append_assoc (map dispatch_of_record rs) (dispatches_of ms) (dispatches_of (m ∷ [])))
+dispatch_row_more rs ms m = ap (λ xs. map dispatch_of_record rs ++ xs) (dispatches-append ms (m ∷ [])) ∙ sym (append_assoc (map dispatch_of_record rs) (dispatches_of ms) (dispatches_of (m ∷ [])))
 
--- to send the first of these commands adds it to the row; without one nothing is added
-first_row : (mark : Mark) (left : List Task) (s : Model) → dispatch_row (asks_first mark left s) ≡ dispatch_row s ++ sent_first mark left
-first_row mark [] s = sym (append-nil (dispatch_row s))
-first_row mark (task ∷ others) s = row_more s.records s.marks (Some mark)
+-- to send the first of these commands adds it to `dispatch_row`; without one nothing is added
+dispatch_row_first : (mark : Mark) (left : List Task) (s : Model) → dispatch_row (asks_first mark left s) ≡ dispatch_row s ++ sent_first mark left
+dispatch_row_first mark [] s = sym (append-nil (dispatch_row s))
+dispatch_row_first mark (task ∷ others) s = dispatch_row_more s.records s.marks (Some mark)
 
--- the first of these commands of the setup adds itself to the row if it is sent; a null procedure adds nothing
-setup_row : (plan : Plan) (mark : Mark) (left : List Task) (s : Model) → dispatch_row (asks_for (request_or_null plan mark left) s) ≡ dispatch_row s ++ sent_first mark left
-setup_row plan mark [] s = row_more s.records s.marks None
-setup_row plan mark (task ∷ others) s = first_row mark (task ∷ others) s
+-- to send the first of these commands of the setup adds it to `dispatch_row`; a null procedure, sent without one, adds nothing
+dispatch_row_setup : (plan : Plan) (mark : Mark) (left : List Task) (s : Model) → dispatch_row (asks_for (request_or_null plan mark left) s) ≡ dispatch_row s ++ sent_first mark left
+dispatch_row_setup plan mark [] s = dispatch_row_more s.records s.marks None
+dispatch_row_setup plan mark (task ∷ others) s = dispatch_row_first mark (task ∷ others) s
 
 module _ (plan : Plan) (commands : List Task) where
-  -- an act that sends the next command of the setup adds it to the row
-  pub row_prepared : (s : Model) (act : Act) → dispatch_row (moved plan commands action.Prepare s act) ≡ dispatch_row s ++ setup_sent_at action.Prepare commands s
-  row_prepared s (Cut bytes n) = setup_row plan (mark_setup commands s.progress) (drop s.progress.prepared commands) s
-  row_prepared s act = setup_row plan (mark_setup commands s.progress) (drop s.progress.prepared commands) s
+  -- an act that sends the next command of the setup adds it to `dispatch_row`
+  pub dispatch_row_prepared : (s : Model) (act : Act) → dispatch_row (moved plan commands action.Prepare s act) ≡ dispatch_row s ++ setup_sent_at action.Prepare commands s
+  dispatch_row_prepared s (Cut bytes n) = dispatch_row_setup plan (mark_setup commands s.progress) (drop s.progress.prepared commands) s
+  dispatch_row_prepared s act = dispatch_row_setup plan (mark_setup commands s.progress) (drop s.progress.prepared commands) s
 
-  -- an act that sends the next command of a cycle adds it to the row, if there is one
-  row_sent : (s : Model) (act : Act) → dispatch_row (moved plan commands action.Send s act)
+  -- an act that sends the next command of a cycle adds it to `dispatch_row`, if there is one
+  dispatch_row_sent : (s : Model) (act : Act) → dispatch_row (moved plan commands action.Send s act)
       ≡ dispatch_row s ++ sent_first (mark_next plan commands s.progress) (commands_left commands s.progress)
-  row_sent s (Cut bytes n) = first_row (mark_next plan commands s.progress) (drop (place_next commands s.progress) commands) s
-  row_sent s act = first_row (mark_next plan commands s.progress) (drop (place_next commands s.progress) commands) s
+  dispatch_row_sent s (Cut bytes n) = dispatch_row_first (mark_next plan commands s.progress) (drop (place_next commands s.progress) commands) s
+  dispatch_row_sent s act = dispatch_row_first (mark_next plan commands s.progress) (drop (place_next commands s.progress) commands) s
 
   -- an action by which no command is sent, or recorded without being sent: any but `Prepare`, `Send` and `Skip`
-  abbrev pub LeavesRow : Action → Type 0
-  LeavesRow action.Prepare = ⊥
-  LeavesRow action.Send = ⊥
-  LeavesRow action.Skip = ⊥
-  LeavesRow o = Unit {0}
+  abbrev pub LeavesDispatchRow : Action → Type 0
+  LeavesDispatchRow action.Prepare = ⊥
+  LeavesDispatchRow action.Send = ⊥
+  LeavesDispatchRow action.Skip = ⊥
+  LeavesDispatchRow o = Unit {0}
 
-  -- an act of such an action (`LeavesRow`) leaves the row as it is
-  pub row_kept : (o : Action) (s : Model) (act : Act) → LeavesRow o → dispatch_row (moved plan commands o s act) ≡ dispatch_row s
-  row_kept action.Prepare s act other = absurd other
-  row_kept action.Send s act other = absurd other
-  row_kept action.Skip s act other = absurd other
-  row_kept action.Flush s (Cut bytes n) other = row_more s.records s.marks None ∙ append-nil (dispatch_row s)
-  row_kept action.Flush s act other = row_more s.records s.marks None ∙ append-nil (dispatch_row s)
-  row_kept (action.Read until) s (Gave bytes m) other = dispatch_row_gave plan until s bytes m
-  row_kept (action.Read until) s act other = refl
-  row_kept o s act other = ap dispatch_row (moved_changed plan commands o s act)
+  -- an act of such an action (`LeavesDispatchRow`) leaves `dispatch_row` as it is
+  pub dispatch_row_kept : (o : Action) (s : Model) (act : Act) → LeavesDispatchRow o → dispatch_row (moved plan commands o s act) ≡ dispatch_row s
+  dispatch_row_kept action.Prepare s act other = absurd other
+  dispatch_row_kept action.Send s act other = absurd other
+  dispatch_row_kept action.Skip s act other = absurd other
+  dispatch_row_kept action.Flush s (Cut bytes n) other = dispatch_row_more s.records s.marks None ∙ append-nil (dispatch_row s)
+  dispatch_row_kept action.Flush s act other = dispatch_row_more s.records s.marks None ∙ append-nil (dispatch_row s)
+  dispatch_row_kept (action.Read until) s (Gave bytes m) other = dispatch_row_gave plan until s bytes m
+  dispatch_row_kept (action.Read until) s act other = refl
+  dispatch_row_kept o s act other = ap dispatch_row (moved_changed plan commands o s act)
 
 -- Those of the setup.
 
 -- one command, which is of a cycle, has none of the setup in it
 no_setup_in_one : (x : Dispatch) → 0 < x.cycle → of_setup (x ∷ []) ≡ []
-no_setup_in_one x many = ap (λ b. if b then x ∷ [] else []) (not_none x.cycle many)
+no_setup_in_one x many = ap (λ b. if b then x ∷ [] else []) (not_zero x.cycle many)
 
 -- a command of a cycle that is sent isn't one of the setup
 no_setup_sent : (mark : Mark) (left : List Task) → 0 < mark.cycle → of_setup (sent_first mark left) ≡ []
@@ -143,19 +142,19 @@ setup_sent_is_of_setup commands p [] = refl
 setup_sent_is_of_setup commands p (task ∷ others) = refl
 
 -- records that aren't of the setup, between others and the outstanding commands, add no command of it
-between_none : (rs news : List Record) (ms : List (Option Mark)) → of_setup (map dispatch_of_record news) ≡ []
+no_setup_between : (rs news : List Record) (ms : List (Option Mark)) → of_setup (map dispatch_of_record news) ≡ []
     → of_setup (map dispatch_of_record (rs ++ news) ++ dispatches_of ms) ≡ of_setup (map dispatch_of_record rs ++ dispatches_of ms)
-between_none rs news ms none =
+no_setup_between rs news ms none =
     ap (λ xs. of_setup (xs ++ dispatches_of ms)) (map-append dispatch_of_record rs news) ∙ filter-append _ (map dispatch_of_record rs ++ map dispatch_of_record news) (dispatches_of ms)
     ∙ ap (λ xs. xs ++ of_setup (dispatches_of ms))
     (filter-append _ (map dispatch_of_record rs) (map dispatch_of_record news) ∙ ap (λ xs. of_setup (map dispatch_of_record rs) ++ xs) none ∙ append-nil (of_setup (map dispatch_of_record rs)))
     ∙ sym (filter-append _ (map dispatch_of_record rs) (dispatches_of ms))
 
--- if no mark is of a command, none is outstanding
-pub none_marked : (ms : List (Option Mark)) → commands_in ms ≡ 0 → dispatches_of ms ≡ []
-none_marked [] e = refl
-none_marked (None ∷ ms) e = none_marked ms e
-none_marked (Some mark ∷ ms) e = absurd (omega (arith, e))
+-- if no mark is of a command, the marks give no dispatch
+pub dispatches_none : (ms : List (Option Mark)) → commands_in ms ≡ 0 → dispatches_of ms ≡ []
+dispatches_none [] e = refl
+dispatches_none (None ∷ ms) e = dispatches_none ms e
+dispatches_none (Some mark ∷ ms) e = absurd (omega (arith, e))
 
 module _ (plan : Plan) (commands : List Task) where
   -- where `Invariant` holds, a cycle has begun if some command of a cycle is unsent
@@ -168,20 +167,20 @@ module _ (plan : Plan) (commands : List Task) where
       → of_setup (dispatch_row (moved plan commands o (with_progress turned s) act)) ≡ of_setup (dispatch_row s) ++ setup_sent_at o commands s
   setup_moved action.Prepare s act fine is =
       let t = with_progress turned s in
-      ap of_setup (row_prepared plan commands t act) ∙ filter-append _ (dispatch_row s) (setup_sent_at action.Prepare commands t)
+      ap of_setup (dispatch_row_prepared plan commands t act) ∙ filter-append _ (dispatch_row s) (setup_sent_at action.Prepare commands t)
       ∙ ap (λ xs. of_setup (dispatch_row s) ++ xs) (setup_sent_is_of_setup commands t.progress (drop t.progress.prepared commands))
   setup_moved action.Send s act fine is =
       let t = with_progress turned s in
       let one = sent_first (mark_next plan commands t.progress) (drop (place_next commands t.progress) commands) in
-      ap of_setup (row_sent plan commands t act) ∙ filter-append _ (dispatch_row s) one
+      ap of_setup (dispatch_row_sent plan commands t act) ∙ filter-append _ (dispatch_row s) one
       ∙ ap (λ xs. of_setup (dispatch_row s) ++ xs) (no_setup_sent (mark_next plan commands t.progress) (drop (place_next commands t.progress) commands) (some_cycle s fine is.2))
   setup_moved action.Skip s (Told m) fine is =
       let p = turned s.progress in
       let left = drop (place_next commands p) commands in
-      between_none s.records (first_unsent_record p m (mark_next plan commands p) left) s.marks (no_setup_skipped p m (mark_next plan commands p) left (some_cycle s fine is.2)) ∙ sym
+      no_setup_between s.records (first_unsent_record p m (mark_next plan commands p) left) s.marks (no_setup_skipped p m (mark_next plan commands p) left (some_cycle s fine is.2)) ∙ sym
       (append-nil (of_setup (dispatch_row s)))
-  setup_moved action.Skip s act fine is = between_none s.records [] s.marks refl ∙ sym (append-nil (of_setup (dispatch_row s)))
-  setup_moved o s act fine is = ap of_setup (row_kept plan commands o (with_progress turned s) act tt) ∙ sym (append-nil (of_setup (dispatch_row s)))
+  setup_moved action.Skip s act fine is = no_setup_between s.records [] s.marks refl ∙ sym (append-nil (of_setup (dispatch_row s)))
+  setup_moved o s act fine is = ap of_setup (dispatch_row_kept plan commands o (with_progress turned s) act tt) ∙ sym (append-nil (of_setup (dispatch_row s)))
 
   -- acts add to the setup's part of the row the commands of the setup that they send, where `Invariant` holds before them
   setup_from : (s : Model) (acts : List Act) → Invariant plan commands s → of_setup (dispatch_row (after_all plan commands s acts)) ≡ of_setup (dispatch_row s) ++ setup_sent_by plan commands s acts
@@ -205,7 +204,7 @@ each_set_up_once plan commands scope acts =
       each = all;
       settled = λ why stop.
           let paired : length s.marks ≡ length s.client.waiting = fine.paired in
-          let empty : length s.client.waiting ≡ 0 = ap length (stopped plan commands s why fine stop).0 in
+          let empty : length s.client.waiting ≡ 0 = ap length (all_recorded_at_stop plan commands s why fine stop).0 in
           ap of_setup (sym (append-nil (map dispatch_of_record s.records)) ∙ ap (λ xs. map dispatch_of_record s.records ++ xs) (sym (no_dispatches s.marks (omega (arith, paired, empty))))) ∙ all;
     } where
       -- if there are no marks, no command is outstanding
@@ -238,20 +237,20 @@ prepares plan commands s (Cut bytes n) = (refl, refl)
 prepares plan commands s act = (refl, refl)
 
 -- the next command of the setup, at the progress p, goes after x (`IsNextAfter`)
-abbrev IsNext : Dispatch → Progress → Type 0
-IsNext x p = IsNextAfter x (record { cycle = 0; place = p.prepared; attempt = p.attempt; sent = None })
+abbrev NextGoesAfter : (x : Dispatch) → (p : Progress) → Type 0
+NextGoesAfter x p = IsNextAfter x (record { cycle = 0; place = p.prepared; attempt = p.attempt; sent = None })
 
 -- if the setup starts again, its first command is next, and goes after x, if the one that was next did
-restarted_next : (x : Dispatch) (p q : Progress) → q.attempt ≡ next_attempt p → q.prepared ≡ 0 → IsNext x p → IsNext x q
+restarted_next : (x : Dispatch) (p q : Progress) → q.attempt ≡ next_attempt p → q.prepared ≡ 0 → NextGoesAfter x p → NextGoesAfter x q
 restarted_next x p q a k (inl is) = inr (
   a ∙ ap (λ (b : Bool). if b then p.attempt else later p.attempt 1)
-      (not_none p.prepared (let at : p.prepared ≡ x.place + 1 = is.1 in omega (arith, at))) ∙ ap (λ n. later n 1) is.0,
+      (not_zero p.prepared (let at : p.prepared ≡ x.place + 1 = is.1 in omega (arith, at))) ∙ ap (λ n. later n 1) is.0,
   k,
 )
 restarted_next x p q a k (inr is) = inr (a ∙ ap (λ (n : ℕ). if nat_eq n 0 then p.attempt else later p.attempt 1) is.1 ∙ is.0, k)
 
 -- if from p to q the setup's next command stays, or is the first again (`Resets`), it still goes after x
-next_kept : (x : Dispatch) (p q : Progress) → Resets p q → IsNext x p → IsNext x q
+next_kept : (x : Dispatch) (p q : Progress) → Resets p q → NextGoesAfter x p → NextGoesAfter x q
 next_kept x p q (inl same) (inl is) = inl (same.0 ∙ is.0, same.1 ∙ is.1)
 next_kept x p q (inl same) (inr is) = inr (same.0 ∙ is.0, same.1 ∙ is.1)
 next_kept x p q (inr anew) is = restarted_next x p q anew.0 anew.1 is
@@ -277,35 +276,36 @@ module _ (plan : Plan) (commands : List Task) (within : plan.setup ≤ length co
   next_dispatch s = dispatch_of_mark (mark_setup commands s.progress)
 
   -- if a command of the setup is next, its place is below `plan.setup`
-  below : (s : Model) → action_at plan s ≡ action.Prepare → s.progress.prepared < plan.setup
-  below s is = let needs = subst (λ (o : Action). HoldsBefore plan s.progress (waiting_of s) o) is (action_for plan s.progress (waiting_of s)) in needs.2.1
+  prepared_below_setup : (s : Model) → action_at plan s ≡ action.Prepare → s.progress.prepared < plan.setup
+  prepared_below_setup s is = let needs = subst (λ (o : Action). HoldsBefore plan s.progress (waiting_of s) o) is (action_for plan s.progress (waiting_of s)) in needs.2.1
 
   -- if a command of the setup is next, what the next action sends of the setup (`setup_sent_at`) is that command alone
   pub sends_next_dispatch : (s : Model) → action_at plan s ≡ action.Prepare → setup_sent_at (action_at plan s) commands s ≡ next_dispatch s ∷ []
   sends_next_dispatch s is =
-      let some = below s is in
+      let some = prepared_below_setup s is in
       let many : length (drop s.progress.prepared commands) ≡ length commands - s.progress.prepared = length-drop s.progress.prepared commands in
       ap (λ (o : Action). setup_sent_at o commands s) is ∙ sent_some (mark_setup commands s.progress) (drop s.progress.prepared commands) (omega (arith, many, some, within))
 
-  -- after the setup's next command was sent, the one that is next then goes after it (`IsNext`)
-  next_sent : (s : Model) (act : Act) → action_at plan s ≡ action.Prepare → IsNext (next_dispatch s) (after plan commands s act).progress
+  -- after the setup's next command was sent, the one that is next then goes after it (`NextGoesAfter`)
+  next_sent : (s : Model) (act : Act) → action_at plan s ≡ action.Prepare → NextGoesAfter (next_dispatch s) (after plan commands s act).progress
   next_sent s act is =
       let t = with_progress turned s in
       let far : (after plan commands s act).progress ≡ (moved plan commands action.Prepare t act).progress =
-      ended_progress (moved plan commands (action_at plan s) t act) ∙ ap (λ (o : Action). (moved plan commands o t act).progress) is in
+      with_losses_progress (moved plan commands (action_at plan s) t act) ∙ ap (λ (o : Action). (moved plan commands o t act).progress) is in
       let it = prepares plan commands t act in
       let prepared : (moved plan commands action.Prepare t act).progress.prepared ≡ min (s.progress.prepared + 1) plan.setup = it.1 in
-      let some = below s is in
+      let some = prepared_below_setup s is in
       inl (ap (λ (p : Progress). p.attempt) far ∙ it.0, ap (λ (p : Progress). p.prepared) far ∙ omega (arith, prepared, some))
 
-  -- if the setup's next command goes after x (`IsNext`), it still does after an act that sends no command of the setup
-  next_other : (x : Dispatch) (s : Model) (act : Act) → (action_at plan s ≡ action.Prepare → ⊥) → IsNext x s.progress → IsNext x (after plan commands s act).progress
+  -- if the setup's next command goes after x (`NextGoesAfter`), it still does after an act that sends no command of the setup
+  next_other : (x : Dispatch) (s : Model) (act : Act) → (action_at plan s ≡ action.Prepare → ⊥) → NextGoesAfter x s.progress → NextGoesAfter x (after plan commands s act).progress
   next_other x s act other is =
       let t = moved plan commands (action_at plan s) (with_progress turned s) act in
-      subst (λ (q : Progress). IsNext x q) (sym (ended_progress t)) (next_kept x (turned s.progress) t.progress (resets plan commands (action_at plan s) (with_progress turned s) act other) is)
+      subst (λ (q : Progress). NextGoesAfter x q) (sym (with_losses_progress t))
+      (next_kept x (turned s.progress) t.progress (resets plan commands (action_at plan s) (with_progress turned s) act other) is)
 
-  -- if the setup's next command goes after x (`IsNext`), the commands of the setup that these acts send go on after x
-  go_on_from : (x : Dispatch) (s : Model) (acts : List Act) → IsNext x s.progress → GoOn x (setup_sent_by plan commands s acts)
+  -- if the setup's next command goes after x (`NextGoesAfter`), the commands of the setup that these acts send go on after x
+  go_on_from : (x : Dispatch) (s : Model) (acts : List Act) → NextGoesAfter x s.progress → GoOn x (setup_sent_by plan commands s acts)
   go_on_from x s [] is = tt
   go_on_from x s (act ∷ acts) is =
       let u = after plan commands s act in
@@ -335,7 +335,7 @@ module _ (plan : Plan) (commands : List Task) (within : plan.setup ≤ length co
         | inl sends ↦ subst (λ xs. AreInOrder (xs ++ rest)) (sym (sends_next_dispatch s sends)) (is.0, is.1, go_on_from (next_dispatch s) u acts (next_sent s act sends))
         | inr other ↦
             subst (λ xs. AreInOrder (xs ++ rest)) (sym (others_send_none (action_at plan s) commands s other))
-            (in_order_from u acts (subst (λ (q : Progress). NoneOfSetupSent q) (sym (ended_progress t))
+            (in_order_from u acts (subst (λ (q : Progress). NoneOfSetupSent q) (sym (with_losses_progress t))
             (none_of_setup_kept (turned s.progress) t.progress (resets plan commands (action_at plan s) (with_progress turned s) act other) is)))
       ]
 

@@ -20,7 +20,7 @@ use Rattle.gc_station.specs.Runs.{state_after}
 use Rattle.gc_station.specs.Scopes.{Scope}
 use Rattle.gc_station.specs.Model.{Model, opening, action_at, waiting_of, with_progress, lines_completed, is_heard, Runs}
 use Rattle.gc_station.proofs.Closings.{closing_shown, needs_of}
-use Rattle.gc_station.proofs.Connected.{is_in_use, paused_alike, OnLine, on_line_always}
+use Rattle.gc_station.proofs.Connected.{is_in_use, paused_alike, HoldsInUse, holds_in_use_always}
 use Rattle.gc_station.proofs.Facts.{Awake}
 use Rattle.gc_station.proofs.Walk.{asked_along, came_along, piece_before}
 
@@ -71,8 +71,8 @@ read_last_due now phase.Ready acts = λ e. cc
 read_last_due now at acts = tt
 
 module _ (plan : Plan) (commands : List Task) where
-  -- `ReadLast` holds after an act of any action that leaves a connection in use (`OnLine`)
-  read_last_line : (next : Action) (s : Model) (acts : List Act) → OnLine plan commands ReadLastAt next (with_progress turned s) acts
+  -- `ReadLast` holds after an act of any action that leaves a connection in use (`HoldsInUse`)
+  read_last_line : (next : Action) (s : Model) (acts : List Act) → HoldsInUse plan commands ReadLastAt next (with_progress turned s) acts
   read_last_line actions.Open s acts = λ m. tt
   read_last_line actions.Clear s acts = λ m. read_last_due s.progress.moment.elapsed (cleared s.progress).phase _
   read_last_line actions.Ask s acts = λ m. read_last_due s.progress.moment.elapsed s.progress.phase _
@@ -95,7 +95,7 @@ module _ (plan : Plan) (commands : List Task) where
   -- `ReadLast` holds after every run
   read_last_holds : (scope : Scope) (acts : List Act) → Runs plan commands (opening plan scope) acts → ReadLastAt (state_after plan commands scope acts).progress acts
   read_last_holds scope acts runs =
-      on_line_always plan commands ReadLastAt (λ p acts none. read_last_none p.clock_due p.moment.elapsed p.phase acts none) scope
+      holds_in_use_always plan commands ReadLastAt (λ p acts none. read_last_none p.clock_due p.moment.elapsed p.phase acts none) scope
       (λ done runs held. let s = state_after plan commands scope done in read_last_line (action_at plan s) s done) tt acts runs
 
   -- after a run, where requests may be sent and the moment read last isn't out of date (`Awake`), the last act read that moment
@@ -118,8 +118,9 @@ second_holds (inl first) never = absurd (never first)
 second_holds (inr second) never = second
 
 -- a close that the phase hasn't decided is made because the run is at its end (`IsAtItsEnd`)
-pub end_here : (plan : Plan) (s : Model) (why : Cause) → action_at plan s ≡ actions.Close why → (s.progress.phase ≡ phase.Closing why → ⊥) → IsAtItsEnd plan s.progress (waiting_of s) why
-end_here plan s why is never = second_holds (needs_of plan s (actions.Close why) is).1 never
+pub closes_at_its_end : (plan : Plan) (s : Model) (why : Cause) → action_at plan s ≡ actions.Close why → (s.progress.phase ≡ phase.Closing why → ⊥)
+    → IsAtItsEnd plan s.progress (waiting_of s) why
+closes_at_its_end plan s why is never = second_holds (needs_of plan s (actions.Close why) is).1 never
 
 -- if a connection that was closed, or couldn't be made, for the cause `other` ends the run for `why` (`EndsAfter`), and that
 -- isn't `Done`, both causes are the same

@@ -28,5 +28,5 @@ since_on P Q all more step s = record {
 
 -- if a front of a list is `before` and then `rest`, the list is `before`, then `rest`, and then what comes after the front
 -- (`tail`)
-pub cut_on : {A : Type 0} (all front before rest tail : List A) → all ≡ front ++ tail → front ≡ before ++ rest → all ≡ before ++ (rest ++ tail)
-cut_on all front before rest tail outer inner = outer ∙ ap (λ xs. xs ++ tail) inner ∙ append_assoc before rest tail
+pub extend_cut : {A : Type 0} (all front before rest tail : List A) → all ≡ front ++ tail → front ≡ before ++ rest → all ≡ before ++ (rest ++ tail)
+extend_cut all front before rest tail outer inner = outer ∙ ap (λ xs. xs ++ tail) inner ∙ append_assoc before rest tail

@@ -1,7 +1,7 @@
 -- A progress that stays in its cycle, at the same command.
 use Rattle.std.proofs.Common.{◌≡◌, ◌⊎◌, inl, inr, false}
 use Rattle.gc_station.specs.declared.progress.Progress.{Progress}
-use Rattle.gc_station.proofs.ChainSteps.{Still, still, broken}
+use Rattle.gc_station.proofs.ChainSteps.{Still, still, still_but_broken}
 
 -- q is in the same cycle as p, at the same command, with its chain as it was or broken (`Still`), and the moment at which that
 -- cycle was due is the same
@@ -14,4 +14,4 @@ pub stays : (p q : Progress) → (left : q.left ≡ p.left) → (unsent : q.unse
     → (next_is_chained : q.next_is_chained ≡ p.next_is_chained)
     → (chain_unbroken : (q.chain_unbroken ≡ p.chain_unbroken) ⊎ (q.chain_unbroken ≡ false)) → Stays p q
 stays p q left unsent missed due next_is_chained (inl same) = record { still = still p q left unsent missed next_is_chained same; due = due }
-stays p q left unsent missed due next_is_chained (inr none) = record { still = (broken p q left unsent missed next_is_chained none).0; due = due }
+stays p q left unsent missed due next_is_chained (inr none) = record { still = (still_but_broken p q left unsent missed next_is_chained none).0; due = due }

@@ -4,7 +4,6 @@ use Rattle.std.proofs.Common.{◌≡◌, inl, inr, ◌⊎◌, ℕ, ◌-◌, ◌<
 use Rattle.std.proofs.lemmas.Bool.{ltb-true, leb-true, and_parts, cond-true, cond-false, false≢true}
 use Rattle.std.proofs.lemmas.Bool.Decides.{nat_tests}
 use Rattle.std.specs.List.{AllByRecursion}
-use Rattle.gc_catalogue.specs.declared.answer.Reading.{Reading}
 use Rattle.gc_catalogue.specs.declared.asked.Asked.{Asked}
 use Rattle.gc_client.specs.declared.pending.Pending.{Pending}
 use Rattle.gc_client.specs.Rule.{heard, hears, lost}
@@ -30,20 +29,20 @@ use Rattle.gc_station.specs.NextCommand.{place_next, mark_next}
 use Rattle.gc_station.specs.Progressing.{turned, moment_noted, quieted, time_passed, loses_all}
 use Rattle.gc_station.specs.Records.{Record}
 use Rattle.gc_station.specs.Runs.{state_after}
-use Rattle.gc_station.specs.Scopes.{Scope}
+use Rattle.gc_station.specs.Scopes.{Scope, Reads}
 use Rattle.gc_station.specs.Stopping.{least_moment, asked_after, IsNotWell, NoneWellSince, ClosesStale, StopsAtItsClose, EndsOnceStale, GoesOnInItsChain, ClosesBetweenChains}
 use Rattle.gc_station.specs.Quiet.{IsListening, HasLast}
 use Rattle.gc_station.proofs.Always.{always, always_of_progress}
 use Rattle.gc_station.proofs.Closings.{cause_in, no_cause_shown, Decided, after_decided, runs_split, stopped_for, needs_of, done_is_finished}
-use Rattle.gc_station.proofs.Counts.{ended_progress}
+use Rattle.gc_station.proofs.Counts.{with_losses_progress}
 use Rattle.gc_station.proofs.Going.{after_all-append, runs_behind}
 use Rattle.gc_station.proofs.Lists.{all_append}
 use Rattle.gc_station.proofs.Making.{unwell_end}
 use Rattle.gc_station.proofs.Opens.{Quits}
 use Rattle.gc_station.proofs.Records.{fresh-append}
-use Rattle.gc_station.proofs.Silences.{end_here, ended_by_close, not_closing}
+use Rattle.gc_station.proofs.Silences.{closes_at_its_end, ended_by_close, not_closing}
 use Rattle.gc_station.proofs.Turns.{no_act_in_over}
-use Rattle.gc_station.proofs.Unbroken.{unbroken_holds, resting_none}
+use Rattle.gc_station.proofs.Unbroken.{unbroken_holds, resting_sends_no_chained}
 use Rattle.gc_station.proofs.Walk.{asked_along, came_along, quieted_along, closed_along, walk, piece_before}
 
 -- Records.
@@ -88,7 +87,7 @@ unsent_unwell p m mark [] = tt
 unsent_unwell p m mark (task ∷ others) = (unwell_end p.missed, tt)
 
 -- the records of requests that are lost are of commands that weren't answered well
-lost_unwell : (reads : Asked → List ℕ → Reading) (utc : ℕ) (marks : List (Option Mark)) (ps : List (Pending Asked)) → AllByRecursion IsNotWell (records_of reads utc marks (map lost ps))
+lost_unwell : (reads : Reads) (utc : ℕ) (marks : List (Option Mark)) (ps : List (Pending Asked)) → AllByRecursion IsNotWell (records_of reads utc marks (map lost ps))
 lost_unwell reads utc [] ps = tt
 lost_unwell reads utc (mark ∷ marks) [] = tt
 lost_unwell reads utc (None ∷ marks) (p ∷ ps) = lost_unwell reads utc marks ps
@@ -98,21 +97,21 @@ lost_unwell reads utc (Some mark ∷ marks) (p ∷ ps) = (refl, lost_unwell read
 
 -- from s to t an act wrote records of which none is of a command that was answered well; and `fresh` stays, bounded by the moment
 -- that the act read
-abbrev RecordsNoneWell : Model → Act → Model → Type 0
+abbrev RecordsNoneWell : (s : Model) → Act → (t : Model) → Type 0
 RecordsNoneWell s act t = (rs : List Record) × (t.records ≡ s.records ++ rs) × AllByRecursion IsNotWell rs × (t.fresh ≡ least_moment s.fresh (act ∷ []))
 
 -- from s to t an act, a read that gave bytes, wrote records of which at least one is of a command that was answered well; and
 -- `fresh` becomes the moment of the read
-abbrev RecordsOneWell : Model → Act → Model → Type 0
+abbrev RecordsOneWell : (s : Model) → Act → (t : Model) → Type 0
 RecordsOneWell s act t = (rs : List Record) × (t.records ≡ s.records ++ rs) × HasWell rs × (bytes : List ℕ) × (m : Moment) × (act ≡ Gave bytes m) × (t.fresh ≡ m.elapsed)
 
 -- an act wrote records, as `RecordsNoneWell` or `RecordsOneWell` says
-abbrev TracksFresh : Model → Act → Model → Type 0
+abbrev TracksFresh : (s : Model) → Act → (t : Model) → Type 0
 TracksFresh s act t = RecordsNoneWell s act t ⊎ RecordsOneWell s act t
 
 -- t is the model `mid` after some lines of a piece, heard at the moment `now`: they added records, and `fresh` is what
 -- `fresh_after` makes of these
-abbrev HeardSince : Model → ℕ → Model → Type 0
+abbrev HeardSince : (mid : Model) → (now : ℕ) → (t : Model) → Type 0
 HeardSince mid now t = (rs : List Record) × (t.records ≡ mid.records ++ rs) × (t.fresh ≡ fresh_after now mid.fresh rs) × (t.progress.moment.elapsed ≡ now)
 
 -- one line more preserves `HeardSince`
@@ -268,7 +267,7 @@ pub closes_stale : ClosesStale
 closes_stale plan commands scope acts runs is =
     let s = state_after plan commands scope acts in
     let u = none_well_holds plan commands scope acts runs in
-    let stale = end_here plan s cause.Stale is (not_closing plan commands scope acts cause.Stale runs (λ act shows. shows)) in
+    let stale = closes_at_its_end plan s cause.Stale is (not_closing plan commands scope acts cause.Stale runs (λ act shows. shows)) in
     let it = and_parts (nat_lt 0 plan.stale) (nat_le plan.stale (s.progress.moment.elapsed - s.fresh)) stale in
     record {
       since = u;
@@ -285,8 +284,8 @@ quits_never_shown cause.Stopped act quits shows = shows
 quits_never_shown why act quits shows = absurd quits
 
 -- if a run stops for `Stale` or `Stopped` (`Quits`), its last act is a close, which was next for that cause
-stops_at : (why : Cause) → Quits (actions.Close why) → StopsAtItsClose why
-stops_at why quits plan commands scope acts runs stop = by_shown (stopped_for plan commands scope acts why runs stop).shown where
+stops_at_its_close : (why : Cause) → Quits (actions.Close why) → StopsAtItsClose why
+stops_at_its_close why quits plan commands scope acts runs stop = by_shown (stopped_for plan commands scope acts why runs stop).shown where
   -- what is claimed
   Claim : Type 0
   Claim = (earlier : List Act) × (acts ≡ earlier ++ Closed ∷ []) × (action_at plan (state_after plan commands scope earlier) ≡ actions.Close why)
@@ -305,11 +304,11 @@ stops_at why quits plan commands scope acts runs stop = by_shown (stopped_for pl
 
 -- if a run stops because it is stale, its last act is the close for that
 pub stops_stale : StopsAtItsClose cause.Stale
-stops_stale = stops_at cause.Stale tt
+stops_stale = stops_at_its_close cause.Stale tt
 
 -- if a run stops because that was asked for, its last act is the close for that
 pub stops_stopped : StopsAtItsClose cause.Stopped
-stops_stopped = stops_at cause.Stopped tt
+stops_stopped = stops_at_its_close cause.Stopped tt
 
 -- What follows a moment at which the run is stale.
 
@@ -345,10 +344,10 @@ stale_next plan p w at is none some stale = ap (λ x. action_in x plan p w) is �
   by_phase (phase.Over why) e = cc
 
 -- if the close for a stale run is next, no act follows but it
-nothing_behind : (plan : Plan) (commands : List Task) (t : Model) (behind : List Act) → action_at plan t ≡ actions.Close cause.Stale → Runs plan commands t behind
+only_close_follows : (plan : Plan) (commands : List Task) (t : Model) (behind : List Act) → action_at plan t ≡ actions.Close cause.Stale → Runs plan commands t behind
     → (behind ≡ []) ⊎ (behind ≡ Closed ∷ [])
-nothing_behind plan commands t [] is runs = inl refl
-nothing_behind plan commands t (act ∷ others) is runs = inr (by_rest others runs.1) where
+only_close_follows plan commands t [] is runs = inl refl
+only_close_follows plan commands t (act ∷ others) is runs = inr (by_rest others runs.1) where
   -- the act is the close
   closes : act ≡ Closed
   closes = subst (λ (o : Action). Performs commands t o act) is runs.0
@@ -357,7 +356,7 @@ nothing_behind plan commands t (act ∷ others) is runs = inr (by_rest others ru
   over : (after plan commands t act).progress.phase ≡ phase.Over cause.Stale
   over =
       let u = moved plan commands (action_at plan t) (with_progress turned t) act in
-      ap (λ (p : Progress). p.phase) (ended_progress u) ∙ ap (λ (o : Action). (moved plan commands o (with_progress turned t) act).progress.phase) is
+      ap (λ (p : Progress). p.phase) (with_losses_progress u) ∙ ap (λ (o : Action). (moved plan commands o (with_progress turned t) act).progress.phase) is
 
   -- the lemma above, by the acts after that one
   by_rest : (rest : List Act) → Runs plan commands (after plan commands t act) rest → act ∷ rest ≡ Closed ∷ []
@@ -373,7 +372,7 @@ ends_once_stale plan commands scope earlier behind telling runs tells turns stal
     let split = runs_split plan commands (opening plan scope) earlier behind telling runs in
     let later = runs_behind plan commands (opening plan scope) all behind
     (subst (λ (xs : List Act). Runs plan commands (opening plan scope) xs) (sym (append_assoc earlier (telling ∷ []) behind)) runs) in
-    nothing_behind plan commands t behind (stale_next plan t.progress (waiting_of t) t.progress.phase refl (by_end (cause_in t.progress.phase) refl) turns stale) later where
+    only_close_follows plan commands t behind (stale_next plan t.progress (waiting_of t) t.progress.phase refl (by_end (cause_in t.progress.phase) refl) turns stale) later where
       -- the moment decides no end
       by_end : (e : Option Cause) → cause_in (state_after plan commands scope (earlier ++ telling ∷ [])).progress.phase ≡ e
           → cause_in (state_after plan commands scope (earlier ++ telling ∷ [])).progress.phase ≡ None
@@ -436,5 +435,5 @@ goes_on_in_its_chain plan commands scope acts runs asked =
 pub closes_between_chains : ClosesBetweenChains
 closes_between_chains plan commands scope acts runs is =
     let s = state_after plan commands scope acts in
-    let it = end_here plan s cause.Stopped is (not_closing plan commands scope acts cause.Stopped runs (λ act shows. shows)) in
-    (sym (stops_as_asked plan commands scope acts runs) ∙ it.0, it.1, resting_none s.progress (waiting_of s) (unbroken_holds plan commands scope acts runs) it.1)
+    let it = closes_at_its_end plan s cause.Stopped is (not_closing plan commands scope acts cause.Stopped runs (λ act shows. shows)) in
+    (sym (stops_as_asked plan commands scope acts runs) ∙ it.0, it.1, resting_sends_no_chained s.progress (waiting_of s) (unbroken_holds plan commands scope acts runs) it.1)

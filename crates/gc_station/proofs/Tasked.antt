@@ -5,7 +5,6 @@ use Rattle.std.specs.Prelude.{slice_get}
 use Rattle.std.specs.List.{AllByRecursion}
 use Rattle.std.proofs.lemmas.Bool.{both_ways}
 use Rattle.std.proofs.lemmas.List.{length-map, map-append}
-use Rattle.gc_catalogue.specs.declared.answer.Reading.{Reading}
 use Rattle.gc_catalogue.specs.declared.asked.Asked.{Asked}
 use Rattle.gc_client.specs.OneForOne.{Wanted, of_pending, of_settled}
 use Rattle.gc_client.specs.Rule.{Settlement}
@@ -13,9 +12,10 @@ use Rattle.gc_client.specs.declared.pending.Pending.{Pending}
 use Rattle.gc_texts.specs.Endings.{End}
 use Rattle.gc_texts.specs.declared.tasks.Task.{Task}
 use Rattle.gc_texts.specs.declared.wish.Wish.{Wish}
-use Rattle.gc_station.specs.Marks.{record_of, records_of, unsent_as}
+use Rattle.gc_station.specs.Marks.{record_of, records_of, record_with}
 use Rattle.gc_station.specs.Model.{end_unsent}
 use Rattle.gc_station.specs.Parts.{MarksAsk, MarkAsks, went_out}
+use Rattle.gc_station.specs.Scopes.{Reads}
 use Rattle.gc_station.specs.Tasked.{IsOfItsTask}
 use Rattle.gc_station.specs.declared.mark.Mark.{Mark}
 use Rattle.gc_station.proofs.Booking.{ended_sent, marks_ask_append}
@@ -40,7 +40,7 @@ marks_ask_more commands ms ws m p own is =
     subst (MarksAsk commands (ms ++ m ∷ [])) (sym (map-append of_pending ws (p ∷ []))) (marks_ask_append commands ms (m ∷ []) (map of_pending ws) (of_pending p ∷ []) own (is, tt))
 
 -- the record of a settlement that asks what its mark says (`MarkAsks`) is of its task
-record_tasked : (reads : Asked → List ℕ → Reading) (commands : List Task) (utc : ℕ) (mark : Mark) (s : Settlement Asked) → MarkAsks commands (Some mark) (of_settled s)
+record_tasked : (reads : Reads) (commands : List Task) (utc : ℕ) (mark : Mark) (s : Settlement Asked) → MarkAsks commands (Some mark) (of_settled s)
     → IsOfItsTask commands (record_of reads utc mark s)
 record_tasked reads commands utc mark s h =
     let wish : Wanted Asked → Wish = λ (a : Wanted Asked). record { target = a.target; call = a.call } in
@@ -52,7 +52,7 @@ record_tasked reads commands utc mark s h =
     }
 
 -- if the settled requests of `ss` and then `ys` ask what these marks say, one for one, the records of `ss` are of their tasks
-pub settled_tasked : (reads : Asked → List ℕ → Reading) (commands : List Task) (utc : ℕ) (ms : List (Option Mark)) (ss : List (Settlement Asked)) (ys : List (Wanted Asked))
+pub settled_tasked : (reads : Reads) (commands : List Task) (utc : ℕ) (ms : List (Option Mark)) (ss : List (Settlement Asked)) (ys : List (Wanted Asked))
     → MarksAsk commands ms (map of_settled ss ++ ys) → AllByRecursion (IsOfItsTask commands) (records_of reads utc ms ss)
 settled_tasked reads commands utc [] ss ys h = tt
 settled_tasked reads commands utc (m ∷ ms) [] ys h = tt
@@ -71,5 +71,5 @@ no_end_of_sent missed end out e = both_ways (went_out end) (sym (ap went_out e) 
 -- the record of the command of `task`, with this mark, as not sent is of this task, if `task` is the one at the place of the
 -- mark, and `end` isn't the ending of a command that was sent
 pub unsent_tasked : (commands : List Task) (utc : ℕ) (mark : Mark) (end : End) (task : Task) → slice_get commands mark.place ≡ Some task → went_out end ≡ false
-    → IsOfItsTask commands (unsent_as utc mark task.command end)
+    → IsOfItsTask commands (record_with utc mark None task.command end)
 unsent_tasked commands utc mark end task at out = record { task = task; listed = at; sent = sym out; command = refl }

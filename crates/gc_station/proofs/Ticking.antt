@@ -17,27 +17,27 @@ Ticks p act q =
 
 -- if the clock doesn't go back at a moment, the beginning of the cycle stays, and isn't later than that moment, if it wasn't
 -- later than the one read before
-pub ticked_at : (p q : Progress) (m : Moment) → (q.moment ≡ m) × (q.began ≡ min p.began m.elapsed) → p.moment.elapsed ≤ m.elapsed → p.began ≤ p.moment.elapsed
+pub began_kept_at_moment : (p q : Progress) (m : Moment) → (q.moment ≡ m) × (q.began ≡ min p.began m.elapsed) → p.moment.elapsed ≤ m.elapsed → p.began ≤ p.moment.elapsed
     → (q.began ≡ p.began) × (q.began ≤ q.moment.elapsed)
-ticked_at p q m t rises past =
+began_kept_at_moment p q m t rises past =
     let same : q.began ≡ p.began = t.1 ∙ omega (arith, rises, past) in
     let now : q.moment.elapsed ≡ m.elapsed = ap (λ (x : Moment). x.elapsed) t.0 in
     (same, omega (arith, same, now, rises, past))
 
 -- without a moment the beginning of the cycle stays, and isn't later than the moment read last, if it wasn't before
-pub ticked_not : (p q : Progress) → (q.moment ≡ p.moment) × (q.began ≡ p.began) → p.began ≤ p.moment.elapsed → (q.began ≡ p.began) × (q.began ≤ q.moment.elapsed)
-ticked_not p q t past =
+pub began_kept_without_moment : (p q : Progress) → (q.moment ≡ p.moment) × (q.began ≡ p.began) → p.began ≤ p.moment.elapsed → (q.began ≡ p.began) × (q.began ≤ q.moment.elapsed)
+began_kept_without_moment p q t past =
     let same = t.1 in
     let now : q.moment.elapsed ≡ p.moment.elapsed = ap (λ (x : Moment). x.elapsed) t.0 in
     (same, omega (arith, same, now, past))
 
 -- if the clock doesn't go back at an act, the beginning of the cycle stays, and isn't later than the moment read last, if it
 -- wasn't before the act
-pub ticked : (p q : Progress) (act : Act) → Ticks p act q → ClockRises p.moment.elapsed (act ∷ []) → p.began ≤ p.moment.elapsed → (q.began ≡ p.began) × (q.began ≤ q.moment.elapsed)
-ticked p q (Told m) t rises past = ticked_at p q m t rises.0 past
-ticked p q (Gave bytes m) t rises past = ticked_at p q m t rises.0 past
-ticked p q (Silent m) t rises past = ticked_at p q m t rises.0 past
-ticked p q act t rises past = ticked_not p q t past
+pub began_kept : (p q : Progress) (act : Act) → Ticks p act q → ClockRises p.moment.elapsed (act ∷ []) → p.began ≤ p.moment.elapsed → (q.began ≡ p.began) × (q.began ≤ q.moment.elapsed)
+began_kept p q (Told m) t rises past = began_kept_at_moment p q m t rises.0 past
+began_kept p q (Gave bytes m) t rises past = began_kept_at_moment p q m t rises.0 past
+began_kept p q (Silent m) t rises past = began_kept_at_moment p q m t rises.0 past
+began_kept p q act t rises past = began_kept_without_moment p q t past
 
 -- if the clock doesn't go back in acts, it doesn't in the acts before the last
 pub rises_front : (now : ℕ) (xs : List Act) (act : Act) → ClockRises now (xs ++ act ∷ []) → ClockRises now xs

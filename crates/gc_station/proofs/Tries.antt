@@ -30,9 +30,9 @@ use Rattle.gc_station.specs.Progressing.{turned, is_over, loses_all}
 use Rattle.gc_station.specs.Records.{Record, Grew}
 use Rattle.gc_station.specs.Runs.{state_after}
 use Rattle.gc_station.specs.Model.{Model, opening, action_at, waiting_of, with_progress, Performs, moved, losing, after, after_all, Runs}
-use Rattle.gc_station.specs.Tries.{IsTried, IsEnding, endings_in, openings_in, SettlesNone, NoneSettled, EndsSettled, AllTried}
+use Rattle.gc_station.specs.Tries.{IsTried, IsDisconnecting, disconnections_in, openings_in, SettlesNone, NoneSettled, EndsSettled, AllTried}
 use Rattle.gc_station.proofs.Closings.{no_cause_shown, runs_split, needs_of, cause_in, Decided, after_decided, done_is_finished}
-use Rattle.gc_station.proofs.Counts.{ended_progress}
+use Rattle.gc_station.proofs.Counts.{with_losses_progress}
 use Rattle.gc_station.proofs.Always.{always}
 use Rattle.gc_station.proofs.EachRun.{invariant_after, invariant_holds}
 use Rattle.gc_station.proofs.Facts.{or_first, action_for}
@@ -40,7 +40,7 @@ use Rattle.gc_station.proofs.Invariant.{Invariant}
 use Rattle.gc_station.proofs.Going.{after_all-append}
 use Rattle.gc_station.proofs.Opens.{IsBalanced, Quits, moved_balanced, IsBalancedAt}
 use Rattle.gc_station.proofs.Row.{row_of, row_losing, row_read}
-use Rattle.gc_station.proofs.Turns.{no_act_once_over, up_count, up_least}
+use Rattle.gc_station.proofs.Turns.{no_act_once_over, up_count, at_most_one_up}
 use Rattle.gc_station.specs.Scopes.{Scope}
 use Rattle.gc_station.proofs.TriesTaken.{GivesTriesBack, TriesAfterPiece, TakesTries, took_moved, took_with_turn}
 use Rattle.gc_station.proofs.SentAt.{after_grew}
@@ -69,8 +69,8 @@ same_row_length : (plan : Plan) (commands : List Task) (s t : Model) → Invaria
 same_row_length plan commands s t fine fine' same = row_length plan commands t fine' ∙ ap length same ∙ sym (row_length plan commands s fine)
 
 -- records that were only added to, and aren't more than before, are the same
-same_if_no_longer : (old new more : List Record) → new ≡ old ++ more → length new ≤ length old → new ≡ old
-same_if_no_longer old new more is few =
+same_if_not_longer : (old new more : List Record) → new ≡ old ++ more → length new ≤ length old → new ≡ old
+same_if_not_longer old new more is few =
     let a = ap length is in
     let b = length-append old more in
     let none : length more ≡ 0 = omega (arith, a, b, few) in
@@ -91,7 +91,7 @@ settling_by plan s t mid old grew same kept (inl fewer) = inl (λ e. by_kept kep
   by_kept (inl stay) e = let few = fewer.0 in omega (arith, stay, e, few, same)
   by_kept (inr none) e = let few = fewer.0 in omega (arith, none, few)
 settling_by plan s t mid old grew same kept (inr (inr on, tries)) = inr (inr on, tries)
-settling_by plan s t mid old grew same kept (inr (inl least, tries)) = inr (inl (same_if_no_longer s.records t.records grew.0 grew.1 (by_kept kept)), tries) where
+settling_by plan s t mid old grew same kept (inr (inl least, tries)) = inr (inl (same_if_not_longer s.records t.records grew.0 grew.1 (by_kept kept)), tries) where
   -- the records didn't become more
   by_kept : ((commands_in t.marks ≡ mid) ⊎ (old ≡ 0)) → length t.records ≤ length s.records
   by_kept (inl stay) = omega (arith, stay, least, same)
@@ -120,26 +120,26 @@ gave_settles plan commands s t u fine fine' h grew same row kept =
 
 -- the connections that ended, or couldn't be made, among acts and one more are those among the acts, and the one of the last act,
 -- if it has one
-ends_more : (xs : List Act) (act : Act) → endings_in (xs ++ act ∷ []) ≡ endings_in xs + endings_in (act ∷ [])
-ends_more [] act = omega arith
-ends_more (Closed ∷ xs) act = let e = ends_more xs act in omega (arith, e)
-ends_more (Unopened ∷ xs) act = let e = ends_more xs act in omega (arith, e)
-ends_more (x ∷ xs) act = ends_more xs act
+disconnections_more : (xs : List Act) (act : Act) → disconnections_in (xs ++ act ∷ []) ≡ disconnections_in xs + disconnections_in (act ∷ [])
+disconnections_more [] act = omega arith
+disconnections_more (Closed ∷ xs) act = let e = disconnections_more xs act in omega (arith, e)
+disconnections_more (Unopened ∷ xs) act = let e = disconnections_more xs act in omega (arith, e)
+disconnections_more (x ∷ xs) act = disconnections_more xs act
 
 -- the connections that were asked for among acts and one more are those among the acts, and the one of the last act, if it asks
 -- for one
-opens_more : (xs : List Act) (act : Act) → openings_in (xs ++ act ∷ []) ≡ openings_in xs + openings_in (act ∷ [])
-opens_more [] act = omega arith
-opens_more (Opened ∷ xs) act = let e = opens_more xs act in omega (arith, e)
-opens_more (Unopened ∷ xs) act = let e = opens_more xs act in omega (arith, e)
-opens_more (x ∷ xs) act = opens_more xs act
+openings_more : (xs : List Act) (act : Act) → openings_in (xs ++ act ∷ []) ≡ openings_in xs + openings_in (act ∷ [])
+openings_more [] act = omega arith
+openings_more (Opened ∷ xs) act = let e = openings_more xs act in omega (arith, e)
+openings_more (Unopened ∷ xs) act = let e = openings_more xs act in omega (arith, e)
+openings_more (x ∷ xs) act = openings_more xs act
 
 -- if no read among acts settled a command, and one act more settles none, none among all of them did
-none_more : (plan : Plan) (commands : List Task) (s : Model) (xs : List Act) (act : Act) → NoneSettled plan commands s xs
+none_settled_more : (plan : Plan) (commands : List Task) (s : Model) (xs : List Act) (act : Act) → NoneSettled plan commands s xs
     → SettlesNone (after_all plan commands s xs) act (after plan commands (after_all plan commands s xs) act)
     → NoneSettled plan commands s (xs ++ act ∷ [])
-none_more plan commands s [] act none here = (here, tt)
-none_more plan commands s (x ∷ xs) act none here = (none.0, none_more plan commands (after plan commands s x) xs act none.1 here)
+none_settled_more plan commands s [] act none here = (here, tt)
+none_settled_more plan commands s (x ∷ xs) act none here = (none.0, none_settled_more plan commands (after plan commands s x) xs act none.1 here)
 
 -- after an act that ends a run whether there is a connection or not, the run is over
 quits_over : (plan : Plan) (commands : List Task) (next : Action) (s : Model) (act : Act) → Quits next → is_over (moved plan commands next (with_progress turned s) act).progress ≡ true
@@ -147,30 +147,30 @@ quits_over plan commands (actions.Close cause.Stale) s act quits = refl
 quits_over plan commands (actions.Close cause.Stopped) s act quits = refl
 quits_over plan commands next s act quits = absurd quits
 
--- an act that closes a connection, or fails to make one (`IsEnding`), shows no cause
-ending_shows_none : (why : Cause) (act : Act) → IsEnding act → Shows why act → ⊥
-ending_shows_none why act o shows = no_cause_shown IsEnding (λ x. x) (λ x. x) (λ x. x) (λ text n x. x) why act o shows
+-- an act that closes a connection, or fails to make one (`IsDisconnecting`), shows no cause
+disconnecting_shows_none : (why : Cause) (act : Act) → IsDisconnecting act → Shows why act → ⊥
+disconnecting_shows_none why act o shows = no_cause_shown IsDisconnecting (λ x. x) (λ x. x) (λ x. x) (λ text n x. x) why act o shows
 
 -- a cause for which a run stops only without a try left (`IsTried`) isn't `Done`
-not_done : (p : Progress) (n : ℕ) (why : Cause) → IsTried why → EndsDone p n why → ⊥
-not_done p n why tried done = subst IsTried done.0 tried
+tried_not_done : (p : Progress) (n : ℕ) (why : Cause) → IsTried why → EndsDone p n why → ⊥
+tried_not_done p n why tried done = subst IsTried done.0 tried
 
 -- if a run ends for a cause that is one of `IsTried`, no try is left
 no_try_at_end : (plan : Plan) (p : Progress) (n : ℕ) (other why : Cause) → IsTried why → EndsAfter plan p n other why → p.tries ≡ 0
-no_try_at_end plan p n cause.Done why tried ends = absurd (not_done p n why tried ends)
+no_try_at_end plan p n cause.Done why tried ends = absurd (tried_not_done p n why tried ends)
 no_try_at_end plan p n cause.Clock why tried ends = absurd (subst IsTried ends tried)
 no_try_at_end plan p n cause.Turns why tried ends = absurd (subst IsTried ends tried)
 no_try_at_end plan p n cause.Stale why tried ends = absurd (subst IsTried ends tried)
 no_try_at_end plan p n cause.Stopped why tried ends = absurd (subst IsTried ends tried)
-no_try_at_end plan p n other why tried (inl done) = absurd (not_done p n why tried done)
+no_try_at_end plan p n other why tried (inl done) = absurd (tried_not_done p n why tried done)
 no_try_at_end plan p n other why tried (inr used) = used.3
 
 -- a close that ends a run whether there is a connection or not (`Quits`) isn't one after which the run ends for a cause that is
 -- one of `IsTried`
-quits_not : (plan : Plan) (p : Progress) (n : ℕ) (other why : Cause) → IsTried why → EndsAfter plan p n other why → Quits (actions.Close other) → ⊥
-quits_not plan p n cause.Stale why tried ends quits = absurd (subst IsTried ends tried)
-quits_not plan p n cause.Stopped why tried ends quits = absurd (subst IsTried ends tried)
-quits_not plan p n other why tried ends quits = quits
+tried_not_quits : (plan : Plan) (p : Progress) (n : ℕ) (other why : Cause) → IsTried why → EndsAfter plan p n other why → Quits (actions.Close other) → ⊥
+tried_not_quits plan p n cause.Stale why tried ends quits = absurd (subst IsTried ends tried)
+tried_not_quits plan p n cause.Stopped why tried ends quits = absurd (subst IsTried ends tried)
+tried_not_quits plan p n other why tried ends quits = quits
 
 -- an attempt to connect that failed performs no action that ends a run whether there is a connection or not (`Quits`)
 unopened_quits_not : (commands : List Task) (s : Model) (next : Action) → Performs commands s next Unopened → Quits next → ⊥
@@ -178,17 +178,17 @@ unopened_quits_not commands s (actions.Close cause.Stale) o quits = let other : 
 unopened_quits_not commands s (actions.Close cause.Stopped) o quits = let other : Unopened ≡ Closed = o in cc
 unopened_quits_not commands s next o quits = quits
 
--- an act that closes a connection, or fails to make one (`IsEnding`), settles no command
-settles_none : (s t : Model) (act : Act) → IsEnding act → SettlesNone s act t
+-- an act that closes a connection, or fails to make one (`IsDisconnecting`), settles no command
+settles_none : (s t : Model) (act : Act) → IsDisconnecting act → SettlesNone s act t
 settles_none s t Closed o = tt
 settles_none s t Unopened o = tt
 settles_none s t act o = absurd o
 
--- an act that closes a connection, or fails to make one, counts as one in `endings_in`
-one_end : (act : Act) → IsEnding act → endings_in (act ∷ []) ≡ 1
-one_end Closed o = refl
-one_end Unopened o = refl
-one_end act o = absurd o
+-- an act that closes a connection, or fails to make one, counts as one in `disconnections_in`
+one_disconnection : (act : Act) → IsDisconnecting act → disconnections_in (act ∷ []) ≡ 1
+one_disconnection Closed o = refl
+one_disconnection Unopened o = refl
+one_disconnection act o = absurd o
 
 module _ (plan : Plan) (commands : List Task) (scope : Scope) where
   -- the model after these acts
@@ -206,32 +206,32 @@ module _ (plan : Plan) (commands : List Task) (scope : Scope) where
     order : acts ≡ before ++ behind
     since : (before ≡ []) ⊎ EndsSettled plan commands scope before
     none : NoneSettled plan commands (state before) behind
-    left : plan.retries ≤ tries + endings_in behind
+    left : plan.retries ≤ tries + disconnections_in behind
     most : held ≤ 1
     first : before ≡ [] → held ≡ 0
-    opens : openings_in behind + held ≡ endings_in behind + up_count up
+    opens : openings_in behind + held ≡ disconnections_in behind + up_count up
 
   -- `Trying` is preserved by an act that settles no command, takes at most one try for each connection that ends by it or
   -- couldn't be made, and of which `IsBalanced` holds
-  abbrev trying_on : (tries tries' : ℕ) (up up' : Bool) (acts : List Act) (act : Act) → tries ≤ tries' + endings_in (act ∷ []) → IsBalanced up act up'
+  abbrev trying_on : (tries tries' : ℕ) (up up' : Bool) (acts : List Act) (act : Act) → tries ≤ tries' + disconnections_in (act ∷ []) → IsBalanced up act up'
       → SettlesNone (state acts) act (after plan commands (state acts) act)
       → Trying tries up acts → Trying tries' up' (acts ++ act ∷ [])
   trying_on tries tries' up up' acts act took counted settles t =
-      let ends = ends_more t.behind act in
-      let opens = opens_more t.behind act in
+      let ends = disconnections_more t.behind act in
+      let opens = openings_more t.behind act in
       let there : state acts ≡ after_all plan commands (state t.before) t.behind =
       ap state t.order ∙ after_all-append plan commands (opening plan scope) t.before t.behind in
       let enough = t.left in
       let even = t.opens in
-      let least : plan.retries ≤ tries' + endings_in (t.behind ++ act ∷ []) = omega (arith, ends, took, enough) in
-      let level : openings_in (t.behind ++ act ∷ []) + t.held ≡ endings_in (t.behind ++ act ∷ []) + up_count up' = omega (arith, ends, opens, counted, even) in
+      let least : plan.retries ≤ tries' + disconnections_in (t.behind ++ act ∷ []) = omega (arith, ends, took, enough) in
+      let level : openings_in (t.behind ++ act ∷ []) + t.held ≡ disconnections_in (t.behind ++ act ∷ []) + up_count up' = omega (arith, ends, opens, counted, even) in
       record {
         before = t.before;
         behind = t.behind ++ act ∷ [];
         held = t.held;
         order = ap (λ xs. xs ++ act ∷ []) t.order ∙ append_assoc t.before t.behind (act ∷ []);
         since = t.since;
-        none = none_more plan commands (state t.before) t.behind act t.none (subst (λ (x : Model). SettlesNone x act (after plan commands x act)) there settles);
+        none = none_settled_more plan commands (state t.before) t.behind act t.none (subst (λ (x : Model). SettlesNone x act (after plan commands x act)) there settles);
         left = least;
         most = t.most;
         first = t.first;
@@ -250,7 +250,7 @@ module _ (plan : Plan) (commands : List Task) (scope : Scope) where
     since = inr (record { earlier = acts; piece = bytes; moment = m; order = refl; settled = settled; prepared = done });
     none = tt;
     left = omega (arith, all);
-    most = up_least up;
+    most = at_most_one_up up;
     first = λ e. absurd (some acts e);
     opens = refl;
   } where
@@ -300,7 +300,7 @@ module _ (plan : Plan) (commands : List Task) (scope : Scope) where
       let s = state acts in
       let u = next_state acts act in
       trying_on s.progress.tries u.progress.tries (is_up s.progress.phase) (is_up u.progress.phase) acts act
-      (subst (λ (p : Progress). s.progress.tries ≤ p.tries + endings_in (act ∷ [])) (sym same) took)
+      (subst (λ (p : Progress). s.progress.tries ≤ p.tries + disconnections_in (act ∷ [])) (sym same) took)
       (subst (λ (p : Progress). IsBalanced (is_up s.progress.phase) act (is_up p.phase)) (sym same) counted) tt trying
 
   -- `TryingUnlessOver` is preserved by one act of a run more
@@ -312,7 +312,7 @@ module _ (plan : Plan) (commands : List Task) (scope : Scope) where
       let s = state done in
       let u = after plan commands s act in
       let t = moved plan commands (action_at plan s) (with_progress turned s) act in
-      let same = ended_progress t in
+      let same = with_losses_progress t in
       let goes = false_from_ne_true (is_over s.progress) (λ over. no_act_once_over plan commands s act over o) in
       let fine = invariant_holds plan commands scope done in
       let not_over_mid : is_over t.progress ≡ false = sym (ap is_over same) ∙ not_over in
@@ -347,17 +347,17 @@ module _ (plan : Plan) (commands : List Task) (scope : Scope) where
 
   -- if no try is left (`Trying`), and the last act closes a connection or fails to make one, so that there is none, all tries are
   -- used up as the law says (`AllTried`)
-  all_tried : (acts : List Act) (last : Act) → IsEnding last → IsBalanced (is_up (state acts).progress.phase) last false
+  all_tried : (acts : List Act) (last : Act) → IsDisconnecting last → IsBalanced (is_up (state acts).progress.phase) last false
       → Trying 0 (is_up (state acts).progress.phase) acts → AllTried plan commands scope (acts ++ last ∷ [])
   all_tried acts last ending counted t =
       let s = state acts in
-      let one = one_end last ending in
-      let more : 0 ≤ 0 + endings_in (last ∷ []) = omega arith in
+      let one = one_disconnection last ending in
+      let more : 0 ≤ 0 + disconnections_in (last ∷ []) = omega arith in
       let u = trying_on 0 0 (is_up s.progress.phase) false acts last more counted (settles_none s (after plan commands s last) last ending) t in
-      let ends = ends_more t.behind last in
-      let left : plan.retries ≤ 0 + endings_in t.behind = t.left in
-      let over : plan.retries < endings_in (t.behind ++ last ∷ []) = omega (arith, ends, one, left) in
-      let even : openings_in (t.behind ++ last ∷ []) + t.held ≡ endings_in (t.behind ++ last ∷ []) + 0 = u.opens in
+      let ends = disconnections_more t.behind last in
+      let left : plan.retries ≤ 0 + disconnections_in t.behind = t.left in
+      let over : plan.retries < disconnections_in (t.behind ++ last ∷ []) = omega (arith, ends, one, left) in
+      let even : openings_in (t.behind ++ last ∷ []) + t.held ≡ disconnections_in (t.behind ++ last ∷ []) + 0 = u.opens in
       let most : t.held ≤ 1 = t.most in
       let enough : plan.retries ≤ openings_in (t.behind ++ last ∷ []) = omega (arith, over, even, most) in
       record {
@@ -374,7 +374,7 @@ module _ (plan : Plan) (commands : List Task) (scope : Scope) where
   -- if a run stops for a cause that is one of `IsTried`, at an act that closes a connection or fails to make one, all tries are
   -- used up (`AllTried`)
   pub stop_tried : (acts : List Act) (last : Act) (why : Cause) → Runs plan commands (opening plan scope) (acts ++ last ∷ [])
-      → action_at plan (state (acts ++ last ∷ [])) ≡ actions.Stop why → IsTried why → IsEnding last → AllTried plan commands scope (acts ++ last ∷ [])
+      → action_at plan (state (acts ++ last ∷ [])) ≡ actions.Stop why → IsTried why → IsDisconnecting last → AllTried plan commands scope (acts ++ last ∷ [])
   stop_tried acts last why runs stop tried ending = by_decided decided where
     -- the model before the last act
     s : Model
@@ -408,7 +408,7 @@ module _ (plan : Plan) (commands : List Task) (scope : Scope) where
 
     -- after the last act there is no connection
     down : is_up t.progress.phase ≡ false
-    down = sym (ap (λ (p : Progress). is_up p.phase) (ended_progress t)) ∙ ap is_up there
+    down = sym (ap (λ (p : Progress). is_up p.phase) (with_losses_progress t)) ∙ ap is_up there
 
     -- before the last act the run wasn't over
     goes : is_over s.progress ≡ false
@@ -426,9 +426,9 @@ module _ (plan : Plan) (commands : List Task) (scope : Scope) where
 
     -- the last act ended a connection or could make none, so no try was left
     by_decided : Decided plan s (after plan commands s last).progress.phase why last → AllTried plan commands scope (acts ++ last ∷ [])
-    by_decided (inl failed) = absurd (ending_shows_none why last ending failed.1)
+    by_decided (inl failed) = absurd (disconnecting_shows_none why last ending failed.1)
     by_decided (inr (down, inl (other, closes, next, ends))) =
-        used (λ quits. quits_not plan s.progress (commands_in s.marks) other why tried ends (subst Quits next quits)) (no_try_at_end plan s.progress (commands_in s.marks) other why tried ends)
+        used (λ quits. tried_not_quits plan s.progress (commands_in s.marks) other why tried ends (subst Quits next quits)) (no_try_at_end plan s.progress (commands_in s.marks) other why tried ends)
     by_decided (inr (down, inr (unopened, ends))) =
         used (λ quits. unopened_quits_not commands s (action_at plan s) (subst (λ (a : Act). Performs commands s (action_at plan s) a) unopened split.1) quits)
         (no_try_at_end plan s.progress (commands_in s.marks) cause.Open why tried ends)

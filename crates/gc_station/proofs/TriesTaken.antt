@@ -18,8 +18,8 @@ use Rattle.gc_station.specs.Deciding.{has_begun}
 use Rattle.gc_station.specs.Marks.{commands_in}
 use Rattle.gc_station.specs.Progressing.{is_spared, turned, moment_noted, time_passed, quieted, closed}
 use Rattle.gc_station.specs.Model.{Model, waiting_of, with_progress, with_moment, lines_completed, after_piece, is_heard, piece_at, Performs, moved, after}
-use Rattle.gc_station.specs.Tries.{endings_in}
-use Rattle.gc_station.proofs.Words.{begins_before}
+use Rattle.gc_station.specs.Tries.{disconnections_in}
+use Rattle.gc_station.proofs.Words.{was_synchronizing}
 use Rattle.gc_station.proofs.Walk.{asked_along, came_along, closed_along, moved_changed, quieted_along, walk}
 
 -- from the progress p to q, a read settled a command (`settled`), `preparing` is false, and all tries are left; or it settled
@@ -38,9 +38,9 @@ pub record TriesAfterPiece (plan : Plan) (s t : Model) : Type 0 where
 
 -- what an act does to the tries, from s to t: a read that gave bytes does what `TriesAfterPiece` says; any other act takes at
 -- most one try for each connection that ends by it or couldn't be made
-abbrev pub TakesTries : Plan → Model → Act → Model → Type 0
+abbrev pub TakesTries : Plan → (s : Model) → Act → (t : Model) → Type 0
 TakesTries plan s (Gave bytes m) t = TriesAfterPiece plan s t
-TakesTries plan s act t = s.progress.tries ≤ t.progress.tries + endings_in (act ∷ [])
+TakesTries plan s act t = s.progress.tries ≤ t.progress.tries + disconnections_in (act ∷ [])
 
 -- after a read either fewer commands are outstanding (b), `preparing` is false (`on`), and all tries are left; or as many or
 -- more are outstanding, or `preparing` is true, and the tries stay
@@ -60,25 +60,25 @@ gave_took plan until s bytes m =
     record {
       left = ap (λ (x : Model). x.progress.left) is;
       unsent = ap (λ (x : Model). x.progress.unsent) is;
-      begins = λ e. begins_before heard s.progress.word bytes mid refl e;
+      begins = λ e. was_synchronizing heard s.progress.word bytes mid refl e;
       tries = given_back (nat_lt (commands_in t.marks) (commands_in s.marks)) t.progress.preparing (commands_in t.marks) (commands_in s.marks) plan.retries t.progress.tries s.progress.tries refl
           (came_along (λ (x : Model). x.progress.tries ≡ s.progress.tries) (λ x line e. e) heard s.progress.word bytes mid refl
           (asked_along (λ (q : Progress). q.tries ≡ s.progress.tries) (λ q line e. e) mid.progress (lines_completed s.rest bytes) refl) refl);
     }
 
 -- the end of a pause or a drain, if one ends at a read that gave nothing, doesn't change the tries
-silent_took : (plan : Plan) (at : Phase) (p : Progress) → (quieted plan at p).tries ≡ p.tries
-silent_took plan at p = quieted_along (λ (q : Progress). q.tries ≡ p.tries) plan at p refl refl refl
+quieted_tries : (plan : Plan) (at : Phase) (p : Progress) → (quieted plan at p).tries ≡ p.tries
+quieted_tries plan at p = quieted_along (λ (q : Progress). q.tries ≡ p.tries) plan at p refl refl refl
 
 -- at most one try is taken, whether it is spared (b) or not
-one_less : (b : Bool) (n : ℕ) → n ≤ (if b then n else n - 1) + 1
-one_less true n = omega arith
-one_less false n = omega arith
+one_try_less : (b : Bool) (n : ℕ) → n ≤ (if b then n else n - 1) + 1
+one_try_less true n = omega arith
+one_try_less false n = omega arith
 
 -- a close takes at most one try
 close_took : (plan : Plan) (w : Waiting) (why : Cause) (p : Progress) → p.tries ≤ (closed plan w why p).tries + 1
 close_took plan w why p =
-    closed_along (λ (q : Progress). p.tries ≤ q.tries + 1) plan w why p (omega arith) (one_less (is_spared plan why p) p.tries)
+    closed_along (λ (q : Progress). p.tries ≤ q.tries + 1) plan w why p (omega arith) (one_try_less (is_spared plan why p) p.tries)
 
 -- an act of each action does to the tries what `TakesTries` says
 pub took_moved : (plan : Plan) (commands : List Task) (next : Action) (s : Model) (act : Act) → Performs commands s next act
@@ -87,7 +87,7 @@ took_moved plan commands (actions.Read until) s act o =
     walk plan commands (TakesTries plan (with_progress turned s)) (actions.Read until) (with_progress turned s) act o (
       λ bytes m. gave_took plan until (with_progress turned s) bytes m,
       λ m. let same =
-          silent_took plan s.progress.phase (time_passed until m (turned s.progress)) in omega (arith, same),
+          quieted_tries plan s.progress.phase (time_passed until m (turned s.progress)) in omega (arith, same),
       omega arith,
       omega arith,
       omega arith,

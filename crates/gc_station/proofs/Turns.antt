@@ -15,7 +15,7 @@ use Rattle.gc_links.specs.Acts.{Act}
 use Rattle.gc_station.specs.Deciding.{is_up, action_in, action_on, action_of, action_without_turns}
 use Rattle.gc_station.specs.Progressing.{turned, is_finished, is_spared, after_failure, closed, is_over_in, is_over}
 use Rattle.gc_station.specs.Model.{Model, waiting_of, action_at, Performs, moved, stepped, with_progress}
-use Rattle.gc_station.proofs.Counts.{turns_kept, ended_progress}
+use Rattle.gc_station.proofs.Counts.{turns_kept, with_losses_progress}
 use Rattle.gc_station.proofs.Walk.{closed_along}
 
 -- 1 if there is a connection, and 0 if there is none
@@ -28,9 +28,13 @@ abbrev pub left_to_do : Progress → ℕ
 left_to_do p = 2 * p.turns + up_count (is_up p.phase)
 
 -- there is at most one connection
-pub up_least : (b : Bool) → up_count b ≤ 1
-up_least true = omega arith
-up_least false = omega arith
+pub at_most_one_up : (b : Bool) → up_count b ≤ 1
+at_most_one_up true = omega arith
+at_most_one_up false = omega arith
+
+-- the phase after a failure for the cause `why`: closing if there is a connection (`up`), and over if there is none
+abbrev pub phase_failed : (up : Bool) → Cause → Phase
+phase_failed up why = if up then phase.Closing why else phase.Over why
 
 -- the phase after a connection that ended or couldn't be made for the cause `why`, by whether all is done, and whether the
 -- station connects again
@@ -44,26 +48,26 @@ phase_down false true why = refl
 phase_down false false why = refl
 
 -- in the progress after a connection that ended or couldn't be made, there is none
-pub again_down : (plan : Plan) (count : ℕ) (why : Cause) (p : Progress) → is_up (after_failure plan count why p).phase ≡ false
-again_down plan count why p = phase_down (is_finished count p) (is_spared plan why p || nat_lt 0 p.tries) why
+pub after_failure_down : (plan : Plan) (count : ℕ) (why : Cause) (p : Progress) → is_up (after_failure plan count why p).phase ≡ false
+after_failure_down plan count why p = phase_down (is_finished count p) (is_spared plan why p || nat_lt 0 p.tries) why
 
 -- after a close there is no connection
 pub closed_down : (plan : Plan) (w : Waiting) (why : Cause) (p : Progress) → is_up (closed plan w why p).phase ≡ false
-closed_down plan w why p = closed_along (λ (q : Progress). is_up q.phase ≡ false) plan w why p refl (again_down plan w.commands why p)
+closed_down plan w why p = closed_along (λ (q : Progress). is_up q.phase ≡ false) plan w why p refl (after_failure_down plan w.commands why p)
 
 -- once all turns are used up, an act is made only if there is a connection (`up`), and leaves none
-up_closes : (plan : Plan) (commands : List Task) (s t : Model) (up : Bool) (act : Act) → Performs commands t (action_without_turns up) act
+without_turns_closes : (plan : Plan) (commands : List Task) (s t : Model) (up : Bool) (act : Act) → Performs commands t (action_without_turns up) act
     → (up ≡ true) × (is_up (moved plan commands (action_without_turns up) s act).progress.phase ≡ false)
-up_closes plan commands s t true act obeys = (refl, refl)
-up_closes plan commands s t false act obeys = absurd obeys
+without_turns_closes plan commands s t true act obeys = (refl, refl)
+without_turns_closes plan commands s t false act obeys = absurd obeys
 
 -- if the test z says that all turns are used up, and the end isn't decided yet, an act is made only if there is a connection, and
 -- leaves none
-on_closes : (plan : Plan) (commands : List Task) (s t : Model) (p : Progress) (z : Bool) (act : Act) (other : Action) → z ≡ true
+out_of_turns_closes : (plan : Plan) (commands : List Task) (s t : Model) (p : Progress) (z : Bool) (act : Act) (other : Action) → z ≡ true
     → Performs commands t (if z then action_without_turns (is_up p.phase) else other) act
     → (is_up p.phase ≡ true) × (is_up (moved plan commands (if z then action_without_turns (is_up p.phase) else other) s act).progress.phase ≡ false)
-on_closes plan commands s t p true act other e obeys = up_closes plan commands s t (is_up p.phase) act obeys
-on_closes plan commands s t p false act other e obeys = cc
+out_of_turns_closes plan commands s t p true act other e obeys = without_turns_closes plan commands s t (is_up p.phase) act obeys
+out_of_turns_closes plan commands s t p false act other e obeys = cc
 
 -- once all turns are used up, the next act, if one is made, closes a connection: there is one in the phase of p, and none after
 -- the act
@@ -71,7 +75,7 @@ last_act_closes : (plan : Plan) (commands : List Task) (s t : Model) (p : Progre
     → Performs commands t (action_in phase plan p w) act → (is_up phase ≡ true) × (is_up (moved plan commands (action_in phase plan p w) s act).progress.phase ≡ false)
 last_act_closes plan commands s t p (phase.Closing cause) w act none is obeys = (refl, closed_down plan (waiting_of s) cause s.progress)
 last_act_closes plan commands s t p (phase.Over cause) w act none is obeys = absurd obeys
-last_act_closes plan commands s t p phase w act none is obeys = let c = on_closes plan commands s t p (nat_eq p.turns 0) act _ none obeys in (ap is_up (sym is) ∙ c.0, c.1)
+last_act_closes plan commands s t p phase w act none is obeys = let c = out_of_turns_closes plan commands s t p (nat_eq p.turns 0) act _ none obeys in (ap is_up (sym is) ∙ c.0, c.1)
 
 -- less is left to be done with one turn fewer (t', of t) or, if no turn was left, without the connection that there was (u
 -- before, u' after)
@@ -81,7 +85,7 @@ less_left zero t' u u' e closes =
     let a : up_count u ≡ 1 = ap up_count c.0 in
     let b : up_count u' ≡ 0 = ap up_count c.1 in
     omega (arith, a, b, e)
-less_left (suc t) t' u u' e closes = omega (arith, e, up_least u', up_least u)
+less_left (suc t) t' u u' e closes = omega (arith, e, at_most_one_up u', at_most_one_up u)
 
 -- each act leaves less to be done, whatever waits
 pub less_stepped : (plan : Plan) (commands : List Task) (s : Model) (w : Waiting) (act : Act) → Performs commands s (action_of plan s.progress w) act
@@ -89,7 +93,7 @@ pub less_stepped : (plan : Plan) (commands : List Task) (s : Model) (w : Waiting
 less_stepped plan commands s w act obeys =
     let action = action_of plan s.progress w in
     let mid = moved plan commands action (with_progress turned s) act in
-    let same = ended_progress mid in
+    let same = with_losses_progress mid in
     let fewer : left_to_do mid.progress < left_to_do s.progress =
     less_left s.progress.turns mid.progress.turns (is_up s.progress.phase) (is_up mid.progress.phase)
     (turns_kept plan commands action (with_progress turned s) act)

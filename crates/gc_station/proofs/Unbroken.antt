@@ -24,7 +24,7 @@ use Rattle.gc_station.proofs.Always.{always_of_progress}
 use Rattle.gc_station.proofs.Closings.{came_phase, cleared_up}
 use Rattle.gc_station.proofs.Facts.{action_for}
 use Rattle.gc_station.proofs.Silences.{quieted_up}
-use Rattle.gc_station.proofs.Walk.{asked_along, came_along, quieted_along, closed_along, is_sent, moved_changed, walk, piece_before}
+use Rattle.gc_station.proofs.Walk.{asked_along, came_along, quieted_along, closed_along, sent_same, moved_changed, walk, piece_before}
 use Rattle.gc_station.proofs.Words.{begun_kept}
 
 -- if a chain isn't broken there is a connection, the station has synchronized, and `preparing` is false
@@ -111,8 +111,8 @@ module _ (plan : Plan) (commands : List Task) where
 
   -- after a command of a cycle is sent, `preparing` is false
   pub not_preparing_after_send : (s : Model) (act : Act) → (moved plan commands actions.Send s act).progress.preparing ≡ false
-  not_preparing_after_send s (Cut bytes n) = subst (λ (x : Model). x.progress.preparing ≡ false) (is_sent plan commands s) refl
-  not_preparing_after_send s act = subst (λ (x : Model). x.progress.preparing ≡ false) (is_sent plan commands s) refl
+  not_preparing_after_send s (Cut bytes n) = subst (λ (x : Model). x.progress.preparing ≡ false) (sent_same plan commands s) refl
+  not_preparing_after_send s act = subst (λ (x : Model). x.progress.preparing ≡ false) (sent_same plan commands s) refl
 
   -- if a chain isn't broken after an act, and `preparing` was false before the act, it is after it
   not_preparing_kept : (s : Model) (o : Action) (act : Act) → (moved plan commands o (with_progress turned s) act).progress.chain_unbroken ≡ true → s.progress.preparing ≡ false
@@ -158,8 +158,8 @@ unbroken_holds plan commands scope acts runs =
 
 -- where `IsOnLineIfUnbroken` holds and the run may end (`IsResting`), a command that is left, and that is chained, may not be
 -- sent (`may_go`)
-pub resting_none : (p : Progress) (w : Waiting) → IsOnLineIfUnbroken p → IsResting p w → 0 < p.unsent → p.next_is_chained ≡ true → may_go p w ≡ false
-resting_none p w on rests some chained = false_from_ne_true (may_go p w) (λ may. by_rest (and_parts w.well p.chain_unbroken may).1 rests) where
+pub resting_sends_no_chained : (p : Progress) (w : Waiting) → IsOnLineIfUnbroken p → IsResting p w → 0 < p.unsent → p.next_is_chained ≡ true → may_go p w ≡ false
+resting_sends_no_chained p w on rests some chained = false_from_ne_true (may_go p w) (λ may. by_rest (and_parts w.well p.chain_unbroken may).1 rests) where
   -- the lemma above, by why the run may end there
   by_rest : p.chain_unbroken ≡ true → IsResting p w → ⊥
   by_rest c (inl down) = both_ways (is_up p.phase) down (on c).0

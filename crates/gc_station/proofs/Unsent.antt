@@ -4,7 +4,6 @@
 use Rattle.std.proofs.Common.{◌≡◌, inl, inr, ℕ, ◌<◌, Bool, true, false, List, [], ◌∷◌, ◌++◌, drop, Option, None, refl, sym, ap, ◌∙◌, subst, arith, append_assoc}
 use Rattle.std.specs.List.{AllByRecursion}
 use Rattle.std.proofs.lemmas.Bool.{leb-true, cond-true, cond-false, both_ways}
-use Rattle.gc_catalogue.specs.declared.answer.Reading.{Reading}
 use Rattle.gc_catalogue.specs.declared.asked.Asked.{Asked}
 use Rattle.gc_client.specs.Rule
 use Rattle.gc_client.specs.Rule.{heard, hears, restarts}
@@ -19,7 +18,7 @@ use Rattle.gc_station.specs.Parts.{went_out}
 use Rattle.gc_station.specs.Progressing.{turned, moment_noted, cycle_begun, unsent_at, loses_all}
 use Rattle.gc_station.specs.Records.{Record}
 use Rattle.gc_station.specs.Runs.{state_after}
-use Rattle.gc_station.specs.Scopes.{Scope}
+use Rattle.gc_station.specs.Scopes.{Scope, Reads}
 use Rattle.gc_station.specs.Model.{Model, opening, action_at, is_heard, with_progress, with_moment, end_unsent, first_unsent_record, after_piece, moved, losing, Performs, Runs}
 use Rattle.gc_station.specs.NextCommand.{cycles_begun, place_next, mark_next}
 use Rattle.gc_station.specs.declared.mark.Mark.{Mark}
@@ -94,7 +93,7 @@ module _ (plan : Plan) (commands : List Task) (scope : Scope) (some : 0 < plan.e
   sent_justified acts r out = (λ e. absurd (both_ways (went_out r.end) (ap went_out e) out), λ e. absurd (both_ways (went_out r.end) (ap went_out e) out))
 
   -- the records of settlements are justified, as they say nothing of being missed or skipped
-  settled_justified : (acts : List Act) (reads : Asked → List ℕ → Reading) (utc : ℕ) (marks : List (Option Mark)) (settlements : List (Rule.Settlement Asked))
+  settled_justified : (acts : List Act) (reads : Reads) (utc : ℕ) (marks : List (Option Mark)) (settlements : List (Rule.Settlement Asked))
       → AllByRecursion (Justified acts) (records_of reads utc marks settlements)
   settled_justified acts reads utc marks settlements =
       all_records reads utc (Justified acts) marks settlements

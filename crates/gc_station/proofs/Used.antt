@@ -14,17 +14,18 @@ use Rattle.gc_station.specs.Quiet.{HasLast}
 use Rattle.gc_station.specs.Runs.{state_after}
 use Rattle.gc_station.specs.Model.{Model, opening, action_at, with_progress, moved, after, after_all, Runs}
 use Rattle.gc_station.proofs.Closings.{runs_split, stopped_for}
-use Rattle.gc_station.proofs.Counts.{turns_kept, ended_progress}
-use Rattle.gc_station.proofs.Silences.{not_closing, end_here, ended_by_close}
+use Rattle.gc_station.proofs.Counts.{turns_kept, with_losses_progress}
+use Rattle.gc_station.proofs.Silences.{not_closing, closes_at_its_end, ended_by_close}
 use Rattle.gc_station.specs.Scopes.{Scope}
 
 -- acts take as many turns as they are, or all that are left if these are fewer
-turns_behind : (plan : Plan) (commands : List Task) (s : Model) (acts : List Act) → (after_all plan commands s acts).progress.turns ≡ s.progress.turns - length acts
-turns_behind plan commands s [] = omega arith
-turns_behind plan commands s (act ∷ acts) =
-    let on = turns_behind plan commands (after plan commands s act) acts in
+turns_after : (plan : Plan) (commands : List Task) (s : Model) (acts : List Act) → (after_all plan commands s acts).progress.turns ≡ s.progress.turns - length acts
+turns_after plan commands s [] = omega arith
+turns_after plan commands s (act ∷ acts) =
+    let on = turns_after plan commands (after plan commands s act) acts in
     let one : (after plan commands s act).progress.turns ≡ s.progress.turns - 1 =
-    ap (λ (p : Progress). p.turns) (ended_progress (moved plan commands (action_at plan s) (with_progress turned s) act)) ∙ turns_kept plan commands (action_at plan s) (with_progress turned s) act in
+    ap (λ (p : Progress). p.turns) (with_losses_progress (moved plan commands (action_at plan s) (with_progress turned s) act))
+    ∙ turns_kept plan commands (action_at plan s) (with_progress turned s) act in
     omega (arith, on, one)
 
 module _ (plan : Plan) (commands : List Task) (scope : Scope) where
@@ -35,13 +36,13 @@ module _ (plan : Plan) (commands : List Task) (scope : Scope) where
   -- if no turn is left, at least as many acts were made as the run had turns
   used_up : (acts : List Act) → (state acts).progress.turns ≡ 0 → scope.turns ≤ length acts
   used_up acts none = let left : (state acts).progress.turns ≡ scope.turns - length acts =
-      turns_behind plan commands (opening plan scope) acts in omega (arith, none, left)
+      turns_after plan commands (opening plan scope) acts in omega (arith, none, left)
 
   -- a connection is closed for its turns only after as many acts as the run had turns
   close_used : (acts : List Act) → Runs plan commands (opening plan scope) acts
       → action_at plan (state acts) ≡ actions.Close cause.Turns → scope.turns ≤ length acts
   close_used acts runs is =
-      used_up acts (end_here plan (state acts) cause.Turns is (not_closing plan commands scope acts cause.Turns runs (λ act shows. shows)))
+      used_up acts (closes_at_its_end plan (state acts) cause.Turns is (not_closing plan commands scope acts cause.Turns runs (λ act shows. shows)))
 
   -- a run stops for its turns only after as many acts as it had turns
   stop_used : (acts : List Act) → Runs plan commands (opening plan scope) acts

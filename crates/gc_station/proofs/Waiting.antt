@@ -60,8 +60,8 @@ as_read_at_moment now false d xs all = by_test (nat_le d now) refl where
   by_test false e = let low : now < d = grind (arith, nat_tests, e) in (all, low)
 
 -- a moment, at which requests may time out, preserves `IsWithinLimits`
-pub expired_window : (c : ById Asked) (now : ℕ) → IsWithinLimits c → IsWithinLimits (expires c now)
-expired_window c now w = record { digit = w.digit; few = let n : length (map (expired now) c.waiting) ≡ length c.waiting = length-map c.waiting (expired now) in omega (arith, n, w.few) }
+pub expired_within_limits : (c : ById Asked) (now : ℕ) → IsWithinLimits c → IsWithinLimits (expires c now)
+expired_within_limits c now w = record { digit = w.digit; few = let n : length (map (expired now) c.waiting) ≡ length c.waiting = length-map c.waiting (expired now) in omega (arith, n, w.few) }
 
 -- once the act that reads the moment m is among the acts, `TimedOutAsReadBy` of that moment becomes `TimedOutAsRead`
 pub as_read_after_moment : (act : Act) (m : Moment) → moment_in act ≡ Some m → (timed_out : Bool) (d : ℕ) (xs : List Act)
@@ -149,10 +149,10 @@ module _ (plan : Plan) (commands : List Task) (scope : Scope) where
 
   -- where `WasAsked` holds at the place `at` with an id, it holds at the place at' with an equal id, if `at` is above 0, or at'
   -- is 0 (the place of the oldest)
-  pub asked_as : (acts : List Act) (S : Bool → ℕ → List Act → Type 0) (number at at' id id' : ℕ)
+  pub asked_with_equal_id : (acts : List Act) (S : Bool → ℕ → List Act → Type 0) (number at at' id id' : ℕ)
       (p : Pending Asked) (mark : Option Mark) → (0 < at' → 0 < at) → id' ≡ id
       → WasAsked acts S number at id p mark → WasAsked acts S number at' id' p mark
-  asked_as acts S number at at' id id' p mark places ids s = record {
+  asked_with_equal_id acts S number at at' id id' p mark places ids s = record {
     before = s.before;
     request = s.request;
     between = s.between;
@@ -167,9 +167,9 @@ module _ (plan : Plan) (commands : List Task) (scope : Scope) where
   }
 
   -- the number of a request that was put is below the count of the acts
-  pub asked_among : (acts : List Act) (S : Bool → ℕ → List Act → Type 0) (number at id : ℕ) (p : Pending Asked) (mark : Option Mark)
+  pub asked_number_below : (acts : List Act) (S : Bool → ℕ → List Act → Type 0) (number at id : ℕ) (p : Pending Asked) (mark : Option Mark)
       → WasAsked acts S number at id p mark → number < length acts
-  asked_among acts S number at id p mark s =
+  asked_number_below acts S number at id p mark s =
       let whole : length acts ≡ length s.before + length (s.request ∷ s.between) = ap length s.order ∙ length-append s.before (s.request ∷ s.between) in
       let many = s.many in
       omega (arith, whole, many)

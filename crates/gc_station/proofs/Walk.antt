@@ -32,7 +32,7 @@ use Rattle.gc_station.specs.NextCommand.{place_next, commands_left, mark_next, c
 
 -- the model s before the lines of a piece that came by the moment m: a turn was taken, the moment was read, and requests timed
 -- out
-abbrev pub piece_before : Moment → Model → Model
+abbrev pub piece_before : (m : Moment) → (s : Model) → Model
 piece_before m s = with_moment m (with_progress (moment_noted m) (with_progress turned s))
 
 -- a fact of models that each line keeps is kept by all lines
@@ -110,16 +110,16 @@ model_sent plan commands s = record s {
 }
 
 -- the model that sent the first of these commands, by its fields, is that after the send
-first_sent : (next : Upcoming) (mark : Mark) (left : List Task) (s : Model)
+first_sent_same : (next : Upcoming) (mark : Mark) (left : List Task) (s : Model)
     → record s { progress = sent next s.progress; client = (asks_first mark left s).client; marks = (asks_first mark left s).marks }
     ≡ with_progress (sent next) (asks_first mark left s)
-first_sent next mark [] s = refl
-first_sent next mark (task ∷ others) s = refl
+first_sent_same next mark [] s = refl
+first_sent_same next mark (task ∷ others) s = refl
 
 -- the model that sent the next command, by its fields (`model_sent`), is that after the act that sends
-pub is_sent : (plan : Plan) (commands : List Task) (s : Model)
+pub sent_same : (plan : Plan) (commands : List Task) (s : Model)
     → model_sent plan commands s ≡ with_progress (sent (upcoming_after 1 commands s.progress)) (asks_next plan commands s)
-is_sent plan commands s = first_sent (upcoming_after 1 commands s.progress) (mark_next plan commands s.progress)
+sent_same plan commands s = first_sent_same (upcoming_after 1 commands s.progress) (mark_next plan commands s.progress)
     (drop (place_next commands s.progress) commands) s
 
 -- Which fields change.
@@ -295,8 +295,8 @@ moved_changed plan commands Prepare s (Cut bytes n) = refl
 moved_changed plan commands Prepare s act = refl
 moved_changed plan commands Send s (Cut bytes n) =
     let cut = with_progress (failing (cause.Write (commands_before plan commands s.progress) n)) in
-    subst (λ (u : Model). cut u ≡ changed Send s (cut u)) (is_sent plan commands s) refl
-moved_changed plan commands Send s act = subst (λ (u : Model). u ≡ changed Send s u) (is_sent plan commands s) refl
+    subst (λ (u : Model). cut u ≡ changed Send s (cut u)) (sent_same plan commands s) refl
+moved_changed plan commands Send s act = subst (λ (u : Model). u ≡ changed Send s u) (sent_same plan commands s) refl
 moved_changed plan commands Skip s (Told m) = refl
 moved_changed plan commands Skip s act = refl
 moved_changed plan commands Pass s (Told m) = refl
@@ -313,17 +313,17 @@ moved_changed plan commands (Stop why) s act = refl
 -- moment and the latter a number, also if no clock is read and no bytes are cut, so that one row serves many actions.
 
 -- what has to hold for P to hold after an act that puts these bytes, where t is the model after a whole write: P after that, and
--- P after a write that is cut. The number is the one that the cause of a cut write has (`requests`)
-abbrev pub HoldsAfterPut : (Act → Model → Type 0) → ℕ → List ℕ → Model → Type 0
+-- P after a write that is cut, for a cause with the number `requests`
+abbrev pub HoldsAfterPut : (P : Act → Model → Type 0) → (requests : ℕ) → List ℕ → (t : Model) → Type 0
 HoldsAfterPut P requests bytes t = ((m : Moment) → P (Put bytes) t) × ((n : ℕ) → P (Cut bytes n) (with_progress (failing (cause.Write requests n)) t))
 
 -- what has to hold for P to hold after an act that reads the clock: P at each moment, where `t` gives the model but for the time
 -- outs, and P where the clock couldn't be read by a station with the model u
-abbrev pub HoldsAfterClock : (Act → Model → Type 0) → (t : Moment → Model) → (u : Model) → Type 0
+abbrev pub HoldsAfterClock : (P : Act → Model → Type 0) → (t : Moment → Model) → (u : Model) → Type 0
 HoldsAfterClock P t u = ((m : Moment) → P (Told m) (with_moment m (t m))) × ((n : ℕ) → P Untold (with_progress (failing cause.Clock) u))
 
 -- what has to hold for P to hold after an act of this action: P in each case that there may be
-abbrev pub HoldsInEachCase : Plan → List Task → (Act → Model → Type 0) → Action → Model → Type 0
+abbrev pub HoldsInEachCase : Plan → List Task → (P : Act → Model → Type 0) → Action → Model → Type 0
 HoldsInEachCase plan commands P ReadClock s = HoldsAfterClock P (λ m. with_progress (λ p. early_noted plan (commands_in s.marks) (moment_noted m p)) s) s
 HoldsInEachCase plan commands P Renew s = HoldsAfterClock P (λ m. with_progress (λ p. early_noted plan 0 (resynchronized plan m p)) s) s
 HoldsInEachCase plan commands P Begin s = HoldsAfterClock P (λ m. with_progress (cycle_begun plan (cycle_length plan commands) m) s) s
@@ -340,7 +340,8 @@ HoldsInEachCase plan commands P Skip s =
     (with_listed (listed_after_skip plan commands s (Told m)) (with_more_records (unsent_record plan commands s.progress (Told m)) s)))
     (with_more_records [] s)
 HoldsInEachCase plan commands P Pass s = ((m : Moment) → P (Told m) (after_pass plan commands s (Told m))) × ((n : ℕ) → P Untold (with_progress (failing cause.Clock) s))
-HoldsInEachCase plan commands P Flush s = HoldsAfterPut P (commands_before plan commands s.progress) (next_request_text s.client (Table NullProc)) (with_progress request_noted (asks_for (null_request plan) s))
+HoldsInEachCase plan commands P Flush s = HoldsAfterPut P (commands_before plan commands s.progress)
+    (next_request_text s.client (Table NullProc)) (with_progress request_noted (asks_for (null_request plan) s))
 HoldsInEachCase plan commands P (Read until) s =
     ((bytes : List ℕ) (m : Moment) → P (Gave bytes m) (piece_at plan until bytes m s)) × ((m : Moment) → P (Silent m) (after_read plan until s (Silent m)))
     × P Ended (with_progress (failing cause.End) s) × P Broke (with_progress (failing cause.Read) s) × P Untold (with_progress (failing cause.Clock) s)
@@ -379,7 +380,7 @@ walk plan commands P Send s act o h =
     let requests = commands_before plan commands s.progress in
     let text = first_text s.progress.moment.utc s.client (drop (place_next commands s.progress) commands) in
     put_walk P requests text (λ (x : Model). with_progress (sent (upcoming_after 1 commands s.progress)) (asks_next plan commands x)) s act o
-    (subst (λ (u : Model). HoldsAfterPut P requests text u) (is_sent plan commands s) h)
+    (subst (λ (u : Model). HoldsAfterPut P requests text u) (sent_same plan commands s) h)
 walk plan commands P Skip s (Told m) o h = h.0 m
 walk plan commands P Skip s Untold o h = h.1 0
 walk plan commands P Skip s act o h = absurd o

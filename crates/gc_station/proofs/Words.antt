@@ -41,10 +41,10 @@ word_came true (asked ∷ others) piece s e = word_asked s.progress (lines_compl
 word_came false word piece s e = e
 
 -- if a station synchronizes after a piece, it was synchronizing before it
-pub begins_before : (heard : Bool) (word piece : List ℕ) (s : Model) → s.progress.word ≡ word → has_begun (after_piece heard word piece s).progress ≡ false → is_none_left word ≡ false
-begins_before h [] piece s e f =
+pub was_synchronizing : (heard : Bool) (word piece : List ℕ) (s : Model) → s.progress.word ≡ word → has_begun (after_piece heard word piece s).progress ≡ false → is_none_left word ≡ false
+was_synchronizing h [] piece s e f =
     let lines = if h then lines_completed s.rest piece else [] in absurd (both_ways (has_begun (after_piece h [] piece s).progress) f (ap is_none_left (word_came h [] piece s e ∙ left_none lines)))
-begins_before h (asked ∷ others) piece s e f = refl
+was_synchronizing h (asked ∷ others) piece s e f = refl
 
 module _ (plan : Plan) (commands : List Task) where
   -- from the model s to t an act leaves of the ids what its lines leave
@@ -70,9 +70,9 @@ module _ (plan : Plan) (commands : List Task) where
   word_moved s o act obeys other = walk plan commands (LeavesIds s) o (with_progress turned s) act obeys (λ m. refl, λ n. refl)
 
   -- an act of any action but `Renew` leaves a synchronized station synchronized
-  pub begun_other : (s : Model) (o : Action) (act : Act) → Performs commands s o act → (o ≡ actions.Renew → ⊥) → has_begun s.progress ≡ true
+  pub begun_unless_renewed : (s : Model) (o : Action) (act : Act) → Performs commands s o act → (o ≡ actions.Renew → ⊥) → has_begun s.progress ≡ true
       → has_begun (moved plan commands o (with_progress turned s) act).progress ≡ true
-  begun_other s o act obeys other begun = by_word s.progress.word refl begun where
+  begun_unless_renewed s o act obeys other begun = by_word s.progress.word refl begun where
     -- the lemma above, by the word: no id is left
     by_word : (word : List ℕ) → s.progress.word ≡ word → is_none_left word ≡ true → has_begun (moved plan commands o (with_progress turned s) act).progress ≡ true
     by_word [] e b = ap is_none_left (word_moved s o act obeys other ∙ ap (λ (w : List ℕ). unanswered_after w (lines_heard_at s act)) e ∙ left_none (lines_heard_at s act))
@@ -83,17 +83,17 @@ module _ (plan : Plan) (commands : List Task) where
       → has_begun (moved plan commands o (with_progress turned s) act).progress ≡ true
   begun_kept s actions.Renew (Told m) obeys begun whole = cc
   begun_kept s actions.Renew act obeys begun whole = begun
-  begun_kept s o act obeys begun whole = begun_other s o act obeys (λ e. cc) begun
+  begun_kept s o act obeys begun whole = begun_unless_renewed s o act obeys (λ e. cc) begun
 
   -- if a station that has synchronized hasn't after an act, the act reads a moment, and its action is to resynchronize (`Renew`)
   pub renews_only : (s : Model) (o : Action) (act : Act) → Performs commands s o act → has_begun s.progress ≡ true → has_begun (moved plan commands o (with_progress turned s) act).progress ≡ false
       → (o ≡ actions.Renew) × (m : Moment) × (act ≡ Told m)
   renews_only s actions.Renew (Told m) obeys begun begins = (refl, m, refl)
   renews_only s actions.Renew act obeys begun begins = absurd (both_ways (has_begun s.progress) begins begun)
-  renews_only s o act obeys begun begins = absurd (both_ways (has_begun (moved plan commands o (with_progress turned s) act).progress) begins (begun_other s o act obeys (λ e. cc) begun))
+  renews_only s o act obeys begun begins = absurd (both_ways (has_begun (moved plan commands o (with_progress turned s) act).progress) begins (begun_unless_renewed s o act obeys (λ e. cc) begun))
 
--- if the station resynchronizes (`Renew`), seven requests are outstanding, which have all timed out; where `Invariant` holds, and
--- `HoldsBefore` of the action
+-- if `Invariant` holds, and `HoldsBefore` of the action, which is to resynchronize (`Renew`), seven requests are outstanding, and
+-- all of them have timed out
 pub renews_needs : (plan : Plan) (commands : List Task) (s : Model) (o : Action) → Invariant plan commands s → o ≡ actions.Renew
     → HoldsBefore plan s.progress (waiting_of s) o → (length s.client.waiting ≡ WINDOW) × (deadlines s.client.waiting ≡ [])
 renews_needs plan commands s o fine is needs =

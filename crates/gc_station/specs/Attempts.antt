@@ -1,6 +1,6 @@
 -- Further attempts of a chain, this project's own: whether a command of an attempt ended as its rule names, so that the chain is
 -- sent again. An attempt begins with a command whose link, its place in the chain, is 0. A command of the setup has link 1, and
--- its rule names no ending: so the current attempt stays that of the command of a cycle that ended last.
+-- its rule names no ending: so it begins no attempt, and changes nothing in the current one.
 use Rattle.std.specs.Prelude.{ℕ, ◌||◌, Bool, false, List, fold, Option, Some, None, if◌then◌else◌, nat_eq}
 use Rattle.gc_catalogue.specs.declared.answer.Reading.{Reading}
 use Rattle.gc_catalogue.specs.declared.answer.Reading.TheVariants as reading
@@ -10,6 +10,7 @@ use Rattle.gc_texts.specs.Again.{repeats_after}
 use Rattle.gc_texts.specs.Endings.{End}
 use Rattle.gc_texts.specs.declared.near.Expected.{Expected}
 use Rattle.gc_station.specs.Marks.{end_of, with_marks}
+use Rattle.gc_station.specs.Scopes.{Reads}
 use Rattle.gc_station.specs.declared.mark.Mark.{Mark}
 
 -- the return code other than 0 that a reading has, with communication code 0; `None` for any other reading
@@ -18,8 +19,8 @@ code_in (reading.Refused code) = Some code
 code_in _ = None
 
 -- the return code other than 0 of the reply that ended a request for `call` with this outcome; `None` if no reply in time did,
--- or it has no such code with communication code 0. `reads` gives what a line says of a call
-abbrev pub code_of : (Asked → List ℕ → Reading) → Asked → Outcome → Option ℕ
+-- or it has no such code with communication code 0
+abbrev pub code_of : Reads → Asked → Outcome → Option ℕ
 code_of reads call (Answered line) = code_in (reads call line)
 code_of reads call Late = None
 code_of reads call Lost = None
@@ -31,10 +32,10 @@ abbrev pub listed_after : (listed : Bool) → Expected → (code : Option ℕ) �
 listed_after listed expected code end = (if nat_eq expected.turn.link 0 then false else listed) || repeats_after expected.again code end
 
 -- whether a command of the current attempt has ended as its rule names, once this settlement of the request with `mark` is
--- recorded. `listed` says whether one had before, and `reads` gives what a line says of a call
-abbrev pub listed_with : (Asked → List ℕ → Reading) → (listed : Bool) → Mark → Settlement Asked → Bool
+-- recorded; `listed` says whether one had before
+abbrev pub listed_with : Reads → (listed : Bool) → Mark → Settlement Asked → Bool
 listed_with reads listed mark x = listed_after listed mark.expected (code_of reads x.call x.outcome) (end_of reads mark.expected x.call x.outcome)
 
 -- as `listed_with`, after these settlements, by the marks of all outstanding requests (`with_marks`)
-abbrev pub listed_by : (Asked → List ℕ → Reading) → (listed : Bool) → List (Option Mark) → List (Settlement Asked) → Bool
+abbrev pub listed_by : Reads → (listed : Bool) → List (Option Mark) → List (Settlement Asked) → Bool
 listed_by reads listed marks settlements = fold (λ (so : Bool) (x : Mark × Settlement Asked). listed_with reads so x.0 x.1) listed (with_marks marks settlements)

@@ -14,16 +14,16 @@ use Rattle.gc_texts.specs.declared.tasks.Task.{Task}
 use Rattle.gc_station.specs.declared.mark.Mark.{Mark}
 use Rattle.gc_station.specs.declared.plan.Plan.{Plan}
 use Rattle.gc_station.specs.declared.progress.Action.TheVariants as action
-use Rattle.gc_station.specs.Deciding.{has_begun, action_next, action_room}
+use Rattle.gc_station.specs.Deciding.{has_begun, action_to_send, action_room}
 use Rattle.gc_station.specs.Links.{parts}
 use Rattle.gc_station.specs.Model.{Model, waiting_of}
 use Rattle.gc_station.specs.Parts.{Part}
 use Rattle.gc_station.specs.Progressing.{is_over}
 use Rattle.gc_station.specs.Runs.{state_after, OfEachRun}
 
--- the settlement `x` is of a call of the table, and a reply ended it: it was answered, or late
-abbrev pub IsEndedByReply : Settlement Asked → Type 0
-IsEndedByReply x = (is_of_table x.call ≡ true) × (x.outcome ≡ Lost → ⊥)
+-- the settlement `x` is of a call of the table that a reply ended: it was answered, or late
+abbrev pub IsRepliedTableCall : Settlement Asked → Type 0
+IsRepliedTableCall x = (is_of_table x.call ≡ true) × (x.outcome ≡ Lost → ⊥)
 
 -- of the requests that a client sent since its synchronization (`x.sent`), one of the last seven is a call of the table that a
 -- reply ended: request `k`, with its settlement `s`. Or fewer than seven were sent, so that the last null procedure of the
@@ -31,7 +31,8 @@ IsEndedByReply x = (is_of_table x.call ≡ true) × (x.outcome ≡ Lost → ⊥)
 abbrev pub IsNearTheTable : Course Asked → Type 0
 IsNearTheTable x =
     (length x.sent < WINDOW)
-    ⊎ ((k : ℕ) × (s : Settlement Asked) × (slice_get x.settlements k ≡ Some s) × IsEndedByReply s × (length x.sent ≤ k + WINDOW))
+    ⊎ ((k : ℕ) × (s : Settlement Asked) × (slice_get x.settlements k ≡ Some s) × IsRepliedTableCall s
+    × (length x.sent ≤ k + WINDOW))
 
 -- wherever a command is sent in this part of a run, one of the seven requests before it is a call of the table that a reply
 -- ended, or the last null procedure of the part's synchronization (`IsNearTheTable`). `front` are the client's steps before the
@@ -55,8 +56,8 @@ AreOfTable tasks = AllByRecursion (λ task. is_of_table task.command.call ≡ tr
 abbrev pub IsNotHeldUp : Plan → Model → Type 0
 IsNotHeldUp plan s =
     (s.progress.behind ≡ length s.client.waiting)
-    × (action_next plan s.progress (waiting_of s) action.Send ≡ action_room plan s.progress (waiting_of s) action.Send)
-    × (action_next plan s.progress (waiting_of s) action.Prepare ≡ action_room plan s.progress (waiting_of s) action.Prepare)
+    × (action_to_send plan s.progress (waiting_of s) action.Send ≡ action_room plan s.progress (waiting_of s) action.Send)
+    × (action_to_send plan s.progress (waiting_of s) action.Prepare ≡ action_room plan s.progress (waiting_of s) action.Prepare)
 
 -- if all commands are calls of the table, none is held up (`IsNotHeldUp`) once a run has synchronized, as long as it isn't over
 abbrev pub TheTableIsNeverHeldUp : Type 0

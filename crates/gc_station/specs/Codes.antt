@@ -14,11 +14,13 @@ use Rattle.gc_texts.specs.declared.near.Expected.{Expected}
 use Rattle.gc_texts.specs.declared.quality.Quality.TheVariants as quality
 use Rattle.gc_values.specs.declared.fault.ValueFault.{ValueFault}
 use Rattle.gc_station.specs.Marks.{end_of, is_well}
-use Rattle.gc_station.specs.Scopes.{AreReadings}
+use Rattle.gc_station.specs.Scopes.{AreReadings, Reads}
 
--- `claim` is true if these fields of a reply have communication code 0 and an accepted return code other than 0
-abbrev pub IfAccepted : Expected → ReplyFields → (claim : Type 0) → Type 0
-IfAccepted expected r claim = r.rc_com ≡ 0 → r.rc ≢ 0 → lists_code expected.accepted r.rc ≡ true → claim
+-- `claim` is true if these fields of a reply to `call` have communication code 0 and an accepted return code other than 0, and
+-- would say `zeroed` with return code 0
+abbrev pub IfAccepted : Expected → (call : Asked) → ReplyFields → (zeroed : Reading) → (claim : Type 0) → Type 0
+IfAccepted expected call r zeroed claim =
+    r.rc_com ≡ 0 → r.rc ≢ 0 → lists_code expected.accepted r.rc ≡ true → IsAskedReading call (record r { rc = 0 }) zeroed → claim
 
 -- how a command ended (`ended`) that asked for `call`, and whose reply, `line`, came in time. `r` has the reply's fields.
 -- `expected` says where the command's target is, if the text says so, and which return codes are accepted of it
@@ -39,20 +41,20 @@ pub record EndsByItsCodes (expected : Expected) (call : Asked) (line : List ℕ)
       → ended ≡ end.Elsewhere line
   -- as `found`, with an accepted return code other than 0
   pub warned : (answer : Answer)
-      → IfAccepted expected r (IsAskedReading call (record r { rc = 0 }) (reading.Value answer) → is_well ended ≡ not (is_elsewhere expected.near answer))
+      → IfAccepted expected call r (reading.Value answer) (is_well ended ≡ not (is_elsewhere expected.near answer))
   -- as `away`, with an accepted return code other than 0
   pub warned_away : (answer : Answer)
-      → IfAccepted expected r (IsAskedReading call (record r { rc = 0 }) (reading.Value answer) → is_elsewhere expected.near answer ≡ true → ended ≡ end.Elsewhere line)
+      → IfAccepted expected call r (reading.Value answer) (is_elsewhere expected.near answer ≡ true → ended ≡ end.Elsewhere line)
   -- with an accepted return code other than 0, and parameters that don't read, it is answered with a warning, and without values
   pub warned_without : (fault : ValueFault)
-      → IfAccepted expected r (IsAskedReading call (record r { rc = 0 }) (reading.Unreadable fault) → ended ≡ end.Answered quality.Warning None line)
+      → IfAccepted expected call r (reading.Unreadable fault) (ended ≡ end.Answered quality.Warning None line)
 
--- which commands are answered well; `reads` gives what a line says of a call
+-- which commands are answered well
 pub record WellIsAnAcceptedCode : Type 0 where
   -- a command that a reply in time ended, by its codes
-  pub replied : (reads : Asked → List ℕ → Reading) (expected : Expected) (call : Asked) (line : List ℕ) (r : ReplyFields) → AreReadings reads → IsReply line r
-      → EndsByItsCodes expected call line r (end_of reads expected call (Answered line))
+  pub replied : (reads : Reads) (expected : Expected) (call : Asked) (line : List ℕ) (r : ReplyFields)
+      → AreReadings reads → IsReply line r → EndsByItsCodes expected call line r (end_of reads expected call (Answered line))
   -- a command that is late, lost, skipped or missed never
-  pub none : (reads : Asked → List ℕ → Reading) (expected : Expected) (call : Asked)
+  pub none : (reads : Reads) (expected : Expected) (call : Asked)
       → (is_well (end_of reads expected call Late) ≡ false) × (is_well (end_of reads expected call Lost) ≡ false)
       × (is_well end.Skipped ≡ false) × (is_well end.Missed ≡ false)

@@ -139,8 +139,8 @@ action_flush plan p w = if nat_eq w.current 0 then action_room plan p w Flush el
 -- the next action when the next command may be sent, of a cycle (`action` is `Send`) or of the setup (`Prepare`): that of
 -- `action_room`, if one of the seven requests before it is a call of the table that a reply ended (`behind`). Else that of
 -- `action_flush`, since a null procedure has to be sent first
-abbrev pub action_next : Plan → Progress → Waiting → Action → Action
-action_next plan p w action = if nat_lt p.behind WINDOW then action_room plan p w action else action_flush plan p w
+abbrev pub action_to_send : Plan → Progress → Waiting → Action → Action
+action_to_send plan p w action = if nat_lt p.behind WINDOW then action_room plan p w action else action_flush plan p w
 
 -- whether the next command of a chain may be sent: the one before it was answered well, and since that was sent no connection
 -- was closed, and the station didn't resynchronize
@@ -156,49 +156,49 @@ waits_for_all p = p.next_is_chained || nat_lt 0 p.next_others
 -- command is sent if a command of the attempt before ended as its rule names; otherwise this attempt and those after it are
 -- left out, as they are in a missed cycle, in which each command counts as chained
 abbrev pub action_again : Plan → Progress → Waiting → Action
-action_again plan p w = if w.listed && not p.next_is_chained then action_next plan p w Send else Pass
+action_again plan p w = if w.listed && not p.next_is_chained then action_to_send plan p w Send else Pass
 
 -- the next action if each command that was sent is settled: that of a done cycle if no command is left; that of a further
--- attempt if the next command begins one; that of `action_next` if the next command may be sent; and else to skip it
+-- attempt if the next command begins one; that of `action_to_send` if the next command may be sent; and else to skip it
 abbrev pub action_settled : Plan → Progress → Waiting → Action
 action_settled plan p w =
     if nat_eq p.unsent 0 then action_done plan p
     else if nat_lt 0 p.next_others then action_again plan p w
-    else if may_go p w then action_next plan p w Send
+    else if may_go p w then action_to_send plan p w Send
     else Skip
 
 -- the next action if no command may be sent before those that are outstanding are settled: none of the cycle is left, or the next
 -- one is chained or begins a further attempt. If no command is outstanding, it is that of `action_settled`; otherwise that of
 -- `action_flush`
-abbrev pub action_sent : Plan → Progress → Waiting → Action
-action_sent plan p w = if nat_eq w.commands 0 then action_settled plan p w else action_flush plan p w
+abbrev pub action_held : Plan → Progress → Waiting → Action
+action_held plan p w = if nat_eq w.commands 0 then action_settled plan p w else action_flush plan p w
 
--- the next action when the next command of the setup may be sent: that of `action_next`. There always is such a command, since
--- the setup is done once its last one was answered well; without one the action would be to read
-abbrev pub action_next_of_setup : Plan → Progress → Waiting → Action
-action_next_of_setup plan p w = if nat_lt p.prepared plan.setup then action_next plan p w Prepare else Read Limit
+-- the next action when the next command of the setup may be sent: that of `action_to_send`. There always is such a command,
+-- since the setup is done once its last one was answered well; without one the action would be to read
+abbrev pub action_to_prepare : Plan → Progress → Waiting → Action
+action_to_prepare plan p w = if nat_lt p.prepared plan.setup then action_to_send plan p w Prepare else Read Limit
 
 -- the next action while the setup isn't done: nothing is sent if no command of a cycle is left to be sent and no command is
 -- outstanding (the connection is closed: the run is done), nor between cycles (it reads until the next is due). The setup's first
--- command may be sent at once (`action_next`), and each other one once the one before it was answered well. If that wasn't, the
--- connection is closed, and the setup begins with its first command on the next one. If commands are outstanding, it is that of
--- `action_flush`
+-- command may be sent at once (`action_to_send`), and each other one once the one before it was answered well. If that wasn't,
+-- the connection is closed, and the setup begins with its first command on the next one. If commands are outstanding, it is that
+-- of `action_flush`
 abbrev pub action_preparing : Plan → Progress → Waiting → Action
 action_preparing plan p w =
     if is_finished w.commands p then Close Done
     else if is_idle plan p then Read Due
-    else if nat_eq p.prepared 0 then action_next_of_setup plan p w
-    else if nat_eq w.commands 0 then (if w.well then action_next_of_setup plan p w else Close SetUp)
+    else if nat_eq p.prepared 0 then action_to_prepare plan p w
+    else if nat_eq w.commands 0 then (if w.well then action_to_prepare plan p w else Close SetUp)
     else action_flush plan p w
 
--- the next action once the station has synchronized and its setup is done: that of `action_next`, if there is a command that
--- needn't wait for those before it (`waits_for_all`); otherwise that of `action_sent`
+-- the next action once the station has synchronized and its setup is done: that of `action_to_send`, if there is a command that
+-- needn't wait for those before it (`waits_for_all`); otherwise that of `action_held`
 abbrev pub action_cycle : Plan → Progress → Waiting → Action
-action_cycle plan p w = if nat_lt 0 p.unsent && not (waits_for_all p) then action_next plan p w Send else action_sent plan p w
+action_cycle plan p w = if nat_lt 0 p.unsent && not (waits_for_all p) then action_to_send plan p w Send else action_held plan p w
 
 -- whether the setup is still to be done: there is one, and no cycle began or went on since the connection was made and the
--- station synchronized (`preparing`); and a command of the setup wasn't sent yet, or a command is outstanding, or the one
--- recorded last wasn't answered well
+-- station synchronized (`preparing`); unless all its commands were sent, no command is outstanding, and the one recorded last
+-- was answered well
 abbrev pub is_preparing : Plan → Progress → Waiting → Bool
 is_preparing plan p w = p.preparing && not (nat_le plan.setup p.prepared && nat_eq w.commands 0 && w.well)
 

@@ -13,7 +13,7 @@ use Rattle.gc_station.specs.declared.plan.Plan.{Plan}
 use Rattle.gc_station.specs.Records.{Record, texts_of}
 use Rattle.gc_station.specs.Model.{opening, Runs}
 use Rattle.gc_station.specs.Runs.{RunSeen, state_after}
-use Rattle.gc_station.specs.Scopes.{Scope, scoped, ForEachReadings, ForReadings}
+use Rattle.gc_station.specs.Scopes.{Reads, Scope, scoped}
 
 -- what contracts see of a link and a book just before an act of a run; each act is a turn of the run
 pub record Snapshot : Type 0 where
@@ -58,15 +58,9 @@ module _ (plan : Plan) (commands : List Task) (scope : Scope) (text : Record →
 
 -- a run with this many turns, of which `old` is seen before it and `new` after it, with a list of turns as above
 module _ (plan : Plan) (commands : List Task) (turns : ℕ) (old new : RunSeen) (seen seen' : List Snapshot) where
-  -- `KeepsUp` of the run, for each function that gives each line's reading for a call
-  abbrev pub KeepsUpForEachReadings : (others : List Act) → Type 0
-  KeepsUpForEachReadings others =
-      ForEachReadings (λ reads. KeepsUp plan commands (scoped turns reads) old.text old.acts new.acts old.taken seen seen' others)
-
-  -- `KeepsUp` of the run, for each function that gives each line's reading for a call; and there is such a function
-  abbrev pub KeepsUpForReadings : (others : List Act) → Type 0
-  KeepsUpForReadings others =
-      ForReadings (λ reads. KeepsUp plan commands (scoped turns reads) old.text old.acts new.acts old.taken seen seen' others)
+  -- `KeepsUp` of the run, if each reply says of its call what `reads` gives
+  abbrev pub KeepsUpBy : (others : List Act) → Reads → Type 0
+  KeepsUpBy others reads = KeepsUp plan commands (scoped turns reads) old.text old.acts new.acts old.taken seen seen' others
 
 -- the acts of a link after a run with this result: a close if the book failed (`Err`); otherwise none
 abbrev pub close_if_failed : {X E : Type 0} → Result X E → List Act
@@ -82,7 +76,7 @@ close_at_output (Err fault) = []
 
 -- How the logic stores what was seen.
 
--- a snapshot as nested pairs, which can be stored in ghost state
+-- nested pairs, as which a snapshot is stored in ghost state
 abbrev Pairs : Type 0
 Pairs = Option (List Act) × (Option (List ℕ) × Bool)
 

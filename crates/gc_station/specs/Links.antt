@@ -2,8 +2,6 @@
 -- the one before it. A part reaches from one synchronization to the next (`Parts`). An act is one call on the link, with its
 -- result.
 use Rattle.std.specs.Prelude.{◌≡◌, ◌⊎◌, ℕ, suc, ◌<◌, ◌≤◌, true, List, ◌++◌, drop, length, Some, slice_get}
-use Rattle.gc_catalogue.specs.declared.answer.Reading.{Reading}
-use Rattle.gc_catalogue.specs.declared.asked.Asked.{Asked}
 use Rattle.gc_links.specs.Acts.{Act}
 use Rattle.gc_texts.specs.declared.near.Expected.{Expected}
 use Rattle.gc_texts.specs.declared.tasks.Task.{Task}
@@ -11,7 +9,7 @@ use Rattle.gc_station.specs.Parts.{Part, mark_of, parts_of}
 use Rattle.gc_station.specs.Qualities.{IsGoodAnswer}
 use Rattle.gc_station.specs.Records.{Record, Grew}
 use Rattle.gc_station.specs.Runs.{state_after, OfEachRun}
-use Rattle.gc_station.specs.Scopes.{Scope}
+use Rattle.gc_station.specs.Scopes.{Scope, Reads}
 use Rattle.gc_station.specs.Model.{opening}
 use Rattle.gc_station.specs.NextCommand.{first_is_chained}
 use Rattle.gc_station.specs.declared.mark.Mark.{Mark}
@@ -31,8 +29,8 @@ abbrev pub parts : Plan → List Task → Scope → List Act → List Part
 parts plan commands scope acts = parts_of plan commands (opening plan scope) acts
 
 -- one of `records`, number `k`, is of the command at place `a` of this cycle, and is an answer of a good quality
--- (`IsGoodAnswer`). `reads` gives what a line says of a call
-pub record WasAnsweredWell (reads : Asked → List ℕ → Reading) (commands : List Task) (records : List Record) (cycle a : ℕ) : Type 0 where
+-- (`IsGoodAnswer`)
+pub record WasAnsweredWell (reads : Reads) (commands : List Task) (records : List Record) (cycle a : ℕ) : Type 0 where
   pub k : ℕ
   pub answer : Record
   pub among : slice_get records k ≡ Some answer

@@ -19,6 +19,7 @@ use Rattle.gc_texts.specs.declared.quality.Quality.TheVariants as quality
 use Rattle.gc_texts.specs.Endings as end
 use Rattle.gc_station.specs.declared.mark.Mark.{Mark}
 use Rattle.gc_station.specs.Records.{Record}
+use Rattle.gc_station.specs.Scopes.{Reads}
 
 -- how many of these marks are of commands; a null procedure has none
 abbrev pub commands_in : List (Option Mark) → ℕ
@@ -49,9 +50,7 @@ value_as quality false answer line = end.Answered quality (Some answer) line
 -- direction isn't near `near`; otherwise with a warning and no answer
 abbrev pub warned_as : Option Near → Reading → List ℕ → End
 warned_as near (reading.Value answer) line = value_as quality.Warning (is_elsewhere near answer) answer line
-warned_as near (reading.Refused code) line = end.Answered quality.Warning None line
-warned_as near (reading.ComFault code) line = end.Answered quality.Warning None line
-warned_as near (reading.Unreadable fault) line = end.Answered quality.Warning None line
+warned_as near _ line = end.Answered quality.Warning None line
 
 -- how a command ends whose reply, `line`, has a return code other than 0, which is accepted or not. The line would say `zeroed`
 -- with return code 0, and `near` says where the command's target is, if the text says so
@@ -69,9 +68,8 @@ answer_as expected (reading.Value answer) zeroed line = value_as quality.Fine (i
 answer_as expected (reading.Refused code) zeroed line = refused_as (lists_code expected.accepted code) expected.near zeroed line
 answer_as expected (reading.ComFault code) zeroed line = end.Answered quality.Refused None line
 
--- how a command ended that asked for `call`, if its request had this outcome, and `expected` is expected of its answer. `reads`
--- gives what a line says of a call
-abbrev pub end_of : (Asked → List ℕ → Reading) → Expected → Asked → Outcome → End
+-- how a command ended that asked for `call`, if its request had this outcome, and `expected` is expected of its answer
+abbrev pub end_of : Reads → Expected → Asked → Outcome → End
 end_of reads expected call (Answered line) = answer_as expected (reads call line) (reads call (as_zero line)) line
 end_of reads expected call Late = end.Late
 end_of reads expected call Lost = end.Lost
@@ -80,28 +78,11 @@ end_of reads expected call Lost = end.Lost
 abbrev pub command_of : Settlement Asked → Wish
 command_of settlement = record { target = settlement.target; call = settlement.call }
 
--- the record of the command with `mark` whose request was settled at the moment `utc`, by the clock of time stamps, with this
--- ending
-abbrev pub record_as : (utc : ℕ) → Mark → Settlement Asked → (ending : End) → Record
-record_as utc mark settlement ending = record {
-  sent = Some mark.sent;
-  utc = utc;
-  cycle = mark.cycle;
-  place = mark.place;
-  turn = mark.expected.turn;
-  command = command_of settlement;
-  end = ending;
-}
-
--- the record of the command with `mark` whose request was settled at the moment `utc`, as `record_as` says. `reads` gives what a
--- line says of a call
-abbrev pub record_of : (Asked → List ℕ → Reading) → (utc : ℕ) → Mark → Settlement Asked → Record
-record_of reads utc mark settlement = record_as utc mark settlement (end_of reads mark.expected settlement.call settlement.outcome)
-
--- the record of a command with `mark` that wasn't sent, made at the moment `utc`, by the clock of time stamps, with this ending
-abbrev pub unsent_as : (utc : ℕ) → Mark → (command : Wish) → (ending : End) → Record
-unsent_as utc mark command ending = record {
-  sent = None;
+-- the record of a command with `mark`, made at the moment `utc`, by the clock of time stamps, with this ending. It was sent at
+-- the moment `sent`, or wasn't sent (`None`)
+abbrev pub record_with : (utc : ℕ) → Mark → (sent : Option ℕ) → (command : Wish) → (ending : End) → Record
+record_with utc mark sent command ending = record {
+  sent = sent;
   utc = utc;
   cycle = mark.cycle;
   place = mark.place;
@@ -110,20 +91,19 @@ unsent_as utc mark command ending = record {
   end = ending;
 }
 
--- the records of these settlements, by the marks of all outstanding requests (`with_marks`), all made at the moment `utc`.
--- `reads` gives what a reply's line says of a call
-abbrev pub records_of : (Asked → List ℕ → Reading) → (utc : ℕ) → List (Option Mark) → List (Settlement Asked) → List Record
+-- the record of the command with `mark` whose request was settled at the moment `utc`
+abbrev pub record_of : Reads → (utc : ℕ) → Mark → Settlement Asked → Record
+record_of reads utc mark settlement =
+    record_with utc mark (Some mark.sent) (command_of settlement) (end_of reads mark.expected settlement.call settlement.outcome)
+
+-- the records of these settlements, by the marks of all outstanding requests (`with_marks`), all made at the moment `utc`
+abbrev pub records_of : Reads → (utc : ℕ) → List (Option Mark) → List (Settlement Asked) → List Record
 records_of reads utc marks settlements = map (λ (x : Mark × Settlement Asked). record_of reads utc x.0 x.1) (with_marks marks settlements)
 
 -- whether a command with this ending was answered well: with an answer of a good quality, fine or with a warning
 abbrev pub is_well : End → Bool
 is_well (end.Answered quality answer line) = is_good quality
-is_well (end.Unreadable line fault) = false
-is_well (end.Elsewhere line) = false
-is_well end.Late = false
-is_well end.Lost = false
-is_well end.Skipped = false
-is_well end.Missed = false
+is_well _ = false
 
 -- whether the last of these records is of a command that was answered well; if there are none, `well`
 abbrev pub last_well : (well : Bool) → List Record → Bool

@@ -5,7 +5,6 @@ use Rattle.std.specs.Prelude.{◌≡◌, ℕ, ◌-◌, Bool, true, false, List, 
 use Rattle.gc_lines.specs.Frames.{rest_behind}
 use Rattle.gc_lines.specs.Lines.{with_end}
 pub use Rattle.gc_lines.specs.Passing.{lines_completed}
-use Rattle.gc_catalogue.specs.declared.answer.Reading.{Reading}
 use Rattle.gc_catalogue.specs.declared.asked.Asked.{Asked}
 use Rattle.gc_catalogue.specs.declared.asked.Asked.TheVariants.{Table}
 use Rattle.gc_catalogue.specs.declared.call.Call.TheVariants.{NullProc}
@@ -34,12 +33,12 @@ use Rattle.gc_station.specs.ActKinds.{Puts, ReadsClock, IsOpening, ReadsLink}
 use Rattle.gc_station.specs.Deciding.{later, is_none_left, is_preparing, action_of}
 pub use Rattle.gc_station.specs.Lines.{is_reply}
 use Rattle.gc_station.specs.Attempts.{listed_after, listed_by}
-use Rattle.gc_station.specs.Marks.{commands_in, records_of, unsent_as, last_well, fresh_after}
+use Rattle.gc_station.specs.Marks.{commands_in, record_with, records_of, last_well, fresh_after}
 use Rattle.gc_station.specs.NextCommand.{place_next, commands_left, cycles_begun, mark_next, mark_setup, commands_before, upcoming_after}
 use Rattle.gc_station.specs.Progressing.{at_start, turned, moment_noted, cycle_begun, skipped, attempts_left_out, unsent_at, failing, opened, after_failure, cleared, request_noted, null_sent, resynchronized, sent, behind_noted, line_noted, lines_synchronizing, bytes_noted, silent, early_noted, closed, loses_all, setup_sent}
 use Rattle.gc_station.specs.Records.{Record}
 use Rattle.gc_station.specs.Requests.{RunRequest, requests, of_task, command_at}
-use Rattle.gc_station.specs.Scopes.{Scope}
+use Rattle.gc_station.specs.Scopes.{Scope, Reads}
 use Rattle.gc_texts.specs.Endings.{End, Skipped, Missed}
 
 -- the state of a station after the acts of a run so far
@@ -54,8 +53,8 @@ pub record Model : Type 0 where
   pub marks : List (Option Mark)
   -- the records written so far, in order
   pub records : List Record
-  -- whether the command of a cycle that was recorded last, or one before it in the same attempt, ended in a way after which the
-  -- text sends its chain again; false before the first. A command of the setup leaves it as it is
+  -- whether a recorded command of the current attempt ended in a way after which the text sends its chain again; false before the
+  -- first record. A command of the setup leaves it as it is
   pub listed : Bool
   -- the commands of further attempts that were left out so far, in order
   pub passes : List RunRequest
@@ -63,7 +62,7 @@ pub record Model : Type 0 where
   -- moment if the clock went back past it since
   pub fresh : ℕ
   -- what the line of a reply says of a call
-  pub reads : Asked → List ℕ → Reading
+  pub reads : Reads
 
 -- the model of a station that has done nothing: nothing is sent or recorded, and the turns that are left are those of `scope`
 abbrev pub opening : Plan → Scope → Model
@@ -219,10 +218,6 @@ asks_next plan commands s = asks_first (mark_next plan commands s.progress) (com
 abbrev pub asks_setup : Plan → List Task → Model → Model
 asks_setup plan commands s = asks_for (request_of_setup plan commands s.progress) s
 
--- the model `s` with `client` in place of its own client
-abbrev pub with_client : ById Asked → Model → Model
-with_client client s = record s { client = client }
-
 -- how a command ends that isn't sent: as missed if its cycle is missed, otherwise as skipped
 abbrev pub end_unsent : (missed : Bool) → End
 end_unsent missed = if missed then Missed else Skipped
@@ -231,7 +226,7 @@ end_unsent missed = if missed then Missed else Skipped
 -- command has `mark`. No record if there is no command
 abbrev pub first_unsent_record : Progress → Moment → Mark → List Task → List Record
 first_unsent_record p m mark [] = []
-first_unsent_record p m mark (task ∷ others) = unsent_as (unsent_at m p) mark task.command (end_unsent p.missed) ∷ []
+first_unsent_record p m mark (task ∷ others) = record_with (unsent_at m p) mark None task.command (end_unsent p.missed) ∷ []
 
 -- the record of the cycle's next command, which isn't sent, if the act read the clock; no record if the clock couldn't be read
 abbrev pub unsent_record : Plan → List Task → Progress → Act → List Record
@@ -279,7 +274,7 @@ with_settled settlements s = record s {
 
 -- the model `s` with what its client settled: the records of the settlements of `x`, and the client of `x`
 abbrev pub settles : Settled Asked (ById Asked) → Model → Model
-settles x s = with_client x.client (with_settled x.settlements s)
+settles x s = record (with_settled x.settlements s) { client = x.client }
 
 -- whether there is a settlement, and its call is one of the table
 abbrev pub is_some_of_table : Option (Settlement Asked) → Bool
@@ -386,7 +381,7 @@ abbrev pub after_close : Plan → Cause → Model → Model
 after_close plan cause s = with_progress (closed plan (waiting_of s) cause) (with_rest [] s)
 
 -- the model `s` after an act that performs `action`, but without the turn that each act takes, and before all outstanding
--- requests are lost if that follows (`ended`)
+-- requests are lost if that follows (`with_losses`)
 abbrev pub moved : Plan → List Task → Action → Model → Act → Model
 moved plan commands ReadClock s act = after_clock (λ m p. early_noted plan (commands_in s.marks) (moment_noted m p)) s act
 moved plan commands Renew s act = after_clock (λ m p. early_noted plan 0 (resynchronized plan m p)) s act
@@ -415,13 +410,13 @@ losing true s = settles (restarts s.client) s
 losing false s = s
 
 -- the model `s` with all outstanding requests lost, if the station synchronizes or no act follows; otherwise `s` itself
-abbrev pub ended : Model → Model
-ended s = losing (loses_all s.progress) s
+abbrev pub with_losses : Model → Model
+with_losses s = losing (loses_all s.progress) s
 
 -- the model `s` after an act that performs `action`: a turn is taken, then `moved`, and then all outstanding requests are lost
--- if `ended` says so
+-- if `with_losses` says so
 abbrev pub stepped : Plan → List Task → Action → Model → Act → Model
-stepped plan commands action s act = ended (moved plan commands action (with_progress turned s) act)
+stepped plan commands action s act = with_losses (moved plan commands action (with_progress turned s) act)
 
 -- the model `s` after an act that performs the action that was next
 abbrev pub after : Plan → List Task → Model → Act → Model

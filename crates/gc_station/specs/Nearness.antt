@@ -3,7 +3,6 @@
 -- its result.
 use Rattle.std.specs.Prelude.{◌≡◌, ◌⊎◌, ℕ, true, List, Some, slice_get}
 use Rattle.gc_catalogue.specs.declared.answer.Answer.{Answer}
-use Rattle.gc_catalogue.specs.declared.answer.Reading.{Reading}
 use Rattle.gc_catalogue.specs.declared.answer.Reading.TheVariants.{Value, Refused}
 use Rattle.gc_catalogue.specs.declared.asked.Asked.{Asked}
 use Rattle.gc_values.specs.Directions.{IsNear}
@@ -18,6 +17,7 @@ use Rattle.gc_texts.specs.declared.quality.Quality.{Quality}
 use Rattle.gc_texts.specs.declared.tasks.Task.{Task}
 use Rattle.gc_station.specs.Records.{Record}
 use Rattle.gc_station.specs.Runs.{OfAnyRecord}
+use Rattle.gc_station.specs.Scopes.{Reads}
 
 -- if the record `r` is answered, its answer has a direction, and the text says where its command's target is, that direction is
 -- near that place, within its tolerance
@@ -27,15 +27,15 @@ IsAtItsTarget commands r =
     → r.end ≡ Answered quality (Some answer) line → direction_of answer ≡ Some d → IsNear d near.place near.tolerance
 
 -- `line` says `answer` of `call`: it has both codes 0; or it has an accepted return code, and says the answer once 0 replaces
--- that code. `reads` gives what a line says of a call
-abbrev pub HasAnswer : (Asked → List ℕ → Reading) → Codes → Asked → List ℕ → Answer → Type 0
+-- that code
+abbrev pub HasAnswer : Reads → Codes → Asked → List ℕ → Answer → Type 0
 HasAnswer reads accepted call line answer =
     (reads call line ≡ Value answer)
     ⊎ ((code : ℕ) × (reads call line ≡ Refused code) × (lists_code accepted code ≡ true) × (reads call (as_zero line) ≡ Value answer))
 
 -- `line` says an answer of `call` (`HasAnswer`), the text says where the target of `task` is (`known`), and the answer has a
 -- direction (`toward`) that isn't near that place (`away`)
-pub record WasMeasuredElsewhere (reads : Asked → List ℕ → Reading) (task : Task) (call : Asked) (line : List ℕ) : Type 0 where
+pub record WasMeasuredElsewhere (reads : Reads) (task : Task) (call : Asked) (line : List ℕ) : Type 0 where
   pub answer : Answer
   pub near : Near
   pub direction : Direction
@@ -45,7 +45,7 @@ pub record WasMeasuredElsewhere (reads : Asked → List ℕ → Reading) (task :
   pub away : IsNear direction near.place near.tolerance → ⊥
 
 -- if the record `r` ended as elsewhere, its answer was measured elsewhere than the target of its command is
-abbrev pub ElsewhereIsJustified : (Asked → List ℕ → Reading) → List Task → Record → Type 0
+abbrev pub ElsewhereIsJustified : Reads → List Task → Record → Type 0
 ElsewhereIsJustified reads commands r =
     (task : Task) (line : List ℕ) → slice_get commands r.place ≡ Some task → r.end ≡ Elsewhere line
     → WasMeasuredElsewhere reads task r.command.call line

@@ -45,15 +45,11 @@ mark_next plan commands p = record {
   expected = expected_first (commands_left commands p);
 }
 
--- the turn of a command of the setup, of which the text says `turn`, in the attempt `attempt` of the setup. No attempt of a chain
--- begins with it, so its link is 1
-abbrev pub turn_of_setup : (attempt : ℕ) → Turn → Turn
-turn_of_setup attempt turn = record turn { attempt = attempt; link = 1 }
-
--- `expected` as it is for a command of the setup in the attempt `attempt` of the setup: no ending sends such a command again
--- (`no_again`), and its turn is `turn_of_setup`
+-- `expected` as it is for a command of the setup in the attempt `attempt` of the setup: no ending sends such a command again, and
+-- no attempt of a chain begins with it, so its link is 1
 abbrev pub expected_of_setup : (attempt : ℕ) → Expected → Expected
-expected_of_setup attempt expected = record expected { again = no_again; turn = turn_of_setup attempt expected.turn }
+expected_of_setup attempt expected =
+    record expected { again = no_again; turn = record expected.turn { attempt = attempt; link = 1 } }
 
 -- the mark of the setup's next command at the progress `p`: it has cycle 0, and the attempt of the setup (`expected_of_setup`)
 abbrev pub mark_setup : List Task → Progress → Mark

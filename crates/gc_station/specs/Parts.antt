@@ -2,6 +2,7 @@
 -- station synchronizes, then the client's steps, and which command each request is that is sent. An act is one call on the
 -- link, with its result.
 use Rattle.std.specs.Prelude.{◌≡◌, ℕ, ◌&&◌, Bool, true, false, if◌then◌else◌, List, [], ◌∷◌, ◌++◌, map, Option, Some, None, slice_get, unwrap_or, filter}
+use Rattle.std.specs.List.{AllZip}
 use Rattle.gc_catalogue.specs.declared.asked.Asked.{Asked}
 use Rattle.gc_catalogue.specs.declared.asked.Asked.TheVariants.{Table}
 use Rattle.gc_catalogue.specs.declared.call.Call.TheVariants.{NullProc}
@@ -141,9 +142,7 @@ MarkAsks commands (Some mark) a = (task : Task) × (slice_get commands mark.plac
 
 -- requests with these marks ask for these targets and calls, one for one
 abbrev pub MarksAsk : List Task → List (Option Mark) → List (Wanted Asked) → Type 0
-MarksAsk commands [] [] = Unit {0}
-MarksAsk commands (mark ∷ marks) (a ∷ others) = MarkAsks commands mark a × MarksAsk commands marks others
-MarksAsk commands _ _ = ⊥
+MarksAsk commands marks asked = AllZip (MarkAsks commands) marks asked
 
 -- whether a command with this ending was sent
 abbrev pub went_out : End → Bool

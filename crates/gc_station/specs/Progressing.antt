@@ -1,7 +1,7 @@
 -- What each act does to how far a station is, this project's own. That is its progress: the phase that it is in, the ids of the
 -- null procedures that aren't answered (`word`), the moment read last, and how many cycles, commands of the cycle, tries and
 -- turns are left. An act is one call on the link, with its result.
-use Rattle.std.specs.Prelude.{ℕ, ◌+◌, ◌-◌, ◌&&◌, ◌||◌, Bool, true, false, not, if◌then◌else◌, nat_lt, nat_le, nat_eq, min, max, List, [], ◌∷◌, Option}
+use Rattle.std.specs.Prelude.{ℕ, ◌+◌, ◌-◌, ◌&&◌, ◌||◌, Bool, true, false, not, if◌then◌else◌, nat_lt, nat_le, nat_eq, min, max, List, [], ◌∷◌}
 use Rattle.gc_client.specs.Beginning.{the_word, is_answered, left_by}
 use Rattle.gc_client.specs.Rule.{heard}
 use Rattle.gc_client.specs.declared.window.TheConstants.{WINDOW}
@@ -232,14 +232,12 @@ line_noted is_reply p = record p { alive = if is_reply then p.moment.elapsed els
 abbrev pub behind_noted : (of_table : Bool) (waiting : ℕ) → Progress → Progress
 behind_noted of_table waiting p = record p { behind = if of_table then waiting else p.behind }
 
--- the progress once a line with this id, or with none, was heard while the station synchronizes: if the line answers the first
--- null procedure that is left, the next null procedure, if there is one, is sent at once
-abbrev pub id_synchronizing : Option ℕ → Progress → Progress
-id_synchronizing id p = record p { word = left_by p.word id; again = if is_answered p.word id then 0 else p.again }
-
--- the progress after `line` was heard while the station synchronizes
+-- the progress after `line` was heard while the station synchronizes: if the line's id is that of the first null procedure that
+-- is left, that one is answered, and the next one, if there is one, is sent at once
 abbrev pub line_synchronizing : Progress → List ℕ → Progress
-line_synchronizing p line = line_noted (is_reply line) (id_synchronizing (heard line) p)
+line_synchronizing p line =
+    let id = heard line in
+    line_noted (is_reply line) (record p { word = left_by p.word id; again = if is_answered p.word id then 0 else p.again })
 
 -- the progress after these lines were heard while the station synchronizes, in order
 abbrev pub lines_synchronizing : Progress → List (List ℕ) → Progress

@@ -16,13 +16,12 @@ use Rattle.gc_texts.specs.declared.tasks.Task.{Task}
 use Rattle.gc_station.specs.NextCommand.{expected_first}
 use Rattle.gc_station.specs.Records.{Record}
 use Rattle.gc_station.specs.Runs.{OfAnyRecord}
+use Rattle.gc_station.specs.Scopes.{Reads}
 
 -- the answer that a reading has; `None` if it is a refusal, a fault of communication or unreadable
 abbrev pub answer_in : Reading → Option Answer
 answer_in (reading.Value answer) = Some answer
-answer_in (reading.Refused code) = None
-answer_in (reading.ComFault code) = None
-answer_in (reading.Unreadable fault) = None
+answer_in _ = None
 
 -- a reading is a refusal with a return code that isn't in `accepted`, or a fault of communication
 abbrev pub IsRefusedReading : Codes → Reading → Type 0
@@ -31,12 +30,11 @@ IsRefusedReading accepted (reading.Refused code) = lists_code accepted code ≡ 
 IsRefusedReading accepted (reading.ComFault code) = Unit {0}
 IsRefusedReading accepted (reading.Unreadable fault) = ⊥
 
--- what `line`, the reply to `call`, says if its answer is of this quality, and which values its record has (`said`). `accepted`
--- are the codes that are accepted, and `reads` gives what a line says of a call. `Fine`: the line says an answer, and the
--- record has it. `Warning`: the line says a refusal with an accepted code; the record has the answer, if any, that the line
--- would say with return code 0. `Refused`: the line says any other refusal or a fault of communication, and the record has no
--- answer
-abbrev pub IsOfQuality : (Asked → List ℕ → Reading) → (accepted : Codes) → Asked → Quality → (said : Option Answer) (line : List ℕ) → Type 0
+-- what `line`, the reply to `call`, says if its answer is of this quality, and which values its record has (`said`). `Fine`: the
+-- line says an answer, and the record has it. `Warning`: the line says a refusal with a code of `accepted`; the record has the
+-- answer, if any, that the line would say with return code 0. `Refused`: the line says any other refusal or a fault of
+-- communication, and the record has no answer
+abbrev pub IsOfQuality : Reads → (accepted : Codes) → Asked → Quality → (said : Option Answer) (line : List ℕ) → Type 0
 IsOfQuality reads accepted call Fine said line = (answer : Answer) × (said ≡ Some answer) × (reads call line ≡ reading.Value answer)
 IsOfQuality reads accepted call Warning said line =
     (code : ℕ) × (reads call line ≡ reading.Refused code) × (lists_code accepted code ≡ true) × (said ≡ answer_in (reads call (as_zero line)))
@@ -47,9 +45,8 @@ abbrev pub accepted_at : List Task → (place : ℕ) → Codes
 accepted_at commands place = (expected_first (drop place commands)).accepted
 
 -- the record `r` is an answer of a good quality: with both codes 0 and values that read, or with a return code that is accepted
--- of its command. `line` is its reply, and `said` the values that it has; the line says them, with that quality (`says`). `reads`
--- gives what a line says of a call
-pub record IsGoodAnswer (reads : Asked → List ℕ → Reading) (commands : List Task) (r : Record) : Type 0 where
+-- of its command. `line` is its reply, and `said` the values that it has; the line says them, with that quality (`says`)
+pub record IsGoodAnswer (reads : Reads) (commands : List Task) (r : Record) : Type 0 where
   pub line : List ℕ
   pub quality : Quality
   pub said : Option Answer
@@ -58,7 +55,7 @@ pub record IsGoodAnswer (reads : Asked → List ℕ → Reading) (commands : Lis
   pub says : IsOfQuality reads (accepted_at commands r.place) r.command.call quality said line
 
 -- if the record `r` is answered, its answer has the quality of its line, by the codes that are accepted of its command
-abbrev pub IsAsListed : (Asked → List ℕ → Reading) → List Task → Record → Type 0
+abbrev pub IsAsListed : Reads → List Task → Record → Type 0
 IsAsListed reads commands r =
     (quality : Quality) (said : Option Answer) (line : List ℕ) → r.end ≡ Answered quality said line
     → IsOfQuality reads (accepted_at commands r.place) r.command.call quality said line
@@ -70,5 +67,6 @@ QualitiesAreAsListed = OfAnyRecord (λ commands scope r. IsAsListed scope.reads 
 -- if no code is accepted, the line of an answer of a good quality has both codes 0, and values that read
 abbrev pub GoodIsAnAnswer : Type 0
 GoodIsAnAnswer =
-    (reads : Asked → List ℕ → Reading) (call : Asked) (quality : Quality) (said : Option Answer) (line : List ℕ) → IsOfQuality reads no_codes call quality said line
-    → is_good quality ≡ true → (answer : Answer) × (said ≡ Some answer) × (reads call line ≡ reading.Value answer)
+    (reads : Reads) (call : Asked) (quality : Quality) (said : Option Answer) (line : List ℕ)
+    → IsOfQuality reads no_codes call quality said line → is_good quality ≡ true
+    → (answer : Answer) × (said ≡ Some answer) × (reads call line ≡ reading.Value answer)

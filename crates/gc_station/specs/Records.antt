@@ -9,9 +9,7 @@ use Rattle.gc_texts.specs.declared.turn.Turn.{Turn}
 use Rattle.gc_texts.specs.declared.wish.Wish.{Wish}
 use Rattle.gc_texts.specs.declared.ending.Ending.{Ending}
 use Rattle.gc_texts.specs.Endings.{End, ending_seen}
-use Rattle.gc_catalogue.specs.declared.answer.Reading.{Reading}
-use Rattle.gc_catalogue.specs.declared.asked.Asked.{Asked}
-use Rattle.gc_station.specs.Scopes.{ForEachReadings}
+use Rattle.gc_station.specs.Scopes.{ForEachReadings, Reads}
 
 -- how a command ended
 pub record Record : Type 0 where
@@ -82,6 +80,6 @@ WritesMore text old new news result =
     → Appends start old (texts_of text before) → WritesBy text before (before ++ news) start new result
 
 -- as `WritesMore`, of the records `news reads`, for each function `reads` that gives each line's reading for a call
-abbrev pub WritesNews : {X E : Type 0} → (Record → List ℕ) → (old new : Option (List ℕ)) → (news : (Asked → List ℕ → Reading) → List Record)
+abbrev pub WritesNews : {X E : Type 0} → (Record → List ℕ) → (old new : Option (List ℕ)) → (news : Reads → List Record)
     → Result X E → Type 0
 WritesNews text old new news result = ForEachReadings (λ reads. WritesMore text old new (news reads) result)

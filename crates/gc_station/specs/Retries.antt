@@ -3,7 +3,6 @@
 -- result.
 use Rattle.std.specs.Prelude.{◌≡◌, ◌⊎◌, ℕ, ◌<◌, Bool, true, if◌then◌else◌, nat_eq, List, ◌∷◌, ◌++◌, drop, Option, None}
 use Rattle.std.specs.List.{AllByRecursion}
-use Rattle.gc_catalogue.specs.declared.answer.Reading.{Reading}
 use Rattle.gc_catalogue.specs.declared.asked.Asked.{Asked}
 use Rattle.gc_texts.specs.Again.{repeats_after}
 use Rattle.gc_texts.specs.Endings.{End, Answered}
@@ -15,6 +14,7 @@ use Rattle.gc_station.specs.Model.{Model}
 use Rattle.gc_station.specs.NextCommand.{place_next, commands_left, expected_first, expected_of_setup, first_is_chained, others_in}
 use Rattle.gc_station.specs.Records.{Record}
 use Rattle.gc_station.specs.Runs.{state_after, WhereNext, OfAnyRecord}
+use Rattle.gc_station.specs.Scopes.{Reads}
 use Rattle.gc_station.specs.declared.plan.Plan.{Plan}
 use Rattle.gc_station.specs.declared.progress.Action.TheVariants.{Send, Pass}
 
@@ -25,13 +25,13 @@ expected_of commands cycle attempt place =
     if nat_eq cycle 0 then expected_of_setup attempt (expected_first (drop place commands)) else expected_first (drop place commands)
 
 -- the return code other than 0 of the reply to `call`, if the command ended as answered and the reply has one, with
--- communication code 0. `reads` gives what a line says of a call
-abbrev pub code_of_end : (Asked → List ℕ → Reading) → Asked → End → Option ℕ
+-- communication code 0
+abbrev pub code_of_end : Reads → Asked → End → Option ℕ
 code_of_end reads call (Answered quality answer line) = code_in (reads call line)
 code_of_end reads call _ = None
 
 -- whether the record `r` is of a command that ended as the rule of its chain names
-abbrev pub is_listed : (Asked → List ℕ → Reading) → List Task → Record → Bool
+abbrev pub is_listed : Reads → List Task → Record → Bool
 is_listed reads commands r =
     repeats_after (expected_of commands r.cycle r.turn.attempt r.place).again (code_of_end reads r.command.call r.end) r.end
 
@@ -41,7 +41,7 @@ BeginNoAttempt rs = AllByRecursion (λ (r : Record). r.turn.link ≡ 0 → ⊥) 
 
 -- among `records` is one (`one`) of a command that ended as the rule of its chain names; and no attempt begins after it
 -- (`same`), so it is of the same attempt as the last record that is of a cycle
-pub record HasListed (reads : Asked → List ℕ → Reading) (commands : List Task) (records : List Record) : Type 0 where
+pub record HasListed (reads : Reads) (commands : List Task) (records : List Record) : Type 0 where
   pub front : List Record
   pub one : Record
   pub behind : List Record
@@ -56,7 +56,7 @@ IsFurtherAttempt plan commands s = (plan.setup < place_next commands s.progress)
 -- the station, which has the model `s`, has a reason to leave out the further attempt that the next command begins: none of the
 -- attempt before ended as its rule names; or the cycle is missed; or the next command is chained, which the first one of an
 -- attempt never is in a text
-abbrev pub MayLeaveOut : (Asked → List ℕ → Reading) → List Task → Model → Type 0
+abbrev pub MayLeaveOut : Reads → List Task → Model → Type 0
 MayLeaveOut reads commands s =
     (HasListed reads commands s.records → ⊥)
     ⊎ ((s.progress.missed ≡ true) ⊎ (first_is_chained (commands_left commands s.progress) ≡ true))

@@ -18,7 +18,7 @@ use Rattle.gc_links.specs.Acts.{Act, Closed, AddsActs}
 use Rattle.gc_station.specs.Records.{Record, texts_of, WritesPart}
 use Rattle.gc_station.specs.Model.{Model, opening, action_at, after_all, Runs}
 use Rattle.gc_station.specs.Tallies.{tally_of}
-use Rattle.gc_station.specs.Scopes.{Scope, scoped, ForEachReadings, ForReadings}
+use Rattle.gc_station.specs.Scopes.{Reads, Scope, scoped}
 
 -- the model of a station after `acts`, which begin a run
 abbrev pub state_after : Plan → List Task → Scope → List Act → Model
@@ -111,16 +111,13 @@ run_seen acts of_book book = record { acts = acts; text = of_book.text book; tak
 
 -- a run with this many turns, of which `old` is seen before it and `new` after it
 module _ (plan : Plan) (commands : List Task) (turns : ℕ) (old new : RunSeen) where
-  -- the run with this result ended as `EndsAs` says, for each function that gives each line's reading for a call
-  abbrev pub EndsForEachReadings : {E : Type 0} → Result (Cause × Tally) E → Type 0
-  EndsForEachReadings result =
-      ForEachReadings (λ reads. EndsAs plan commands (scoped turns reads) old.text old.acts new.acts old.taken new.taken result)
+  -- the run with this result ended as `EndsAs` says, if each reply says of its call what `reads` gives
+  abbrev pub EndsBy : {E : Type 0} → Result (Cause × Tally) E → Reads → Type 0
+  EndsBy result reads = EndsAs plan commands (scoped turns reads) old.text old.acts new.acts old.taken new.taken result
 
-  -- the run with this result is as `Ran` says, for each function that gives each line's reading for a call; and there is such a
-  -- function
-  abbrev pub RanForReadings : Result Tally RunFault → Type 0
-  RanForReadings result =
-      ForReadings (λ reads. Ran plan commands (scoped turns reads) old.text old.acts new.acts old.taken new.taken result)
+  -- the run with this result is as `Ran` says, if each reply says of its call what `reads` gives
+  abbrev pub RanBy : Result Tally RunFault → Reads → Type 0
+  RanBy result reads = Ran plan commands (scoped turns reads) old.text old.acts new.acts old.taken new.taken result
 
 -- after a run with the fault `Output` its book has failed (`new`); after any other run the book has failed exactly if it had
 -- before (`old`)

@@ -6,15 +6,19 @@ use Rattle.gc_catalogue.specs.declared.asked.Asked.{Asked}
 use Rattle.gc_catalogue.specs.Asked.{IsAskedReading}
 use Rattle.gc_client.specs.Settlements.{ReadsBy}
 
+-- what the line of a reply says of a call, for each call and each line
+abbrev pub Reads : Type 0
+Reads = Asked → List ℕ → Reading
+
 -- what a run is given besides its plan and commands
 pub record Scope : Type 0 where
   -- how many turns it has: each act takes one. When none is left, a connection that is still there is closed by one act more
   pub turns : ℕ
   -- what the line of a reply says of a call
-  pub reads : Asked → List ℕ → Reading
+  pub reads : Reads
 
 -- `reads` gives the reading of each line for each call, wherever the line has one
-abbrev pub AreReadings : (Asked → List ℕ → Reading) → Type 0
+abbrev pub AreReadings : Reads → Type 0
 AreReadings reads = (call : Asked) (line : List ℕ) (reading : Reading) → ReadsBy IsAskedReading call line reading → reads call line ≡ reading
 
 -- a line has at most one reading for a call
@@ -23,16 +27,16 @@ OneReadingForALine = (call : Asked) (line : List ℕ) (x y : Reading) → ReadsB
 
 -- some function gives each line's reading for a call, wherever there is one
 abbrev pub SomeReadings : Type 0
-SomeReadings = (reads : Asked → List ℕ → Reading) × AreReadings reads
+SomeReadings = (reads : Reads) × AreReadings reads
 
 -- the scope of a run with this many turns, in which `reads` gives what the line of a reply says of a call
-abbrev pub scoped : ℕ → (Asked → List ℕ → Reading) → Scope
+abbrev pub scoped : ℕ → Reads → Scope
 scoped turns reads = record { turns = turns; reads = reads }
 
 -- `Holds` is true of every function that gives each line's reading for a call
-abbrev pub ForEachReadings : ((Asked → List ℕ → Reading) → Type 0) → Type 0
-ForEachReadings Holds = (reads : Asked → List ℕ → Reading) → AreReadings reads → Holds reads
+abbrev pub ForEachReadings : (Reads → Type 0) → Type 0
+ForEachReadings Holds = (reads : Reads) → AreReadings reads → Holds reads
 
 -- `Holds` is true of every function that gives each line's reading for a call, and there is such a function
-abbrev pub ForReadings : ((Asked → List ℕ → Reading) → Type 0) → Type 0
-ForReadings Holds = ForEachReadings Holds × ((reads : Asked → List ℕ → Reading) × AreReadings reads × Holds reads)
+abbrev pub ForReadings : (Reads → Type 0) → Type 0
+ForReadings Holds = ForEachReadings Holds × ((reads : Reads) × AreReadings reads × Holds reads)

@@ -61,8 +61,7 @@ pub record Refines (station : Station) (s : Model) : Type 0 where
   pub tally : AreReadings s.reads → station.recorded.tally ≡ tallied nothing_yet s.records
   -- whether the last of the model's records is of a command that was answered well; false if there is none
   pub well : AreReadings s.reads → station.recorded.well ≡ last_well false s.records
-  -- whether the command of a cycle that was recorded last, or one before it in the same attempt, ended as its rule names: as the
-  -- model says
+  -- whether a recorded command of the current attempt ended as its rule names: as the model says
   pub listed : AreReadings s.reads → station.recorded.listed ≡ s.listed
   -- the moment at which a command that was answered well was recorded last, or what stands for it: as the model says
   pub fresh : AreReadings s.reads → station.recorded.fresh ≡ s.fresh

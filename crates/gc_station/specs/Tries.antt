@@ -23,17 +23,17 @@ IsTried cause.Stopped = ⊥
 IsTried _ = Unit {0}
 
 -- the act closes a connection, or fails to make one
-abbrev pub IsEnding : Act → Type 0
-IsEnding Closed = Unit {0}
-IsEnding Unopened = Unit {0}
-IsEnding _ = ⊥
+abbrev pub IsDisconnecting : Act → Type 0
+IsDisconnecting Closed = Unit {0}
+IsDisconnecting Unopened = Unit {0}
+IsDisconnecting _ = ⊥
 
 -- how many of these acts close a connection or fail to make one
-abbrev pub endings_in : List Act → ℕ
-endings_in [] = 0
-endings_in (Closed ∷ acts) = suc (endings_in acts)
-endings_in (Unopened ∷ acts) = suc (endings_in acts)
-endings_in (act ∷ acts) = endings_in acts
+abbrev pub disconnections_in : List Act → ℕ
+disconnections_in [] = 0
+disconnections_in (Closed ∷ acts) = suc (disconnections_in acts)
+disconnections_in (Unopened ∷ acts) = suc (disconnections_in acts)
+disconnections_in (act ∷ acts) = disconnections_in acts
 
 -- how many of these acts make a connection, or fail to
 abbrev pub openings_in : List Act → ℕ
@@ -72,7 +72,7 @@ pub record AllTried (plan : Plan) (commands : List Task) (scope : Scope) (acts :
   pub order : acts ≡ before ++ behind
   pub since : (before ≡ []) ⊎ EndsSettled plan commands scope before
   pub none : NoneSettled plan commands (state_after plan commands scope before) behind
-  pub ended : plan.retries < endings_in behind
+  pub ended : plan.retries < disconnections_in behind
   pub opened : plan.retries ≤ openings_in behind
   pub first : before ≡ [] → plan.retries < openings_in behind
 
@@ -80,5 +80,7 @@ pub record AllTried (plan : Plan) (commands : List Task) (scope : Scope) (acts :
 -- one, all tries are used up, as `AllTried` says
 abbrev pub StopsOnlyAfterAllTries : Type 0
 StopsOnlyAfterAllTries =
-    (plan : Plan) (commands : List Task) (scope : Scope) (acts : List Act) (last : Act) (why : Cause) → Runs plan commands (opening plan scope) (acts ++ last ∷ [])
-    → action_at plan (state_after plan commands scope (acts ++ last ∷ [])) ≡ Stop why → IsTried why → IsEnding last → AllTried plan commands scope (acts ++ last ∷ [])
+    (plan : Plan) (commands : List Task) (scope : Scope) (acts : List Act) (last : Act) (why : Cause)
+    → Runs plan commands (opening plan scope) (acts ++ last ∷ [])
+    → action_at plan (state_after plan commands scope (acts ++ last ∷ [])) ≡ Stop why → IsTried why → IsDisconnecting last
+    → AllTried plan commands scope (acts ++ last ∷ [])

@@ -1,6 +1,5 @@
 -- No part of a promise: what is written and noted of the settlements of outstanding requests, and what of a book stays.
 use Rattle.std.specs.Prelude.{◌≡◌, ℕ, Bool, false, List, map, Option, Result, OnOk, if◌then◌else◌}
-use Rattle.gc_catalogue.specs.declared.answer.Reading.{Reading}
 use Rattle.gc_catalogue.specs.declared.asked.Asked.{Asked}
 use Rattle.gc_client.specs.Rule
 use Rattle.gc_client.specs.Settlements.{settlement_seen}
@@ -10,7 +9,7 @@ use Rattle.gc_links.specs.declared.link.Moment.{Moment}
 use Rattle.gc_station.specs.Attempts.{listed_after, listed_by}
 use Rattle.gc_station.specs.Marks.{records_of, is_well, last_well, fresh_after}
 use Rattle.gc_station.specs.Records.{Record}
-use Rattle.gc_station.specs.Scopes.{ForEachReadings}
+use Rattle.gc_station.specs.Scopes.{ForEachReadings, Reads}
 use Rattle.gc_station.specs.Tallies.{counted_in, tallied}
 use Rattle.gc_station.specs.declared.book.Book.{Ghosts as Book}
 use Rattle.gc_station.specs.declared.mark.Mark.{Mark}
@@ -18,9 +17,9 @@ use Rattle.gc_station.specs.declared.recorded.Recorded.{Recorded}
 use Rattle.gc_station.specs.declared.station.Station.{Station}
 use Rattle.gc_texts.specs.Endings.{End}
 
--- the records of these settlements, all made at the moment `utc` by the clock of time stamps, by the marks of all outstanding
--- requests, if `reads` gives what a line says of a call
-abbrev pub news_of : ℕ → List (Option Mark) → List (Settlement Asked) → (reads : Asked → List ℕ → Reading) → List Record
+-- the records of settlements as the client returns them, by the marks of all outstanding requests, all made at the moment `utc`
+-- by the clock of time stamps (`records_of`)
+abbrev pub news_of : (utc : ℕ) → List (Option Mark) → List (Settlement Asked) → Reads → List Record
 news_of utc marks settlements reads = records_of reads utc marks (map settlement_seen settlements)
 
 -- what is kept of the records, `r`, once the command with `mark` was recorded at the moment `now`, by the clock for deadlines: it
@@ -37,9 +36,8 @@ noted mark now code end r = record {
 abbrev pub recorded_unsent : (records : List Record) → (listed : Bool) → Recorded → Recorded
 recorded_unsent records listed r = record r { tally = tallied r.tally records; well = false; listed = listed }
 
--- what is kept of the records, `r`, once these settlements of the requests with these marks were recorded at the moment `now`, if
--- `reads` gives what a line says of a call
-abbrev pub recorded_after : Moment → List (Option Mark) → List (Rule.Settlement Asked) → (reads : Asked → List ℕ → Reading) → Recorded → Recorded
+-- what is kept of the records, `r`, once these settlements of the requests with these marks were recorded at the moment `now`
+abbrev pub recorded_after : (now : Moment) → List (Option Mark) → List (Rule.Settlement Asked) → Reads → Recorded → Recorded
 recorded_after now marks settlements reads r =
     let news = records_of reads now.utc marks settlements in
     record {
@@ -55,8 +53,8 @@ abbrev pub NotesNews : {X E : Type 0} → (old new : Recorded) → Moment → Li
 NotesNews old new now marks settlements result =
     OnOk result (ForEachReadings (λ reads. new ≡ recorded_after now marks (map settlement_seen settlements) reads old))
 
--- the records of what this station has settled, made at the moment read last, if `reads` gives what a line says of a call
-abbrev pub news_settled : Station → (reads : Asked → List ℕ → Reading) → List Record
+-- the records of what this station has settled, made at the moment read last
+abbrev pub news_settled : Station → Reads → List Record
 news_settled station reads = news_of station.progress.moment.utc station.marks.items station.settled.items reads
 
 -- if the call with this result succeeded, the station `new` keeps of the records what `old` did and what `old` has settled

@@ -56,7 +56,7 @@
 //! follows, and without a connection `Over`.
 
 ghost use Rattle.std.specs.Prelude.{◌≡◌};
-ghost use Rattle.gc_station.specs.Deciding.{is_dead, is_due, goes_on, is_finished, has_room_to_ask, may_go, waits_for_all, action_again, action_of, action_on, action_ready, action_begun, action_beginning, action_next, action_room, action_flush, action_sent, action_settled, action_done, action_waiting, is_stale, is_between_chains, is_resting, is_stopping, is_held_back, action_cycle, action_next_of_setup, action_preparing, is_preparing};
+ghost use Rattle.gc_station.specs.Deciding.{is_dead, is_due, goes_on, is_finished, has_room_to_ask, may_go, waits_for_all, action_again, action_of, action_on, action_ready, action_begun, action_beginning, action_to_send, action_room, action_flush, action_held, action_settled, action_done, action_waiting, is_stale, is_between_chains, is_resting, is_stopping, is_held_back, action_cycle, action_to_prepare, action_preparing, is_preparing};
 
 use crate::cause::Cause;
 use crate::plan::Plan;
@@ -220,8 +220,8 @@ impl Progress {
     // `action_room`, if one of the seven requests before it is a call of the table that a reply ended (`behind`). Else that of
     // `action_flush`, since a null procedure has to be sent first: an instrument that retains the reply to its last call of the
     // table may still send that reply for the next id.
-    fn action_next(&self, plan: &Plan, waiting: Waiting, action: Action) -> Action
-        ensures { result ≡ action_next plan.now self.now waiting action }
+    fn action_to_send(&self, plan: &Plan, waiting: Waiting, action: Action) -> Action
+        ensures { result ≡ action_to_send plan.now self.now waiting action }
     {
         if self.behind < WINDOW {
             self.action_room(plan, waiting, action)
@@ -245,28 +245,28 @@ impl Progress {
     }
 
     // Whether the setup is still to be done: there is one, and no cycle began or went on since the connection was made and the
-    // station synchronized (`preparing`); and a command of the setup wasn't sent yet, or a command is outstanding, or the one
-    // recorded last wasn't answered well.
+    // station synchronized (`preparing`); unless all its commands were sent, no command is outstanding, and the one recorded last
+    // was answered well.
     fn is_preparing(&self, plan: &Plan, waiting: Waiting) -> bool
         ensures { result ≡ is_preparing plan.now self.now waiting }
     {
         self.preparing && !(plan.setup <= self.prepared && waiting.commands == 0 && waiting.well)
     }
 
-    // The next action when the next command of the setup may be sent: that of `action_next`. There always is such a command, since
-    // the setup is done once its last one was answered well; without one the action would be to read.
-    fn action_next_of_setup(&self, plan: &Plan, waiting: Waiting) -> Action
-        ensures { result ≡ action_next_of_setup plan.now self.now waiting }
+    // The next action when the next command of the setup may be sent: that of `action_to_send`. There always is such a command,
+    // since the setup is done once its last one was answered well; without one the action would be to read.
+    fn action_to_prepare(&self, plan: &Plan, waiting: Waiting) -> Action
+        ensures { result ≡ action_to_prepare plan.now self.now waiting }
     {
         if self.prepared < plan.setup {
-            self.action_next(plan, waiting, Action::Prepare)
+            self.action_to_send(plan, waiting, Action::Prepare)
         } else {
             Action::Read(Until::Limit)
         }
     }
 
     // The next action while the setup isn't done. Nothing is sent if no command is left to be sent after it and none is
-    // outstanding, nor between cycles. Its first command may be sent at once (`action_next`), and each other one once the one
+    // outstanding, nor between cycles. Its first command may be sent at once (`action_to_send`), and each other one once the one
     // before it was answered well. If it wasn't, the connection is closed: the setup begins with its first command on the next
     // one. Where commands are outstanding, it is that of `action_flush`.
     fn action_preparing(&self, plan: &Plan, waiting: Waiting) -> Action
@@ -278,10 +278,10 @@ impl Progress {
         } else if self.is_idle(plan) {
             Action::Read(Until::Due)
         } else if self.prepared == 0 {
-            self.action_next_of_setup(plan, waiting)
+            self.action_to_prepare(plan, waiting)
         } else if commands == 0 {
             if waiting.well {
-                self.action_next_of_setup(plan, waiting)
+                self.action_to_prepare(plan, waiting)
             } else {
                 Action::Close(Cause::SetUp)
             }
@@ -290,23 +290,23 @@ impl Progress {
         }
     }
 
-    // The next action once the station has synchronized and its setup is done: that of `action_next`, if there is a command
-    // that needn't wait for those before it (`waits_for_all`); otherwise that of `action_sent`.
+    // The next action once the station has synchronized and its setup is done: that of `action_to_send`, if there is a command
+    // that needn't wait for those before it (`waits_for_all`); otherwise that of `action_held`.
     fn action_cycle(&self, plan: &Plan, waiting: Waiting) -> Action
         ensures { result ≡ action_cycle plan.now self.now waiting }
     {
         if self.unsent > 0 && !self.waits_for_all() {
-            self.action_next(plan, waiting, Action::Send)
+            self.action_to_send(plan, waiting, Action::Send)
         } else {
-            self.action_sent(plan, waiting)
+            self.action_held(plan, waiting)
         }
     }
 
     // The next action if no command may be sent before those that are outstanding are settled: all of the cycle had their turn,
     // or the next one is chained or begins a further attempt. Where no command is outstanding, it is that of `action_settled`;
     // otherwise that of `action_flush`.
-    fn action_sent(&self, plan: &Plan, waiting: Waiting) -> Action
-        ensures { result ≡ action_sent plan.now self.now waiting }
+    fn action_held(&self, plan: &Plan, waiting: Waiting) -> Action
+        ensures { result ≡ action_held plan.now self.now waiting }
     {
         if waiting.commands == 0 {
             self.action_settled(plan, waiting)
@@ -316,7 +316,7 @@ impl Progress {
     }
 
     // The next action if each command that was sent is settled: that of a done cycle if no command is left; that of a further
-    // attempt if the next command begins one; that of `action_next` if the next command may be sent; and else to skip it.
+    // attempt if the next command begins one; that of `action_to_send` if the next command may be sent; and else to skip it.
     fn action_settled(&self, plan: &Plan, waiting: Waiting) -> Action
         ensures { result ≡ action_settled plan.now self.now waiting }
     {
@@ -325,7 +325,7 @@ impl Progress {
         } else if self.next_others > 0 {
             self.action_again(plan, waiting)
         } else if self.may_go(waiting) {
-            self.action_next(plan, waiting, Action::Send)
+            self.action_to_send(plan, waiting, Action::Send)
         } else {
             Action::Skip
         }
@@ -345,7 +345,7 @@ impl Progress {
         ensures { result ≡ action_again plan.now self.now waiting }
     {
         if waiting.listed && !self.next_is_chained {
-            self.action_next(plan, waiting, Action::Send)
+            self.action_to_send(plan, waiting, Action::Send)
         } else {
             Action::Pass
         }

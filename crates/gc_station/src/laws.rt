@@ -100,9 +100,9 @@ pub fn closes_for_a_cause()
     ensures { OfEachAct (λ plan commands scope earlier act. act ≡ Closed → ClosesForACause plan commands scope earlier) }
 {}
 
-/// If a connection is closed for a dead line, a time was read on it, and twice the longest deadline has passed by the clock
-/// since then without a line that reads as a reply. After that time no request was sent, or one was sent at once, so that its
-/// reply had all that time; or the clock went back to that time.
+/// If a connection is closed for a dead line, a time was read on it, and since then, for twice the longest deadline by the clock,
+/// no line came that reads as a reply. Meanwhile no request was sent, or one was sent at once, so that its reply had all that
+/// while; or the clock went back when that time was read.
 pub fn closes_a_dead_line_only_after_silence()
     ensures { WhereNext (Close cause.Dead) (λ plan commands scope acts. IsMuteFor (dead_after plan) plan commands scope acts) }
 {}
@@ -157,8 +157,8 @@ pub fn stops_for_a_cause()
 
 /// If a run stops at a connection that ended or couldn't be made, its tries are used up, unless the cause is `Done`, `Clock`,
 /// `Turns`, `Stale` or `Stopped`. Take the acts after the last read that settled a command once the setup was done, or all acts
-/// if none did. Among them more than the plan's `retries` connections ended or couldn't be made, and at least `retries` attempts
-/// were made to connect; more than `retries`, if there was no such read.
+/// if none did. Among them more than the plan's `retries` connections ended or couldn't be made. At least `retries` attempts to
+/// connect were made among them, and more than `retries` if there was no such read.
 pub fn stops_only_after_all_tries()
     ensures { StopsOnlyAfterAllTries }
 {}

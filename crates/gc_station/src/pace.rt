@@ -43,7 +43,7 @@ impl Progress {
     }
 
     // The moment at which the next cycle is due. It isn't that of the first cycle, which is due at once.
-    fn due_at(&self, plan: &Plan) -> u64
+    pub(crate) fn due_at(&self, plan: &Plan) -> u64
         ensures { result ≡ due_at plan.now self.now }
     {
         later(self.began, plan.every)
@@ -96,9 +96,10 @@ impl Progress {
     fn read_end(&self, plan: &Plan, until: Until, deadline: Option<u64>) -> u64
         ensures { result ≡ read_end plan.now self.now until deadline }
     {
+        let end = self.read_end_without_deadline(plan, until);
         match deadline {
-            Some(deadline) => deadline.min(self.read_end_without_deadline(plan, until)),
-            None => self.read_end_without_deadline(plan, until),
+            Some(deadline) => deadline.min(end),
+            None => end,
         }
     }
 

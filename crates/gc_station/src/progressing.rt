@@ -36,14 +36,14 @@ fn early_after(until: Until, early: bool) -> bool
 }
 
 // Whether a line reads as a reply.
-fn reads_as_reply(line: &[u8]) -> bool
+fn is_reply(line: &[u8]) -> bool
     ensures { result ≡ is_reply line.now }
 {
     read_reply(line).is_ok()
 }
 
 // Whether the line that the client heard was a reply.
-pub(crate) fn is_reply(hearing: Hearing) -> bool
+pub(crate) fn heard_reply(hearing: Hearing) -> bool
     ensures { (old new : ById Asked) (line : List ℕ) (settlements : List (Settlement Asked)) → HearsInto old line hearing settlements new → result ≡ is_reply line }
 {
     match hearing {
@@ -84,7 +84,7 @@ impl Progress {
         if self.left == plan.cycles || plan.every == 0 {
             moment.elapsed
         } else {
-            later(self.began, plan.every).min(moment.elapsed)
+            self.due_at(plan).min(moment.elapsed)
         }
     }
 
@@ -316,7 +316,7 @@ impl Progress {
         if self.word.hear(line) {
             self.again = 0;
         }
-        self.note_line(reads_as_reply(line));
+        self.note_line(is_reply(line));
     }
 
     // Notes that the cycle's next command was sent; `next` is of the command after it.

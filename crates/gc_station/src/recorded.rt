@@ -18,8 +18,8 @@ pub(crate) struct Recorded {
     // Whether the command that was recorded last, of a cycle or of the setup, was answered well, as `is_well` says; `false`
     // before the first.
     pub(crate) well: bool,
-    // Whether the command of a cycle that was recorded last, or one before it in the same attempt, ended in a way after which
-    // the text sends its chain again; `false` before the first. A command of the setup leaves it as it is.
+    // Whether a recorded command of the current attempt ended in a way after which the text sends its chain again; `false`
+    // before the first record. A command of the setup leaves it as it is.
     pub(crate) listed: bool,
     // When a command that was answered well was recorded last, by the clock for deadlines; 0 if none was; an earlier moment if
     // the clock went back past it since.

@@ -1,8 +1,9 @@
 //! A whole run of a station: what is next is done, until nothing is.
 
 ghost use Rattle.std.specs.Prelude.{◌≡◌, true, OnOk};
-ghost use Rattle.gc_station.specs.Keeping.{KeepsUpForEachReadings, KeepsUpForReadings, close_if_failed, close_at_output};
-ghost use Rattle.gc_station.specs.Runs.{EndsForEachReadings, RanForReadings, FailsAtOutput, LastUnlessFailed, run_seen};
+ghost use Rattle.gc_station.specs.Keeping.{KeepsUpBy, close_if_failed, close_at_output};
+ghost use Rattle.gc_station.specs.Runs.{EndsBy, RanBy, FailsAtOutput, LastUnlessFailed, run_seen};
+ghost use Rattle.gc_station.specs.Scopes.{ForEachReadings, ForReadings};
 ghost use Rattle.gc_station.specs.Writing.{KeepsBook};
 
 use crate::book::Book;
@@ -26,11 +27,11 @@ pub(crate) fn run<L: Link, B: Book>(
     max_turns: u64,
     kept: &mut Kept,
 ) -> Result<(Cause, Tally), PortFailed>
-    ensures ran { EndsForEachReadings plan.now commands.now max_turns
-        (run_seen (L.acts link.old) B.Book book.old) (run_seen (L.acts link.new) B.Book book.new) result }
-    ensures keeps { KeepsUpForEachReadings plan.now commands.now max_turns
+    ensures ran { ForEachReadings (EndsBy plan.now commands.now max_turns
+        (run_seen (L.acts link.old) B.Book book.old) (run_seen (L.acts link.new) B.Book book.new) result) }
+    ensures keeps { ForEachReadings (KeepsUpBy plan.now commands.now max_turns
         (run_seen (L.acts link.old) B.Book book.old) (run_seen (L.acts link.new) B.Book book.new)
-        kept.old.turns kept.new.turns (close_if_failed result) }
+        kept.old.turns kept.new.turns (close_if_failed result)) }
     ensures is_durable { OnOk result (B.is_durable book.new ≡ true) }
     ensures kept { KeepsBook B.Book book.old book.new result }
 {
@@ -119,14 +120,14 @@ pub fn run_station<L: Link, B: Book>(
 ) -> Result<Tally, RunFault>
     // What the link recorded, what the book took and how the run ended are as the model has them, for whatever function says
     // what each reply says of its call; and there is such a function.
-    ensures ran { RanForReadings plan.now commands.now max_turns
-        (run_seen (L.acts link.old) B.Book book.old) (run_seen (L.acts link.new) B.Book book.new) result }
+    ensures ran { ForReadings (RanBy plan.now commands.now max_turns
+        (run_seen (L.acts link.old) B.Book book.old) (run_seen (L.acts link.new) B.Book book.new) result) }
 
     // At each act what the acts before it settled is in the book, and lasts. If the book failed one act is made all the same:
     // the connection is closed.
-    ensures keeps { KeepsUpForReadings plan.now commands.now max_turns
+    ensures keeps { ForReadings (KeepsUpBy plan.now commands.now max_turns
         (run_seen (L.acts link.old) B.Book book.old) (run_seen (L.acts link.new) B.Book book.new)
-        kept.old.turns kept.new.turns (close_at_output result) }
+        kept.old.turns kept.new.turns (close_at_output result)) }
 
     // Unless the book failed, all records last at the end.
     ensures is_durable { LastUnlessFailed (B.is_durable book.new) result }

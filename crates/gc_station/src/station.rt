@@ -1,15 +1,13 @@
 //! A station's steps: each makes the one call of the link that is next, and lets the client handle what came of it.
 
-ghost use Rattle.std.specs.Prelude.{◌≡◌, ℕ, List, length, drop, Option, OnOk, true};
-ghost use Rattle.gc_catalogue.specs.declared.answer.Reading.{Reading};
-ghost use Rattle.gc_catalogue.specs.declared.asked.Asked.{Asked};
+ghost use Rattle.std.specs.Prelude.{◌≡◌, List, length, drop, Option, OnOk, true};
 ghost use Rattle.gc_catalogue.specs.Asked.{IsAskedReading};
 ghost use Rattle.gc_client.specs.Settlements.{AreReadBy};
 ghost use Rattle.gc_station.specs.Deciding.{action_of};
 ghost use Rattle.gc_station.specs.Marks.{commands_in};
-ghost use Rattle.gc_station.specs.Scopes.{AreReadings, scoped};
+ghost use Rattle.gc_station.specs.Scopes.{AreReadings, scoped, Reads};
 ghost use Rattle.gc_station.specs.Records.{WritesNews};
-ghost use Rattle.gc_station.specs.Model.{Model, opening, action_at, ended};
+ghost use Rattle.gc_station.specs.Model.{Model, opening, action_at, with_losses};
 ghost use Rattle.gc_station.specs.NextCommand.{place_next, expected_first, mark_next, commands_before, first_is_chained, others_in, is_chained_after, others_after, upcoming_after, mark_setup};
 ghost use Rattle.gc_station.specs.Stations.{waiting_of_station, CanPerform, Refines, DoesAlone, Moves, Steps, as_seen, OnCall, KeepsToModel, DropsMarks, SuitsAction, ReadsMoment, station_expiring};
 ghost use Rattle.gc_station.specs.Writing.{KeepsBook, news_settled, NotesSettled};
@@ -99,7 +97,7 @@ pub(crate) struct Station {
 impl Station {
     // A station that has done nothing.
     pub(crate) fn new(plan: &Plan, max_turns: u64) -> Station
-        ensures { (reads : Asked → List ℕ → Reading) → Refines result (opening plan.now (scoped max_turns reads)) }
+        ensures { (reads : Reads) → Refines result (opening plan.now (scoped max_turns reads)) }
     {
         Station {
             client: Client::new(SlotsOf::new()),
@@ -353,7 +351,7 @@ impl Station {
     // Records all outstanding commands as lost, and restarts the client, if the station synchronizes or no act follows
     // (`loses_all`); otherwise does nothing. `Err`: the book failed at a record.
     fn record_lost<B: Book>(&mut self, book: &mut B) -> Result<(), PortFailed>
-        ensures ends { KeepsToModel ended (B.text book.old) (B.taken book.old) (B.taken book.new) self.old self.new result }
+        ensures ends { KeepsToModel with_losses (B.text book.old) (B.taken book.old) (B.taken book.new) self.old self.new result }
         ensures kept { KeepsBook B.Book book.old book.new result }
     {
         if !self.progress.loses_all() {

@@ -1,7 +1,6 @@
 //! Writing settlements into a book, and counting them.
 
-ghost use Rattle.std.specs.Prelude.{◌≡◌, ℕ, List, [], ◌∷◌, length, drop, map, OnOk};
-ghost use Rattle.gc_catalogue.specs.declared.answer.Reading.{Reading};
+ghost use Rattle.std.specs.Prelude.{◌≡◌, [], ◌∷◌, length, drop, map, OnOk};
 ghost use Rattle.gc_catalogue.specs.declared.asked.Asked.{Asked};
 ghost use Rattle.gc_catalogue.specs.Asked.{IsAskedReading};
 ghost use Rattle.gc_client.specs.Settlements.{settlement_seen, outcome_seen, IsReadBy, AreReadBy};
@@ -9,7 +8,7 @@ ghost use Rattle.gc_station.specs.Attempts.{code_of, listed_after};
 ghost use Rattle.gc_station.specs.Marks.{first_mark, value_as, refused_as, end_of, is_well};
 ghost use Rattle.gc_station.specs.Model.{ends_with_table};
 ghost use Rattle.gc_station.specs.Zeros.{IsZeroOf};
-ghost use Rattle.gc_station.specs.Scopes.{AreReadings};
+ghost use Rattle.gc_station.specs.Scopes.{AreReadings, Reads};
 ghost use Rattle.gc_texts.specs.Codes.{lists_code};
 ghost use Rattle.gc_texts.specs.Endings.{ending_seen};
 ghost use Rattle.gc_texts.specs.Nears.{is_elsewhere};
@@ -88,8 +87,8 @@ fn zero_of(call: &Asked, outcome: &Outcome) -> Reading
 // The ending of a command whose request had this outcome. `expected` is what the text says of its answer, and `zero` what the line
 // of its reply would say with return code 0, as `zero_of` returns it.
 fn ending_of<'a>(expected: &Expected, zero: &'a Reading, outcome: &'a Outcome) -> Ending<'a>
-    ensures { (reads : Asked → List ℕ → Reading) (call : Asked) → AreReadings reads → IsReadBy IsAskedReading call outcome.now → IsZeroOf call outcome.now zero.now
-        → ending_seen result ≡ end_of reads expected.now call (outcome_seen outcome.now) }
+    ensures { (reads : Reads) (call : Asked) → AreReadings reads → IsReadBy IsAskedReading call outcome.now
+        → IsZeroOf call outcome.now zero.now → ending_seen result ≡ end_of reads expected.now call (outcome_seen outcome.now) }
 {
     match outcome {
         Outcome::Answered(Reading::Unreadable(fault), line) => Ending::Unreadable(line, *fault),
@@ -121,7 +120,8 @@ pub fn is_well(ending: Ending<'_>) -> bool
 // The return code other than 0 of the reply that ended a request in time. `None`: no such reply came, or its return code is 0, or
 // its communication code isn't.
 fn code_of(outcome: &Outcome) -> Option<u16>
-    ensures { (reads : Asked → List ℕ → Reading) (call : Asked) → AreReadings reads → IsReadBy IsAskedReading call outcome.now → result ≡ code_of reads call (outcome_seen outcome.now) }
+    ensures { (reads : Reads) (call : Asked) → AreReadings reads → IsReadBy IsAskedReading call outcome.now
+        → result ≡ code_of reads call (outcome_seen outcome.now) }
 {
     match outcome {
         Outcome::Answered(Reading::Refused(code), _) => Some(*code),

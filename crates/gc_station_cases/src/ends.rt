@@ -39,8 +39,8 @@ impl WordBook {
         }
     }
 
-    // Appends a letter, and after it what a reply's line says: its codes, unless both are 0 (`note_codes`), and its values, with commas
-    // between. A line that is no reply says nothing.
+    // Appends a letter, and after it what a reply's line says: its codes, unless both are 0 (`note_codes`), and its values, with
+    // commas between. A line that is no reply says nothing.
     fn note_reply(&mut self, letter: &[u8], line: &[u8]) {
         note(&mut self.text, letter);
         if let Ok(reply) = read_reply(line) {
@@ -89,9 +89,9 @@ impl Book for WordBook {
 
     ghost is_durable = { λ _. true };
 
-    // Appends the word of a record: the last digits of its cycle and place; the letter of its ending (at the head of stations.rt), and
-    // after it what a reply's line says; and if the case is stamped, the moment at which its request was sent. `Err`: this is the write
-    // that fails, and nothing is appended.
+    // Appends the word of a record: the last digits of its cycle and place; the letter of its ending (at the head of
+    // stations.rt), and after it what a reply's line says; and if the case is stamped, the moment at which its request was sent.
+    // `Err`: this is the write that fails, and nothing is appended.
     fn write(
         &mut self,
         stamp: Stamp,

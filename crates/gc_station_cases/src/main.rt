@@ -16,8 +16,8 @@ use stations::Stations;
 use std::io;
 use std::process::ExitCode;
 
-// Plays all files of cases in this folder that end in `.stations`. The status is 1 if a case came to something else than it expects.
-// `Err`: that of `play_folder`.
+// Plays all files of cases in this folder that end in `.stations`. The status is 1 if a case came to something else than it
+// expects. `Err`: that of `play_folder`.
 fn main(rt: HostRuntime) -> io::Result<ExitCode> {
     let are_right = play_folder(&rt, ".", ".stations", &Stations)?;
     Ok(ExitCode::from(u8::from(!are_right)))

@@ -111,9 +111,8 @@ impl Outcome {
         }
     }
 
-    // Reports, in place of what was put on the link, that a part of the case can't be read: `with`, which also stands for the word of
-    // a row and of `each`; `steps`, also for the words of `then` and for a step without room; or `tasks`. The word itself isn't
-    // reported.
+    // Reports, in place of what was put on the link, where a word isn't known (`what`): `with`, also for a word of a row or of
+    // `each`; `steps`, also for one of `then`, or a step without room; or `tasks`.
     fn tell_unknown(&mut self, what: &str) {
         self.put.text("a word isn't known: ");
         self.put.text(what);

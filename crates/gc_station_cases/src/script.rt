@@ -51,31 +51,33 @@ pub struct Script<'a> {
     steps: &'a [Step<'a>],
     // The place of the next step.
     at: usize,
-    // What fails or is cut, and how the clock goes. Its `failing_opens` goes down with each attempt to connect: it is how many of
-    // the next ones fail.
+    // What fails or is cut, and how the clock goes.
     setting: Setting,
     // How many calls of `put` there were.
     puts: u64,
-    // How many requests were sent, modulo 256; the digit of the last one's id; and the value of `requests` when one was answered
-    // last, or when the connection was closed since.
+    // How many requests were sent, modulo 256.
     requests: u8,
+    // The digit of the id of the last of them.
     id: u8,
+    // What `requests` was when a request was answered last, or when the connection was closed since.
     answered: u8,
-    // How many calls there were; `close` isn't counted.
+    // How many calls there were, without those of `close`.
     calls: u64,
+    // How many attempts to connect there were.
+    attempts: u64,
     // The moment now, in milliseconds.
     clock: u64,
     // Whether there is a connection.
     up: bool,
-    // How many null procedures of a synchronization were put in a row so far; where the text of the first begins, and when it
-    // was put.
+    // How many null procedures of a synchronization were put in a row so far.
     nulls: usize,
+    // Where the text of the first of them begins, and when it was put.
     first: usize,
     first_at: u64,
     /// How many bytes were sent of the last put that was cut; 0 if none was.
     pub gone: usize,
-    /// The words of the calls that opened, closed or wrote, each with a blank after it: `open`, `shut`, `close`, `lf`, `begin` or a
-    /// request. The word of a put that was cut has `cut:` before it. What has no room any more is left out.
+    /// The words of the calls that opened, closed or wrote, each with a blank after it: `open`, `shut`, `close`, `lf`, `begin` or
+    /// a request. The word of a put that was cut has `cut:` before it. What has no room any more is left out.
     pub text: ArrayVec<u8, 1024>,
 }
 
@@ -91,6 +93,7 @@ impl<'a> Script<'a> {
             id: b'0',
             answered: 0,
             calls: 0,
+            attempts: 0,
             clock: START,
             up: false,
             nulls: 0,
@@ -157,9 +160,9 @@ impl<'a> Script<'a> {
         request.starts_with(b"%R1Q,0,") && id_of(request) == NULL_IDS.get(self.nulls).copied()
     }
 
-    // Counts the null procedures of a synchronization that are put one after the other, with the ids of `NULL_IDS` in order, and stores
-    // where the text of the first begins and when it was put. Any other request starts the count again: at 1 if it is a null
-    // procedure with the first of these ids, else at 0.
+    // Counts the null procedures of a synchronization that are put one after the other, with the ids of `NULL_IDS` in order, and
+    // stores where the text of the first begins and when it was put. Any other request starts the count again: at 1 if it is a
+    // null procedure with the first of these ids, else at 0.
     fn count_null(&mut self, request: &[u8]) {
         if !self.is_next_null(request) {
             self.nulls = 0;
@@ -173,23 +176,18 @@ impl<'a> Script<'a> {
         }
     }
 
-    // Counts a call of the link. `Err`: it is the one that fails.
-    fn count_call(&mut self) -> Result<(), PortFailed> {
+    // Counts a call of the link, and returns whether it is the one that fails.
+    fn call_fails(&mut self) -> bool {
         let call = self.calls;
-        self.calls = self.calls.saturating_add(1);
-        if call == self.setting.failing_call {
-            return Err(PortFailed);
-        }
-        Ok(())
+        self.calls = call.saturating_add(1);
+        call == self.setting.failing_call
     }
 
-    // Counts an attempt to connect. `Err`: it is one of those that fail.
-    fn count_attempt(&mut self) -> Result<(), PortFailed> {
-        if self.setting.failing_opens > 0 {
-            self.setting.failing_opens -= 1;
-            return Err(PortFailed);
-        }
-        Ok(())
+    // Counts an attempt to connect, and returns whether it is one of those that fail.
+    fn attempt_fails(&mut self) -> bool {
+        let attempt = self.attempts;
+        self.attempts = attempt.saturating_add(1);
+        attempt < self.setting.failing_opens
     }
 
     // Lets `later` milliseconds pass, and returns the moment then.
@@ -202,8 +200,8 @@ impl<'a> Script<'a> {
         }
     }
 
-    // Lets `later` milliseconds pass, and returns what a read gives then: as many bytes of `line` as `buf` has room for, which are written
-    // there, or silence if that is none. The rest of the line never comes.
+    // Lets `later` milliseconds pass, and returns what a read gives then: as many bytes of `line` as `buf` has room for, which
+    // are written there, or silence if that is none. The rest of the line never comes.
     fn bring(&mut self, buf: &mut [u8], line: &[u8], later: u64) -> Came
         ensures { CameWithin result buf.new }
     {
@@ -216,7 +214,8 @@ impl<'a> Script<'a> {
         Came::Bytes(n, moment)
     }
 
-    // Lets `later` milliseconds pass, and returns what a read gives then: the reply to a null procedure. `id` is the digit of its id.
+    // Lets `later` milliseconds pass, and returns what a read gives then: the reply to a null procedure. `id` is the digit of its
+    // id.
     fn bring_id(&mut self, buf: &mut [u8], id: u8, later: u64) -> Came
         ensures { CameWithin result buf.new }
     {
@@ -238,8 +237,9 @@ impl<'a> Script<'a> {
         self.bring(buf, &line, later)
     }
 
-    // What a read of `Answers` gives that waits for at most `millis` milliseconds: after 5 milliseconds, or `millis` if that is less, the
-    // reply to the last request, if that isn't answered yet and there is a connection; otherwise silence for all that time.
+    // What a read of `Answers` gives that waits for at most `millis` milliseconds: after 5 milliseconds, or `millis` if that is
+    // less, the reply to the last request, if that isn't answered yet and there is a connection; otherwise silence for all that
+    // time.
     fn bring_answer(&mut self, buf: &mut [u8], millis: u64) -> Came
         ensures { CameWithin result buf.new }
     {
@@ -260,7 +260,8 @@ impl<'a> Script<'a> {
     }
 }
 
-// The digit of the id of a request that has an id: the byte before the first colon. `None`: there is no colon, or nothing before it.
+// The digit of the id of a request that has an id: the byte before the first colon. `None`: there is no colon, or nothing before
+// it.
 fn id_of(request: &[u8]) -> Option<u8> {
     let end = request.iter().position(|byte| *byte == b':')?;
     request.get(end.checked_sub(1)?).copied()
@@ -273,7 +274,7 @@ impl<'a> Link for Script<'a> {
 
     // The moment now. `Err`: this is the failing call, or the clock can't be read.
     fn now(&mut self) -> Result<Moment, PortFailed> {
-        if self.count_call().is_err() || self.setting.blind {
+        if self.call_fails() || self.setting.blind {
             return Err(PortFailed);
         }
         Ok(self.moment_after(0))
@@ -281,7 +282,7 @@ impl<'a> Link for Script<'a> {
 
     // Plays the next step, or fails if this is the failing call. If no step is left, nothing comes for `millis` milliseconds.
     fn read(&mut self, buf: &mut [u8], millis: u64) -> Came {
-        if self.count_call().is_err() {
+        if self.call_fails() {
             return Came::Failure;
         }
         let Some(step) = self.next() else {
@@ -310,7 +311,7 @@ impl<'a> Link for Script<'a> {
     // counts as the last one that was sent.
     fn put(&mut self, bytes: &[u8]) -> Result<(), usize> {
         self.puts = self.puts.saturating_add(1);
-        if self.count_call().is_err() || self.puts == self.setting.cut_put {
+        if self.call_fails() || self.puts == self.setting.cut_put {
             self.nulls = 0;
             note(&mut self.text, b"cut:");
             self.note_put(bytes);
@@ -328,8 +329,8 @@ impl<'a> Link for Script<'a> {
         Ok(())
     }
 
-    // Closes the connection, and stores `close`. If the next step is `Dead` or `Noise`, that is over. A request that was sent on the
-    // connection isn't answered by `Answers` any more.
+    // Closes the connection, and stores `close`. If the next step is `Dead` or `Noise`, that is over. A request that was sent on
+    // the connection isn't answered by `Answers` any more.
     fn close(&mut self) {
         self.note_now(b"close");
         self.up = false;
@@ -339,10 +340,10 @@ impl<'a> Link for Script<'a> {
         }
     }
 
-    // Makes a connection, and stores `open`. `Err`: this is the failing call, or an attempt that fails (`failing_opens` of the
-    // setting), and `shut` is stored.
+    // Makes a connection, and stores `open`. `Err`: this is the failing call, or one of the first attempts, as many as
+    // `failing_opens` of the setting, and `shut` is stored.
     fn open(&mut self) -> Result<(), PortFailed> {
-        if self.count_call().is_err() || self.count_attempt().is_err() {
+        if self.call_fails() || self.attempt_fails() {
             self.note_now(b"shut");
             return Err(PortFailed);
         }

@@ -43,8 +43,8 @@ pub struct Setting {
 }
 
 impl Setting {
-    /// A setting by which nothing fails: one cycle of one request at a time, a deadline of 100 milliseconds, so that a line counts as
-    /// dead after 200, a quiet time of 10 milliseconds, one retry, and at most 300 turns.
+    /// A setting by which nothing fails: one cycle of one request at a time, a deadline of 100 milliseconds, so that a line
+    /// counts as dead after 200, a quiet time of 10 milliseconds, one retry, and at most 300 turns.
     pub fn new() -> Setting {
         Setting {
             plan: Plan {
@@ -77,8 +77,8 @@ impl Setting {
         }
     }
 
-    /// Sets what these words say, each `KEY=NUMBER` or a key alone, with spaces between. Returns whether each is known (`set_word`); one
-    /// that isn't sets nothing.
+    /// Sets what these words say, each `KEY=NUMBER` or a key alone, with spaces between. Returns whether each is known
+    /// (`set_word`); one that isn't sets nothing.
     pub fn set_all(&mut self, words: &str) -> bool {
         let mut are_known = true;
         for word in words.split(' ') {

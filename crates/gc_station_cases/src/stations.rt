@@ -5,14 +5,15 @@
 //!     with width=2 timed          what is set otherwise than `Setting::new` has it
 //!     steps BEGUN #0 end QUIET    what the reads come to
 //!     then dead answers           the steps after these, or after the first of them alone, if `first` says how many
-//!     put open lf begin %R1Q,0,0: ..    what was put, opened and closed; `begin` are the eight null procedures of a synchronization, in a
-//!                                 row, each once; `cut:` stands before what was cut; where `with` says `timed`, `@` and the milliseconds
-//!                                 since the start come after each, and of a request there is the id alone, as `#0@15`
-//!     ends 10a 11w[0:1283]2.25    the last digits of cycle and place and a letter for each record: answered, a warning, unreadable and
-//!                                 elsewhere (each with what its reply says after it: the communication code and the return code in
-//!                                 brackets, unless both are 0, and the values), late, lost (x), skipped or missed; where `with` says
-//!                                 `stamped`, `@` and the moment at which its request was sent, in milliseconds since 1970, if it was;
-//!                                 and the last digit of a cycle that overran, with `!`
+//!     put open lf begin %R1Q,0,0: ..    what was put, opened and closed; `begin` are the eight null procedures of a
+//!                                 synchronization, in a row, each once; `cut:` stands before what was cut; where `with` says
+//!                                 `timed`, `@` and the milliseconds since the start come after each, and of a request there is
+//!                                 the id alone, as `#0@15`
+//!     ends 10a 11w[0:1283]2.25    the last digits of cycle and place and a letter for each record: answered, a warning,
+//!                                 unreadable and elsewhere (each with what its reply says after it: the communication code and
+//!                                 the return code in brackets, unless both are 0, and the values), late, lost (x), skipped or
+//!                                 missed; where `with` says `stamped`, `@` and the moment at which its request was sent, in
+//!                                 milliseconds since 1970, if it was; and the last digit of a cycle that overran, with `!`
 //!     end fault 46                the fault, if there is one
 //!     counts answered 3 ..        how many commands were answered, late, skipped and missed, and how many times a chain was sent
 //!                                 again, where `with` says `counted`, after a run without a fault over a link without a log
@@ -43,32 +44,32 @@ impl Player for Stations {
 
 // The texts of a case: the station's text, the words of the steps, and those of the steps after them.
 #[derive(Drop)]
-struct Values {
+struct CaseTexts {
     tasks: Vec<u8>,
     steps: Vec<u8>,
     then: Vec<u8>,
 }
 
-impl Values {
+impl CaseTexts {
     // The texts of no case: all are empty.
-    fn new(alloc: Global) -> Values {
-        Values {
+    fn new(alloc: Global) -> CaseTexts {
+        CaseTexts {
             tasks: Vec::new(alloc),
             steps: Vec::new(alloc),
             then: Vec::new(alloc),
         }
     }
 
-    // Stores the values that a case has under `tasks` (with a line feed for each `;`), `steps` and `then`. `Err`: memory ran out, and what
-    // was stored until then stays.
+    // Stores the values that a case has under `tasks` (with a line feed for each `;`), `steps` and `then`. `Err`: memory ran out,
+    // and what was stored until then stays.
     fn take(&mut self, case: &Case<'_>) -> Result<(), AllocError> {
         push_lines(&mut self.tasks, case.value("tasks"))?;
         push_bytes_of(&mut self.steps, case.value("steps"))?;
         push_bytes_of(&mut self.then, case.value("then"))
     }
 
-    // The run of the case, set as the words after `with` say; whether these are all known is noted in it. Its link has a log if the case
-    // has a line `log`.
+    // The run of the case, set as the words after `with` say; whether these are all known is noted in it. Its link has a log if
+    // the case has a line `log`.
     fn run(&self, alloc: Global, case: &Case<'_>) -> Run<'_> {
         let mut setting = Setting::new();
         let is_known = setting.set_all(case.value("with"));
@@ -95,11 +96,11 @@ fn push_lines(lines: &mut Vec<u8>, value: &str) -> Result<(), AllocError> {
 // Plays a case. If memory runs out for its texts, it is played with what there is of them, and `wrong` notes that it lacks a
 // part, so that this case and each later one of the file count as wrong.
 fn play_case(case: &Case<'_>, wrong: &mut Told) {
-    let mut values = Values::new(wrong.alloc);
-    if values.take(case).is_err() {
+    let mut texts = CaseTexts::new(wrong.alloc);
+    if texts.take(case).is_err() {
         wrong.lack();
     }
-    let run = values.run(wrong.alloc, case);
+    let run = texts.run(wrong.alloc, case);
     let played = CaseRun {
         case: *case,
         run: &run,
@@ -124,8 +125,8 @@ impl CaseRun<'_> {
         }
     }
 
-    // Plays the rows of the case, at most `MOST_ROWS`. Beside rows a case has no value under `put`, `ends`, `end`, `log` or `counts`:
-    // each that it has there is reported as wrong; and a line `each` has no effect.
+    // Plays the rows of the case, at most `MOST_ROWS`. Beside rows a case has no value under `put`, `ends`, `end`, `log` or
+    // `counts`: each that it has there is reported as wrong; and a line `each` has no effect.
     fn play_rows(&self, wrong: &mut Told) {
         for place in 0..MOST_ROWS {
             match self.case.value_at("row", place) {
@@ -137,8 +138,8 @@ impl CaseRun<'_> {
         nothing.compare(&self.case, wrong);
     }
 
-    // Plays a row: the run with the row's word more, which is what stands before the first `: `. Reports the row as it came, if that
-    // is something else than `row`.
+    // Plays a row: the run with the row's word more, which is what stands before the first `: `. Reports the row as it came, if
+    // that is something else than `row`.
     fn play_row(&self, row: &str, wrong: &mut Told) {
         let mut came = Told::new(wrong.alloc);
         let word = row.split_once(": ").map_or(row, |cut| cut.0);
@@ -156,8 +157,8 @@ impl CaseRun<'_> {
         outcome
     }
 
-    // Plays the run. Where the case has a line `each KEY=COUNT`, it is played once for each number below COUNT (`play_below`); a COUNT
-    // that is 0 or no number is reported as wrong. Without such a line the run is played once, as it is set.
+    // Plays the run. Where the case has a line `each KEY=COUNT`, it is played once for each number below COUNT (`play_below`); a
+    // COUNT that is 0 or no number is reported as wrong. Without such a line the run is played once, as it is set.
     fn play_each(&self, wrong: &mut Told) {
         let Some((key, count)) = self.case.value("each").split_once('=') else {
             self.outcome_with("").compare(&self.case, wrong);
@@ -170,8 +171,8 @@ impl CaseRun<'_> {
         }
     }
 
-    // Plays the run once for each number N below `count`, with the setting word `KEY=N` more, up to the first that comes otherwise than
-    // the case has it: what came otherwise is reported.
+    // Plays the run once for each number N below `count`, with the setting word `KEY=N` more, up to the first that comes
+    // otherwise than the case has it: what came otherwise is reported.
     fn play_below(&self, key: &str, count: u64, wrong: &mut Told) {
         for n in 0..count {
             let mut report = Told::new(wrong.alloc);
@@ -183,8 +184,8 @@ impl CaseRun<'_> {
         }
     }
 
-    // What the run comes to with one setting word more, which sets `key` to the number `n`; with a part of that word if memory runs
-    // out for it.
+    // What the run comes to with one setting word more, which sets `key` to the number `n`; with a part of that word if memory
+    // runs out for it.
     fn outcome_at(&self, key: &str, n: u64) -> Outcome {
         let mut word = Told::new(self.run.alloc);
         word.text(key);

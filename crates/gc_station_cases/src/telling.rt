@@ -1,7 +1,8 @@
 //! A station over any link, whose acts are recorded.
 
 ghost use Rattle.std.specs.Prelude.{Some};
-ghost use Rattle.gc_station.specs.Runs.{RanForReadings, run_seen};
+ghost use Rattle.gc_station.specs.Runs.{RanBy, run_seen};
+ghost use Rattle.gc_station.specs.Scopes.{ForReadings};
 
 use gc_links::{Link, Telling};
 use gc_station::{Book, Kept, Plan, Tally, run_station};
@@ -16,8 +17,8 @@ pub fn run_telling<L: Link, B: Book>(
     plan: &Plan,
     max_turns: u64,
 ) -> Result<Tally, RunFault>
-    ensures { RanForReadings plan.now commands.now max_turns
-        (run_seen (Some link.old.history.acts) B.Book book.old) (run_seen (Some link.new.history.acts) B.Book book.new) result }
+    ensures { ForReadings (RanBy plan.now commands.now max_turns
+        (run_seen (Some link.old.history.acts) B.Book book.old) (run_seen (Some link.new.history.acts) B.Book book.new) result) }
 {
     run_station(link, book, commands, plan, max_turns, &mut Kept::new())
 }

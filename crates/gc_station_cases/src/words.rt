@@ -1,15 +1,15 @@
 //! The words of steps. Milliseconds come after `@`, and are 5 if none do. `dead` and the words after it in this list have none.
 //!
-//!     BEGUN              the synchronization is answered: the replies of its eight null procedures come, the last of them after 15
-//!                        milliseconds
+//!     BEGUN              the synchronization is answered: the replies of its eight null procedures come, the last of them after
+//!                        15 milliseconds
 //!     QUIET              nothing comes for 10 milliseconds, the quiet time of `Setting::new`
 //!     TIMED_OUT          nothing comes for 100 milliseconds, the deadline of `Setting::new`
 //!     #3@30              the reply of a null procedure with this id comes
 //!     <%R1P,0,1:\r@99    these bytes come
 //!     <<%R1P,0,1:0\r\n   these bytes come in two pieces, cut where `split` says, each after the milliseconds
 //!     silence@70         nothing comes for 70 milliseconds
-//!     reply@1            the reply to the request that was sent last comes; its value is the last digit of that request's number among
-//!                        all of them, counted from 0 modulo 256
+//!     reply@1            the reply to the request that was sent last comes; its value is the last digit of that request's number
+//!                        among all of them, counted from 0 modulo 256
 //!     back@500           the clock goes back by 500 milliseconds
 //!     dead, noise        nothing comes any more, or lines that are no replies, until the connection is closed
 //!     answers            from now on the request that was sent last is answered, if it isn't yet
@@ -83,27 +83,19 @@ fn untimed_step<'a>(word: &str) -> Option<Step<'a>> {
     }
 }
 
-// The step that `what` names, the part of a word before `@`, with the milliseconds after it. `None`: no step with milliseconds has
-// that name, or an id after `#` isn't one byte.
+// The step that `what` names, the part of a word before `@`, with the milliseconds after it. `None`: no step with milliseconds
+// has that name, or an id after `#` isn't one byte.
 fn timed_step<'a>(what: &'a str, millis: u64) -> Option<Step<'a>> {
     if let Some(line) = what.strip_prefix('<') {
         return Some(Step::Line(line.as_bytes(), millis));
     }
-    if let Some(id) = what.strip_prefix('#') {
-        return Some(Step::Id(one_byte(id)?, millis));
+    if let [b'#', id] = what.as_bytes() {
+        return Some(Step::Id(*id, millis));
     }
     match what {
         "silence" => Some(Step::Silence(millis)),
         "reply" => Some(Step::Reply(millis)),
         "back" => Some(Step::Back(millis)),
-        _ => None,
-    }
-}
-
-// The byte of a word that is one byte. `None`: it isn't.
-fn one_byte(word: &str) -> Option<u8> {
-    match word.as_bytes() {
-        [digit] => Some(*digit),
         _ => None,
     }
 }

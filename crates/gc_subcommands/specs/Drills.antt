@@ -1,10 +1,9 @@
--- How a schedule that a source gives is played, and how that is reported: this project's own. `told` is what had been written
--- on the messages before, and `told'` what has been written now. `text_of` gives what is written of events that are played on an
--- instrument, through a window of some width, with or without the line of totals.
-use Rattle.std.specs.Prelude.{ℕ, ◌⊎◌, Bool, List, Option}
+-- How a schedule that a source gives is played, and how that is reported: this project's own. `text_of` gives what is written of
+-- events that are played on an instrument, through a window of some width, with or without the line of totals.
+use Rattle.std.specs.Prelude.{ℕ, ◌⊎◌, Bool, List}
 use Rattle.std.specs.Io.KnownBytes.{Consumes}
 use Rattle.gc_messages.specs.Refusals.{Refuses, range_line}
-use Rattle.gc_subcommands.specs.Refusing.{TellsEnd}
+use Rattle.gc_subcommands.specs.Refusing.{EndSeen, TellsEnd}
 use Rattle.gc_subcommands.specs.Scenes.{AreUnused, HoldsOfInstrument, RefusesScene}
 use Rattle.gc_subcommands.specs.declared.drill.Drilling.{Drilling}
 use Rattle.gc_engines.specs.Drill.{IsDrill, PlaysAll, drill_text_on}
@@ -15,33 +14,34 @@ use Rattle.gc_texts.specs.WholeTexts.{IsReadToEnd, source_of}
 use Rattle.gc_world.specs.declared.event.Event.{Event}
 
 -- the width was out of its range, which is reported (`Refuses`), and source and sink weren't used (`AreUnused`)
-abbrev pub RefusesWidth : (old new : Ports) → (status : ℕ) → (told told' : Option (List ℕ)) → Type 0
-RefusesWidth old new status told told' = Refuses range_line status told told' × AreUnused old new
+abbrev pub RefusesWidth : EndSeen → Type 0
+RefusesWidth seen = Refuses range_line seen.status seen.told_before seen.told × AreUnused seen.old seen.new
 
 -- the width was refused, or the bytes that a source gave were played as a schedule or refused (`IsDrill`), and the status and the messages
 -- tell how that ended (`TellsEnd`)
-abbrev pub TellsWithin : (text_of : List Event → (totals : Bool) → List ℕ) → (totals : Bool) → (old new : Ports) → (status : ℕ)
-    → (told told' : Option (List ℕ)) → Type 0
-TellsWithin text_of totals old new status told told' =
-    RefusesWidth old new status told told' ⊎ TellsEnd run_fault_text (IsDrill text_of totals old new) status told told'
+abbrev pub TellsWithin : (text_of : List Event → (totals : Bool) → List ℕ) → (totals : Bool) → EndSeen → Type 0
+TellsWithin text_of totals seen =
+    RefusesWidth seen ⊎ TellsEnd run_fault_text (IsDrill text_of totals seen.old seen.new) seen
 
--- the scene or the width was refused, or the schedule was played on the instrument of the scene (`HoldsOfInstrument`), and how that
--- ended is reported
-abbrev pub TellsDrill : Drilling → (old new : Ports) → (status : ℕ) → (told told' : Option (List ℕ)) → Type 0
-TellsDrill drilling old new status told told' =
-    RefusesScene drilling.scene old new status told told'
-    ⊎ HoldsOfInstrument drilling.scene (λ start. TellsWithin (drill_text_on start drilling.width) drilling.totals old new status told told')
-    (λ start. TellsWithin (scene_drill_text start drilling.width) drilling.totals old new status told told')
+-- `Holds` is true of what is written of events (`text_of`) that are played on the instrument of the scene (`HoldsOfInstrument`)
+abbrev pub HoldsOfText : Drilling → (Holds : (text_of : List Event → (totals : Bool) → List ℕ) → Type 0) → Type 0
+HoldsOfText drilling Holds =
+    HoldsOfInstrument drilling.scene (λ start. Holds (drill_text_on start drilling.width))
+    (λ start. Holds (scene_drill_text start drilling.width))
+
+-- the scene or the width was refused, or the schedule was played on the instrument of the scene, and how that ended is reported
+abbrev pub TellsDrill : Drilling → EndSeen → Type 0
+TellsDrill drilling seen =
+    RefusesScene drilling.scene seen ⊎ HoldsOfText drilling (λ text_of. TellsWithin text_of drilling.totals seen)
 
 -- a source gave a schedule, and the sink took the output of its events
 abbrev pub PlaysWhole : (text_of : List Event → (totals : Bool) → List ℕ) → (totals : Bool) → (old new : Ports) → Type 0
 PlaysWhole text_of totals old new =
     (given : List ℕ) × Consumes old.remaining new.remaining given × PlaysAll text_of given totals old.taken new.taken
 
--- the sink took the output of the schedule's events on the instrument of the scene (`HoldsOfInstrument`)
+-- a source gave a schedule, and the sink took the output of its events on the instrument of the scene
 abbrev pub PlaysScene : Drilling → (old new : Ports) → Type 0
-PlaysScene drilling old new = HoldsOfInstrument drilling.scene (λ start. PlaysWhole (drill_text_on start drilling.width) drilling.totals old new)
-    (λ start. PlaysWhole (scene_drill_text start drilling.width) drilling.totals old new)
+PlaysScene drilling old new = HoldsOfText drilling (λ text_of. PlaysWhole text_of drilling.totals old new)
 
 -- the source was read to its end (`IsReadToEnd`)
 abbrev pub ReadsWholeSource : (old new : Ports) → Type 0

@@ -1,7 +1,6 @@
--- How `exec` and `check` report how their loop over frames ended: this project's own. `told` is what had been written on the
--- messages before, and `told'` what has been written now.
-use Rattle.std.specs.Prelude.{◌≡◌, ℕ, ◌+◌, ◌<◌, ◌⊎◌, ◌↔◌, Bool, true, false, List, Option, Result}
-use Rattle.gc_subcommands.specs.Refusing.{TellsEnd}
+-- How `exec` and `check` report how their loop over frames ended: this project's own.
+use Rattle.std.specs.Prelude.{◌≡◌, ℕ, ◌+◌, ◌<◌, ◌⊎◌, ◌↔◌, Bool, true, false, Option, Result}
+use Rattle.gc_subcommands.specs.Refusing.{EndSeen, TellsEnd}
 use Rattle.gc_subcommands.specs.Scenes.{RefusesScene, HoldsOfInstrument}
 use Rattle.gc_engines.specs.Checking.{IsChecking}
 use Rattle.gc_engines.specs.LogChecking.{IsCheckingLog}
@@ -19,16 +18,15 @@ most_reads = 4294967295
 -- what serving does to instruments with these states: `IsServing` to the table's, `IsSceneServing` to that of a scene with
 -- rules
 abbrev pub TellsServing : {S : Type 0} → (Serves : (from to : S) → (ports ports' : Ports) → (most : ℕ) → Result Served ServeFault → Type 0)
-    → (start : S) → (old new : Ports) → (status : ℕ) → (told told' : Option (List ℕ)) → Type 0
-TellsServing {S} Serves start old new status told told' =
-    TellsEnd serve_fault_text (λ end. (after : S) × Serves start after old new most_reads end) status told told'
+    → (start : S) → EndSeen → Type 0
+TellsServing {S} Serves start seen =
+    TellsEnd serve_fault_text (λ end. (after : S) × Serves start after seen.old seen.new most_reads end) seen
 
 -- the scene was refused, or its instrument (`HoldsOfInstrument`) served a source, and how that ended is reported
-abbrev pub TellsExec : {Name : Type 0} → (scene : Option Name) → (old new : Ports) → (status : ℕ) → (told told' : Option (List ℕ)) → Type 0
-TellsExec scene old new status told told' =
-    RefusesScene scene old new status told told'
-    ⊎ HoldsOfInstrument scene (λ start. TellsServing IsServing start old new status told told')
-    (λ start. TellsServing IsSceneServing start old new status told told')
+abbrev pub TellsExec : {Name : Type 0} → (scene : Option Name) → EndSeen → Type 0
+TellsExec scene seen =
+    RefusesScene scene seen
+    ⊎ HoldsOfInstrument scene (λ start. TellsServing IsServing start seen) (λ start. TellsServing IsSceneServing start seen)
 
 -- an input was checked, as a log (`is_log`) or as a stream, with this result
 abbrev pub ChecksInput : (is_log : Bool) → (old new : Ports) → Result Served ServeFault → Type 0
@@ -36,8 +34,8 @@ ChecksInput true old new end = IsCheckingLog old new most_reads end
 ChecksInput false old new end = IsChecking old new most_reads end
 
 -- an input was checked, as a log (`is_log`) or as a stream, and the status and the messages tell how that ended (`TellsEnd`)
-abbrev pub TellsChecking : (is_log : Bool) → (old new : Ports) → (status : ℕ) → (told told' : Option (List ℕ)) → Type 0
-TellsChecking is_log old new status told told' = TellsEnd serve_fault_text (ChecksInput is_log old new) status told told'
+abbrev pub TellsChecking : (is_log : Bool) → EndSeen → Type 0
+TellsChecking is_log seen = TellsEnd serve_fault_text (ChecksInput is_log seen.old seen.new) seen
 
 -- status 0 exactly where the last read was the end
 abbrev pub IsDoneAtEnd : (old new : Ports) → (status : ℕ) → Type 0

@@ -18,8 +18,8 @@ pub(crate) trait Answerer: Drop {
     /// What serving may do: the instrument before and after it, the ports before and after it, the most reads, and how it ended.
     ghost serving: { Self → Self → Ports → Ports → ℕ → Result Served ServeFault → Type 0 };
 
-    /// Answers the requests of a source until its end, in at most `MOST_READS` reads. The faults are those of `serve`; the replies that
-    /// were written before a fault stay written.
+    /// Answers the requests of a source until its end, in at most `MOST_READS` reads. The faults are those of `serve`; the
+    /// replies that were written before a fault stay written.
     fn answer_all<S: Source, K: Sink>(
         &mut self,
         source: &mut S,

@@ -1,7 +1,6 @@
 //! `geocom ask`: its words, and commands that are asked at a place.
 
-ghost use Rattle.std.specs.Prelude.{◌≤◌, IfOk};
-ghost use Rattle.std.specs.Process.{exit_status};
+ghost use Rattle.gc_messages.specs.Statuses.{IsStatusUpTo};
 
 use crate::answerer::MOST_READS;
 use clap::Command;
@@ -49,7 +48,7 @@ pub fn ask_place<
     place: Place<'_>,
     mut streams: Streams<S, K, E>,
 ) -> (Streams<S, K, E>, io::Result<ExitCode>)
-    ensures { IfOk result.1 (λ status. exit_status status ≤ 1) }
+    ensures { IsStatusUpTo 1 result.1 }
 {
     let end = ask_at(
         rt,

@@ -1,10 +1,12 @@
 //! `geocom check`: its words, and what it says of a stream, or of a log.
 
-ghost use Rattle.std.specs.Prelude.{◌≤◌, IfOk};
+ghost use Rattle.std.specs.Prelude.{IfOk};
 ghost use Rattle.std.specs.Process.{exit_status};
 ghost use Rattle.gc_subcommands.specs.Serves.{ChecksInput, TellsChecking, IsDoneAtEnd};
+ghost use Rattle.gc_subcommands.specs.Refusing.{end_seen};
 ghost use Rattle.gc_subcommands.specs.declared.answerer.TheConstants.{MOST_READS};
 ghost use Rattle.gc_lines.specs.Answering.{ports_of, HasEnded};
+ghost use Rattle.gc_messages.specs.Statuses.{IsStatusUpTo};
 
 use crate::answerer::MOST_READS;
 use clap::Command;
@@ -35,8 +37,8 @@ pub fn check_command<'a>(alloc: Global, name: &'a str) -> Result<Command<'a>, Al
     )
 }
 
-/// Checks the source as a log where `log` is set (`run_check_log`), else as a stream (`run_check`), and reports how that ended, with
-/// status 0 or 1. `Err`: the messages couldn't be written.
+/// Checks the source as a log where `log` is set (`run_check_log`), else as a stream (`run_check`), and reports how that ended,
+/// with status 0 or 1. `Err`: the messages couldn't be written.
 pub fn check<S: Source, K: Sink, E: Write>(
     log: bool,
     source: &mut S,
@@ -44,17 +46,17 @@ pub fn check<S: Source, K: Sink, E: Write>(
     messages: &mut E,
 ) -> io::Result<ExitCode>
     // The input was checked, and the status and the messages report how that ended.
-    ensures told { IfOk result (λ status. TellsChecking log
+    ensures told { IfOk result (λ status. TellsChecking log (end_seen
         (ports_of S.Source source.old K.Sink sink.old)
         (ports_of S.Source source.new K.Sink sink.new)
-        (exit_status status) (E.contents messages.old) (E.contents messages.new)) }
+        (exit_status status) (E.contents messages.old) (E.contents messages.new))) }
 
     // Status 0 exactly where the last read was the end.
     ensures done { IfOk result (λ status. IsDoneAtEnd
         (ports_of S.Source source.old K.Sink sink.old)
         (ports_of S.Source source.new K.Sink sink.new)
         (exit_status status)) }
-    ensures bound { IfOk result (λ status. exit_status status ≤ 1) }
+    ensures bound { IsStatusUpTo 1 result }
 {
     report_served(check_input(log, source, sink), messages)
 }

@@ -3,7 +3,9 @@
 ghost use Rattle.std.specs.Prelude.{◌≡◌, ◌≤◌, IfOk};
 ghost use Rattle.std.specs.Process.{exit_status};
 ghost use Rattle.gc_subcommands.specs.Drills.{TellsWithin, TellsDrill, PlaysScene, ReadsWholeSource};
+ghost use Rattle.gc_subcommands.specs.Refusing.{end_seen};
 ghost use Rattle.gc_lines.specs.Answering.{ports_of};
+ghost use Rattle.gc_messages.specs.Statuses.{IsStatusUpTo};
 
 use crate::scene::{Staged, instrument_of};
 use clap::{ArgMatches, Command};
@@ -56,8 +58,8 @@ pub fn drill_command<'a>(alloc: Global, name: &'a str) -> Result<Command<'a>, Al
     )
 }
 
-/// What the words of `drill` ask for. clap gives a missing width its default, though no clause of clap's says so: else it would be 0,
-/// which `drill_scene` refuses.
+/// What the words of `drill` ask for. clap gives a missing width its default, though no clause of clap's says so: else it would
+/// be 0, which `drill_scene` refuses.
 pub fn drilling_of<'a>(words: &ArgMatches<'a>) -> Drilling<'a> {
     Drilling {
         scene: words.get_str("scene"),
@@ -67,8 +69,8 @@ pub fn drilling_of<'a>(words: &ArgMatches<'a>) -> Drilling<'a> {
 }
 
 /// Reads the scene, if one is named, plays the schedule of the source on its instrument, or else on the simulator, and reports
-/// how that ended: with status 0, 1, or 2 for a width that isn't 1 to 7. If the scene is refused, that alone is reported, whatever the
-/// width. `Err`: the messages couldn't be written.
+/// how that ended: with status 0, 1, or 2 for a width that isn't 1 to 7. If the scene is refused, that alone is reported,
+/// whatever the width. `Err`: the messages couldn't be written.
 pub fn drill_scene<R: Files, S: Source, K: Sink, E: Write>(
     rt: &R,
     alloc: Global,
@@ -79,13 +81,13 @@ pub fn drill_scene<R: Files, S: Source, K: Sink, E: Write>(
 ) -> io::Result<ExitCode>
     // Either the scene or the width was refused, which is reported, and source and sink weren't used; or the schedule was
     // played on the instrument, which is the simulator if no scene is named, and how that ended is reported.
-    ensures told { IfOk result (λ status. TellsDrill drilling.entry
+    ensures told { IfOk result (λ status. TellsDrill drilling.entry (end_seen
         (ports_of S.Source source.old K.Sink sink.old)
         (ports_of S.Source source.new K.Sink sink.new)
-        (exit_status status) (E.contents messages.old) (E.contents messages.new)) }
+        (exit_status status) (E.contents messages.old) (E.contents messages.new))) }
 
     // A width from 1 to 7 isn't refused.
-    ensures width { 1 ≤ drilling.entry.width → drilling.entry.width ≤ WINDOW → IfOk result (λ status. exit_status status ≤ 1) }
+    ensures width { 1 ≤ drilling.entry.width → drilling.entry.width ≤ WINDOW → IsStatusUpTo 1 result }
 
     // Status 0 only where the sink took the output of the text's events, on the simulator if no scene is named.
     ensures done { IfOk result (λ status. exit_status status ≡ 0 → PlaysScene drilling.entry
@@ -96,7 +98,7 @@ pub fn drill_scene<R: Files, S: Source, K: Sink, E: Write>(
     ensures whole { IfOk result (λ status. exit_status status ≡ 0 → ReadsWholeSource
         (ports_of S.Source source.old K.Sink sink.old)
         (ports_of S.Source source.new K.Sink sink.new)) }
-    ensures bound { IfOk result (λ status. exit_status status ≤ 2) }
+    ensures bound { IsStatusUpTo 2 result }
 {
     match instrument_of::<Staged, R>(rt, alloc, drilling.scene) {
         Ok(Staged::Plain(instrument)) => {
@@ -119,12 +121,12 @@ fn drill_within<I: Playable, S: Source, K: Sink, E: Write>(
     sink: &mut K,
     messages: &mut E,
 ) -> io::Result<ExitCode>
-    ensures told { IfOk result (λ status. TellsWithin (I.text instrument drilling.entry.width) drilling.entry.totals
+    ensures told { IfOk result (λ status. TellsWithin (I.text instrument drilling.entry.width) drilling.entry.totals (end_seen
         (ports_of S.Source source.old K.Sink sink.old)
         (ports_of S.Source source.new K.Sink sink.new)
-        (exit_status status) (E.contents messages.old) (E.contents messages.new)) }
-    ensures width { 1 ≤ drilling.entry.width → drilling.entry.width ≤ WINDOW → IfOk result (λ status. exit_status status ≤ 1) }
-    ensures bound { IfOk result (λ status. exit_status status ≤ 2) }
+        (exit_status status) (E.contents messages.old) (E.contents messages.new))) }
+    ensures width { 1 ≤ drilling.entry.width → drilling.entry.width ≤ WINDOW → IsStatusUpTo 1 result }
+    ensures bound { IsStatusUpTo 2 result }
 {
     if drilling.width == 0 || usize::from(drilling.width) > WINDOW {
         return refuse_numbers(messages);

@@ -1,9 +1,11 @@
 //! `geocom exec`: its words, and an instrument that answers the requests of standard input on standard output.
 
-ghost use Rattle.std.specs.Prelude.{◌≡◌, ◌≤◌, None, IfOk, false};
+ghost use Rattle.std.specs.Prelude.{◌≡◌, None, IfOk, false};
 ghost use Rattle.std.specs.Process.{exit_status};
 ghost use Rattle.gc_subcommands.specs.Serves.{TellsExec, IsDoneAtEnd, FailsByPorts};
+ghost use Rattle.gc_subcommands.specs.Refusing.{end_seen};
 ghost use Rattle.gc_lines.specs.Answering.{ports_of};
+ghost use Rattle.gc_messages.specs.Statuses.{IsStatusUpTo};
 
 use crate::answerer::Answerer;
 use crate::scene::{Staged, instrument_of};
@@ -43,10 +45,10 @@ pub fn exec_scene<R: Files, S: Source, K: Sink, E: Write>(
 ) -> io::Result<ExitCode>
     // Either the scene was refused, which is reported, and source and sink weren't used; or the instrument served, which is the
     // simulator where no scene is named, and how that ended is reported.
-    ensures told { IfOk result (λ status. TellsExec scene.entry
+    ensures told { IfOk result (λ status. TellsExec scene.entry (end_seen
         (ports_of S.Source source.old K.Sink sink.old)
         (ports_of S.Source source.new K.Sink sink.new)
-        (exit_status status) (E.contents messages.old) (E.contents messages.new)) }
+        (exit_status status) (E.contents messages.old) (E.contents messages.new))) }
 
     // Status 0 exactly where the last read was the end.
     ensures done { IfOk result (λ status. IsDoneAtEnd
@@ -54,14 +56,14 @@ pub fn exec_scene<R: Files, S: Source, K: Sink, E: Write>(
         (ports_of S.Source source.new K.Sink sink.new)
         (exit_status status)) }
 
-    // Without a scene, and over ports that hadn't failed before, status 1 only where one failed, or all reads that a u32 counts were
-    // used up.
+    // Without a scene, and over ports that hadn't failed before, status 1 only where one failed, or all reads that a u32 counts
+    // were used up.
     ensures fault { scene.entry ≡ None → S.failed source.old ≡ false → K.failed sink.old ≡ false
         → IfOk result (λ status. FailsByPorts
         (ports_of S.Source source.old K.Sink sink.old)
         (ports_of S.Source source.new K.Sink sink.new)
         (exit_status status)) }
-    ensures bound { IfOk result (λ status. exit_status status ≤ 1) }
+    ensures bound { IsStatusUpTo 1 result }
 {
     match instrument_of::<Staged, R>(rt, alloc, scene) {
         Ok(Staged::Plain(mut instrument)) => {

@@ -1,7 +1,6 @@
 //! `geocom loop`: its words, and commands that are asked over a connection to a simulator in this program.
 
-ghost use Rattle.std.specs.Prelude.{◌≤◌, IfOk};
-ghost use Rattle.std.specs.Process.{exit_status};
+ghost use Rattle.gc_messages.specs.Statuses.{IsStatusUpTo};
 
 use crate::answerer::MOST_READS;
 use crate::scene::{Staged, instrument_of};
@@ -49,7 +48,7 @@ pub fn loop_scene<
     scene: Option<&str>,
     mut streams: Streams<S, K, E>,
 ) -> (Streams<S, K, E>, io::Result<ExitCode>)
-    ensures { IfOk result.1 (λ status. exit_status status ≤ 1) }
+    ensures { IsStatusUpTo 1 result.1 }
 {
     let ended = match instrument_of::<Staged, R>(rt, alloc, scene) {
         Ok(Staged::Plain(instrument)) => loop_on(rt, alloc, scene, instrument, &mut streams),
@@ -74,7 +73,7 @@ fn loop_on<
     instrument: T,
     streams: &mut Streams<S, K, E>,
 ) -> io::Result<ExitCode>
-    ensures { IfOk result (λ status. exit_status status ≤ 1) }
+    ensures { IsStatusUpTo 1 result }
 {
     let end = loop_tcp_on(
         rt,
@@ -95,7 +94,7 @@ fn report_loop<E: Write>(
     end: Result<(), RunFault>,
     messages: &mut E,
 ) -> io::Result<ExitCode>
-    ensures { IfOk result (λ status. exit_status status ≤ 1) }
+    ensures { IsStatusUpTo 1 result }
 {
     let ended = report_end(end, messages);
     if scene.is_some() && matches!(end, Err(RunFault::Schedule { .. } | RunFault::InputTooLong)) {

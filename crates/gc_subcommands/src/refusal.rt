@@ -34,8 +34,8 @@ impl Refusal {
         }
     }
 
-    /// Reports the refusal with status 1 and the line of the fault. If a line of the text is faulty, a second line says what is at
-    /// fault in it. `Err`: the messages couldn't be written.
+    /// Reports the refusal with status 1 and the line of the fault. If a line of the text is faulty, a second line says what is
+    /// at fault in it. `Err`: the messages couldn't be written.
     pub(crate) fn tell<E: Write>(self, messages: &mut E) -> io::Result<ExitCode>
         ensures { IfOk result (λ status. TellsRefusal self (exit_status status) (E.contents messages.old) (E.contents messages.new)) }
     {
@@ -48,8 +48,8 @@ impl Refusal {
         }
     }
 
-    /// Reports the refusal as `tell` does, with status 1, and then writes a line with the path of the scene's file (`scene`), if one is
-    /// named. `Err`: what `tell` writes couldn't be written.
+    /// Reports the refusal as `tell` does, with status 1, and then writes a line with the path of the scene's file (`scene`), if
+    /// one is named. `Err`: what `tell` writes couldn't be written.
     pub(crate) fn tell_with_file<E: Write>(
         self,
         scene: Option<&str>,

@@ -1,6 +1,6 @@
-//! The instrument of a subcommand: that of a scene's file, or the simulator where none is named. A text is read as a scene without
-//! rules; where a line of it is faulty as that, as one with rules; and for `serve`, where a line is still faulty, as one for an instrument
-//! with a clock.
+//! The instrument of a subcommand: that of a scene's file, or the simulator where none is named. A text is read as a scene
+//! without rules; where a line of it is faulty as that, as one with rules; and for `serve`, where a line is still faulty, as one
+//! for an instrument with a clock.
 
 ghost use Rattle.std.specs.Prelude.{◌≡◌, None, Ok, IfErr, IfOk};
 ghost use Rattle.gc_engines.specs.RuleScenes.{IsStillLine, RuleSceneFault};
@@ -25,8 +25,8 @@ pub(crate) enum Staged {
     Ruled(SceneInstrument),
 }
 
-/// The instrument that a scene sets up for `serve`, which has a clock: also one that needs the clock, where a line says so (`delay`,
-/// `busy`, `behave clock`, `behave real`).
+/// The instrument that a scene sets up for `serve`, which has a clock: also one that needs the clock, where a line says so
+/// (`delay`, `busy`, `behave clock`, `behave real`).
 #[derive(Drop)]
 pub(crate) enum Timed {
     /// One that needs no clock: its replies take no time.

@@ -1,8 +1,8 @@
 //! `geocom serve`: its words, and an instrument on a port or on a device. The places of standard streams that are closed (file
 //! descriptors 0 to 2) are filled first, so that no socket or device takes one.
 
-ghost use Rattle.std.specs.Prelude.{◌≡◌, ◌≤◌, true, IfOk};
-ghost use Rattle.std.specs.Process.{exit_status};
+ghost use Rattle.std.specs.Prelude.{◌≡◌, ◌≤◌, true};
+ghost use Rattle.gc_messages.specs.Statuses.{IsStatusUpTo};
 
 use crate::answerer::MOST_READS;
 use crate::scene::{Staged, Timed, instrument_of};
@@ -29,7 +29,8 @@ use std::time::Clock;
 const LONGEST_IDLE: u32 = 86_400;
 
 /// What the words of `serve` ask for: the path of the scene's file, if one is named; the port, address or device; the number of
-/// connections, if one is given; and with `--keep` the seconds without bytes after which a connection is idle (`None`: without `--keep`).
+/// connections, if one is given; and with `--keep` the seconds without bytes after which a connection is idle (`None`: without
+/// `--keep`).
 #[derive(Clone, Copy)]
 pub struct Serving<'a> {
     pub scene: Option<&'a str>,
@@ -127,7 +128,7 @@ pub fn serve_with_places_filled<
     serving: Serving<'_>,
     messages: &mut E,
 ) -> io::Result<ExitCode>
-    ensures { IfOk result (λ status. exit_status status ≤ 2) }
+    ensures { IsStatusUpTo 2 result }
 {
     let Ok(places) = standard.fill(rt) else {
         return standard.report_closed(messages);
@@ -137,12 +138,13 @@ pub fn serve_with_places_filled<
     ended
 }
 
-// Reads the scene, and serves or keeps a place with its instrument. A scene that is refused is reported with its file, with status 1.
+// Reads the scene, and serves or keeps a place with its instrument. A scene that is refused is reported with its file, with
+// status 1.
 fn serve_with_scene<
     R: Net<Listener = TcpListener, Stream = TcpStream> + Clock + Files<File = File>,
     E: Write,
 >(rt: &R, alloc: Global, serving: Serving<'_>, messages: &mut E) -> io::Result<ExitCode>
-    ensures { IfOk result (λ status. exit_status status ≤ 2) }
+    ensures { IsStatusUpTo 2 result }
 {
     match instrument_of::<Timed, R>(rt, alloc, serving.scene) {
         Ok(Timed::Still(Staged::Plain(instrument))) => {
@@ -156,13 +158,13 @@ fn serve_with_scene<
     }
 }
 
-// Serves or keeps a place with an instrument whose replies may take time. `Clock` comes where the clock can't be read; then no place is
-// served.
+// Serves or keeps a place with an instrument whose replies may take time. `Clock` comes where the clock can't be read; then no
+// place is served.
 fn serve_slow<
     R: Net<Listener = TcpListener, Stream = TcpStream> + Clock + Files<File = File>,
     E: Write,
 >(rt: &R, serving: Serving<'_>, slow: SlowInstrument, messages: &mut E) -> io::Result<ExitCode>
-    ensures { IfOk result (λ status. exit_status status ≤ 2) }
+    ensures { IsStatusUpTo 2 result }
 {
     let Ok(clock) = BusyClock::new(rt, &slow) else {
         return report_end(Err(RunFault::Clock), messages);
@@ -170,14 +172,15 @@ fn serve_slow<
     serve_or_keep(rt, serving, Slow::new(&clock, slow), messages)
 }
 
-// Serves a place with an instrument, for one connection where no number is given, or keeps it (`keep_place`) where `serving.idle` is set.
+// Serves a place with an instrument, for one connection where no number is given, or keeps it (`keep_place`) where `serving.idle`
+// is set.
 fn serve_or_keep<
     'c,
     R: Net<Listener = TcpListener, Stream = TcpStream> + Clock + Files<File = File>,
     I: Simulates<'c> + Drop,
     E: Write,
 >(rt: &'c R, serving: Serving<'_>, mut instrument: I, messages: &mut E) -> io::Result<ExitCode>
-    ensures { IfOk result (λ status. exit_status status ≤ 2) }
+    ensures { IsStatusUpTo 2 result }
 {
     let Serving {
         scene: _,
@@ -221,8 +224,8 @@ fn endpoint_of(place: Place<'_>) -> Option<Endpoint<'_>> {
     }
 }
 
-// Serves a port, an address or a device, and reports how that ended. Numbers out of their range are refused with status 2: clap
-// refuses them first, though no clause of clap's says so.
+// Serves a port, an address or a device, and reports how that ended. It refuses with status 2 port 0, and a number of connections
+// out of its range, which clap refuses first, though no clause of clap's says so.
 fn serve_place<
     'c,
     R: Net<Listener = TcpListener, Stream = TcpStream> + Clock + Files<File = File>,
@@ -235,7 +238,7 @@ fn serve_place<
     instrument: &mut I,
     messages: &mut E,
 ) -> io::Result<ExitCode>
-    ensures { IfOk result (λ status. exit_status status ≤ 2) }
+    ensures { IsStatusUpTo 2 result }
 {
     if !is_in_range(connections) {
         return refuse_numbers(messages);
@@ -254,7 +257,8 @@ fn serve_place<
 }
 
 // Keeps a port, an address or a device: goes on after a connection that fails (`--keep`), and reports how that ended. It refuses
-// with status 2 a number of connections or a `keeping.idle` out of its range, the latter also of a device, which doesn't use it.
+// with status 2 port 0, and a number of connections or a `keeping.idle` out of its range, the latter also of a device, which
+// doesn't use it.
 // The status is 0 also where the line of a connection's fault couldn't be written.
 fn keep_place<
     'c,
@@ -268,7 +272,7 @@ fn keep_place<
     instrument: &mut I,
     messages: &mut E,
 ) -> io::Result<ExitCode>
-    ensures { IfOk result (λ status. exit_status status ≤ 2) }
+    ensures { IsStatusUpTo 2 result }
 {
     let idle = keeping.idle;
     if idle == 0 || idle > LONGEST_IDLE || !is_in_range(keeping.connections.unwrap_or(1)) {

@@ -15,8 +15,8 @@ use gc_words::{
 };
 use std::alloc::{AllocError, Global};
 
-/// What a command line asks for, or why that can't be done (`Nowhere`, `NumberMissing`, `StaleTooSoon`). A scene is the name of its file,
-/// where one is named.
+/// What a command line asks for, or why that can't be done (`Nowhere`, `NumberMissing`, `StaleTooSoon`). A scene is the name of
+/// its file, where one is named.
 pub enum Job<'a> {
     /// Answers requests with the instrument of the scene, or with the simulator.
     Exec { scene: Option<&'a str> },
@@ -39,8 +39,8 @@ pub enum Job<'a> {
     StaleTooSoon,
 }
 
-/// What a client is to do: ask commands, once, of a simulator or at a place; measure as a station; or say what a station would do, which
-/// needs no connection.
+/// What a client is to do: ask commands, once, of a simulator or at a place; measure as a station; or say what a station would
+/// do, which needs no connection.
 #[derive(Drop)]
 pub enum ClientJob<'a> {
     /// Asks the simulator, or the instrument of a scene's file where one is named.
@@ -191,7 +191,8 @@ fn subcommands_of<'a>(alloc: Global) -> Result<Vec<Command<'a>>, AllocError> {
     Ok(subcommands)
 }
 
-// What the words that clap has parsed ask for. clap refuses words without a subcommand, and an unknown one, so the last line isn't reached.
+// What the words that clap has parsed ask for. clap refuses words without a subcommand, and an unknown one, so the last line
+// isn't reached.
 fn parsed_job<'a>(matches: &ArgMatches<'a>) -> Job<'a> {
     if let Some((name, words)) = matches.subcommand() {
         if let Some(subcommand) = Subcommand::named(name) {

@@ -26,7 +26,7 @@ use Rattle.gc_texts.specs.declared.mode.Mode.{Mode}
 use Rattle.gc_texts.specs.declared.tasks.Task.{Task}
 use Rattle.gc_texts.proofs.TaskReading.{mode_after_lines, mode_after_both, given_both}
 use Rattle.gc_texts.proofs.FirstAttempts.{chains_have_first}
-use Rattle.gc_texts.proofs.TaskLaws.{continued_group}
+use Rattle.gc_texts.proofs.TaskLaws.{continued_group_is}
 
 -- after lines, the mode is that of the setup exactly where `section_after` says so of these lines; `mode` holds before them
 section_after_lines : (mode : Mode) (lines : List TaskLine) → (mode_after_lines mode lines).setup ≡ section_after mode.setup lines
@@ -34,16 +34,16 @@ section_after_lines mode [] = refl
 section_after_lines mode (says.AtStart ∷ later) = section_after_lines (mode_after mode says.AtStart) later
 section_after_lines mode (line ∷ later) = section_after_lines (mode_after mode line) later
 
--- n tasks, with one more in front of them where b is true, are n + 1 tasks where b is true, and n where it is false
-setup_one : (b : Bool) (t : Task) (ts : List Task) (n : ℕ) → length ts ≡ n → length ((if b then t ∷ [] else []) ++ ts) ≡ (if b then 1 else 0) + n
-setup_one true t ts n e = omega (arith, e)
-setup_one false t ts n e = omega (arith, e)
+-- if `ts` has n tasks, it has n + 1 with a task put in front where b is true, and n where it isn't, as no task is put there then
+one_task_more : (b : Bool) (t : Task) (ts : List Task) (n : ℕ) → length ts ≡ n → length ((if b then t ∷ [] else []) ++ ts) ≡ (if b then 1 else 0) + n
+one_task_more true t ts n e = omega (arith, e)
+one_task_more false t ts n e = omega (arith, e)
 
 -- the setup of lines has as many tasks as there are commands of it
 setup_count : (mode : Mode) (lines : List TaskLine) → length (setup_of mode lines) ≡ setup_commands mode.setup lines
 setup_count mode [] = refl
 setup_count mode (says.Command c now ∷ later) =
-    setup_one mode.setup (task_at mode c now) (setup_of (mode_after mode (says.Command c now)) later) (setup_commands mode.setup later)
+    one_task_more mode.setup (task_at mode c now) (setup_of (mode_after mode (says.Command c now)) later) (setup_commands mode.setup later)
     (setup_count (mode_after mode (says.Command c now)) later)
 setup_count mode (line ∷ later) = setup_count (mode_after mode line) later
 
@@ -81,48 +81,46 @@ record Says (deadline : ℕ) (chained : Bool) (lines : List TaskLine) (mode : Mo
   retry_is : IsRetryAfter lines mode.retry
   group : (target : ℕ) → mode.group ≡ Some target → EndsInGroupOf lines target
 
--- where `value` is that of a setting after some lines (`IsSetAfter`), it is so after one more line that leaves the setting as it
--- is
-more_set : {Value : Type 0} (SetsNone : TaskLine → Type 0) (line_of : Value → TaskLine) (given value : Value) (lines : List TaskLine) (line : TaskLine)
+-- a setting that has this value after some lines (`IsSetAfter`) still has it after one more line that doesn't set it
+still_set : {Value : Type 0} (SetsNone : TaskLine → Type 0) (line_of : Value → TaskLine) (given value : Value) (lines : List TaskLine) (line : TaskLine)
     → SetsNone line → IsSetAfter SetsNone line_of given lines value → IsSetAfter SetsNone line_of given (lines ++ line ∷ []) value
-more_set SetsNone line_of given value lines line none (inl all) = inl (all_by_recursion_push SetsNone lines line all.0 none, all.1)
-more_set SetsNone line_of given value lines line none (inr (before, between, at, without)) =
+still_set SetsNone line_of given value lines line none (inl all) = inl (all_by_recursion_push SetsNone lines line all.0 none, all.1)
+still_set SetsNone line_of given value lines line none (inr (before, between, at, without)) =
     inr (before, between ++ line ∷ [], ap (λ xs. xs ++ line ∷ []) at ∙ append_assoc before (line_of value ∷ between) (line ∷ []), all_by_recursion_push SetsNone between line without none)
 
 -- where the mode has the deadline that holds after some lines (`IsDeadlineAfter`), the mode after one more line has the one that
 -- holds after all of them
-deadline_more : (deadline : ℕ) (lines : List TaskLine) (mode : Mode) (line : TaskLine) → IsDeadlineAfter deadline lines mode.deadline
+deadline_after_one_more : (deadline : ℕ) (lines : List TaskLine) (mode : Mode) (line : TaskLine) → IsDeadlineAfter deadline lines mode.deadline
     → IsDeadlineAfter deadline (lines ++ line ∷ []) (mode_after mode line).deadline
-deadline_more deadline lines mode (says.Deadline d) is = inr (lines, [], refl, tt)
-deadline_more deadline lines mode line is = more_set SaysNoDeadline says.Deadline deadline mode.deadline lines line tt is
+deadline_after_one_more deadline lines mode (says.Deadline d) is = inr (lines, [], refl, tt)
+deadline_after_one_more deadline lines mode line is = still_set SaysNoDeadline says.Deadline deadline mode.deadline lines line tt is
 
 -- where the mode says whether commands are chained after some lines (`IsChainingAfter`), the mode after one more line says
 -- whether they are after all of these lines
-chaining_more : (chained : Bool) (lines : List TaskLine) (mode : Mode) (line : TaskLine) → IsChainingAfter chained lines mode.chained
+chaining_after_one_more : (chained : Bool) (lines : List TaskLine) (mode : Mode) (line : TaskLine) → IsChainingAfter chained lines mode.chained
     → IsChainingAfter chained (lines ++ line ∷ []) (mode_after mode line).chained
-chaining_more chained lines mode says.Chained is = inr (lines, [], refl, tt)
-chaining_more chained lines mode says.Unchained is = inr (lines, [], refl, tt)
-chaining_more chained lines mode line is = more_set SaysNoChaining chaining_line chained mode.chained lines line tt is
+chaining_after_one_more chained lines mode says.Chained is = inr (lines, [], refl, tt)
+chaining_after_one_more chained lines mode says.Unchained is = inr (lines, [], refl, tt)
+chaining_after_one_more chained lines mode line is = still_set SaysNoChaining chaining_line chained mode.chained lines line tt is
 
 -- where the mode has the codes that are accepted after some lines (`AreAcceptedAfter`), the mode after one more line has those
 -- that are accepted after all of them
-codes_more : (lines : List TaskLine) (mode : Mode) (line : TaskLine)
+codes_after_one_more : (lines : List TaskLine) (mode : Mode) (line : TaskLine)
     → AreAcceptedAfter lines mode.accepted → AreAcceptedAfter (lines ++ line ∷ []) (mode_after mode line).accepted
-codes_more lines mode (says.Accepting cs) are = inr (lines, [], refl, tt)
-codes_more lines mode line are = more_set SaysNoCodes says.Accepting no_codes mode.accepted lines line tt are
+codes_after_one_more lines mode (says.Accepting cs) are = inr (lines, [], refl, tt)
+codes_after_one_more lines mode line are = still_set SaysNoCodes says.Accepting no_codes mode.accepted lines line tt are
 
 -- where the mode has the retry that holds after some lines (`IsRetryAfter`), the mode after one more line has the
 -- one that holds after all of them
-retry_more : (lines : List TaskLine) (mode : Mode) (line : TaskLine)
+retry_after_one_more : (lines : List TaskLine) (mode : Mode) (line : TaskLine)
     → IsRetryAfter lines mode.retry → IsRetryAfter (lines ++ line ∷ []) (mode_after mode line).retry
-retry_more lines mode (says.Retrying r) is = inr (lines, [], refl, tt)
-retry_more lines mode line is = more_set SaysNoRetry says.Retrying no_retry mode.retry lines line tt is
+retry_after_one_more lines mode (says.Retrying r) is = inr (lines, [], refl, tt)
+retry_after_one_more lines mode line is = still_set SaysNoRetry says.Retrying no_retry mode.retry lines line tt is
 
--- where the last command of some lines is for a target, and only lines that keep its group (`KeepsGroup`) follow it, the same
--- holds with one more line that keeps the group
-more_group : (lines : List TaskLine) (line : TaskLine) (target : ℕ)
+-- lines that end in the group of a target (`EndsInGroupOf`) still do so with one more line that keeps the group (`KeepsGroup`)
+still_in_group : (lines : List TaskLine) (line : TaskLine) (target : ℕ)
     → KeepsGroup line → EndsInGroupOf lines target → EndsInGroupOf (lines ++ line ∷ []) target
-more_group lines line target keeps (before, command, now, between, at, all, same) = (
+still_in_group lines line target keeps (before, command, now, between, at, all, same) = (
   before,
   command,
   now,
@@ -135,25 +133,25 @@ more_group lines line target keeps (before, command, now, between, at, all, same
 
 -- where the group of the mode, if it has one, is that of the last command of the lines before (`EndsInGroupOf`), the group of the
 -- mode after one more line, if it has one, is that of the last command of all of these lines
-group_more : (lines : List TaskLine) (mode : Mode) (line : TaskLine) → ((target : ℕ) → mode.group ≡ Some target → EndsInGroupOf lines target)
+group_after_one_more : (lines : List TaskLine) (mode : Mode) (line : TaskLine) → ((target : ℕ) → mode.group ≡ Some target → EndsInGroupOf lines target)
     → (target : ℕ) → (mode_after mode line).group ≡ Some target → EndsInGroupOf (lines ++ line ∷ []) target
-group_more lines mode (says.Command c now) group target e = (lines, c, now, [], refl, tt, same_Some c.target target e)
-group_more lines mode (says.Deadline d) group target e = more_group lines (says.Deadline d) target tt (group target e)
-group_more lines mode (says.Naming n) group target e = more_group lines (says.Naming n) target tt (group target e)
-group_more lines mode (says.Locating n) group target e = more_group lines (says.Locating n) target tt (group target e)
-group_more lines mode (says.Accepting cs) group target e = more_group lines (says.Accepting cs) target tt (group target e)
-group_more lines mode line group target e = absurd (none-some target e)
+group_after_one_more lines mode (says.Command c now) group target e = (lines, c, now, [], refl, tt, same_Some c.target target e)
+group_after_one_more lines mode (says.Deadline d) group target e = still_in_group lines (says.Deadline d) target tt (group target e)
+group_after_one_more lines mode (says.Naming n) group target e = still_in_group lines (says.Naming n) target tt (group target e)
+group_after_one_more lines mode (says.Locating n) group target e = still_in_group lines (says.Locating n) target tt (group target e)
+group_after_one_more lines mode (says.Accepting cs) group target e = still_in_group lines (says.Accepting cs) target tt (group target e)
+group_after_one_more lines mode line group target e = absurd (none-some target e)
 
 -- where `mode` is what `lines` say (`Says`), the mode after one more line is what all of them say. `deadline` and `chained`
 -- are what holds before all lines
-says_more : (deadline : ℕ) (chained : Bool) (lines : List TaskLine) (mode : Mode) (line : TaskLine) → Says deadline chained lines mode
+says_after_one_more : (deadline : ℕ) (chained : Bool) (lines : List TaskLine) (mode : Mode) (line : TaskLine) → Says deadline chained lines mode
     → Says deadline chained (lines ++ line ∷ []) (mode_after mode line)
-says_more deadline chained lines mode line h = record {
-  deadline_is = deadline_more deadline lines mode line h.deadline_is;
-  chained_is = chaining_more chained lines mode line h.chained_is;
-  accepted_are = codes_more lines mode line h.accepted_are;
-  retry_is = retry_more lines mode line h.retry_is;
-  group = λ target e. group_more lines mode line h.group target e;
+says_after_one_more deadline chained lines mode line h = record {
+  deadline_is = deadline_after_one_more deadline lines mode line h.deadline_is;
+  chained_is = chaining_after_one_more chained lines mode line h.chained_is;
+  accepted_are = codes_after_one_more lines mode line h.accepted_are;
+  retry_is = retry_after_one_more lines mode line h.retry_is;
+  group = λ target e. group_after_one_more lines mode line h.group target e;
 }
 
 -- where a mode is what the lines `done` say (`Says`), the mode after further lines is what all of these lines say
@@ -162,11 +160,11 @@ says_all : (deadline : ℕ) (chained : Bool) (done : List TaskLine) (mode : Mode
 says_all deadline chained done mode [] h = subst (λ xs. Says deadline chained xs mode) (sym (append-nil done)) h
 says_all deadline chained done mode (line ∷ later) h =
     subst (λ xs. Says deadline chained xs (mode_after_lines (mode_after mode line) later)) (append_assoc done (line ∷ []) later)
-    (says_all deadline chained (done ++ line ∷ []) (mode_after mode line) later (says_more deadline chained done mode line h))
+    (says_all deadline chained (done ++ line ∷ []) (mode_after mode line) later (says_after_one_more deadline chained done mode line h))
 
--- before all lines the first mode holds, which has the caller's deadline and chaining: no line has said otherwise
-says_opening : (deadline : ℕ) (chained : Bool) → Says deadline chained [] (first_mode deadline chained)
-says_opening deadline chained = record {
+-- the first mode, which has the caller's deadline and chaining, is what no lines say (`Says`)
+says_none : (deadline : ℕ) (chained : Bool) → Says deadline chained [] (first_mode deadline chained)
+says_none deadline chained = record {
   deadline_is = inl (tt, refl);
   chained_is = inl (tt, refl);
   accepted_are = inl (tt, refl);
@@ -211,12 +209,12 @@ chaining_of_lines mode lines b (inr (before, between, at, none)) =
     ∙ chaining_stays (mode_after (mode_after_lines mode before) (chaining_line b)) between none ∙ chaining_line_sets (mode_after_lines mode before) b
 
 -- a command for a target continues the group of that target
-group_continued : (group : Option ℕ) (target : ℕ) → group ≡ Some target → continues_group group target ≡ true
-group_continued group target e = ap (λ r. continues_group r target) e ∙ eq-eqb target target refl
+continues_its_group : (group : Option ℕ) (target : ℕ) → group ≡ Some target → continues_group group target ≡ true
+continues_its_group group target e = ap (λ r. continues_group r target) e ∙ eq-eqb target target refl
 
 -- a command of the cycle is chained exactly where the mode chains commands and the command continues the group
-cycle_joined : (mode : Mode) (target : ℕ) → mode.setup ≡ false → chained_at mode target ≡ (mode.chained && continues_group mode.group target)
-cycle_joined mode target e = ap (λ b. if b then nat_lt 0 mode.begun else mode.chained && continues_group mode.group target) e
+chained_in_cycle : (mode : Mode) (target : ℕ) → mode.setup ≡ false → chained_at mode target ≡ (mode.chained && continues_group mode.group target)
+chained_in_cycle mode target e = ap (λ b. if b then nat_lt 0 mode.begun else mode.chained && continues_group mode.group target) e
 
 -- the task of the command after the lines `front`, with any rule, place and count of others
 module _ (deadline : ℕ) (chained : Bool) (front : List TaskLine) (command : Wish) (now : Bool) (near : Option Near) (again : Again) (others : ℕ) where
@@ -240,18 +238,18 @@ module _ (deadline : ℕ) (chained : Bool) (front : List TaskLine) (command : Wi
       }
 
   -- the mode before the command is what the lines before the command say (`Says`)
-  said_so : Says deadline chained front mode
-  said_so = says_all deadline chained [] (first_mode deadline chained) front (says_opening deadline chained)
+  mode_is_said : Says deadline chained front mode
+  mode_is_said = says_all deadline chained [] (first_mode deadline chained) front (says_none deadline chained)
 
   -- `its_task` is as the lines before the command say, as `IsTaskOf` has it
-  goes_out : IsTaskOf deadline chained front command now its_task
-  goes_out =
+  task_follows_lines : IsTaskOf deadline chained front command now its_task
+  task_follows_lines =
       record {
         asks = refl;
         moment = refl;
         first = refl;
-        deadline_is = said_so.deadline_is;
-        accepted_are = said_so.accepted_are;
+        deadline_is = mode_is_said.deadline_is;
+        accepted_are = mode_is_said.accepted_are;
         at_start = λ e.
             let setup : mode.setup ≡ true = section_after_lines (first_mode deadline chained) front ∙ e in
             let begun : mode.begun ≡ setup_commands false front = let counted = setup_counted (first_mode deadline chained) front in omega (arith, counted) in
@@ -262,14 +260,14 @@ module _ (deadline : ℕ) (chained : Bool) (front : List TaskLine) (command : Wi
         in_cycle = λ e.
             let cycle : mode.setup ≡ false = section_after_lines (first_mode deadline chained) front ∙ e in
             let place : mode.place ≡ cycle_commands false front = let counted = cycle_counted (first_mode deadline chained) front in omega (arith, counted) in
-            let so = cycle_joined mode command.target cycle in
+            let so = chained_in_cycle mode command.target cycle in
             record {
               place = ap (λ b. if b then mode.begun else mode.place) cycle ∙ place;
               only = λ is.
                   let both = and_parts mode.chained (continues_group mode.group command.target) (sym so ∙ is) in
-                  (subst (λ b. IsChainingAfter chained front b) both.0 said_so.chained_is, said_so.group command.target (continued_group mode.group command.target both.1));
+                  (subst (λ b. IsChainingAfter chained front b) both.0 mode_is_said.chained_is, mode_is_said.group command.target (continued_group_is mode.group command.target both.1));
               found = λ a b. so ∙ and_from mode.chained (continues_group mode.group command.target) (chaining_of_lines (first_mode deadline chained) front true a)
-                  (group_continued mode.group command.target (group_of (first_mode deadline chained) front command.target b));
+                  (continues_its_group mode.group command.target (group_of (first_mode deadline chained) front command.target b));
             };
       }
 
@@ -278,77 +276,77 @@ module _
     (text : List ℕ) (deadline : ℕ) (chained : Bool) (given : TasksSeen) (is : IsTasks text deadline chained given)
     (front later : List TaskLine) (command : Wish) (now : Bool) (at : is.said ≡ front ++ says.Command command now ∷ later) where
   -- the mode before the command
-  abbrev here : Mode
-  here = mode_after_lines (first_mode deadline chained) front
+  abbrev mode_before : Mode
+  mode_before = mode_after_lines (first_mode deadline chained) front
 
   -- the task of the command, before it has its place
-  abbrev own : Task
-  own = task_at here command now
+  abbrev own_task : Task
+  own_task = task_at mode_before command now
 
   -- the setup tasks before the command
-  abbrev setups : List Task
-  setups = setup_of (first_mode deadline chained) front
+  abbrev setup_before : List Task
+  setup_before = setup_of (first_mode deadline chained) front
 
   -- the cycle's commands before the command
   abbrev planned : List Planned
   planned = planned_of (first_mode deadline chained) front
 
   -- the mode after the command
-  abbrev next : Mode
-  next = mode_after here (says.Command command now)
+  abbrev mode_behind : Mode
+  mode_behind = mode_after mode_before (says.Command command now)
 
   -- all tasks of the text without their places; `b` says whether the command is of the setup
-  abbrev all : (b : Bool) → List Task
-  all b =
-      (setups ++ ((if b then own ∷ [] else []) ++ setup_of next later))
-      ++ laid_out (planned ++ ((if b then [] else record { task = own; retry = here.retry } ∷ []) ++ planned_of next later))
+  abbrev all_tasks : (b : Bool) → List Task
+  all_tasks b =
+      (setup_before ++ ((if b then own_task ∷ [] else []) ++ setup_of mode_behind later))
+      ++ laid_out (planned ++ ((if b then [] else record { task = own_task; retry = mode_before.retry } ∷ []) ++ planned_of mode_behind later))
 
-  -- where b says whether the command is of the setup, the text's tasks are `all b`, each with the place of its target, if a line
-  -- of the text says that place
-  all_are : (b : Bool) → here.setup ≡ b → given.tasks ≡ map (placed given.nears) (all b)
-  all_are b e =
+  -- where b says whether the command is of the setup, the text's tasks are `all_tasks b`, each with the place of its target, if a
+  -- line of the text says that place
+  all_tasks_are : (b : Bool) → mode_before.setup ≡ b → given.tasks ≡ map (placed given.nears) (all_tasks b)
+  all_tasks_are b e =
       is.tasks_are ∙ ap (λ said. map (placed given.nears) (tasks_of (first_mode deadline chained) said)) at
       ∙ ap (λ ts. map (placed given.nears) (ts ++ laid_out (planned_of (first_mode deadline chained) (front
       ++ says.Command command now ∷ later)))) (given_both setup_at (first_mode deadline chained) front (says.Command command now ∷ later))
-      ∙ ap (λ ps. map (placed given.nears) ((setups ++ setup_of here (says.Command command now ∷ later)) ++ laid_out ps))
+      ∙ ap (λ ps. map (placed given.nears) ((setup_before ++ setup_of mode_before (says.Command command now ∷ later)) ++ laid_out ps))
       (given_both planned_at (first_mode deadline chained) front (says.Command command now ∷ later))
-      ∙ ap (λ t. map (placed given.nears) (all t)) e
+      ∙ ap (λ t. map (placed given.nears) (all_tasks t)) e
 
   -- the law for this command, by whether it is of the setup (`b`)
-  by_section : (b : Bool) → here.setup ≡ b
+  by_section : (b : Bool) → mode_before.setup ≡ b
       → (earlier : List Task) × (task : Task) × (others : List Task) × (given.tasks ≡ earlier ++ task ∷ others)
       × (section_after false front ≡ true → length earlier ≡ setup_commands false front) × (section_after false front ≡ false → given.setup ≤ length earlier)
       × IsTaskOf deadline chained front command now task × (task.near ≡ near_of command.target given.nears)
   by_section true e =
-      let rest = setup_of next later ++ laid_out (planned ++ planned_of next later) in (
-        map (placed given.nears) setups,
-        placed given.nears own,
+      let rest = setup_of mode_behind later ++ laid_out (planned ++ planned_of mode_behind later) in (
+        map (placed given.nears) setup_before,
+        placed given.nears own_task,
         map (placed given.nears) rest,
-        all_are true e ∙ ap (map (placed given.nears)) (append_assoc setups (own ∷ setup_of next later) (laid_out (planned ++ planned_of next later)))
-            ∙ map-append (placed given.nears) setups (own ∷ rest),
-        (λ s. length-map setups (placed given.nears) ∙ setup_count (first_mode deadline chained) front),
+        all_tasks_are true e ∙ ap (map (placed given.nears)) (append_assoc setup_before (own_task ∷ setup_of mode_behind later) (laid_out (planned ++ planned_of mode_behind later)))
+            ∙ map-append (placed given.nears) setup_before (own_task ∷ rest),
+        (λ s. length-map setup_before (placed given.nears) ∙ setup_count (first_mode deadline chained) front),
         (λ s. let bad : true ≡ false = sym e ∙ section_after_lines (first_mode deadline chained) front ∙ s in cc),
-        goes_out deadline chained front command now (near_of command.target given.nears) no_again 0,
+        task_follows_lines deadline chained front command now (near_of command.target given.nears) no_again 0,
         refl,
       )
   by_section false e =
-      let p : Planned = record { task = own; retry = here.retry } in
-      let among = chains_have_first no_retry [] planned (planned_of next later) p in
-      let in_front = setups ++ setup_of next later in
+      let p : Planned = record { task = own_task; retry = mode_before.retry } in
+      let among = chains_have_first no_retry [] planned (planned_of mode_behind later) p in
+      let in_front = setup_before ++ setup_of mode_behind later in
       let many : given.setup ≡ length in_front =
       is.setup_is ∙ ap (λ said. length (setup_of (first_mode deadline chained) said)) at ∙ ap length (given_both setup_at (first_mode deadline chained) front (says.Command command now ∷ later))
-      ∙ ap (λ b. length (setups ++ ((if b then own ∷ [] else []) ++ setup_of next later))) e in
+      ∙ ap (λ b. length (setup_before ++ ((if b then own_task ∷ [] else []) ++ setup_of mode_behind later))) e in
       let long : length (map (placed given.nears) (in_front ++ among.earlier)) ≡ length in_front + length among.earlier = length-map (in_front ++ among.earlier) (placed given.nears)
       ∙ length-append in_front among.earlier in (
         map (placed given.nears) (in_front ++ among.earlier),
         placed given.nears (in_attempt 1 among.again among.commands p),
         map (placed given.nears) among.others,
-        all_are false e ∙ ap (λ ts. map (placed given.nears) (in_front ++ ts)) among.are
+        all_tasks_are false e ∙ ap (λ ts. map (placed given.nears) (in_front ++ ts)) among.are
             ∙ ap (map (placed given.nears)) (sym (append_assoc in_front among.earlier (in_attempt 1 among.again among.commands p ∷ among.others)))
             ∙ map-append (placed given.nears) (in_front ++ among.earlier) (in_attempt 1 among.again among.commands p ∷ among.others),
         (λ s. let bad : false ≡ true = sym e ∙ section_after_lines (first_mode deadline chained) front ∙ s in cc),
         (λ s. omega (arith, many, long)),
-        goes_out deadline chained front command now (near_of command.target given.nears) among.again 0,
+        task_follows_lines deadline chained front command now (near_of command.target given.nears) among.again 0,
         refl,
       )
 
@@ -364,7 +362,7 @@ pub retries_hold : RetriesHold
 retries_hold deadline chained front later command now cycle =
     let first = first_mode deadline chained in
     let mode = mode_after_lines first front in
-    let said : Says deadline chained front mode = says_all deadline chained [] first front (says_opening deadline chained) in
+    let said : Says deadline chained front mode = says_all deadline chained [] first front (says_none deadline chained) in
     let p : Planned = record { task = task_at mode command now; retry = mode.retry } in (
       p,
       planned_of (mode_after mode (says.Command command now)) later,

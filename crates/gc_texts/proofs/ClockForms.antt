@@ -36,9 +36,10 @@ six_values : (call : Call) → (call_fields call).number ≡ 5007 → length (ca
 six_values call e = grind arith
 
 -- no call of procedure 5007 has `now` for its parameters: the procedure has six
-pub no_now : (call : Call) → IsCall 5007 (codes "now") call → ⊥
-no_now call is =
-    let one : is.values.items ≡ codes "now" ∷ [] = one_list (codes "now") is.values.items (codes "now" ∷ []) is.values.split (joined_params (codes "now" ∷ []) (now_is_one_parameter, tt) (omega arith, tt)) in
+pub now_is_no_call_of_5007 : (call : Call) → IsCall 5007 (codes "now") call → ⊥
+now_is_no_call_of_5007 call is =
+    let one : is.values.items ≡ codes "now" ∷ [] =
+    one_list (codes "now") is.values.items (codes "now" ∷ []) is.values.split (joined_params (codes "now" ∷ []) (now_is_one_parameter, tt) (omega arith, tt)) in
     let many : length is.values.items ≡ length (call_fields call).values = same_count (call_fields call).values is.values.items is.values.read ∙ length-map (call_fields call).values kind_of in
     let six : length (call_fields call).values ≡ 6 = six_values call is.number in
     let single : length is.values.items ≡ 1 = ap length one in
@@ -53,7 +54,7 @@ command_is_no_clock line command is e =
     let parts = procedure_parts is.procedure (codes "5007") (Some (codes "now")) command.call (procedure, lacks_by_test 32 (codes "5007") refl) p in
     let rpc : p.rpc ≡ 5007 = p.number.names.value ∙ ap number (sym parts.0) in
     let params : unwrap_or p.params [] ≡ codes "now" = ap (λ o. unwrap_or o []) (sym parts.1) in
-    no_now command.call (subst (λ (n : ℕ). IsCall n (codes "now") command.call) rpc (subst (λ (ps : List ℕ). IsCall p.rpc ps command.call) params p.calls))
+    now_is_no_call_of_5007 command.call (subst (λ (n : ℕ). IsCall n (codes "now") command.call) rpc (subst (λ (ps : List ℕ). IsCall p.rpc ps command.call) params p.calls))
 
 -- where the second word of a line is `raw`, what follows its first word isn't `5007 now`
 raw_is_no_clock : (line : List ℕ) → second_word line ≡ codes "raw" → behind 32 line ≡ codes "5007 now" → ⊥

@@ -5,18 +5,19 @@
 use Rattle.std.proofs.Common.{◌≡◌, ◌<◌, ◌≤◌, ◌+◌, ◌-◌, inl, inr, ℕ, suc, replicate, slice_set, List, [], ◌∷◌, ◌++◌, length, get_or, Option, Some, None, arith, ap, subst, sym, ◌∙◌, append_assoc, append-nil, codes}
 use Rattle.std.proofs.Math.Seq.{set-append_seam}
 use Rattle.std.proofs.lemmas.List.{length_push}
-use Rattle.gc_texts.specs.Codes.{IsCodeList, IsCode, AreCodes, padded_codes}
+use Rattle.gc_texts.specs.Codes.{IsCodeList, IsCode, padded_codes}
 use Rattle.gc_texts.specs.Cuts.{Cuts, Lacks}
 use Rattle.gc_texts.specs.TaskLines.{SetsAccepted}
 use Rattle.gc_texts.specs.declared.codes.Codes.{Codes}
 use Rattle.gc_texts.specs.LineForms.{IsReadAs}
-use Rattle.gc_texts.proofs.Cutting.{read_alike, same_rest, digits_lack_spaces}
+use Rattle.gc_texts.specs.Words.{AreWords}
+use Rattle.gc_texts.proofs.Cutting.{read_alike, holds_of_rest, digits_lack_spaces}
 use Rattle.gc_texts.proofs.Procedures.{one_number}
 use Rattle.gc_texts.proofs.WordForms.{IsWordForm, one_word_list, AreLeft, ReadsWords, all_words_read, next_item_of, one_more_read}
 
 -- a word is one code at most
-one_listed : (word : List ℕ) (a b : ℕ) → IsCode word a → IsCode word b → a ≡ b
-one_listed word a b x y = one_number word a b 65535 x.number y.number
+one_code : (word : List ℕ) (a b : ℕ) → IsCode word a → IsCode word b → a ≡ b
+one_code word a b x y = one_number word a b 65535 x.number y.number
 
 -- the word of a code has no space
 code_lacks_space : (word : List ℕ) (code : ℕ) → IsCode word code → Lacks 32 word
@@ -24,36 +25,36 @@ code_lacks_space word code is = digits_lack_spaces word is.number.names.digits
 
 -- a code's word has no space, and is one code at most
 code_form : IsWordForm IsCode
-code_form = record { lacks = code_lacks_space; one = one_listed }
+code_form = record { lacks = code_lacks_space; one = one_code }
 
 -- a text fills the 16 places for codes in one way at most
-one_filled : (text : List ℕ) (a b : Codes) → IsCodeList text a → IsCodeList text b → a ≡ b
-one_filled text a b x y =
+one_code_list : (text : List ℕ) (a b : Codes) → IsCodeList text a → IsCodeList text b → a ≡ b
+one_code_list text a b x y =
     ap (λ cs. record { codes = cs }) (x.filled_are ∙ ap padded_codes (one_word_list IsCode code_form x.listed y.listed text x.are y.are) ∙ sym y.filled_are)
 
 -- a line isn't both the word `accept` alone and `accept ` with a text after it
-not_both : (line rest : List ℕ) → line ≡ codes "accept" → line ≡ codes "accept " ++ rest → ⊥
-not_both line rest e f =
+accept_alone_has_no_rest : (line rest : List ℕ) → line ≡ codes "accept" → line ≡ codes "accept " ++ rest → ⊥
+accept_alone_has_no_rest line rest e f =
     let seventh : ◌≡◌ {A = ℕ} 0 32 = ap (λ bs. get_or bs 6 0) (sym e ∙ f) in
     omega (arith, seventh)
 
 -- a line sets the accepted codes in one way at most
 pub one_accepting : (line : List ℕ) (a b : Codes) → SetsAccepted line a → SetsAccepted line b → a ≡ b
 one_accepting line a b (inl x) (inl y) = x.1 ∙ sym y.1
-one_accepting line a b (inl x) (inr y) = absurd (not_both line y.rest x.0 y.line_is)
-one_accepting line a b (inr x) (inl y) = absurd (not_both line x.rest y.0 x.line_is)
+one_accepting line a b (inl x) (inr y) = absurd (accept_alone_has_no_rest line y.rest x.0 y.line_is)
+one_accepting line a b (inr x) (inl y) = absurd (accept_alone_has_no_rest line x.rest y.0 x.line_is)
 one_accepting line a b (inr x) (inr y) =
-    one_filled y.rest a b (same_rest (codes "accept ") (λ r. IsCodeList r a) line y.rest y.line_is x) y.is
+    one_code_list y.rest a b (holds_of_rest (codes "accept ") (λ r. IsCodeList r a) line y.rest y.line_is x) y.is
 
--- where a line is `accept ` and `rest`, but not `accept` alone, and `r` is the codes that `rest` lists, or `None` where it lists
--- none, `r` is the codes that the line sets, too, or `None` where it sets none
+-- if a line is `accept ` and `rest`, but not `accept` alone, the codes that are read of `rest`, or `None`, are also read of the
+-- line (`IsReadAs`)
 pub codes_of_rest : (line rest : List ℕ) (r : Option Codes) → (line ≡ codes "accept" → ⊥) → line ≡ codes "accept " ++ rest
     → IsReadAs (IsCodeList rest) r → IsReadAs (SetsAccepted line) r
 codes_of_rest line rest r other e = read_alike (IsCodeList rest) (SetsAccepted line) r (λ found are. inr (record { rest = rest; line_is = e; is = are })) rest_lists where
   -- `rest` lists the codes that the line sets, because the line isn't `accept` alone
   rest_lists : (found : Codes) → SetsAccepted line found → IsCodeList rest found
   rest_lists found (inl alone) = absurd (other alone.0)
-  rest_lists found (inr is) = same_rest (codes "accept ") (λ t. IsCodeList t found) line rest e is
+  rest_lists found (inr is) = holds_of_rest (codes "accept ") (λ t. IsCodeList t found) line rest e is
 
 -- How far the reading has come.
 
@@ -63,15 +64,15 @@ pub record ReadsCodes (text : List ℕ) (left : Option (List ℕ)) (read : List 
   pub few : length read ≤ 16
 
 -- `count` codes of the text were read (`ReadsCodes`), and are in the first places of `codes`, with 0 in the others
-abbrev pub Fills : (text : List ℕ) → (left : Option (List ℕ)) → (codes : Codes) → (count : ℕ) → Type 0
-Fills text left codes count = (read : List ℕ) × ReadsCodes text left read × (codes.codes ≡ padded_codes read) × (length read ≡ count)
+abbrev pub CodesSoFar : (text : List ℕ) → (left : Option (List ℕ)) → (codes : Codes) → (count : ℕ) → Type 0
+CodesSoFar text left codes count = (read : List ℕ) × ReadsCodes text left read × (codes.codes ≡ padded_codes read) × (length read ≡ count)
 
--- where fewer than 16 codes, `listed`, fill the first `count` places of `old`, with 0 in the others, `new`, which is `old` with
--- `code` in the next place, is filled with these and `code`
-one_filled_more : (old new listed : List ℕ) (count code : ℕ)
+-- if `old` has the codes `listed`, fewer than 16, in its first `count` places and 0 in the others, `old` with `code` in the next
+-- place (`new`) has the codes `listed` and then `code`, and 0 in the others
+fills_one_more : (old new listed : List ℕ) (count code : ℕ)
     → count < 16 → new ≡ slice_set old count code → length listed ≡ count → old ≡ padded_codes listed
     → new ≡ padded_codes (listed ++ code ∷ [])
-one_filled_more old new listed count code room set n is =
+fills_one_more old new listed count code room set n is =
     let some : 16 - length listed ≡ suc (15 - length listed) = omega (arith, n, room) in
     let less : 16 - length (listed ++ code ∷ []) ≡ 15 - length listed = omega (arith, length_push listed code) in
     set ∙ ap (λ l. slice_set l count code) (is ∙ ap (λ k. listed ++ replicate k 0) some) ∙ ap (λ k. slice_set (listed ++ 0 ∷ replicate (15 - length listed) 0) k code) (sym n)
@@ -80,10 +81,10 @@ one_filled_more old new listed count code room set n is =
 
 -- the text `now` is left, and `word` is its next word
 module _
-    (text now word : List ℕ) (left rest : Option (List ℕ)) (old : Codes) (count : ℕ) (f : Fills text left old count)
+    (text now word : List ℕ) (left rest : Option (List ℕ)) (old : Codes) (count : ℕ) (f : CodesSoFar text left old count)
     (some : left ≡ Some now) (cut : Cuts 32 now word rest) where
   -- the codes of the text are those that were read, the one of the next word, and those of the rest
-  next_code : (all : List ℕ) → AreCodes text all
+  next_code : (all : List ℕ) → AreWords IsCode text all
       → (code : ℕ) × (others : List ℕ) × (all ≡ f.0 ++ code ∷ others) × IsCode word code × AreLeft IsCode rest others
   next_code all are = next_item_of IsCode code_form text now word left rest f.0 f.1.words some cut all are
 
@@ -93,7 +94,7 @@ module _
 
   -- where the next word is a code, a place is free, and the code is put there, one more code is read
   pub code_reads : (code : ℕ) (new : Codes)
-      → IsCode word code → count < 16 → new.codes ≡ slice_set old.codes count code → Fills text rest new (count + 1)
+      → IsCode word code → count < 16 → new.codes ≡ slice_set old.codes count code → CodesSoFar text rest new (count + 1)
   code_reads code new is room set =
       let read = f.0 in (
         read ++ code ∷ [],
@@ -101,12 +102,12 @@ module _
           words = one_more_read IsCode code_form text now word left rest read f.1.words some cut code is;
           few = omega (arith, room, f.3, length_push read code);
         },
-        one_filled_more old.codes new.codes read count code room set f.3 f.2,
+        fills_one_more old.codes new.codes read count code room set f.3 f.2,
         length_push read code ∙ ap (λ n. n + 1) f.3,
       )
 
 -- where nothing is left, the text is the list of the codes that were read
 pub all_codes_read : (text : List ℕ) (left : Option (List ℕ)) (codes : Codes) (count : ℕ)
-    → Fills text left codes count → left ≡ None → IsCodeList text codes
+    → CodesSoFar text left codes count → left ≡ None → IsCodeList text codes
 all_codes_read text left codes count (read, r, is, n) e =
-    record { listed = read; are = subst (AreCodes text) (append-nil read) (all_words_read IsCode text left read r.words e); few = r.few; filled_are = is }
+    record { listed = read; are = subst (AreWords IsCode text) (append-nil read) (all_words_read IsCode text left read r.words e); few = r.few; filled_are = is }

@@ -17,22 +17,22 @@ use Rattle.gc_texts.proofs.Procedures.{one_number}
 -- the parts of a line that has the form of a command, and which lines can't have it
 module _ (line : List ℕ) (command : Command) (is : IsCommand line command) where
   -- the first space of a command's line is between its target and its procedure
-  the_cut : (target : List ℕ) (rest : Option (List ℕ)) → Cuts 32 line target rest → (target ≡ is.target_text) × (rest ≡ Some is.procedure)
-  the_cut target rest cut = cut_found 32 line target rest is.target_text is.procedure cut is.line_is (digits_lack_spaces is.target_text is.target_is.names.digits)
+  cut_after_target : (target : List ℕ) (rest : Option (List ℕ)) → Cuts 32 line target rest → (target ≡ is.target_text) × (rest ≡ Some is.procedure)
+  cut_after_target target rest cut = cut_found 32 line target rest is.target_text is.procedure cut is.line_is (digits_lack_spaces is.target_text is.target_is.names.digits)
 
   -- a line without a space is no command's
   pub unspaced_is_no_command : (target : List ℕ) → Cuts 32 line target None → ⊥
-  unspaced_is_no_command target cut = let parts = the_cut target None cut in let bad : None ≡ Some is.procedure = parts.1 in cc
+  unspaced_is_no_command target cut = let parts = cut_after_target target None cut in let bad : None ≡ Some is.procedure = parts.1 in cc
 
   -- a line with no target before its first space is no command's
   pub targetless_is_no_command : (target : List ℕ) (rest : Option (List ℕ)) → Cuts 32 line target rest → NoTarget target → ⊥
-  targetless_is_no_command target rest cut none = none command.target (subst (λ (ds : List ℕ). IsTarget ds command.target) (sym (the_cut target rest cut).0) is.target_is)
+  targetless_is_no_command target rest cut none = none command.target (subst (λ (ds : List ℕ). IsTarget ds command.target) (sym (cut_after_target target rest cut).0) is.target_is)
 
   -- a line with no call after its first space is no command's
   pub callless_is_no_command : (target procedure : List ℕ) → Cuts 32 line target (Some procedure)
       → ((c : Call) → IsProcedureText procedure c → ⊥) → ⊥
   callless_is_no_command target procedure cut none = none command.call (subst (λ (p : List ℕ). IsProcedureText p command.call)
-      (sym (same_Some procedure is.procedure (the_cut target (Some procedure) cut).1)) is.procedure_is)
+      (sym (same_Some procedure is.procedure (cut_after_target target (Some procedure) cut).1)) is.procedure_is)
 
 -- two commands with equal targets and equal calls are equal
 same_command : (c d : Command) → c.target ≡ d.target → c.call ≡ d.call → c ≡ d

@@ -16,9 +16,10 @@ pub read_alike : {Value : Type 0} (Says Sets : Value → Type 0) (r : Option Val
 read_alike Says Sets None to from none = λ v is. none v (from v is)
 read_alike Says Sets (Some v) to from is = to v is
 
--- what follows the word of a line, `rest`, is a text of which `Is` is true where the line is that word and such a text
-pub same_rest : (word : List ℕ) (Is : List ℕ → Type 0) (line rest : List ℕ) → line ≡ word ++ rest → IsWordAnd word Is line → Is rest
-same_rest word Is line rest e w = subst Is (append_cancel_left word w.rest rest (sym w.line_is ∙ e)) w.is
+-- where a line is `word` and `rest`, and it is known as that word and a text of which `Is` is true (`IsWordAnd`), `Is` is true of
+-- `rest`
+pub holds_of_rest : (word : List ℕ) (Is : List ℕ → Type 0) (line rest : List ℕ) → line ≡ word ++ rest → IsWordAnd word Is line → Is rest
+holds_of_rest word Is line rest e w = subst Is (append_cancel_left word w.rest rest (sym w.line_is ∙ e)) w.is
 
 -- where a text has at least i bytes, and none of the first i is the mark, these lack it
 lacks_before : (mark : ℕ) (bs : List ℕ) (i : ℕ) → i ≤ length bs → ((j : ℕ) → j < i → get_or bs j 0 ≢ mark) → Lacks mark (take i bs)
@@ -30,18 +31,18 @@ lacks_before mark (b ∷ bs) (suc i) le none = (none 0 (omega arith), lacks_befo
 pub split_place : {A : Type 0} (xs : List A) (i : ℕ) (d x : A) → i < length xs → get_or xs i d ≡ x → xs ≡ take i xs ++ x ∷ drop (i + 1) xs
 split_place xs i d x below is = sym (take-append-drop i xs) ∙ ap (λ ys. take i xs ++ ys) (drop_more xs i d below ∙ ap (λ y. y ∷ drop (i + 1) xs) is)
 
--- where place i is the first that has the mark, the text's cut has the first i bytes as the front, and what follows that place as
--- the rest
-pub first_cuts : (mark : ℕ) (bs : List ℕ) (i : ℕ) (rest : List ℕ)
+-- where a search for the mark finds it first at place i, the first i bytes as the front, and what follows that place as the rest,
+-- are a cut of the text
+pub found_mark_cuts : (mark : ℕ) (bs : List ℕ) (i : ℕ) (rest : List ℕ)
     → IsFirstByte (is_byte mark) bs (Some i) → rest ≡ drop (i + 1) bs → Cuts mark bs (take i bs) (Some rest)
-first_cuts mark bs i rest first is = (
+found_mark_cuts mark bs i rest first is = (
   split_place bs i 0 mark first.0.high (eqb-true (get_or bs i 0) mark first.1) ∙ ap (λ l. take i bs ++ mark ∷ l) (sym is),
   lacks_before mark bs i (omega (arith, first.0.high)) (λ j lt e. first.0.before j (omega arith) lt (eq-eqb (get_or bs j 0) mark e)),
 )
 
--- where a text has no mark, its cut has the whole of it as the front, and no rest
-pub none_cuts : (mark : ℕ) (bs : List ℕ) → IsFirstByte (is_byte mark) bs None → Cuts mark bs bs None
-none_cuts mark bs none =
+-- where a search for the mark finds none in a text, the whole text as the front, and no rest, are a cut of it
+pub missing_mark_cuts : (mark : ℕ) (bs : List ℕ) → IsFirstByte (is_byte mark) bs None → Cuts mark bs bs None
+missing_mark_cuts mark bs none =
     (refl, subst (Lacks mark) (take_all (length bs) bs (omega arith)) (lacks_before mark bs (length bs) (omega arith) (λ j lt e. none j (omega arith) lt (eq-eqb (get_or bs j 0) mark e))))
 
 -- a text is a front without the mark, then the mark, then a rest, with one front and one rest at most
@@ -62,19 +63,22 @@ has_mark mark [] r (b ∷ g) e lg = let same : b ≡ mark = cc in lg.0 same
 has_mark mark (a ∷ f) r [] e lg = cc
 has_mark mark (a ∷ f) r (b ∷ g) e lg = let tails : f ++ mark ∷ r ≡ g = cc in has_mark mark f r g tails lg.1
 
--- where a text is `g` without a mark, then a mark, then `s`, its cut gives `g` as the front and `s` as the rest
+-- a text is cut at its first mark in one way
+pub cut_once : (mark : ℕ) (text f g : List ℕ) (r s : Option (List ℕ)) → Cuts mark text f r → Cuts mark text g s → (f ≡ g) × (r ≡ s)
+cut_once mark text f g None None x y = (sym x.0 ∙ y.0, refl)
+cut_once mark text f g None (Some s) x y = absurd (has_mark mark g s f (sym y.0 ∙ x.0) x.1)
+cut_once mark text f g (Some r) None x y = absurd (has_mark mark f r g (sym x.0 ∙ y.0) y.1)
+cut_once mark text f g (Some r) (Some s) x y = let both = one_front mark f g r s (sym x.0 ∙ y.0) x.1 y.1 in (both.0, ap Some both.1)
+
+-- whatever cut there is of a text that is `g` without the mark, then the mark, then `s`: its front is `g`, and its rest `s`
 pub cut_found : (mark : ℕ) (text front : List ℕ) (rest : Option (List ℕ)) (g s : List ℕ)
     → Cuts mark text front rest → text ≡ g ++ mark ∷ s → Lacks mark g → (front ≡ g) × (rest ≡ Some s)
-cut_found mark text front None g s cut e lg = absurd (has_mark mark g s front (sym e ∙ cut.0) cut.1)
-cut_found mark text front (Some rest) g s cut e lg =
-    let both = one_front mark front g rest s (sym cut.0 ∙ e) cut.1 lg in
-    (both.0, ap Some both.1)
+cut_found mark text front rest g s cut e lg = cut_once mark text front g rest (Some s) cut (e, lg)
 
--- where a text has no mark, its cut has the whole of it as the front, and `None` as the rest
+-- whatever cut there is of a text without the mark: its front is the whole text, and its rest `None`
 pub cut_none : (mark : ℕ) (text front : List ℕ) (rest : Option (List ℕ))
     → Cuts mark text front rest → Lacks mark text → (front ≡ text) × (rest ≡ None)
-cut_none mark text front None cut lacks = (sym cut.0, refl)
-cut_none mark text front (Some rest) cut lacks = absurd (has_mark mark front rest text (sym cut.0) lacks)
+cut_none mark text front rest cut lacks = cut_once mark text front text rest None cut (refl, lacks)
 
 -- a text lacks the mark where the test of its bytes finds none that is the mark
 pub lacks_by_test : (mark : ℕ) (bs : List ℕ) → list_any (λ b. b == mark) bs ≡ false → Lacks mark bs

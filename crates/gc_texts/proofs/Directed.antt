@@ -35,8 +35,8 @@ direction_procedures NullProc = refl
 direction_procedures call = refl
 
 -- the law: the answers that have a direction are those of procedures 2107, 2108, 2117 and 17017
-pub directed : DirectionsAreAskedFor
-directed =
+pub directions_by_procedure : DirectionsAreAskedFor
+directions_by_procedure =
     record {
       answers = λ call answer of. answer_has_direction answer ∙ ap has_direction of ∙ sym (call_has_direction call);
       procedures = direction_procedures;

@@ -1,7 +1,7 @@
 -- How far the chains of a text are laid out: which attempts were appended to the tasks before (`old`).
 use Rattle.std.proofs.Common.{◌≡◌, ◌<◌, ◌≤◌, ◌+◌, ◌-◌, ◌*◌, ℕ, zero, suc, Bool, true, get_or, take, drop, List, [], ◌∷◌, ◌++◌, length, map, arith, ap, subst, sym, ◌∙◌, append_assoc, if◌then◌else◌}
 use Rattle.std.proofs.lemmas.List.{drop_more, drop-drop}
-use Rattle.gc_client.proofs.Lists.{take_turn, head_of_drop}
+use Rattle.gc_client.proofs.Lists.{take_next, head_of_drop}
 use Rattle.gc_texts.specs.Attempts.{in_attempt, attempts_from, attempts, laid_from, laid_out}
 use Rattle.gc_texts.specs.declared.retry.Retry.{Retry}
 use Rattle.gc_texts.specs.declared.attempts.Planned.{Planned}
@@ -31,14 +31,14 @@ pushes_one old now new retry chain attempt (suc left) commands h some is more =
     })
 
 -- the commands at place `from` and after it, but before place `to`
-abbrev part_of : (cycle : List Planned) (from to : ℕ) → List Planned
-part_of cycle from to = take (to - from) (drop from cycle)
+abbrev commands_between : (cycle : List Planned) (from to : ℕ) → List Planned
+commands_between cycle from to = take (to - from) (drop from cycle)
 
 -- to the tasks `old` the attempts of the chains of the commands before place `from` were appended, which gave the tasks `now`.
 -- The chain that begins at that place was begun: `retry` is its retry, and the commands from there on, but before place `place`,
 -- are its own so far (none before the first command)
 pub record Lays (old now : List Task) (cycle : List Planned) (retry : Retry) (from place : ℕ) : Type 0 where
-  pub same : old ++ laid_out cycle ≡ now ++ laid_from retry (part_of cycle from place) (drop place cycle)
+  pub same : old ++ laid_out cycle ≡ now ++ laid_from retry (commands_between cycle from place) (drop place cycle)
   pub order : from ≤ place
   pub within : place ≤ length cycle
 
@@ -53,11 +53,11 @@ module _ (old now : List Task) (cycle : List Planned) (retry : Retry) (from plac
   -- chained (`b`), it goes on with the chain that was begun, and else it begins the next
   same_with : (b : Bool) → planned.task.chained ≡ b
       → old ++ laid_out cycle
-      ≡ now ++ (if b then laid_from retry (part_of cycle from place ++ planned ∷ []) (drop (place + 1) cycle)
-      else attempts retry (part_of cycle from place) ++ laid_from planned.retry (planned ∷ []) (drop (place + 1) cycle))
+      ≡ now ++ (if b then laid_from retry (commands_between cycle from place ++ planned ∷ []) (drop (place + 1) cycle)
+      else attempts retry (commands_between cycle from place) ++ laid_from planned.retry (planned ∷ []) (drop (place + 1) cycle))
   same_with b e =
-      h.same ∙ ap (λ l. now ++ laid_from retry (part_of cycle from place) l) left_is
-      ∙ ap (λ t. now ++ (if t then laid_from retry (part_of cycle from place ++ planned ∷ []) (drop (place + 1) cycle) else attempts retry (part_of cycle from place)
+      h.same ∙ ap (λ l. now ++ laid_from retry (commands_between cycle from place) l) left_is
+      ∙ ap (λ t. now ++ (if t then laid_from retry (commands_between cycle from place ++ planned ∷ []) (drop (place + 1) cycle) else attempts retry (commands_between cycle from place)
       ++ laid_from planned.retry (planned ∷ []) (drop (place + 1) cycle))) e
 
   -- where the next command is chained, it is one more of the chain that was begun
@@ -67,8 +67,8 @@ module _ (old now : List Task) (cycle : List Planned) (retry : Retry) (from plac
       let gap : from + (place - from) ≡ place = omega (arith, order) in
       let next : place + 1 - from ≡ suc (place - from) = omega (arith, order) in
       let here = head_of_drop (drop from cycle) (place - from) planned (drop (place + 1) cycle) (drop-drop (place - from) from cycle ∙ ap (λ n. drop n cycle) gap ∙ left_is) in
-      let grown : part_of cycle from (place + 1) ≡ part_of cycle from place ++ planned ∷ [] =
-      ap (λ n. take n (drop from cycle)) next ∙ take_turn (drop from cycle) (place - from) planned here in
+      let grown : commands_between cycle from (place + 1) ≡ commands_between cycle from place ++ planned ∷ [] =
+      ap (λ n. take n (drop from cycle)) next ∙ take_next (drop from cycle) (place - from) planned here in
       record {
         same = same_with true e ∙ ap (λ c. now ++ laid_from retry c (drop (place + 1) cycle)) (sym grown);
         order = omega (arith, order);

@@ -14,6 +14,7 @@ mod CodeForms
 mod TaskForms
 mod TaskReading
 mod TaskLaws
+pub mod TaskMoments
 pub mod SettlementLines
 mod WritingSettlements
 pub mod ZeroReplies

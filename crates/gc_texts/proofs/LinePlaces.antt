@@ -5,9 +5,9 @@ use Rattle.gc_texts.specs.LineForms.{CutsLine}
 use Rattle.gc_texts.proofs.TextLines.{lines_left, lines-cut}
 
 -- the lines of what is left are the line that is cut off, and then those of the rest
-front_line : (left : Option (List ℕ)) (now line : List ℕ) (rest : Option (List ℕ))
+lines_left_cut : (left : Option (List ℕ)) (now line : List ℕ) (rest : Option (List ℕ))
     → left ≡ Some now → CutsLine now line rest → lines_left left ≡ line ∷ lines_left rest
-front_line left now line rest some cut = ap lines_left some ∙ lines-cut now line rest cut
+lines_left_cut left now line rest some cut = ap lines_left some ∙ lines-cut now line rest cut
 
 -- `wanted_line` is number `wanted` of the lines left, the first for 0, and empty where they are fewer. `line` is the line that
 -- is cut off next, and `rest` what is left then
@@ -18,10 +18,10 @@ module _
   pub line_here : wanted ≤ 1 → line ≡ wanted_line
   line_here last =
       let none : wanted - 1 ≡ 0 = omega (arith, last) in
-      sym (so ∙ ap (λ n. get_or (lines_left left) n []) none ∙ ap (λ ls. get_or ls 0 []) (front_line left now line rest some cut))
+      sym (so ∙ ap (λ n. get_or (lines_left left) n []) none ∙ ap (λ ls. get_or ls 0 []) (lines_left_cut left now line rest some cut))
 
   -- where a later one of the lines left is wanted, it is number `wanted - 1` of the rest's lines, and empty where they are fewer
   pub line_behind : 1 < wanted → wanted_line ≡ get_or (lines_left rest) (wanted - 1 - 1) []
   line_behind more =
       let one : wanted - 1 ≡ suc (wanted - 1 - 1) = omega (arith, more) in
-      so ∙ ap (λ n. get_or (lines_left left) n []) one ∙ ap (λ ls. get_or ls (suc (wanted - 1 - 1)) []) (front_line left now line rest some cut)
+      so ∙ ap (λ n. get_or (lines_left left) n []) one ∙ ap (λ ls. get_or ls (suc (wanted - 1 - 1)) []) (lines_left_cut left now line rest some cut)

@@ -18,8 +18,8 @@ use Rattle.gc_texts.specs.Stamps.{next_day, days_after, date_of, two_digits, thr
 use Rattle.gc_texts.specs.declared.log_line.LogMark.{LogMark}
 use Rattle.gc_texts.specs.declared.log_line.LogMark.TheVariants.{Went, WentPart, Came, CamePart, Link}
 use Rattle.gc_texts.specs.declared.stamp.Date.{Date}
-use Rattle.gc_texts.proofs.Dates.{few_days}
-use Rattle.gc_texts.proofs.Logs.{IsOfBytes, high_digit_small, one_reading}
+use Rattle.gc_texts.proofs.Dates.{at_most_31_days}
+use Rattle.gc_texts.proofs.Logs.{IsOfBytes, bytes_by_recursion, high_digit_small, one_log_line}
 
 -- a byte of a moment: printable, and no space
 record IsVisible (b : ℕ) : Type 0 where
@@ -65,7 +65,7 @@ pub record IsDateUpTo (d : Date) (year : ℕ) : Type 0 where
 next_day_within : (d : Date) (year : ℕ) → IsDateUpTo d year → IsDateUpTo (next_day d) (suc year)
 next_day_within d year h =
     cond_both (nat_lt d.day (month_days d.year d.month)) _ _ (λ e. IsDateUpTo e (suc year))
-    (λ less. record { month = h.month; day = omega (arith, ltb-true d.day (month_days d.year d.month) less, few_days d.year d.month); years = omega (arith, h.years) })
+    (λ less. record { month = h.month; day = omega (arith, ltb-true d.day (month_days d.year d.month) less, at_most_31_days d.year d.month); years = omega (arith, h.years) })
     (λ _. cond_both (nat_lt d.month 12) _ _ (λ e. IsDateUpTo e (suc year))
     (λ less. record { month = omega (arith, ltb-true d.month 12 less); day = omega arith; years = omega (arith, h.years) })
     (λ _. record { month = omega arith; day = omega arith; years = omega (arith, h.years) }))
@@ -169,20 +169,20 @@ stamp_prints utc h = All-from_recursion IsPrintableByte (stamp_text utc) (visibl
 
 -- the law: what is written of a moment of 64 bits, a mark and bytes is a log line of these, and no text is a log line of two
 -- moments, marks or lists of bytes
-pub read_back : LogLinesReadBack
-read_back = record {
+pub log_lines_read_back : LogLinesReadBack
+log_lines_read_back = record {
   written = λ utc mark bytes h are. record {
     is = refl;
     one_word = visible_lacks_space (stamp_text utc) (recursion_from_All IsVisible (stamp_text utc) (stamp_visible utc h));
     is_printable = stamp_prints utc h;
     are_bytes = are;
   };
-  once = λ text one other mark other_mark bytes other_bytes. one_reading text one other mark other_mark bytes other_bytes;
+  once = λ text one other mark other_mark bytes other_bytes. one_log_line text one other mark other_mark bytes other_bytes;
 }
 
 -- the law: the text of a log line (`log_text`) of a moment of 64 bits, a mark and bytes is printable
-pub printable : LogLinesArePrintable
-printable utc mark bytes h are =
+pub log_lines_are_printable : LogLinesArePrintable
+log_lines_are_printable utc mark bytes h are =
     All-append IsPrintableByte (stamp_text utc) (32 ∷ (mark_text mark ++ 32 ∷ escaped bytes)) (stamp_prints utc h)
     (space_prints (mark_text mark ++ 32 ∷ escaped bytes) (All-append IsPrintableByte (mark_text mark) (32 ∷ escaped bytes) (mark_prints mark)
-    (space_prints (escaped bytes) (escaped_prints bytes (recursion_from_All (λ b. b < 256) bytes are)))))
+    (space_prints (escaped bytes) (escaped_prints bytes (bytes_by_recursion bytes are)))))

@@ -5,7 +5,7 @@ use Rattle.std.specs.List.{AllByRecursion}
 use Rattle.std.specs.Prelude.{nat_lt, ◌==◌, codes}
 use Rattle.std.proofs.Math.Nat.{div-add-mod}
 use Rattle.std.proofs.lemmas.Bool.{cond_both, eqb-true, ltb-true, ltb-false}
-use Rattle.std.proofs.lemmas.List.Elements.{recursion_from_All}
+use Rattle.std.proofs.lemmas.List.Elements.{recursion_from_All, All-from_recursion}
 use Rattle.std.proofs.lemmas.Option.{same_Some}
 use Rattle.gc_texts.specs.Cuts.{Lacks, Cuts}
 use Rattle.gc_texts.specs.Logs.{mark_text, is_unescaped, hex_digit, escape, escaped, AreBytes, BeginsWithNoByte, IsPrintable, IsLogLine}
@@ -17,14 +17,22 @@ use Rattle.gc_texts.proofs.Cutting.{lacks_by_test, cut_found, one_front}
 abbrev pub IsOfBytes : List ℕ → Type 0
 IsOfBytes text = AllByRecursion (λ b. b < 256) text
 
+-- a text that is of bytes by places (`AreBytes`) is so by recursion
+pub bytes_by_recursion : (text : List ℕ) → AreBytes text → IsOfBytes text
+bytes_by_recursion text are = recursion_from_All (λ b. b < 256) text are
+
+-- a text that is of bytes by recursion is so by places (`AreBytes`)
+pub bytes_by_places : (text : List ℕ) → IsOfBytes text → AreBytes text
+bytes_by_places text is = All-from_recursion (λ b. b < 256) text is
+
 -- a byte's text is it alone, where it is written as it is (`is_unescaped`), and else `\x` and its two digits
 data IsEscape (b : ℕ) (text : List ℕ) : Type 0 where
   as_it_is : is_unescaped b ≡ true → text ≡ b ∷ [] → IsEscape b text
   as_digits : is_unescaped b ≡ false → text ≡ 92 ∷ 120 ∷ hex_digit (b / 16) ∷ hex_digit (b % 16) ∷ [] → IsEscape b text
 
 -- the escaped form of a byte is that byte, or `\x` and its two digits
-escapes : (b : ℕ) → IsEscape b (escape b)
-escapes b = cond_both (is_unescaped b) (b ∷ []) (92 ∷ 120 ∷ hex_digit (b / 16) ∷ hex_digit (b % 16) ∷ []) (IsEscape b) (λ is. as_it_is is refl) (λ is. as_digits is refl)
+escape_has_form : (b : ℕ) → IsEscape b (escape b)
+escape_has_form b = cond_both (is_unescaped b) (b ∷ []) (92 ∷ 120 ∷ hex_digit (b / 16) ∷ hex_digit (b % 16) ∷ []) (IsEscape b) (λ is. as_it_is is refl) (λ is. as_digits is refl)
 
 -- two digits of base 16 that are written alike are the same
 one_hex_digit : (m n : ℕ) → hex_digit m ≡ hex_digit n → m < 16 → n < 16 → m ≡ n
@@ -47,18 +55,18 @@ low_digit_small : (b : ℕ) → b % 16 < 16
 low_digit_small b = omega arith
 
 -- where two texts are equal, and each is an escaped byte and a rest, the bytes are equal, and the rests are
-one_byte : (b c : ℕ) (s t xs ys : List ℕ) (small : b < 256) (few : c < 256) (one : IsEscape b s) (other : IsEscape c t)
+one_escaped_byte : (b c : ℕ) (s t xs ys : List ℕ) (small : b < 256) (few : c < 256) (one : IsEscape b s) (other : IsEscape c t)
     → s ++ xs ≡ t ++ ys → (b ≡ c) × (xs ≡ ys)
-one_byte b c s t xs ys small few (as_it_is is so) (as_it_is was to) e =
+one_escaped_byte b c s t xs ys small few (as_it_is is so) (as_it_is was to) e =
     let same : b ∷ xs ≡ c ∷ ys = sym (ap (λ z. z ++ xs) so) ∙ e ∙ ap (λ z. z ++ ys) to in
     (cc, cc)
-one_byte b c s t xs ys small few (as_it_is is so) (as_digits was to) e =
+one_escaped_byte b c s t xs ys small few (as_it_is is so) (as_digits was to) e =
     let same : b ∷ xs ≡ 92 ∷ 120 ∷ hex_digit (c / 16) ∷ hex_digit (c % 16) ∷ ys = sym (ap (λ z. z ++ xs) so) ∙ e ∙ ap (λ z. z ++ ys) to in
     absurd (not_a_backslash b is cc)
-one_byte b c s t xs ys small few (as_digits is so) (as_it_is was to) e =
+one_escaped_byte b c s t xs ys small few (as_digits is so) (as_it_is was to) e =
     let same : 92 ∷ 120 ∷ hex_digit (b / 16) ∷ hex_digit (b % 16) ∷ xs ≡ c ∷ ys = sym (ap (λ z. z ++ xs) so) ∙ e ∙ ap (λ z. z ++ ys) to in
     absurd (not_a_backslash c was cc)
-one_byte b c s t xs ys small few (as_digits is so) (as_digits was to) e =
+one_escaped_byte b c s t xs ys small few (as_digits is so) (as_digits was to) e =
     let same : 92 ∷ 120 ∷ hex_digit (b / 16) ∷ hex_digit (b % 16) ∷ xs ≡ 92 ∷ 120 ∷ hex_digit (c / 16) ∷ hex_digit (c % 16) ∷ ys = sym (ap (λ z. z ++ xs) so) ∙ e ∙ ap (λ z. z ++ ys) to in
     let highs : hex_digit (b / 16) ≡ hex_digit (c / 16) = cc in
     let lows : hex_digit (b % 16) ≡ hex_digit (c % 16) = cc in
@@ -78,15 +86,15 @@ record IsRestOf (bytes left all : List ℕ) : Type 0 where
   are : IsOfBytes more
   so : left ≡ escaped more
 
--- where the escaped form of `bytes`, and `left` after it, are the escaped form of `all`, `left` is the escaped form of what `all`
--- has after `bytes` (`IsRestOf`)
-behind_bytes : (bytes left all : List ℕ) → IsOfBytes bytes → IsOfBytes all
+-- where the escaped form of `bytes`, and then `left`, is the escaped form of `all`, `left` is the escaped form of what `all` has
+-- after `bytes` (`IsRestOf`)
+left_is_rest : (bytes left all : List ℕ) → IsOfBytes bytes → IsOfBytes all
     → escaped bytes ++ left ≡ escaped all → IsRestOf bytes left all
-behind_bytes [] left all h k e = record { more = all; joins = refl; are = k; so = e }
-behind_bytes (b ∷ bs) left [] h k e = absurd (escape_not_empty b (escape b) (escaped bs ++ left) (escapes b) (sym (append_assoc (escape b) (escaped bs) left) ∙ e))
-behind_bytes (b ∷ bs) left (c ∷ cs) h k e =
-    let one = one_byte b c (escape b) (escape c) (escaped bs ++ left) (escaped cs) h.0 k.0 (escapes b) (escapes c) (sym (append_assoc (escape b) (escaped bs) left) ∙ e) in
-    let next = behind_bytes bs left cs h.1 k.1 one.1 in
+left_is_rest [] left all h k e = record { more = all; joins = refl; are = k; so = e }
+left_is_rest (b ∷ bs) left [] h k e = absurd (escape_not_empty b (escape b) (escaped bs ++ left) (escape_has_form b) (sym (append_assoc (escape b) (escaped bs) left) ∙ e))
+left_is_rest (b ∷ bs) left (c ∷ cs) h k e =
+    let one = one_escaped_byte b c (escape b) (escape c) (escaped bs ++ left) (escaped cs) h.0 k.0 (escape_has_form b) (escape_has_form c) (sym (append_assoc (escape b) (escaped bs) left) ∙ e) in
+    let next = left_is_rest bs left cs h.1 k.1 one.1 in
     record { more = next.more; joins = ap (λ x. x ∷ cs) (sym one.0) ∙ ap (λ l. b ∷ l) next.joins; are = next.are; so = next.so }
 
 -- how far the reading of a text has come: it is the escaped form of `bytes`, which were read, and after that `left`, which
@@ -104,17 +112,17 @@ pub full_is_514 : (n : ℕ) → true ≡ (n == 514) → 514 ≤ n
 full_is_514 n full = omega (arith, eqb-true n 514 (sym full))
 
 -- a text that isn't empty, and doesn't begin with an escaped byte, isn't the escaped form of any bytes
-no_more : (left more : List ℕ) → left ≢ [] → BeginsWithNoByte left → IsOfBytes more → left ≡ escaped more → ⊥
-no_more left [] some none h e = some e
-no_more left (b ∷ bs) some none h e = none b (escaped bs) h.0 e
+not_escaped_without_byte : (left more : List ℕ) → left ≢ [] → BeginsWithNoByte left → IsOfBytes more → left ≡ escaped more → ⊥
+not_escaped_without_byte left [] some none h e = some e
+not_escaped_without_byte left (b ∷ bs) some none h e = none b (escaped bs) h.0 e
 
 -- where what is left of a text isn't empty, and doesn't begin with an escaped byte, the text isn't the escaped form of any
 -- bytes
 pub reads_no_more : (text bytes left : List ℕ) (read : ReadsBytes text bytes left) (some : left ≢ []) (none : BeginsWithNoByte left)
     → (all : List ℕ) → AreBytes all → text ≡ escaped all → ⊥
 reads_no_more text bytes left h some none all are e =
-    let k = behind_bytes bytes left all (recursion_from_All (λ b. b < 256) bytes h.are) (recursion_from_All (λ b. b < 256) all are) (sym h.so ∙ e) in
-    no_more left k.more some none k.are k.so
+    let k = left_is_rest bytes left all (bytes_by_recursion bytes h.are) (bytes_by_recursion all are) (sym h.so ∙ e) in
+    not_escaped_without_byte left k.more some none k.are k.so
 
 -- where a text isn't empty, and is the escaped form of bytes, there is at least one byte
 some_bytes_left : (left more : List ℕ) → left ≢ [] → left ≡ escaped more → 0 < length more
@@ -125,19 +133,19 @@ some_bytes_left left (b ∷ bs) some e = omega arith
 pub reads_too_many : (text bytes left : List ℕ) (read : ReadsBytes text bytes left) (some : left ≢ []) (full : 514 ≤ length bytes)
     → (all : List ℕ) → length all ≤ 514 → AreBytes all → text ≡ escaped all → ⊥
 reads_too_many text bytes left h some full all room are e =
-    let k = behind_bytes bytes left all (recursion_from_All (λ b. b < 256) bytes h.are) (recursion_from_All (λ b. b < 256) all are) (sym h.so ∙ e) in
+    let k = left_is_rest bytes left all (bytes_by_recursion bytes h.are) (bytes_by_recursion all are) (sym h.so ∙ e) in
     omega (arith, full, room, ap length k.joins, length-append bytes k.more, some_bytes_left left k.more some k.so)
 
 -- where `ys` are `xs` and then `more`, and the escaped form of `more` is empty, `xs` are `ys`
-none_left : (xs ys more : List ℕ) → ys ≡ xs ++ more → [] ≡ escaped more → xs ≡ ys
-none_left xs ys [] joins so = sym (joins ∙ append-nil xs)
-none_left xs ys (b ∷ bs) joins so = absurd (escape_not_empty b (escape b) (escaped bs) (escapes b) (sym so))
+all_bytes_were_read : (xs ys more : List ℕ) → ys ≡ xs ++ more → [] ≡ escaped more → xs ≡ ys
+all_bytes_were_read xs ys [] joins so = sym (joins ∙ append-nil xs)
+all_bytes_were_read xs ys (b ∷ bs) joins so = absurd (escape_not_empty b (escape b) (escaped bs) (escape_has_form b) (sym so))
 
 -- two lists of bytes with the same escaped form are the same
 pub escaped_injective : (xs ys : List ℕ) → AreBytes xs → AreBytes ys → escaped xs ≡ escaped ys → xs ≡ ys
 escaped_injective xs ys h j e =
-    let k = behind_bytes xs [] ys (recursion_from_All (λ b. b < 256) xs h) (recursion_from_All (λ b. b < 256) ys j) (append-nil (escaped xs) ∙ e) in
-    none_left xs ys k.more k.joins k.so
+    let k = left_is_rest xs [] ys (bytes_by_recursion xs h) (bytes_by_recursion ys j) (append-nil (escaped xs) ∙ e) in
+    all_bytes_were_read xs ys k.more k.joins k.so
 
 -- a mark has no space
 mark_lacks_space : (mark : LogMark) → Lacks 32 (mark_text mark)
@@ -156,8 +164,8 @@ module _
   moment_cut = cut_found 32 line front rest moment (mark_text mark ++ 32 ∷ escaped bytes) cut is.is is.one_word
 
   -- a line whose first word isn't printable is no log line
-  pub not_printable : (IsPrintable front → ⊥) → ⊥
-  not_printable none = none (subst IsPrintable (sym moment_cut.0) is.is_printable)
+  pub unprintable_is_no_log_line : (IsPrintable front → ⊥) → ⊥
+  unprintable_is_no_log_line none = none (subst IsPrintable (sym moment_cut.0) is.is_printable)
 
   -- the mark is before the second space, and the escaped bytes are after it
   mark_cut : (behind word : List ℕ) (text : Option (List ℕ)) → rest ≡ Some behind → Cuts 32 behind word text
@@ -166,23 +174,24 @@ module _
       cut_found 32 behind word text (mark_text mark) (escaped bytes) next (same_Some behind _ (sym so ∙ moment_cut.1)) (mark_lacks_space mark)
 
   -- a line without a space is no log line
-  pub no_moment : rest ≡ None → ⊥
-  no_moment none = let bad : None ≡ Some (mark_text mark ++ 32 ∷ escaped bytes) = sym none ∙ moment_cut.1 in cc
+  pub unspaced_is_no_log_line : rest ≡ None → ⊥
+  unspaced_is_no_log_line none = let bad : None ≡ Some (mark_text mark ++ 32 ∷ escaped bytes) = sym none ∙ moment_cut.1 in cc
 
   -- a line without a second space is no log line
-  pub no_mark : (behind word : List ℕ) (text : Option (List ℕ)) → rest ≡ Some behind → Cuts 32 behind word text → text ≡ None → ⊥
-  no_mark behind word text so next none =
+  pub half_spaced_is_no_log_line : (behind word : List ℕ) (text : Option (List ℕ)) → rest ≡ Some behind → Cuts 32 behind word text → text ≡ None → ⊥
+  half_spaced_is_no_log_line behind word text so next none =
       let bad : None ≡ Some (escaped bytes) = sym none ∙ (mark_cut behind word text so next).1 in cc
 
   -- a line whose second word is no mark is no log line
-  pub another_mark : (behind word : List ℕ) (text : Option (List ℕ)) → rest ≡ Some behind → Cuts 32 behind word text
+  pub markless_is_no_log_line : (behind word : List ℕ) (text : Option (List ℕ)) → rest ≡ Some behind → Cuts 32 behind word text
       → ((m : LogMark) → word ≡ mark_text m → ⊥) → ⊥
-  another_mark behind word text so next none = none mark (mark_cut behind word text so next).0
+  markless_is_no_log_line behind word text so next none = none mark (mark_cut behind word text so next).0
 
-  -- a line whose text after the mark isn't the escaped form of any bytes, 514 at most, is no log line of 514 bytes at most
-  pub other_bytes : (behind word text : List ℕ) → rest ≡ Some behind → Cuts 32 behind word (Some text) → length bytes ≤ 514
+  -- if the text after a line's mark isn't the escaped form of any list of at most 514 bytes, the line is no log line of at most
+  -- 514 bytes
+  pub unescaped_is_no_log_line : (behind word text : List ℕ) → rest ≡ Some behind → Cuts 32 behind word (Some text) → length bytes ≤ 514
       → ((all : List ℕ) → length all ≤ 514 → AreBytes all → text ≡ escaped all → ⊥) → ⊥
-  other_bytes behind word text so next room none = none bytes room is.are_bytes (same_Some text (escaped bytes) (mark_cut behind word (Some text) so next).1)
+  unescaped_is_no_log_line behind word text so next room none = none bytes room is.are_bytes (same_Some text (escaped bytes) (mark_cut behind word (Some text) so next).1)
 
 -- one of two marks by the text after a mark's first byte: `whole` where there is none, else `part`
 mark_by_end : List ℕ → (whole part : LogMark) → LogMark
@@ -209,9 +218,9 @@ one_mark : (m k : LogMark) → mark_text m ≡ mark_text k → m ≡ k
 one_mark m k e = sym (mark_reads_back m) ∙ ap mark_from e ∙ mark_reads_back k
 
 -- a text is a log line in one way at most
-pub one_reading : (text : List ℕ) (m k : List ℕ) (a b : LogMark) (xs ys : List ℕ)
+pub one_log_line : (text : List ℕ) (m k : List ℕ) (a b : LogMark) (xs ys : List ℕ)
     → IsLogLine text m a xs → IsLogLine text k b ys → (m ≡ k) × (a ≡ b) × (xs ≡ ys)
-one_reading text m k a b xs ys one other =
+one_log_line text m k a b xs ys one other =
     let first = one_front 32 m k (mark_text a ++ 32 ∷ escaped xs) (mark_text b ++ 32 ∷ escaped ys) (sym one.is ∙ other.is) one.one_word other.one_word in
     let second = one_front 32 (mark_text a) (mark_text b) (escaped xs) (escaped ys) first.1 (mark_lacks_space a) (mark_lacks_space b) in
     (first.0, one_mark a b second.0, escaped_injective xs ys one.are_bytes other.are_bytes second.1)

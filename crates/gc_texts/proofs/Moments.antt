@@ -45,7 +45,7 @@ stamp_of date time = date ++ codes "T" ++ time ++ codes "Z"
 -- the stamp of a moment is its date, and its hour, minute, second and millisecond in two, two, two and three digits
 stamp_of_moment : (days hours minutes seconds more : ℕ) → hours < 24 → minutes < 60 → seconds < 60 → more < 1000
     → stamp_text (millis_of days hours minutes seconds more)
-    ≡ date_text (date_of days) ++ codes "T" ++ clock_text hours minutes seconds more ++ codes "Z"
+    ≡ stamp_of (date_text (date_of days)) (clock_text hours minutes seconds more)
 stamp_of_moment days hours minutes seconds more h m s k =
     let n = millis_of days hours minutes seconds more in
     let day : n / 86400000 ≡ days = omega (arith, h, m, s, k, div-add-mod n 86400000) in

@@ -1,25 +1,18 @@
 -- A procedure's text gives one call at most, and lines give one list of items at most where each gives one item at most.
-use Rattle.std.proofs.Common.{◌≡◌, ℕ, List, [], ◌∷◌, ◌++◌, Option, Some, None, refl, ap, subst, ◌∙◌, unwrap_or}
+use Rattle.std.proofs.Common.{◌≡◌, ℕ, List, [], ◌∷◌, refl, ap, subst, ◌∙◌, unwrap_or}
 use Rattle.std.specs.List.{AllZip}
-use Rattle.std.proofs.lemmas.List.{append-nil}
 use Rattle.gc_catalogue.specs.declared.call.Call.{Call}
 use Rattle.gc_catalogue.specs.Calls.{IsCall}
 use Rattle.gc_catalogue.proofs.CallLaws.{one_call}
-use Rattle.gc_texts.specs.Cuts.{Cuts, Lacks}
-use Rattle.gc_texts.specs.Procedures.{IsRpc, IsProcedureText, params_text_of}
+use Rattle.gc_texts.specs.Cuts.{Cuts}
+use Rattle.gc_texts.specs.Procedures.{IsRpc, IsProcedureText}
 use Rattle.gc_texts.proofs.Cutting.{digits_lack_spaces}
-use Rattle.gc_texts.proofs.Procedures.{one_number, procedure_parts}
-
--- the cut at the first space of a text that is digits without a space, and then parameters after a space, or none, gives the
--- digits and the parameters
-params_cut : (text digits : List ℕ) (params : Option (List ℕ)) → text ≡ digits ++ params_text_of params → Lacks 32 digits → Cuts 32 text digits params
-params_cut text digits None e lacks = (e ∙ append-nil digits, lacks)
-params_cut text digits (Some params) e lacks = (e, lacks)
+use Rattle.gc_texts.proofs.Procedures.{one_number, cuts_at_params, procedure_parts}
 
 -- a procedure's text gives one call at most
 pub one_procedure : (text : List ℕ) (c d : Call) → IsProcedureText text c → IsProcedureText text d → c ≡ d
 one_procedure text c d p q =
-    let cut : Cuts 32 text q.rpc_text q.params = params_cut text q.rpc_text q.params q.text_is (digits_lack_spaces q.rpc_text q.number.names.digits) in
+    let cut : Cuts 32 text q.rpc_text q.params = cuts_at_params text q.rpc_text q.params q.text_is (digits_lack_spaces q.rpc_text q.number.names.digits) in
     let parts = procedure_parts text q.rpc_text q.params c cut p in
     let rpcs : q.rpc ≡ p.rpc = one_number p.rpc_text q.rpc p.rpc 65535 (subst (λ (t : List ℕ). IsRpc t q.rpc) parts.0 q.number) p.number in
     let lists : unwrap_or q.params [] ≡ unwrap_or p.params [] = ap (λ o. unwrap_or o []) parts.1 in

@@ -61,25 +61,25 @@ near_unless_elsewhere near answer d isnt has =
     (near_is_within d near.place near.tolerance).0 (not-false (is_near d near.place near.tolerance) (ap (is_away near) (sym has) ∙ isnt))
 
 -- the tasks, when the loop has given the first i of them their places, and the others none yet
-abbrev pub halfway : List Near → (i : ℕ) → List Task → List Task
-halfway nears i tasks = map (placed nears) (take i tasks) ++ drop i tasks
+abbrev pub first_placed : List Near → (i : ℕ) → List Task → List Task
+first_placed nears i tasks = map (placed nears) (take i tasks) ++ drop i tasks
 
 -- where the first i tasks have their places, and task i is given its own, the first i + 1 have theirs
-placed_at : (nears : List Near) (tasks : List Task) (i : ℕ) (d : Task) → i < length tasks
-    → slice_set (halfway nears i tasks) i (placed nears (get_or (halfway nears i tasks) i d)) ≡ halfway nears (suc i) tasks
-placed_at nears [] zero d below = absurd (omega (arith, below))
-placed_at nears [] (suc i) d below = absurd (omega (arith, below))
-placed_at nears (x ∷ tasks) zero d below = refl
-placed_at nears (x ∷ tasks) (suc i) d below = let low : i < length tasks = omega (arith, below) in ap (λ ts. placed nears x ∷ ts) (placed_at nears tasks i d low)
+first_placed_grows : (nears : List Near) (tasks : List Task) (i : ℕ) (d : Task) → i < length tasks
+    → slice_set (first_placed nears i tasks) i (placed nears (get_or (first_placed nears i tasks) i d)) ≡ first_placed nears (suc i) tasks
+first_placed_grows nears [] zero d below = absurd (omega (arith, below))
+first_placed_grows nears [] (suc i) d below = absurd (omega (arith, below))
+first_placed_grows nears (x ∷ tasks) zero d below = refl
+first_placed_grows nears (x ∷ tasks) (suc i) d below = let low : i < length tasks = omega (arith, below) in ap (λ ts. placed nears x ∷ ts) (first_placed_grows nears tasks i d low)
 
 -- where `now` is the tasks with the first i given their places, and task i of `now` is replaced by itself with its place, the
 -- first i + 1 have theirs
-pub placed_next : (nears : List Near) (tasks now : List Task) (i : ℕ) (d new : Task)
-    → now ≡ halfway nears i tasks → i < length tasks → new ≡ placed nears (get_or now i d)
-    → slice_set now i new ≡ halfway nears (i + 1) tasks
-placed_next nears tasks now i d new is below e =
+pub next_is_placed : (nears : List Near) (tasks now : List Task) (i : ℕ) (d new : Task)
+    → now ≡ first_placed nears i tasks → i < length tasks → new ≡ placed nears (get_or now i d)
+    → slice_set now i new ≡ first_placed nears (i + 1) tasks
+next_is_placed nears tasks now i d new is below e =
     let one : suc i ≡ i + 1 = omega arith in
-    ap (slice_set now i) e ∙ ap (λ ts. slice_set ts i (placed nears (get_or ts i d))) is ∙ placed_at nears tasks i d below ∙ ap (λ n. halfway nears n tasks) one
+    ap (slice_set now i) e ∙ ap (λ ts. slice_set ts i (placed nears (get_or ts i d))) is ∙ first_placed_grows nears tasks i d below ∙ ap (λ n. first_placed nears n tasks) one
 
 -- where an answer is elsewhere, a place is known of its target, and the answer has a direction that isn't near that place
 pub elsewhere_has_place : (place : Option Near) (answer : Answer) → is_elsewhere place answer ≡ true

@@ -28,13 +28,13 @@ number_word line command is =
     ∙ before_params is.procedure_is.rpc_text is.procedure_is.params is.procedure_is.number.names.digits
 
 -- the word `raw` is no digits
-no_digits : (word : List ℕ) → AreDigits word → word ≡ codes "raw" → ⊥
-no_digits [] are e = let first : ◌≡◌ {A = ℕ} 0 114 = ap (λ bs. get_or bs 0 0) e in omega (arith, first)
-no_digits (d ∷ ds) are e = let first : d ≡ 114 = ap (λ bs. get_or bs 0 0) e in omega (arith, first, are.0.1)
+raw_is_no_digits : (word : List ℕ) → AreDigits word → word ≡ codes "raw" → ⊥
+raw_is_no_digits [] are e = let first : ◌≡◌ {A = ℕ} 0 114 = ap (λ bs. get_or bs 0 0) e in omega (arith, first)
+raw_is_no_digits (d ∷ ds) are e = let first : d ≡ 114 = ap (λ bs. get_or bs 0 0) e in omega (arith, first, are.0.1)
 
 -- no line both has the form of a command and asks for a procedure that isn't in the table
-pub never_both : (line : List ℕ) (command : Command) (target : ℕ) (raw : RawCall) → IsCommand line command → IsRawWish line target raw → ⊥
-never_both line command target raw x y = no_digits x.procedure_is.rpc_text x.procedure_is.number.names.digits (sym (number_word line command x) ∙ y.word)
+pub command_is_no_raw_wish : (line : List ℕ) (command : Command) (target : ℕ) (raw : RawCall) → IsCommand line command → IsRawWish line target raw → ⊥
+command_is_no_raw_wish line command target raw x y = raw_is_no_digits x.procedure_is.rpc_text x.procedure_is.number.names.digits (sym (number_word line command x) ∙ y.word)
 
 -- a line asks at most one target for at most one request of a procedure that isn't in the table
 pub one_raw : (line : List ℕ) (m n : ℕ) (r s : RawCall) → IsRawWish line m r → IsRawWish line n s → (m ≡ n) × (Raw r ≡ Raw s)
@@ -44,10 +44,10 @@ one_raw line m n r s x y = (
 )
 
 -- where what is before the first space of a line is digits, at least one, the line's first byte is at most 57, that of 9
-pub first_digit : (line : List ℕ) → AreDigits (first_word line) → 0 < length (first_word line) → get_or line 0 0 ≤ 57
-first_digit [] digits some = omega arith
-first_digit (b ∷ bs) digits some = low (b == 32) (before 32 bs) digits some where
+pub digits_begin_low : (line : List ℕ) → AreDigits (first_word line) → 0 < length (first_word line) → get_or line 0 0 ≤ 57
+digits_begin_low [] digits some = omega arith
+digits_begin_low (b ∷ bs) digits some = first_byte_low (b == 32) (before 32 bs) digits some where
   -- the lemma above for the line `b ∷ bs`, by whether its first byte is a space (`z`)
-  low : (z : Bool) (rest : List ℕ) → AreDigits (cond z [] (b ∷ rest)) → 0 < length (cond z [] (b ∷ rest)) → b ≤ 57
-  low true rest digits some = absurd (omega (arith, some))
-  low false rest digits some = digits.0.1
+  first_byte_low : (z : Bool) (rest : List ℕ) → AreDigits (cond z [] (b ∷ rest)) → 0 < length (cond z [] (b ∷ rest)) → b ≤ 57
+  first_byte_low true rest digits some = absurd (omega (arith, some))
+  first_byte_low false rest digits some = digits.0.1

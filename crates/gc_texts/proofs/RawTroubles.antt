@@ -21,28 +21,28 @@ printed_names_are NullProc = refl
 printed_names_are call = refl
 
 -- no name is found of a number that no procedure has
-pub no_name : (calls : List Call) (rpc : ℕ) → IsNoProcedure rpc → name_among calls rpc ≡ []
-no_name [] rpc none = refl
-no_name (call ∷ calls) rpc none =
-    ap (λ b. cond b (call_name call) (name_among calls rpc)) (ne_eqb (call_fields call).number rpc (none call)) ∙ no_name calls rpc none
+pub no_procedure_no_name : (calls : List Call) (rpc : ℕ) → IsNoProcedure rpc → name_among calls rpc ≡ []
+no_procedure_no_name [] rpc none = refl
+no_procedure_no_name (call ∷ calls) rpc none =
+    ap (λ b. cond b (call_name call) (name_among calls rpc)) (ne_eqb (call_fields call).number rpc (none call)) ∙ no_procedure_no_name calls rpc none
 
 -- a line whose second word is `raw`
 module _ (line : List ℕ) (word : IsRawLine line) where
   -- where the third word is the number `rpc`, and `rpc` is refused with `fault` for a request with what follows that word
   -- (`IsRawRefusal`), what `raw_trouble` reports of the two is at fault in the line (`IsAskingTrouble`)
-  refused : (rpc : ℕ) (fault : RawFault) → IsRpc (third_word line) rpc → IsRawRefusal rpc (after_three_words line) fault
+  refusal_is_trouble : (rpc : ℕ) (fault : RawFault) → IsRpc (third_word line) rpc → IsRawRefusal rpc (after_three_words line) fault
       → IsAskingTrouble line (raw_trouble rpc fault)
-  refused rpc InTable number is = record { word = word; rpc = rpc; number = number; is = inl (InTable, is, refl) }
-  refused rpc NotPlain number is = record { word = word; rpc = rpc; number = number; is = inl (NotPlain, is, refl) }
-  refused rpc TooLong number is = record { word = word; rpc = rpc; number = number; is = inl (TooLong, is, refl) }
-  refused rpc OpenQuote number is = record { word = word; rpc = rpc; number = number; is = inl (OpenQuote, is, refl) }
-  refused rpc TooMany number is = record { word = word; rpc = rpc; number = number; is = inl (TooMany, is, refl) }
+  refusal_is_trouble rpc InTable number is = record { word = word; rpc = rpc; number = number; is = inl (InTable, is, refl) }
+  refusal_is_trouble rpc NotPlain number is = record { word = word; rpc = rpc; number = number; is = inl (NotPlain, is, refl) }
+  refusal_is_trouble rpc TooLong number is = record { word = word; rpc = rpc; number = number; is = inl (TooLong, is, refl) }
+  refusal_is_trouble rpc OpenQuote number is = record { word = word; rpc = rpc; number = number; is = inl (OpenQuote, is, refl) }
+  refusal_is_trouble rpc TooMany number is = record { word = word; rpc = rpc; number = number; is = inl (TooMany, is, refl) }
 
   -- a trouble of what follows the word `raw` is a trouble of the line
-  pub raw_words : (t : Trouble) → IsRawWordsTrouble (third_word line) (after_three_words line) t → IsAskingTrouble line t
-  raw_words t (inl none) = subst (IsAskingTrouble line) (sym none.0) (inl (word, none.1))
-  raw_words t (inr (rpc, number, inl (fault, is, told))) = subst (IsAskingTrouble line) (sym told) (refused rpc fault number is)
-  raw_words t (inr (rpc, number, inr (may, told))) =
+  pub raw_words_trouble_is_lines : (t : Trouble) → IsRawWordsTrouble (third_word line) (after_three_words line) t → IsAskingTrouble line t
+  raw_words_trouble_is_lines t (inl none) = subst (IsAskingTrouble line) (sym none.0) (inl (word, none.1))
+  raw_words_trouble_is_lines t (inr (rpc, number, inl (fault, is, told))) = subst (IsAskingTrouble line) (sym told) (refusal_is_trouble rpc fault number is)
+  raw_words_trouble_is_lines t (inr (rpc, number, inr (may, told))) =
       subst (IsAskingTrouble line) (sym told) (inr (inr (record { word = word; rpc = rpc; number = number; is = inr (may, refl) })))
 
 -- where `t` is what is at fault in a word after `raw` and the parameters after it, it is at fault in an equal word and equal

@@ -5,55 +5,55 @@ use Rattle.std.proofs.Common.{◌≡◌, ◌<◌, ◌≤◌, inl, inr, ℕ, Bool
 use Rattle.std.proofs.lemmas.Bool.{ltb-true, ltb-false}
 use Rattle.gc_texts.specs.Again.{no_again}
 use Rattle.gc_texts.specs.Cuts.{Cuts, Lacks, behind}
-use Rattle.gc_texts.specs.Retries.{IsReason, AreReasons, NamesRule, IsRetryRule, allows_word, count_with, again_with, codes_with, named_with}
+use Rattle.gc_texts.specs.Retries.{IsReason, NamesRule, IsRetryRule, allows_word, count_with, again_with, count_with_words, again_with_words}
 use Rattle.gc_texts.specs.TaskLines.{SetsRetry}
-use Rattle.gc_texts.specs.Words.{first_word}
+use Rattle.gc_texts.specs.Words.{AreWords, first_word}
 use Rattle.gc_texts.specs.declared.again.Again.{Again}
 use Rattle.gc_texts.specs.declared.retry.Reason.{Reason}
 use Rattle.gc_texts.specs.declared.retry.Reason.TheVariants as reason
 use Rattle.gc_texts.specs.declared.retry.Retry.{Retry}
 use Rattle.gc_values.specs.Digits.{AreDigits}
 use Rattle.gc_texts.specs.LineForms.{IsReadAs}
-use Rattle.gc_texts.proofs.Cutting.{read_alike, same_rest, lacks_by_test, digits_lack_spaces}
+use Rattle.gc_texts.proofs.Cutting.{read_alike, holds_of_rest, lacks_by_test, digits_lack_spaces}
 use Rattle.gc_texts.proofs.Procedures.{one_number}
 use Rattle.gc_texts.proofs.WordForms.{IsWordForm, one_word_list, AreLeft, ReadsWords, all_words_read, next_item_of, one_more_read}
 
 -- the second byte of digits, or 0 where there is none, is at most 57, that of 9
-second_low : (word : List ℕ) → AreDigits word → get_or word 1 0 ≤ 57
-second_low [] are = omega arith
-second_low (a ∷ []) are = omega arith
-second_low (a ∷ b ∷ bs) are = are.1.0.1
+second_digit_low : (word : List ℕ) → AreDigits word → get_or word 1 0 ≤ 57
+second_digit_low [] are = omega arith
+second_digit_low (a ∷ []) are = omega arith
+second_digit_low (a ∷ b ∷ bs) are = are.1.0.1
 
 -- the kinds of words, distinguished by the second byte: 0 a code, and 1 to 5 the outcomes
-abbrev kind : Reason → ℕ
-kind (reason.Code code) = 0
-kind reason.Unreadable = 1
-kind reason.Elsewhere = 2
-kind reason.Late = 3
-kind reason.Lost = 4
-kind reason.Skipped = 5
+abbrev reason_kind : Reason → ℕ
+reason_kind (reason.Code code) = 0
+reason_kind reason.Unreadable = 1
+reason_kind reason.Elsewhere = 2
+reason_kind reason.Late = 3
+reason_kind reason.Lost = 4
+reason_kind reason.Skipped = 5
 
 -- the kind of a word with this second byte: 110 is n, 108 l, 97 a, 111 o and 107 k; any other is a code's
-abbrev kind_at : ℕ → ℕ
-kind_at b = if b == 110 then 1 else if b == 108 then 2 else if b == 97 then 3 else if b == 111 then 4 else if b == 107 then 5 else 0
+abbrev kind_by_second_byte : ℕ → ℕ
+kind_by_second_byte b = if b == 110 then 1 else if b == 108 then 2 else if b == 97 then 3 else if b == 111 then 4 else if b == 107 then 5 else 0
 
 -- a byte up to that of 9 is of the kind of a code
-low_kind : (b : ℕ) → b ≤ 57 → kind_at b ≡ 0
-low_kind b low =
+low_byte_is_of_code : (b : ℕ) → b ≤ 57 → kind_by_second_byte b ≡ 0
+low_byte_is_of_code b low =
     let other : (n : ℕ) → 57 < n → (b == n) ≡ false = λ n high. ne_eqb b n (λ e. omega (arith, e, low, high)) in
     rw (other 110 (omega arith), other 108 (omega arith), other 97 (omega arith), other 111 (omega arith), other 107 (omega arith)) refl
 
 -- the second byte of a word, or 0 where it has none, shows its kind
-second_byte_shows_kind : (word : List ℕ) (r : Reason) → IsReason word r → kind_at (get_or word 1 0) ≡ kind r
-second_byte_shows_kind word (reason.Code code) is = low_kind (get_or word 1 0) (second_low word is.number.names.digits)
-second_byte_shows_kind word reason.Unreadable is = ap (λ bs. kind_at (get_or bs 1 0)) is
-second_byte_shows_kind word reason.Elsewhere is = ap (λ bs. kind_at (get_or bs 1 0)) is
-second_byte_shows_kind word reason.Late is = ap (λ bs. kind_at (get_or bs 1 0)) is
-second_byte_shows_kind word reason.Lost is = ap (λ bs. kind_at (get_or bs 1 0)) is
-second_byte_shows_kind word reason.Skipped is = ap (λ bs. kind_at (get_or bs 1 0)) is
+second_byte_shows_kind : (word : List ℕ) (r : Reason) → IsReason word r → kind_by_second_byte (get_or word 1 0) ≡ reason_kind r
+second_byte_shows_kind word (reason.Code code) is = low_byte_is_of_code (get_or word 1 0) (second_digit_low word is.number.names.digits)
+second_byte_shows_kind word reason.Unreadable is = ap (λ bs. kind_by_second_byte (get_or bs 1 0)) is
+second_byte_shows_kind word reason.Elsewhere is = ap (λ bs. kind_by_second_byte (get_or bs 1 0)) is
+second_byte_shows_kind word reason.Late is = ap (λ bs. kind_by_second_byte (get_or bs 1 0)) is
+second_byte_shows_kind word reason.Lost is = ap (λ bs. kind_by_second_byte (get_or bs 1 0)) is
+second_byte_shows_kind word reason.Skipped is = ap (λ bs. kind_by_second_byte (get_or bs 1 0)) is
 
 -- where a word is `a` and is `b`, and both are of one kind, they are the same
-same_reason : (word : List ℕ) (a b : Reason) → IsReason word a → IsReason word b → kind a ≡ kind b → a ≡ b
+same_reason : (word : List ℕ) (a b : Reason) → IsReason word a → IsReason word b → reason_kind a ≡ reason_kind b → a ≡ b
 same_reason word (reason.Code m) (reason.Code n) x y h = ap reason.Code (one_number word m n 65535 x.number y.number)
 same_reason word reason.Unreadable reason.Unreadable x y h = refl
 same_reason word reason.Elsewhere reason.Elsewhere x y h = refl
@@ -81,7 +81,7 @@ reason_form = record { lacks = reason_lacks_space; one = one_reason }
 
 -- a text names one rule at most
 one_named : (text : List ℕ) (a b : Again) → NamesRule text a → NamesRule text b → a ≡ b
-one_named text a b x y = x.again_is ∙ ap (named_with no_again 0) (one_word_list IsReason reason_form x.reasons y.reasons text x.are y.are) ∙ sym y.again_is
+one_named text a b x y = x.again_is ∙ ap (again_with_words no_again 0) (one_word_list IsReason reason_form x.reasons y.reasons text x.are y.are) ∙ sym y.again_is
 
 -- two retries with equal times and equal rules are equal
 same_retry : (a b : Retry) → a.times ≡ b.times → a.again ≡ b.again → a ≡ b
@@ -92,28 +92,28 @@ one_rule : (text : List ℕ) (a b : Retry) → IsRetryRule text a → IsRetryRul
 one_rule text a b x y = same_retry a b (one_number (first_word text) a.times b.times 9 x.times_are y.times_are) (one_named (behind 32 text) a.again b.again x.again_is y.again_is)
 
 -- `0` alone is no rule
-not_zero : (a : Retry) → IsRetryRule (codes "0") a → ⊥
-not_zero a is = let none : a.times ≡ 0 = is.times_are.names.value in omega (arith, none, is.some)
+zero_is_no_rule : (a : Retry) → IsRetryRule (codes "0") a → ⊥
+zero_is_no_rule a is = let none : a.times ≡ 0 = is.times_are.names.value in omega (arith, none, is.some)
 
 -- a line sets one retry at most
 pub one_retrying : (line : List ℕ) (a b : Retry) → SetsRetry line a → SetsRetry line b → a ≡ b
 one_retrying line a b (inl x) (inl y) = x.1 ∙ sym y.1
 one_retrying line a b (inl x) (inr y) =
-    absurd (not_zero b (same_rest (codes "retry ") (λ r. IsRetryRule r b) line (codes "0") x.0 y))
+    absurd (zero_is_no_rule b (holds_of_rest (codes "retry ") (λ r. IsRetryRule r b) line (codes "0") x.0 y))
 one_retrying line a b (inr x) (inl y) =
-    absurd (not_zero a (same_rest (codes "retry ") (λ r. IsRetryRule r a) line (codes "0") y.0 x))
+    absurd (zero_is_no_rule a (holds_of_rest (codes "retry ") (λ r. IsRetryRule r a) line (codes "0") y.0 x))
 one_retrying line a b (inr x) (inr y) =
-    one_rule y.rest a b (same_rest (codes "retry ") (λ r. IsRetryRule r a) line y.rest y.line_is x) y.is
+    one_rule y.rest a b (holds_of_rest (codes "retry ") (λ r. IsRetryRule r a) line y.rest y.line_is x) y.is
 
--- where a line is `retry ` and `rest`, but not `retry 0`, and `r` is the rule that `rest` is, or `None` where it is none, `r` is
--- what the line sets, too, or `None` where it sets none
+-- if a line is `retry ` and `rest`, but not `retry 0`, the rule that is read of `rest`, or `None`, is also read of the line
+-- (`IsReadAs`)
 pub retry_of_rest : (line rest : List ℕ) (r : Option Retry) → (line ≡ codes "retry 0" → ⊥) → line ≡ codes "retry " ++ rest
     → IsReadAs (IsRetryRule rest) r → IsReadAs (SetsRetry line) r
 retry_of_rest line rest r other e = read_alike (IsRetryRule rest) (SetsRetry line) r (λ found is. inr (record { rest = rest; line_is = e; is = is })) rest_rules where
   -- `rest` is the rule that the line sets, because the line isn't `retry 0`
   rest_rules : (found : Retry) → SetsRetry line found → IsRetryRule rest found
   rest_rules found (inl alone) = absurd (other alone.0)
-  rest_rules found (inr is) = same_rest (codes "retry ") (λ t. IsRetryRule t found) line rest e is
+  rest_rules found (inr is) = holds_of_rest (codes "retry ") (λ t. IsRetryRule t found) line rest e is
 
 -- How far the reading has come.
 
@@ -121,67 +121,67 @@ retry_of_rest line rest r other e = read_alike (IsRetryRule rest) (SetsRetry lin
 pub record NamesSoFar (text : List ℕ) (left : Option (List ℕ)) (again : Again) (count : ℕ) : Type 0 where
   pub read : List Reason
   pub reads : ReadsWords IsReason text left read
-  pub again_is : again ≡ named_with no_again 0 read
-  pub count_is : count ≡ codes_with 0 read
+  pub again_is : again ≡ again_with_words no_again 0 read
+  pub count_is : count ≡ count_with_words 0 read
   pub few : count ≤ 16
 
 -- the rule that words and one more make is the rule of the words, with that word added
-more_named : (again : Again) (count : ℕ) (read : List Reason) (r : Reason)
-    → named_with again count (read ++ r ∷ []) ≡ again_with (named_with again count read) (codes_with count read) r
-more_named again count [] r = refl
-more_named again count (x ∷ read) r = more_named (again_with again count x) (count_with count x) read r
+rule_of_one_more : (again : Again) (count : ℕ) (read : List Reason) (r : Reason)
+    → again_with_words again count (read ++ r ∷ []) ≡ again_with (again_with_words again count read) (count_with_words count read) r
+rule_of_one_more again count [] r = refl
+rule_of_one_more again count (x ∷ read) r = rule_of_one_more (again_with again count x) (count_with count x) read r
 
 -- words and one more have as many codes as the words, and one code more if the last is a code
-more_codes : (count : ℕ) (read : List Reason) (r : Reason) → codes_with count (read ++ r ∷ []) ≡ count_with (codes_with count read) r
-more_codes count [] r = refl
-more_codes count (x ∷ read) r = more_codes (count_with count x) read r
+codes_of_one_more : (count : ℕ) (read : List Reason) (r : Reason) → count_with_words count (read ++ r ∷ []) ≡ count_with (count_with_words count read) r
+codes_of_one_more count [] r = refl
+codes_of_one_more count (x ∷ read) r = codes_of_one_more (count_with count x) read r
 
 -- with one more word there are no fewer codes
-count_grows : (count : ℕ) (r : Reason) → count ≤ count_with count r
-count_grows count (reason.Code code) = omega arith
-count_grows count reason.Unreadable = omega arith
-count_grows count reason.Elsewhere = omega arith
-count_grows count reason.Late = omega arith
-count_grows count reason.Lost = omega arith
-count_grows count reason.Skipped = omega arith
+count_grows_by_word : (count : ℕ) (r : Reason) → count ≤ count_with count r
+count_grows_by_word count (reason.Code code) = omega arith
+count_grows_by_word count reason.Unreadable = omega arith
+count_grows_by_word count reason.Elsewhere = omega arith
+count_grows_by_word count reason.Late = omega arith
+count_grows_by_word count reason.Lost = omega arith
+count_grows_by_word count reason.Skipped = omega arith
 
 -- with more words there are no fewer codes
-codes_grow : (count : ℕ) (later : List Reason) → count ≤ codes_with count later
+codes_grow : (count : ℕ) (later : List Reason) → count ≤ count_with_words count later
 codes_grow count [] = omega arith
 codes_grow count (r ∷ later) =
-    let one : count ≤ count_with count r = count_grows count r in
-    let all : count_with count r ≤ codes_with (count_with count r) later = codes_grow (count_with count r) later in
+    let one : count ≤ count_with count r = count_grows_by_word count r in
+    let all : count_with count r ≤ count_with_words (count_with count r) later = codes_grow (count_with count r) later in
     omega (arith, one, all)
 
 -- the codes of words and later words are counted by counting those of the words first, and from there on those of the later words
-codes_both : (count : ℕ) (read later : List Reason) → codes_with count (read ++ later) ≡ codes_with (codes_with count read) later
-codes_both count [] later = refl
-codes_both count (x ∷ read) later = codes_both (count_with count x) read later
+codes_of_all : (count : ℕ) (read later : List Reason) → count_with_words count (read ++ later) ≡ count_with_words (count_with_words count read) later
+codes_of_all count [] later = refl
+codes_of_all count (x ∷ read) later = codes_of_all (count_with count x) read later
 
 -- where there is no room for a word, there are more than 16 codes with it
-no_room : (count : ℕ) (r : Reason) → allows_word count r ≡ false → 16 < count_with count r
-no_room count (reason.Code code) e = let full : 16 ≤ count = ltb-false count 16 e in omega (arith, full)
-no_room count reason.Unreadable e = cc
-no_room count reason.Elsewhere e = cc
-no_room count reason.Late e = cc
-no_room count reason.Lost e = cc
-no_room count reason.Skipped e = cc
+no_room_exceeds_16 : (count : ℕ) (r : Reason) → allows_word count r ≡ false → 16 < count_with count r
+no_room_exceeds_16 count (reason.Code code) e = let full : 16 ≤ count = ltb-false count 16 e in omega (arith, full)
+no_room_exceeds_16 count reason.Unreadable e = cc
+no_room_exceeds_16 count reason.Elsewhere e = cc
+no_room_exceeds_16 count reason.Late e = cc
+no_room_exceeds_16 count reason.Lost e = cc
+no_room_exceeds_16 count reason.Skipped e = cc
 
 -- where there is room for a word, there are at most 16 codes with it
-room_for : (count : ℕ) (r : Reason) → count ≤ 16 → allows_word count r ≡ true → count_with count r ≤ 16
-room_for count (reason.Code code) few e = let more : count < 16 = ltb-true count 16 e in omega (arith, more)
-room_for count reason.Unreadable few e = few
-room_for count reason.Elsewhere few e = few
-room_for count reason.Late few e = few
-room_for count reason.Lost few e = few
-room_for count reason.Skipped few e = few
+room_keeps_to_16 : (count : ℕ) (r : Reason) → count ≤ 16 → allows_word count r ≡ true → count_with count r ≤ 16
+room_keeps_to_16 count (reason.Code code) few e = let more : count < 16 = ltb-true count 16 e in omega (arith, more)
+room_keeps_to_16 count reason.Unreadable few e = few
+room_keeps_to_16 count reason.Elsewhere few e = few
+room_keeps_to_16 count reason.Late few e = few
+room_keeps_to_16 count reason.Lost few e = few
+room_keeps_to_16 count reason.Skipped few e = few
 
 -- the text `now` is left, and `word` is its next word
 module _
     (text now word : List ℕ) (left rest : Option (List ℕ)) (old : Again) (count : ℕ) (f : NamesSoFar text left old count)
     (some : left ≡ Some now) (cut : Cuts 32 now word rest) where
   -- the words of the text are those that were read, the next one, and those of the rest
-  next_reason : (all : List Reason) → AreReasons text all
+  next_reason : (all : List Reason) → AreWords IsReason text all
       → (r : Reason) × (others : List Reason) × (all ≡ f.read ++ r ∷ others) × IsReason word r × AreLeft IsReason rest others
   next_reason all are = next_item_of IsReason reason_form text now word left rest f.read f.reads some cut all are
 
@@ -197,11 +197,11 @@ module _
   reasons_too_many r room says tested none found is =
       let next = next_reason is.reasons is.are in
       let same : next.0 ≡ r = one_reason word next.0 r next.3 says in
-      let all : codes_with 0 is.reasons ≡ codes_with (count_with count r) next.1 =
-      ap (codes_with 0) next.2 ∙ codes_both 0 f.read (next.0 ∷ next.1) ∙ ap (λ x. codes_with (count_with (codes_with 0 f.read) x) next.1) same
-      ∙ ap (λ n. codes_with (count_with n r) next.1) (sym f.count_is) in
-      let more : count_with count r ≤ codes_with (count_with count r) next.1 = codes_grow (count_with count r) next.1 in
-      let much : 16 < count_with count r = no_room count r (sym tested ∙ none) in
+      let all : count_with_words 0 is.reasons ≡ count_with_words (count_with count r) next.1 =
+      ap (count_with_words 0) next.2 ∙ codes_of_all 0 f.read (next.0 ∷ next.1) ∙ ap (λ x. count_with_words (count_with (count_with_words 0 f.read) x) next.1) same
+      ∙ ap (λ n. count_with_words (count_with n r) next.1) (sym f.count_is) in
+      let more : count_with count r ≤ count_with_words (count_with count r) next.1 = codes_grow (count_with count r) next.1 in
+      let much : 16 < count_with count r = no_room_exceeds_16 count r (sym tested ∙ none) in
       omega (arith, all, more, much, is.few)
 
   -- where the next word is a code or an outcome, and there is room for it, one more is read
@@ -212,9 +212,9 @@ module _
       record {
         read = f.read ++ r ∷ [];
         reads = one_more_read IsReason reason_form text now word left rest f.read f.reads some cut r is;
-        again_is = more ∙ ap (λ a. again_with a count r) f.again_is ∙ ap (λ n. again_with (named_with no_again 0 f.read) n r) f.count_is ∙ sym (more_named no_again 0 f.read r);
-        count_is = counted ∙ ap (λ n. count_with n r) f.count_is ∙ sym (more_codes 0 f.read r);
-        few = subst (λ n. n ≤ 16) (sym counted) (room_for count r f.few (sym tested ∙ has));
+        again_is = more ∙ ap (λ a. again_with a count r) f.again_is ∙ ap (λ n. again_with (again_with_words no_again 0 f.read) n r) f.count_is ∙ sym (rule_of_one_more no_again 0 f.read r);
+        count_is = counted ∙ ap (λ n. count_with n r) f.count_is ∙ sym (codes_of_one_more 0 f.read r);
+        few = subst (λ n. n ≤ 16) (sym counted) (room_keeps_to_16 count r f.few (sym tested ∙ has));
       }
 
 -- where nothing is left, the text names the rule that the words that were read make
@@ -223,7 +223,7 @@ pub all_reasons_read : (text : List ℕ) (left : Option (List ℕ)) (again : Aga
 all_reasons_read text left again count f e =
     record {
       reasons = f.read;
-      are = subst (AreReasons text) (append-nil f.read) (all_words_read IsReason text left f.read f.reads e);
+      are = subst (AreWords IsReason text) (append-nil f.read) (all_words_read IsReason text left f.read f.reads e);
       few = omega (arith, f.few, f.count_is);
       again_is = f.again_is;
     }

@@ -5,41 +5,41 @@ use Rattle.gc_catalogue.specs.declared.call.Call.{Call}
 use Rattle.gc_client.specs.declared.settlement.Settlement.{Settlement}
 use Rattle.gc_client.specs.Rule
 use Rattle.gc_client.specs.Settlements.{settlement_seen}
-use Rattle.gc_texts.specs.Settlements.{settlement_line, lines_from, settlement_lines}
+use Rattle.gc_texts.specs.Settlements.{settlement_line, settlement_lines_from, settlement_lines}
 use Rattle.gc_texts.proofs.Cutting.{split_place}
 
 -- where x is the item at place i of a list, the first i + 1 items are the first i and x, and the list is these and what
 -- follows them
-pub at_place : {A : Type 0} (xs : List A) (i : ℕ) (x : A) → i < length xs → x ≡ get_or xs i x
+pub split_at_item : {A : Type 0} (xs : List A) (i : ℕ) (x : A) → i < length xs → x ≡ get_or xs i x
     → (take (i + 1) xs ≡ take i xs ++ x ∷ []) × (xs ≡ take i xs ++ x ∷ drop (i + 1) xs)
-at_place xs i x below is = (
+split_at_item xs i x below is = (
   take_more xs i x below ∙ ap (λ y. take i xs ++ y ∷ []) (sym is),
   split_place xs i x x below (sym is),
 )
 
 -- the lines of settlements and of one more after them (s), numbered from `from` on, are those of the settlements, and then that
 -- of s with the number from + length before
-pub lines_one : (from : ℕ) (before : List (Rule.Settlement Call)) (s : Rule.Settlement Call)
-    → lines_from from (before ++ s ∷ []) ≡ lines_from from before ++ settlement_line (from + length before) s
-lines_one from [] s = append-nil (settlement_line from s) ∙ ap (λ place. settlement_line place s) (omega arith)
-lines_one from (x ∷ before) s =
-    let later : List ℕ = lines_from (from + 1) before in
+pub lines_of_one_more : (from : ℕ) (before : List (Rule.Settlement Call)) (s : Rule.Settlement Call)
+    → settlement_lines_from from (before ++ s ∷ []) ≡ settlement_lines_from from before ++ settlement_line (from + length before) s
+lines_of_one_more from [] s = append-nil (settlement_line from s) ∙ ap (λ place. settlement_line place s) (omega arith)
+lines_of_one_more from (x ∷ before) s =
+    let later : List ℕ = settlement_lines_from (from + 1) before in
     let place : from + 1 + length before ≡ from + length (x ∷ before) = omega arith in
-    ap (λ l. settlement_line from x ++ l) (lines_one (from + 1) before s ∙ ap (λ p. later ++ settlement_line p s) place)
+    ap (λ l. settlement_line from x ++ l) (lines_of_one_more (from + 1) before s ∙ ap (λ p. later ++ settlement_line p s) place)
     ∙ sym (append_assoc (settlement_line from x) later (settlement_line (from + length (x ∷ before)) s))
 
 -- where there is a settlement at place i, the first i settlements are i in number
-pub front_count : (ss : List (Settlement Call)) (i : ℕ) → i < length ss → length (map settlement_seen (take i ss)) ≡ i
-front_count ss i below = length-map (take i ss) settlement_seen ∙ omega (arith, length-take i ss, below)
+pub front_length : (ss : List (Settlement Call)) (i : ℕ) → i < length ss → length (map settlement_seen (take i ss)) ≡ i
+front_length ss i below = length-map (take i ss) settlement_seen ∙ omega (arith, length-take i ss, below)
 
 -- the lines of the first i + 1 settlements, numbered from `place` on, are those of the first i, and that of the next one (s)
 pub lines_to_next : (place : ℕ) (ss : List (Settlement Call)) (i : ℕ) (s : Settlement Call) → i < length ss → s ≡ get_or ss i s
-    → lines_from place (map settlement_seen (take (i + 1) ss))
-    ≡ lines_from place (map settlement_seen (take i ss)) ++ settlement_line (place + i) (settlement_seen s)
+    → settlement_lines_from place (map settlement_seen (take (i + 1) ss))
+    ≡ settlement_lines_from place (map settlement_seen (take i ss)) ++ settlement_line (place + i) (settlement_seen s)
 lines_to_next place ss i s below is =
     let front = map settlement_seen (take i ss) in
-    ap (λ xs. lines_from place (map settlement_seen xs)) (at_place ss i s below is).0 ∙ ap (lines_from place) (map_push settlement_seen (take i ss) s)
-    ∙ lines_one place front (settlement_seen s) ∙ ap (λ n. lines_from place front ++ settlement_line (place + n) (settlement_seen s)) (front_count ss i below)
+    ap (λ xs. settlement_lines_from place (map settlement_seen xs)) (split_at_item ss i s below is).0 ∙ ap (settlement_lines_from place) (map_push settlement_seen (take i ss) s)
+    ∙ lines_of_one_more place front (settlement_seen s) ∙ ap (λ n. settlement_lines_from place front ++ settlement_line (place + n) (settlement_seen s)) (front_length ss i below)
 
 -- where the lines of the first i settlements were appended to a text, and then that of the next, the lines of the first i + 1
 -- were

@@ -10,7 +10,7 @@ use Rattle.gc_texts.specs.Names.{is_name}
 use Rattle.gc_texts.specs.Procedures.{IsNumber, IsTarget}
 use Rattle.gc_texts.specs.Troubles.{NoTarget}
 use Rattle.gc_texts.specs.Nears.{AreNearWords, IsNearText}
-use Rattle.gc_texts.specs.TaskLines.{IsDeadline, IsNameLine, IsNearLine, SetsAccepted, AsksForWish, IsTaskLine}
+use Rattle.gc_texts.specs.TaskLines.{IsDeadlineLine, IsNameLine, IsNearLine, SetsAccepted, AsksForWish, IsTaskLine}
 use Rattle.gc_texts.specs.Wishes.{AsksFor}
 use Rattle.gc_texts.specs.Words.{first_word, second_word, third_word, after_three_words}
 use Rattle.gc_texts.specs.declared.codes.Codes.{Codes}
@@ -20,62 +20,62 @@ use Rattle.gc_texts.specs.declared.near.Near.{Near}
 use Rattle.gc_texts.specs.declared.task_line.TaskLine.{TaskLine}
 use Rattle.gc_texts.specs.declared.task_line.TaskLine.TheVariants as says
 use Rattle.gc_texts.specs.LineForms.{IsReadAs}
-use Rattle.gc_texts.proofs.Cutting.{read_alike, same_rest, cut_found, one_front, digits_lack_spaces}
+use Rattle.gc_texts.proofs.Cutting.{read_alike, holds_of_rest, cut_found, one_front, digits_lack_spaces}
 use Rattle.gc_texts.proofs.ClockForms.{one_clock, wish_is_no_clock}
 use Rattle.gc_texts.proofs.CodeForms.{one_accepting}
 use Rattle.gc_texts.proofs.ReasonForms.{one_retrying}
-use Rattle.gc_texts.proofs.RawForms.{first_digit}
+use Rattle.gc_texts.proofs.RawForms.{digits_begin_low}
 use Rattle.gc_texts.proofs.WishForms.{one_wish}
 use Rattle.gc_texts.proofs.Procedures.{one_number}
 
 -- the digits of a deadline's line are what follows `deadline `
-pub deadline_digits : (line rest : List ℕ) (deadline : ℕ) → line ≡ codes "deadline " ++ rest → (is : IsDeadline line deadline) → is.digits ≡ rest
+pub deadline_digits : (line rest : List ℕ) (deadline : ℕ) → line ≡ codes "deadline " ++ rest → (is : IsDeadlineLine line deadline) → is.digits ≡ rest
 deadline_digits line rest deadline e is = append_cancel_left (codes "deadline ") is.digits rest (sym is.line_is ∙ e)
 
 -- the parts of a line that gives a target a name, and which lines can't give it one
 module _ (line rest : List ℕ) (name : Name) (e : line ≡ codes "name " ++ rest) (is : IsNameLine line name) where
   -- what follows `name ` is the target, a space and the name
-  the_rest : rest ≡ is.target_text ++ 32 ∷ name.text.items
-  the_rest = append_cancel_left (codes "name ") rest (is.target_text ++ 32 ∷ name.text.items) (sym e ∙ is.line_is)
+  rest_is_target_and_name : rest ≡ is.target_text ++ 32 ∷ name.text.items
+  rest_is_target_and_name = append_cancel_left (codes "name ") rest (is.target_text ++ 32 ∷ name.text.items) (sym e ∙ is.line_is)
 
   -- the first space after `name ` follows the target
-  the_cut : (target : List ℕ) (text : Option (List ℕ)) → Cuts 32 rest target text → (target ≡ is.target_text) × (text ≡ Some name.text.items)
-  the_cut target text cut = cut_found 32 rest target text is.target_text name.text.items cut the_rest (digits_lack_spaces is.target_text is.target_is.names.digits)
+  cut_after_target : (target : List ℕ) (text : Option (List ℕ)) → Cuts 32 rest target text → (target ≡ is.target_text) × (text ≡ Some name.text.items)
+  cut_after_target target text cut = cut_found 32 rest target text is.target_text name.text.items cut rest_is_target_and_name (digits_lack_spaces is.target_text is.target_is.names.digits)
 
   -- a line gives no name where what follows `name ` has no space
   pub unspaced_is_no_name : (target : List ℕ) → Cuts 32 rest target None → ⊥
-  unspaced_is_no_name target cut = let parts = the_cut target None cut in let bad : None ≡ Some name.text.items = parts.1 in cc
+  unspaced_is_no_name target cut = let parts = cut_after_target target None cut in let bad : None ≡ Some name.text.items = parts.1 in cc
 
   -- a line gives no name where what follows `name `, up to the first space, is no target's number
   pub targetless_is_no_name : (target : List ℕ) (text : Option (List ℕ)) → Cuts 32 rest target text → NoTarget target → ⊥
-  targetless_is_no_name target text cut none = none name.target (subst (λ (ds : List ℕ). IsTarget ds name.target) (sym (the_cut target text cut).0) is.target_is)
+  targetless_is_no_name target text cut none = none name.target (subst (λ (ds : List ℕ). IsTarget ds name.target) (sym (cut_after_target target text cut).0) is.target_is)
 
   -- a line in which what follows the target isn't the text of a name gives no name
   pub nameless_is_no_name : (target text : List ℕ) → Cuts 32 rest target (Some text) → is_name text ≡ false → ⊥
   nameless_is_no_name target text cut isnt =
-      let some : Some text ≡ Some name.text.items = (the_cut target (Some text) cut).1 in
+      let some : Some text ≡ Some name.text.items = (cut_after_target target (Some text) cut).1 in
       let same : text ≡ name.text.items = cc in
       let both : true ≡ false = sym is.text_is ∙ ap is_name (sym same) ∙ isnt in
       cc
 
 -- the kinds of lines, distinguished by the first byte: 0 a command, 1 `deadline`, 2 `chained`, 3 `unchained`, 4 `name` or
 -- `near`, which begin alike, 5 `accept` or `at start`, which begin alike, too, 6 `retry`, 7 `each cycle`
-abbrev kind : TaskLine → ℕ
-kind (says.Command command now) = 0
-kind (says.Deadline deadline) = 1
-kind says.Chained = 2
-kind says.Unchained = 3
-kind (says.Naming name) = 4
-kind (says.Locating near) = 4
-kind (says.Accepting accepted) = 5
-kind (says.Retrying retry) = 6
-kind says.AtStart = 5
-kind says.EachCycle = 7
+abbrev said_kind : TaskLine → ℕ
+said_kind (says.Command command now) = 0
+said_kind (says.Deadline deadline) = 1
+said_kind says.Chained = 2
+said_kind says.Unchained = 3
+said_kind (says.Naming name) = 4
+said_kind (says.Locating near) = 4
+said_kind (says.Accepting accepted) = 5
+said_kind (says.Retrying retry) = 6
+said_kind says.AtStart = 5
+said_kind says.EachCycle = 7
 
 -- the kind of a line with this first byte: 100 is d, 99 c, 117 u, 110 n, 97 a, 114 r and 101 e; any other byte
 -- is of the kind of a command (0)
-abbrev first_kind : ℕ → ℕ
-first_kind b =
+abbrev kind_by_first_byte : ℕ → ℕ
+kind_by_first_byte b =
     if b == 100 then 1
     else if b == 99 then 2
     else if b == 117 then 3
@@ -86,12 +86,12 @@ first_kind b =
     else 0
 
 -- the kind of a line, by its first byte
-abbrev kind_in : List ℕ → ℕ
-kind_in line = first_kind (get_or line 0 0)
+abbrev line_kind : List ℕ → ℕ
+line_kind line = kind_by_first_byte (get_or line 0 0)
 
 -- a line whose first byte is at most 57, that of 9, is of the kind of a command (0)
-digit_kind : (b : ℕ) → b ≤ 57 → first_kind b ≡ 0
-digit_kind b low =
+low_byte_is_of_command : (b : ℕ) → b ≤ 57 → kind_by_first_byte b ≡ 0
+low_byte_is_of_command b low =
     let other : (n : ℕ) → 57 < n → (b == n) ≡ false = λ n high. ne_eqb b n (λ e. omega (arith, e, low, high)) in
     rw (
       other 100 (omega arith),
@@ -104,33 +104,33 @@ digit_kind b low =
     ) refl
 
 -- a line that begins with digits and a space is of the kind of a command (0)
-digits_kind : (ds rest : List ℕ) → AreDigits ds → first_kind (get_or (ds ++ 32 ∷ rest) 0 0) ≡ 0
-digits_kind [] rest digits = refl
-digits_kind (d ∷ ds) rest digits = digit_kind d digits.0.1
+digits_are_of_command : (ds rest : List ℕ) → AreDigits ds → kind_by_first_byte (get_or (ds ++ 32 ∷ rest) 0 0) ≡ 0
+digits_are_of_command [] rest digits = refl
+digits_are_of_command (d ∷ ds) rest digits = low_byte_is_of_command d digits.0.1
 
 -- a line that asks a target for something is of the kind of a command
-asks_kind : (line : List ℕ) (target : ℕ) (asked : Asked) → AsksFor line target asked → kind_in line ≡ 0
-asks_kind line target (Table call) is = ap kind_in is.line_is ∙ digits_kind is.target_text is.procedure is.target_is.names.digits
-asks_kind line target (Raw raw) is = digit_kind (get_or line 0 0) (first_digit line is.target_is.names.digits is.target_is.names.some)
+asking_line_kind : (line : List ℕ) (target : ℕ) (asked : Asked) → AsksFor line target asked → line_kind line ≡ 0
+asking_line_kind line target (Table call) is = ap line_kind is.line_is ∙ digits_are_of_command is.target_text is.procedure is.target_is.names.digits
+asking_line_kind line target (Raw raw) is = low_byte_is_of_command (get_or line 0 0) (digits_begin_low line is.target_is.names.digits is.target_is.names.some)
 
 -- the first byte of a line shows the kind of what the line says
-first_byte_shows_kind : (line : List ℕ) (said : TaskLine) → IsTaskLine line said → kind_in line ≡ kind said
-first_byte_shows_kind line (says.Command wish false) is = asks_kind line wish.target wish.call is
-first_byte_shows_kind line (says.Command wish true) is = digit_kind (get_or line 0 0) (first_digit line is.target_is.names.digits is.target_is.names.some)
-first_byte_shows_kind line (says.Deadline deadline) is = ap kind_in is.line_is
-first_byte_shows_kind line says.Chained is = ap kind_in is
-first_byte_shows_kind line says.Unchained is = ap kind_in is
-first_byte_shows_kind line (says.Naming name) is = ap kind_in is.line_is
-first_byte_shows_kind line (says.Locating near) is = ap kind_in is.line_is
-first_byte_shows_kind line (says.Accepting accepted) (inl alone) = ap kind_in alone.0
-first_byte_shows_kind line (says.Accepting accepted) (inr is) = ap kind_in is.line_is
-first_byte_shows_kind line (says.Retrying retry) (inl alone) = ap kind_in alone.0
-first_byte_shows_kind line (says.Retrying retry) (inr is) = ap kind_in is.line_is
-first_byte_shows_kind line says.AtStart is = ap kind_in is
-first_byte_shows_kind line says.EachCycle is = ap kind_in is
+first_byte_shows_kind : (line : List ℕ) (said : TaskLine) → IsTaskLine line said → line_kind line ≡ said_kind said
+first_byte_shows_kind line (says.Command wish false) is = asking_line_kind line wish.target wish.call is
+first_byte_shows_kind line (says.Command wish true) is = low_byte_is_of_command (get_or line 0 0) (digits_begin_low line is.target_is.names.digits is.target_is.names.some)
+first_byte_shows_kind line (says.Deadline deadline) is = ap line_kind is.line_is
+first_byte_shows_kind line says.Chained is = ap line_kind is
+first_byte_shows_kind line says.Unchained is = ap line_kind is
+first_byte_shows_kind line (says.Naming name) is = ap line_kind is.line_is
+first_byte_shows_kind line (says.Locating near) is = ap line_kind is.line_is
+first_byte_shows_kind line (says.Accepting accepted) (inl alone) = ap line_kind alone.0
+first_byte_shows_kind line (says.Accepting accepted) (inr is) = ap line_kind is.line_is
+first_byte_shows_kind line (says.Retrying retry) (inl alone) = ap line_kind alone.0
+first_byte_shows_kind line (says.Retrying retry) (inr is) = ap line_kind is.line_is
+first_byte_shows_kind line says.AtStart is = ap line_kind is
+first_byte_shows_kind line says.EachCycle is = ap line_kind is
 
 -- a line gives one deadline at most
-one_deadline : (line : List ℕ) (m n : ℕ) → IsDeadline line m → IsDeadline line n → m ≡ n
+one_deadline : (line : List ℕ) (m n : ℕ) → IsDeadlineLine line m → IsDeadlineLine line n → m ≡ n
 one_deadline line m n x y =
     one_number y.digits m n 86400000 (subst (λ (ds : List ℕ). IsNumber ds m 86400000) (deadline_digits line y.digits m y.line_is x) x.number) y.number
 
@@ -165,15 +165,14 @@ one_near target hz v tolerance m n x y =
 one_locating : (line : List ℕ) (m n : Near) → IsNearLine line m → IsNearLine line n → m ≡ n
 one_locating line m n x y =
     one_near (first_word y.rest) (second_word y.rest) (third_word y.rest) (after_three_words y.rest) m n
-    (same_rest (codes "near ") (λ r. IsNearText r m) line y.rest y.line_is x) y.is
+    (holds_of_rest (codes "near ") (λ r. IsNearText r m) line y.rest y.line_is x) y.is
 
--- where a line is `near ` and `rest`, and `r` is the place that `rest` says, or `None` where it says none, `r` is the place that
--- the line says, too, or `None` where it says none
+-- if a line is `near ` and `rest`, the place that is read of `rest`, or `None`, is also read of the line (`IsReadAs`)
 pub place_of_rest : (line rest : List ℕ) (r : Option Near) → line ≡ codes "near " ++ rest
     → IsReadAs (IsNearText rest) r → IsReadAs (IsNearLine line) r
 place_of_rest line rest r e =
     read_alike (IsNearText rest) (IsNearLine line) r (λ near is. record { rest = rest; line_is = e; is = is })
-    (λ near is. same_rest (codes "near ") (λ t. IsNearText t near) line rest e is)
+    (λ near is. holds_of_rest (codes "near ") (λ t. IsNearText t near) line rest e is)
 
 -- no line both gives a target a name (`name `) and says where a target is (`near `)
 name_is_no_near : (line : List ℕ) (name : Name) (near : Near) → IsNameLine line name → IsNearLine line near → ⊥
@@ -186,7 +185,7 @@ accept_is_no_start : (line : List ℕ) (accepted : Codes) → SetsAccepted line 
 accept_is_no_start line accepted (inl alone) e = let second : ◌≡◌ {A = ℕ} 99 116 = ap (λ bs. get_or bs 1 0) (sym alone.0 ∙ e) in omega (arith, second)
 accept_is_no_start line accepted (inr is) e = let second : ◌≡◌ {A = ℕ} 99 116 = ap (λ bs. get_or bs 1 0) (sym is.line_is ∙ e) in omega (arith, second)
 
--- a line asks for one thing at most, and either with the moment at which it is sent or without
+-- a line asks for one thing at most, and not both with the moment at which it is sent and without it
 one_asked_for : (line : List ℕ) (v w : Wish) (m n : Bool)
     → AsksForWish line v m → AsksForWish line w n → says.Command v m ≡ says.Command w n
 one_asked_for line v w true true x y = ap (λ u. says.Command u true) (one_clock line v w x y)
@@ -195,7 +194,7 @@ one_asked_for line v w true false x y = absurd (wish_is_no_clock line w v y x)
 one_asked_for line v w false true x y = absurd (wish_is_no_clock line v w x y)
 
 -- where a line says `a` and says `b`, and both are of one kind, they are the same
-same_said : (line : List ℕ) (a b : TaskLine) → IsTaskLine line a → IsTaskLine line b → kind a ≡ kind b → a ≡ b
+same_said : (line : List ℕ) (a b : TaskLine) → IsTaskLine line a → IsTaskLine line b → said_kind a ≡ said_kind b → a ≡ b
 same_said line (says.Command v m) (says.Command w n) x y h = one_asked_for line v w m n x y
 same_said line (says.Deadline m) (says.Deadline n) x y h = ap says.Deadline (one_deadline line m n x y)
 same_said line says.Chained says.Chained x y h = refl

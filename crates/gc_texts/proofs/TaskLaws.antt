@@ -71,34 +71,39 @@ lines_give_none : {Item : Type 0} (given_at : TaskLine → List Item) → ((c : 
 lines_give_none given_at none [] = refl
 lines_give_none given_at none (c ∷ cs) = lines_give_none given_at none cs ∙ ap (λ items. items ++ flat_map given_at (lines_of cs)) (sym (none c))
 
--- a task of a command in its first attempt: without a place, a rule and a count of others
-pub record IsFirst (task : Task) : Type 0 where
+-- this task is as before its chain is laid out in attempts, and before it gets the place of its target: it has attempt number 1,
+-- and neither a rule nor a count of others nor a place
+pub record IsAsPlanned (task : Task) : Type 0 where
   pub near : task.near ≡ None
   pub again : task.again ≡ no_again
   pub attempt : task.turn.attempt ≡ 1
   pub others : task.others ≡ 0
 
--- a command that isn't repeated, with its task as in the first attempt (`IsFirst`)
+-- the tasks of these commands are as planned (`IsAsPlanned`)
+abbrev pub AreAsPlanned : List Planned → Type 0
+AreAsPlanned planned = AllByRecursion (λ p. IsAsPlanned p.task) planned
+
+-- a command that isn't repeated, with its task as planned (`IsAsPlanned`)
 record IsSentOnce (planned : Planned) : Type 0 where
   retry : planned.retry ≡ no_retry
-  first : IsFirst planned.task
+  task : IsAsPlanned planned.task
 
 -- the first attempt of a command whose chain is sent once is its task
 first_attempt_is_task : (n : ℕ) (p : Planned) → IsSentOnce p → in_attempt 1 no_again n p ≡ p.task
 first_attempt_is_task n p h =
-    ap (λ a. record p.task { again = a; turn = record { place = p.task.turn.place; attempt = 1; link = p.task.turn.link }; others = 0 }) (sym h.first.again)
-    ∙ ap (λ k. record p.task { turn = record { place = p.task.turn.place; attempt = k; link = p.task.turn.link }; others = 0 }) (sym h.first.attempt)
-    ∙ ap (λ k. record p.task { others = k }) (sym h.first.others)
+    ap (λ a. record p.task { again = a; turn = record { place = p.task.turn.place; attempt = 1; link = p.task.turn.link }; others = 0 }) (sym h.task.again)
+    ∙ ap (λ k. record p.task { turn = record { place = p.task.turn.place; attempt = k; link = p.task.turn.link }; others = 0 }) (sym h.task.attempt)
+    ∙ ap (λ k. record p.task { others = k }) (sym h.task.others)
 
 -- the first attempts of commands whose chains are sent once are their tasks
-once_all : (n : ℕ) (ps : List Planned) → AllByRecursion IsSentOnce ps → map (in_attempt 1 no_again n) ps ≡ map (λ p. p.task) ps
-once_all n [] all = refl
-once_all n (p ∷ ps) all = ap (λ t. t ∷ map (in_attempt 1 no_again n) ps) (first_attempt_is_task n p all.0) ∙ ap (λ ts. p.task ∷ ts) (once_all n ps all.1)
+first_attempts_are_tasks : (n : ℕ) (ps : List Planned) → AllByRecursion IsSentOnce ps → map (in_attempt 1 no_again n) ps ≡ map (λ p. p.task) ps
+first_attempts_are_tasks n [] all = refl
+first_attempts_are_tasks n (p ∷ ps) all = ap (λ t. t ∷ map (in_attempt 1 no_again n) ps) (first_attempt_is_task n p all.0) ∙ ap (λ ts. p.task ∷ ts) (first_attempts_are_tasks n ps all.1)
 
 -- where all chains are sent once, their attempts are the commands' tasks
 laid_once : (retry : Retry) (chain later : List Planned) → retry ≡ no_retry → AllByRecursion IsSentOnce chain → AllByRecursion IsSentOnce later
     → laid_from retry chain later ≡ map (λ p. p.task) chain ++ map (λ p. p.task) later
-laid_once retry chain [] none all rest = ap (λ r. attempts r chain) none ∙ once_all (length chain) chain all ∙ sym (append-nil (map (λ p. p.task) chain))
+laid_once retry chain [] none all rest = ap (λ r. attempts r chain) none ∙ first_attempts_are_tasks (length chain) chain all ∙ sym (append-nil (map (λ p. p.task) chain))
 laid_once retry chain (p ∷ later) none all rest =
     by_chained (laid_once retry (chain ++ p ∷ []) later none (all_by_recursion_push IsSentOnce chain p all rest.0) rest.1)
     (laid_once p.retry (p ∷ []) later rest.0.retry (rest.0, tt) rest.1) p.task.chained where
@@ -110,20 +115,20 @@ laid_once retry chain (p ∷ later) none all rest =
       by_chained on anew true =
           on ∙ ap (λ ts. ts ++ map (λ q. q.task) later) (map-append (λ q. q.task) chain (p ∷ [])) ∙ append_assoc (map (λ q. q.task) chain) (p.task ∷ []) (map (λ q. q.task) later)
       by_chained on anew false =
-          ap (λ r. attempts r chain ++ laid_from p.retry (p ∷ []) later) none ∙ ap (λ ts. ts ++ laid_from p.retry (p ∷ []) later) (once_all (length chain) chain all)
+          ap (λ r. attempts r chain ++ laid_from p.retry (p ∷ []) later) none ∙ ap (λ ts. ts ++ laid_from p.retry (p ∷ []) later) (first_attempts_are_tasks (length chain) chain all)
           ∙ ap (λ ts. map (λ q. q.task) chain ++ ts) anew
 
 -- tasks without places stay as they are where the text says no place
-unplaced : (tasks : List Task) → AllByRecursion (λ task. task.near ≡ None) tasks → map (placed []) tasks ≡ tasks
-unplaced [] all = refl
-unplaced (t ∷ ts) all = ap (λ n. record t { near = n } ∷ map (placed []) ts) (sym all.0) ∙ ap (λ us. t ∷ us) (unplaced ts all.1)
+unplaced_stay : (tasks : List Task) → AllByRecursion (λ task. task.near ≡ None) tasks → map (placed []) tasks ≡ tasks
+unplaced_stay [] all = refl
+unplaced_stay (t ∷ ts) all = ap (λ n. record t { near = n } ∷ map (placed []) ts) (sym all.0) ∙ ap (λ us. t ∷ us) (unplaced_stay ts all.1)
 
 -- commands alone, read in a mode of the cycle without accepted codes and without retries, which counts `place` commands before
 -- them, and `link` of the chain that the first may continue
 module _ (deadline : ℕ) (chained : Bool) where
   -- the mode with this group, with `place` commands in front, of which `link` are in the chain
-  abbrev at : (group : Option ℕ) (place link : ℕ) → Mode
-  at group place link =
+  abbrev mode_in_cycle : (group : Option ℕ) (place link : ℕ) → Mode
+  mode_in_cycle group place link =
       record {
         deadline = deadline;
         chained = chained;
@@ -140,27 +145,27 @@ module _ (deadline : ℕ) (chained : Bool) where
   abbrev next_link : (group : Option ℕ) (link target : ℕ) → ℕ
   next_link group link target = (if chained && continues_group group target then link else 0) + 1
 
-  -- commands that are read in that mode give no setup
-  no_setup : (group : Option ℕ) (place link : ℕ) (commands : List Command) → setup_of (at group place link) (lines_of commands) ≡ []
+  -- commands that are read in such a mode (`mode_in_cycle`) give no setup
+  no_setup : (group : Option ℕ) (place link : ℕ) (commands : List Command) → setup_of (mode_in_cycle group place link) (lines_of commands) ≡ []
   no_setup group place link [] = refl
   no_setup group place link (c ∷ cs) = no_setup (Some c.target) (place + 1) (next_link group link c.target) cs
 
-  -- the chain of each command that is read in that mode is sent once
-  all_once : (group : Option ℕ) (place link : ℕ) (commands : List Command)
-      → AllByRecursion IsSentOnce (planned_of (at group place link) (lines_of commands))
-  all_once group place link [] = tt
-  all_once group place link (c ∷ cs) =
-      (record { retry = refl; first = record { near = refl; again = refl; attempt = refl; others = refl } }, all_once (Some c.target) (place + 1) (next_link group link c.target) cs)
+  -- the chain of each command that is read in such a mode (`mode_in_cycle`) is sent once
+  each_is_sent_once : (group : Option ℕ) (place link : ℕ) (commands : List Command)
+      → AllByRecursion IsSentOnce (planned_of (mode_in_cycle group place link) (lines_of commands))
+  each_is_sent_once group place link [] = tt
+  each_is_sent_once group place link (c ∷ cs) =
+      (record { retry = refl; task = record { near = refl; again = refl; attempt = refl; others = refl } }, each_is_sent_once (Some c.target) (place + 1) (next_link group link c.target) cs)
 
-  -- no task of commands that are read in that mode has a place of its target
+  -- no task of commands that are read in such a mode (`mode_in_cycle`) has a place of its target
   none_placed : (group : Option ℕ) (place link : ℕ) (commands : List Command)
-      → AllByRecursion (λ task. task.near ≡ None) (map (λ p. p.task) (planned_of (at group place link) (lines_of commands)))
+      → AllByRecursion (λ task. task.near ≡ None) (map (λ p. p.task) (planned_of (mode_in_cycle group place link) (lines_of commands)))
   none_placed group place link [] = tt
   none_placed group place link (c ∷ cs) = (refl, none_placed (Some c.target) (place + 1) (next_link group link c.target) cs)
 
-  -- the tasks of commands that are read in that mode ask for these commands, in order
+  -- the tasks of commands that are read in such a mode (`mode_in_cycle`) ask for these commands, in order
   asked_tasks : (group : Option ℕ) (place link : ℕ) (commands : List Command)
-      → map (λ task. task.command) (map (λ p. p.task) (planned_of (at group place link) (lines_of commands))) ≡ map wish_of commands
+      → map (λ task. task.command) (map (λ p. p.task) (planned_of (mode_in_cycle group place link) (lines_of commands))) ≡ map wish_of commands
   asked_tasks group place link [] = refl
   asked_tasks group place link (c ∷ cs) = ap (λ l. wish_of c ∷ l) (asked_tasks (Some c.target) (place + 1) (next_link group link c.target) cs)
 
@@ -169,8 +174,8 @@ module _ (deadline : ℕ) (chained : Bool) where
       → map (λ p. p.task) (planned_of (first_mode deadline chained) (lines_of commands)) ≡ map (placed []) (tasks_of (first_mode deadline chained) (lines_of commands))
   tasks_are_asked commands =
       let planned = planned_of (first_mode deadline chained) (lines_of commands) in
-      let laid : laid_out planned ≡ map (λ p. p.task) planned = laid_once no_retry [] planned refl tt (all_once None 0 0 commands) in
-      sym (unplaced (map (λ p. p.task) planned) (none_placed None 0 0 commands)) ∙ ap (map (placed [])) (sym laid)
+      let laid : laid_out planned ≡ map (λ p. p.task) planned = laid_once no_retry [] planned refl tt (each_is_sent_once None 0 0 commands) in
+      sym (unplaced_stay (map (λ p. p.task) planned) (none_placed None 0 0 commands)) ∙ ap (map (placed [])) (sym laid)
       ∙ ap (λ ts. map (placed []) (ts ++ laid_out planned)) (sym (no_setup None 0 0 commands))
 
 -- the law: each command text is a station's text, of the same commands in the same order, and without setup, names and places
@@ -188,10 +193,10 @@ commands_are_tasks text commands deadline chained are = (
   asked_tasks deadline chained None 0 0 commands,
 )
 
--- read in the mode `at` without chaining, commands give the tasks `plain_tasks`, which have the deadline `deadline` and are
--- numbered from `place` on
+-- read in a mode of the cycle without chaining (`mode_in_cycle`), commands give the tasks `plain_tasks`, which have the deadline
+-- `deadline` and are numbered from `place` on
 unchained_are_plain : (deadline : ℕ) (group : Option ℕ) (place link : ℕ) (commands : List Command)
-    → plain_tasks deadline place commands ≡ map (λ p. p.task) (planned_of (at deadline false group place link) (lines_of commands))
+    → plain_tasks deadline place commands ≡ map (λ p. p.task) (planned_of (mode_in_cycle deadline false group place link) (lines_of commands))
 unchained_are_plain deadline group place link [] = refl
 unchained_are_plain deadline group place link (c ∷ cs) =
     ap (λ l. record {
@@ -221,9 +226,9 @@ commands_are_plain text commands deadline are =
     }
 
 -- a group that a command for a target continues is the group of that target
-pub continued_group : (group : Option ℕ) (target : ℕ) → continues_group group target ≡ true → group ≡ Some target
-continued_group None target e = cc
-continued_group (Some before) target e = ap Some (eqb-true before target e)
+pub continued_group_is : (group : Option ℕ) (target : ℕ) → continues_group group target ≡ true → group ≡ Some target
+continued_group_is None target e = cc
+continued_group_is (Some before) target e = ap Some (eqb-true before target e)
 
 -- `group` is the target of the group, and `before` that of the task before, or `None` where there is none. Where `group` is
 -- `None` or equals `before`, and is `Some target`, `before` is `Some target`
@@ -232,102 +237,101 @@ group_before group before target (inl none) e = let bad : None ≡ Some target =
 group_before group before target (inr same) e = sym same ∙ e
 
 -- commands of the cycle keep targets as their tasks do (`KeepTargets`): each chained one follows one for the same target
-abbrev pub PlannedKeep : Option ℕ → List Planned → Type 0
-PlannedKeep before planned = KeepTargets before (map (λ p. p.task) planned)
+abbrev pub CommandsKeepTargets : Option ℕ → List Planned → Type 0
+CommandsKeepTargets before planned = KeepTargets before (map (λ p. p.task) planned)
 
 -- `before` is the target of the cycle's command before these lines, if there is one. Where the mode is the setup's, or its group
 -- is none or that target, each chained command of the cycle follows one for the same target
-pub commands_keep : (mode : Mode) (before : Option ℕ) (said : List TaskLine)
-    → (mode.setup ≡ true) ⊎ ((mode.group ≡ None) ⊎ (mode.group ≡ before)) → PlannedKeep before (planned_of mode said)
-commands_keep mode before [] h = tt
-commands_keep mode before (says.Command c now ∷ later) h =
-    by_setup mode.setup refl h (λ e. commands_keep (mode_after mode (says.Command c now)) before later (inl e))
-    (commands_keep (mode_after mode (says.Command c now)) (Some c.target) later (inr (inr refl))) where
+pub commands_keep_targets : (mode : Mode) (before : Option ℕ) (said : List TaskLine)
+    → (mode.setup ≡ true) ⊎ ((mode.group ≡ None) ⊎ (mode.group ≡ before)) → CommandsKeepTargets before (planned_of mode said)
+commands_keep_targets mode before [] h = tt
+commands_keep_targets mode before (says.Command c now ∷ later) h =
+    by_setup mode.setup refl h (λ e. commands_keep_targets (mode_after mode (says.Command c now)) before later (inl e))
+    (commands_keep_targets (mode_after mode (says.Command c now)) (Some c.target) later (inr (inr refl))) where
       -- the lemma above for a command and the lines after it, by whether the mode is that of the setup (`b`)
       by_setup : (b : Bool) → mode.setup ≡ b → (mode.setup ≡ true) ⊎ ((mode.group ≡ None) ⊎ (mode.group ≡ before))
-          → (mode.setup ≡ true → PlannedKeep before (planned_of (mode_after mode (says.Command c now)) later))
-          → PlannedKeep (Some c.target) (planned_of (mode_after mode (says.Command c now)) later)
-          → PlannedKeep before
+          → (mode.setup ≡ true → CommandsKeepTargets before (planned_of (mode_after mode (says.Command c now)) later))
+          → CommandsKeepTargets (Some c.target) (planned_of (mode_after mode (says.Command c now)) later)
+          → CommandsKeepTargets before
           ((if b then [] else record { task = task_at mode c now; retry = mode.retry } ∷ []) ++ planned_of (mode_after mode (says.Command c now)) later)
       by_setup true e h at_start in_cycle = at_start e
       by_setup false e (inl is) at_start in_cycle = let bad : true ≡ false = sym is ∙ e in cc
       by_setup false e (inr is) at_start in_cycle = (
         (λ on.
             let so : (mode.chained && continues_group mode.group c.target) ≡ true = ap (λ b. if b then nat_lt 0 mode.begun else mode.chained && continues_group mode.group c.target) (sym e) ∙ on in
-            group_before mode.group before c.target is (continued_group mode.group c.target (and_parts mode.chained (continues_group mode.group c.target) so).1)),
+            group_before mode.group before c.target is (continued_group_is mode.group c.target (and_parts mode.chained (continues_group mode.group c.target) so).1)),
         in_cycle,
       )
-commands_keep mode before (says.Deadline d ∷ later) h = commands_keep (mode_after mode (says.Deadline d)) before later h
-commands_keep mode before (says.Chained ∷ later) h = commands_keep (mode_after mode says.Chained) before later (inr (inl refl))
-commands_keep mode before (says.Unchained ∷ later) h = commands_keep (mode_after mode says.Unchained) before later (inr (inl refl))
-commands_keep mode before (says.Retrying r ∷ later) h = commands_keep (mode_after mode (says.Retrying r)) before later (inr (inl refl))
-commands_keep mode before (says.AtStart ∷ later) h = commands_keep (mode_after mode says.AtStart) before later (inr (inl refl))
-commands_keep mode before (says.EachCycle ∷ later) h = commands_keep (mode_after mode says.EachCycle) before later (inr (inl refl))
-commands_keep mode before (line ∷ later) h = commands_keep (mode_after mode line) before later h
+commands_keep_targets mode before (says.Deadline d ∷ later) h = commands_keep_targets (mode_after mode (says.Deadline d)) before later h
+commands_keep_targets mode before (says.Chained ∷ later) h = commands_keep_targets (mode_after mode says.Chained) before later (inr (inl refl))
+commands_keep_targets mode before (says.Unchained ∷ later) h = commands_keep_targets (mode_after mode says.Unchained) before later (inr (inl refl))
+commands_keep_targets mode before (says.Retrying r ∷ later) h = commands_keep_targets (mode_after mode (says.Retrying r)) before later (inr (inl refl))
+commands_keep_targets mode before (says.AtStart ∷ later) h = commands_keep_targets (mode_after mode says.AtStart) before later (inr (inl refl))
+commands_keep_targets mode before (says.EachCycle ∷ later) h = commands_keep_targets (mode_after mode says.EachCycle) before later (inr (inl refl))
+commands_keep_targets mode before (line ∷ later) h = commands_keep_targets (mode_after mode line) before later h
 
--- where tasks keep targets with no task before them, they do so after a task for any target, too,
--- because their first isn't chained
-keep_behind : (before : Option ℕ) (tasks : List Task) → KeepTargets None tasks → KeepTargets before tasks
-keep_behind before [] are = tt
-keep_behind before (t ∷ ts) are = ((λ e. let bad : None ≡ Some t.command.target = are.0 e in cc), are.1)
+-- if tasks keep targets with no task before them, so that their first isn't chained, they do so after a task for any target, too
+keep_targets_after_any : (before : Option ℕ) (tasks : List Task) → KeepTargets None tasks → KeepTargets before tasks
+keep_targets_after_any before [] are = tt
+keep_targets_after_any before (t ∷ ts) are = ((λ e. let bad : None ≡ Some t.command.target = are.0 e in cc), are.1)
 
 -- tasks that keep targets, and after them tasks that do so with no task before them, keep targets together
-keep_both : (before : Option ℕ) (xs ys : List Task) → KeepTargets before xs → KeepTargets None ys → KeepTargets before (xs ++ ys)
-keep_both before [] ys first second = keep_behind before ys second
-keep_both before (x ∷ xs) ys first second = (first.0, keep_both (Some x.command.target) xs ys first.1 second)
+keep_targets_together : (before : Option ℕ) (xs ys : List Task) → KeepTargets before xs → KeepTargets None ys → KeepTargets before (xs ++ ys)
+keep_targets_together before [] ys first second = keep_targets_after_any before ys second
+keep_targets_together before (x ∷ xs) ys first second = (first.0, keep_targets_together (Some x.command.target) xs ys first.1 second)
 
 -- where commands keep targets after a command for the target `before`, if there is one, so do the tasks of one attempt of them
-attempt_keeps : (attempt : ℕ) (again : Again) (n : ℕ) (before : Option ℕ) (ps : List Planned)
-    → PlannedKeep before ps → KeepTargets before (map (in_attempt attempt again n) ps)
-attempt_keeps attempt again n before [] are = tt
-attempt_keeps attempt again n before (p ∷ ps) are = (are.0, attempt_keeps attempt again n (Some p.task.command.target) ps are.1)
+attempt_keeps_targets : (attempt : ℕ) (again : Again) (n : ℕ) (before : Option ℕ) (ps : List Planned)
+    → CommandsKeepTargets before ps → KeepTargets before (map (in_attempt attempt again n) ps)
+attempt_keeps_targets attempt again n before [] are = tt
+attempt_keeps_targets attempt again n before (p ∷ ps) are = (are.0, attempt_keeps_targets attempt again n (Some p.task.command.target) ps are.1)
 
 -- where the commands of a chain keep targets with none before them, so do the tasks of its attempts from `attempt` on
-attempts_keep : (attempt left : ℕ) (again : Again) (chain : List Planned)
-    → PlannedKeep None chain → KeepTargets None (attempts_from attempt left again chain)
-attempts_keep attempt zero again chain are = attempt_keeps attempt no_again (length chain) None chain are
-attempts_keep attempt (suc left) again chain are =
-    keep_both None (map (in_attempt attempt again (length chain * suc (suc left))) chain) (attempts_from (attempt + 1) left again chain)
-    (attempt_keeps attempt again (length chain * suc (suc left)) None chain are) (attempts_keep (attempt + 1) left again chain are)
+attempts_keep_targets : (attempt left : ℕ) (again : Again) (chain : List Planned)
+    → CommandsKeepTargets None chain → KeepTargets None (attempts_from attempt left again chain)
+attempts_keep_targets attempt zero again chain are = attempt_keeps_targets attempt no_again (length chain) None chain are
+attempts_keep_targets attempt (suc left) again chain are =
+    keep_targets_together None (map (in_attempt attempt again (length chain * suc (suc left))) chain) (attempts_from (attempt + 1) left again chain)
+    (attempt_keeps_targets attempt again (length chain * suc (suc left)) None chain are) (attempts_keep_targets (attempt + 1) left again chain are)
 
 -- the target of the last of these commands, or `before` where there is none
 abbrev last_target : Option ℕ → List Planned → Option ℕ
 last_target before [] = before
 last_target before (p ∷ ps) = last_target (Some p.task.command.target) ps
 
--- where commands keep targets after `before` (`PlannedKeep`), and one more is chained only if `last_target` of them is its
--- target, the commands and the one more keep targets after `before`, too
-keep_more : (before : Option ℕ) (ps : List Planned) (p : Planned) → PlannedKeep before ps
-    → (p.task.chained ≡ true → last_target before ps ≡ Some p.task.command.target) → PlannedKeep before (ps ++ p ∷ [])
-keep_more before [] p are is = (is, tt)
-keep_more before (q ∷ ps) p are is = (are.0, keep_more (Some q.task.command.target) ps p are.1 is)
+-- if commands keep targets after `before` (`CommandsKeepTargets`), and one more is chained only if its target is that of the last of
+-- them (`last_target`), the commands and the one more keep targets after `before`, too
+keep_targets_and_one_more : (before : Option ℕ) (ps : List Planned) (p : Planned) → CommandsKeepTargets before ps
+    → (p.task.chained ≡ true → last_target before ps ≡ Some p.task.command.target) → CommandsKeepTargets before (ps ++ p ∷ [])
+keep_targets_and_one_more before [] p are is = (is, tt)
+keep_targets_and_one_more before (q ∷ ps) p are is = (are.0, keep_targets_and_one_more (Some q.task.command.target) ps p are.1 is)
 
 -- the last target (`last_target`) of commands and one more is the target of the one more
-last_more : (before : Option ℕ) (ps : List Planned) (p : Planned) → last_target before (ps ++ p ∷ []) ≡ Some p.task.command.target
-last_more before [] p = refl
-last_more before (q ∷ ps) p = last_more (Some q.task.command.target) ps p
+last_target_of_more : (before : Option ℕ) (ps : List Planned) (p : Planned) → last_target before (ps ++ p ∷ []) ≡ Some p.task.command.target
+last_target_of_more before [] p = refl
+last_target_of_more before (q ∷ ps) p = last_target_of_more (Some q.task.command.target) ps p
 
 -- where the commands of a chain that was begun keep targets with none before them, and the commands after it do so after its
 -- last, the tasks of all attempts of it and of the chains after it keep targets with none before them
-laid_keep : (retry : Retry) (chain later : List Planned)
-    → PlannedKeep None chain → PlannedKeep (last_target None chain) later → KeepTargets None (laid_from retry chain later)
-laid_keep retry chain [] are more = attempts_keep 1 retry.times retry.again chain are
-laid_keep retry chain (p ∷ later) are more =
+laid_keep_targets : (retry : Retry) (chain later : List Planned)
+    → CommandsKeepTargets None chain → CommandsKeepTargets (last_target None chain) later → KeepTargets None (laid_from retry chain later)
+laid_keep_targets retry chain [] are more = attempts_keep_targets 1 retry.times retry.again chain are
+laid_keep_targets retry chain (p ∷ later) are more =
     by_chained p.task.chained refl
-    (laid_keep retry (chain ++ p ∷ []) later (keep_more None chain p are more.0) (subst (λ t. PlannedKeep t later) (sym (last_more None chain p)) more.1))
-    (λ e. laid_keep p.retry (p ∷ []) later ((λ f. absurd (both_ways p.task.chained e f)), tt) more.1) where
+    (laid_keep_targets retry (chain ++ p ∷ []) later (keep_targets_and_one_more None chain p are more.0) (subst (λ t. CommandsKeepTargets t later) (sym (last_target_of_more None chain p)) more.1))
+    (λ e. laid_keep_targets p.retry (p ∷ []) later ((λ f. absurd (both_ways p.task.chained e f)), tt) more.1) where
       -- the lemma above for `p ∷ later`, by whether `p` goes on with the chain (`b`)
       by_chained : (b : Bool) → p.task.chained ≡ b → KeepTargets None (laid_from retry (chain ++ p ∷ []) later)
           → (p.task.chained ≡ false → KeepTargets None (laid_from p.retry (p ∷ []) later))
           → KeepTargets None (if b then laid_from retry (chain ++ p ∷ []) later else attempts retry chain ++ laid_from p.retry (p ∷ []) later)
       by_chained true e on anew = on
-      by_chained false e on anew = keep_both None (attempts retry chain) (laid_from p.retry (p ∷ []) later) (attempts_keep 1 retry.times retry.again chain are) (anew e)
+      by_chained false e on anew = keep_targets_together None (attempts retry chain) (laid_from p.retry (p ∷ []) later) (attempts_keep_targets 1 retry.times retry.again chain are) (anew e)
 
 -- tasks that keep targets do so, too, once they have their places, which change neither which are chained nor for which target
 -- they are
-placed_keep : (nears : List Near) (before : Option ℕ) (tasks : List Task) → KeepTargets before tasks → KeepTargets before (map (placed nears) tasks)
-placed_keep nears before [] are = tt
-placed_keep nears before (task ∷ later) are = (are.0, placed_keep nears (Some task.command.target) later are.1)
+placed_keep_targets : (nears : List Near) (before : Option ℕ) (tasks : List Task) → KeepTargets before tasks → KeepTargets before (map (placed nears) tasks)
+placed_keep_targets nears before [] are = tt
+placed_keep_targets nears before (task ∷ later) are = (are.0, placed_keep_targets nears (Some task.command.target) later are.1)
 
 -- these tasks, after n others of a chain, are the rest of that chain: all are chained, but for the first where n is 0
 abbrev ContinueChain : ℕ → List Task → Type 0
@@ -380,5 +384,6 @@ chains_keep_targets text deadline chained all is =
       is.tasks_are ∙ map-append (placed all.nears) (setup_of first is.said) (laid_out (planned_of first is.said)),
       is.setup_is ∙ sym (length-map (setup_of first is.said) (placed all.nears)),
       setup_chain all.nears first is.said,
-      placed_keep all.nears None (laid_out (planned_of first is.said)) (laid_keep no_retry [] (planned_of first is.said) tt (commands_keep first None is.said (inr (inl refl)))),
+      placed_keep_targets all.nears None (laid_out (planned_of first is.said))
+          (laid_keep_targets no_retry [] (planned_of first is.said) tt (commands_keep_targets first None is.said (inr (inl refl)))),
     )

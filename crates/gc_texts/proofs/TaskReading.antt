@@ -9,7 +9,7 @@ use Rattle.std.specs.List.{flat_map}
 use Rattle.std.specs.Prelude.{filter}
 use Rattle.gc_texts.specs.LineForms.{is_skipped, is_kept}
 use Rattle.gc_texts.specs.TaskLines.{IsTaskLine}
-use Rattle.gc_texts.specs.Tasks.{LinesGave, Grows, Counted, first_mode, mode_after, chained_at, place_in_chain, task_at, given_by, setup_at, setup_of, planned_at, planned_of, name_at, names_of, near_at, nears_of, may_follow, MayFollow, IsFirstFaultyTask, ReachesASoundTaskLine}
+use Rattle.gc_texts.specs.Tasks.{LinesGave, Grows, CountsAtMost, first_mode, mode_after, chained_at, place_in_chain, task_at, given_by, setup_at, setup_of, planned_at, planned_of, name_at, names_of, near_at, nears_of, may_follow, MayFollow, FirstFaultyTaskLine, ReachesASoundTaskLine}
 use Rattle.gc_texts.specs.declared.name.Name.{Name}
 use Rattle.gc_texts.specs.declared.near.Near.{Near}
 use Rattle.gc_texts.specs.declared.task_line.TaskLine.{TaskLine}
@@ -17,7 +17,7 @@ use Rattle.gc_texts.specs.declared.mode.Mode.{Mode}
 use Rattle.gc_texts.specs.declared.task_line.TaskLine.TheVariants as says
 use Rattle.gc_texts.specs.declared.tasks.Given.{Given}
 use Rattle.gc_texts.proofs.TaskForms.{one_said}
-use Rattle.gc_texts.proofs.TextLines.{HasRead, Reads, lines_left, reads_few, is_here, line_skips, line_reads}
+use Rattle.gc_texts.proofs.TextLines.{HasRead, ReadsSoFar, lines_left, reads_few, is_here, line_skips, line_reads}
 
 -- the mode after these lines, where `mode` holds before the first
 abbrev pub mode_after_lines : Mode → List TaskLine → Mode
@@ -39,14 +39,14 @@ given_both given_at mode (x ∷ xs) ys =
     ∙ sym (append_assoc (given_at mode x) (given_by given_at (mode_after mode x) xs) (given_by given_at (mode_after_lines (mode_after mode x) xs) ys))
 
 -- what lines and then `next` give (`given_by`) is what the lines give, and then what `next` gives by the mode after them
-given_more : {Item : Type 0} (given_at : Mode → TaskLine → List Item) (mode : Mode) (lines : List TaskLine) (next : TaskLine)
+given_with_one_more : {Item : Type 0} (given_at : Mode → TaskLine → List Item) (mode : Mode) (lines : List TaskLine) (next : TaskLine)
     → given_by given_at mode (lines ++ next ∷ []) ≡ given_by given_at mode lines ++ given_at (mode_after_lines mode lines) next
-given_more given_at mode lines next =
+given_with_one_more given_at mode lines next =
     given_both given_at mode lines (next ∷ []) ∙ ap (λ items. given_by given_at mode lines ++ items) (append-nil (given_at (mode_after_lines mode lines) next))
 
 -- where each count of a mode is at most n, each count of the mode after one more line is at most n + 1
-counted_line : (mode : Mode) (line : TaskLine) (n : ℕ) → Counted mode n → Counted (mode_after mode line) (n + 1)
-counted_line mode (says.Command c now) n h = record {
+counts_after_one_more : (mode : Mode) (line : TaskLine) (n : ℕ) → CountsAtMost mode n → CountsAtMost (mode_after mode line) (n + 1)
+counts_after_one_more mode (says.Command c now) n h = record {
   begun = cond_both mode.setup (mode.begun + 1) mode.begun (λ k. k ≤ n + 1) (λ _. omega (arith, h.begun)) (λ _. omega (arith, h.begun));
   place = cond_both mode.setup mode.place (mode.place + 1) (λ k. k ≤ n + 1) (λ _. omega (arith, h.place)) (λ _. omega (arith, h.place));
   link =
@@ -55,26 +55,26 @@ counted_line mode (says.Command c now) n h = record {
       cond_both mode.setup mode.begun (if chained_at mode c.target then mode.link else 0) (λ k. k ≤ n) (λ _. h.begun) (λ _. inner) in
       omega (arith, low);
 }
-counted_line mode line n h = record { begun = omega (arith, h.begun); place = omega (arith, h.place); link = omega (arith, h.link) }
+counts_after_one_more mode line n h = record { begun = omega (arith, h.begun); place = omega (arith, h.place); link = omega (arith, h.link) }
 
 -- where each count of a mode is at most n, each count of the mode after lines is at most n plus the number of the lines
-counted_lines : (mode : Mode) (lines : List TaskLine) (n : ℕ) → Counted mode n → Counted (mode_after_lines mode lines) (n + length lines)
-counted_lines mode [] n h = record { begun = omega (arith, h.begun); place = omega (arith, h.place); link = omega (arith, h.link) }
-counted_lines mode (line ∷ lines) n h =
-    let more = counted_lines (mode_after mode line) lines (n + 1) (counted_line mode line n h) in
+counts_after_lines : (mode : Mode) (lines : List TaskLine) (n : ℕ) → CountsAtMost mode n → CountsAtMost (mode_after_lines mode lines) (n + length lines)
+counts_after_lines mode [] n h = record { begun = omega (arith, h.begun); place = omega (arith, h.place); link = omega (arith, h.link) }
+counts_after_lines mode (line ∷ lines) n h =
+    let more = counts_after_lines (mode_after mode line) lines (n + 1) (counts_after_one_more mode line n h) in
     record { begun = omega (arith, more.begun); place = omega (arith, more.place); link = omega (arith, more.link) }
 
 -- a line gives one command of the cycle at most
-planned_line : (mode : Mode) (line : TaskLine) → length (planned_at mode line) ≤ 1
-planned_line mode (says.Command c now) =
+one_planned_at_most : (mode : Mode) (line : TaskLine) → length (planned_at mode line) ≤ 1
+one_planned_at_most mode (says.Command c now) =
     cond_both mode.setup [] (record { task = task_at mode c now; retry = mode.retry } ∷ []) (λ ps. length ps ≤ 1) (λ _. omega arith) (λ _. omega arith)
-planned_line mode line = omega arith
+one_planned_at_most mode line = omega arith
 
 -- there are at most as many commands of the cycle as lines
 planned_few : (mode : Mode) (lines : List TaskLine) → length (planned_of mode lines) ≤ length lines
 planned_few mode [] = omega arith
 planned_few mode (line ∷ lines) =
-    let one = planned_line mode line in
+    let one = one_planned_at_most mode line in
     let more = planned_few (mode_after mode line) lines in
     let all : length (planned_at mode line ++ planned_of (mode_after mode line) lines) ≡ length (planned_at mode line) + length (planned_of (mode_after mode line) lines) =
     length-append (planned_at mode line) (planned_of (mode_after mode line) lines) in
@@ -88,34 +88,34 @@ kept_few (line ∷ lines) =
     cond_both (is_kept line) (line ∷ filter is_kept lines) (filter is_kept lines) (λ kept. length kept ≤ length (line ∷ lines)) (λ _. omega (arith, few)) (λ _. omega (arith, few))
 
 -- what lines and then `next` give, each by itself, is what the lines give, and then what `next` gives
-each_more : {Item : Type 0} (given_at : TaskLine → List Item) (lines : List TaskLine) (next : TaskLine)
+flat_map_one_more : {Item : Type 0} (given_at : TaskLine → List Item) (lines : List TaskLine) (next : TaskLine)
     → flat_map given_at (lines ++ next ∷ []) ≡ flat_map given_at lines ++ given_at next
-each_more given_at lines next =
+flat_map_one_more given_at lines next =
     flat_map-append given_at lines (next ∷ []) ∙ ap (λ items. flat_map given_at lines ++ items) (append-nil (given_at next))
 
 -- where lines may follow these names and places, and one more line may follow these together with the names and places of the
 -- lines, all of these lines may follow these names and places
-follow_more : (names : List Name) (nears : List Near) (lines : List TaskLine) (next : TaskLine) → MayFollow names nears lines
+follow_one_more : (names : List Name) (nears : List Near) (lines : List TaskLine) (next : TaskLine) → MayFollow names nears lines
     → may_follow (names ++ names_of lines) (nears ++ nears_of lines) next ≡ true → MayFollow names nears (lines ++ next ∷ [])
-follow_more names nears [] next follow allowed = (ap (λ ns. may_follow ns nears next) (sym (append-nil names)) ∙ ap (λ ps. may_follow (names ++ []) ps next) (sym (append-nil nears)) ∙ allowed, tt)
-follow_more names nears (line ∷ lines) next follow allowed = (
+follow_one_more names nears [] next follow allowed = (ap (λ ns. may_follow ns nears next) (sym (append-nil names)) ∙ ap (λ ps. may_follow (names ++ []) ps next) (sym (append-nil nears)) ∙ allowed, tt)
+follow_one_more names nears (line ∷ lines) next follow allowed = (
   follow.0,
-  follow_more (names ++ name_at line) (nears ++ near_at line) lines next follow.1
+  follow_one_more (names ++ name_at line) (nears ++ near_at line) lines next follow.1
       (ap (λ ns. may_follow ns ((nears ++ near_at line) ++ nears_of lines) next) (append_assoc names (name_at line) (names_of lines))
       ∙ ap (λ ps. may_follow (names ++ (name_at line ++ names_of lines)) ps next) (append_assoc nears (near_at line) (nears_of lines)) ∙ allowed),
 )
 
 -- where lines gave `old`, and this grew to `new` by what `next` gives by the mode after them, the lines and then `next` gave
 -- `new`
-gave_more : (first mode : Mode) (lines : List TaskLine) (next : TaskLine) (old new : Given)
+gave_with_one_more : (first mode : Mode) (lines : List TaskLine) (next : TaskLine) (old new : Given)
     → LinesGave first lines old → mode ≡ mode_after_lines first lines → Grows mode next old new → LinesGave first (lines ++ next ∷ []) new
-gave_more first mode lines next old new gave is grows =
+gave_with_one_more first mode lines next old new gave is grows =
     record {
-      setup_are = grows.setup_more ∙ ap (λ ts. ts ++ setup_at mode next) gave.setup_are ∙ ap (λ m. setup_of first lines ++ setup_at m next) is ∙ sym (given_more setup_at first lines next);
+      setup_are = grows.setup_more ∙ ap (λ ts. ts ++ setup_at mode next) gave.setup_are ∙ ap (λ m. setup_of first lines ++ setup_at m next) is ∙ sym (given_with_one_more setup_at first lines next);
       cycle_are = grows.cycle_more ∙ ap (λ ts. ts ++ planned_at mode next) gave.cycle_are ∙ ap (λ m. planned_of first lines ++ planned_at m next) is
-          ∙ sym (given_more planned_at first lines next);
-      names_are = grows.names_more ∙ ap (λ ns. ns ++ name_at next) gave.names_are ∙ sym (each_more name_at lines next);
-      nears_are = grows.nears_more ∙ ap (λ ns. ns ++ near_at next) gave.nears_are ∙ sym (each_more near_at lines next);
+          ∙ sym (given_with_one_more planned_at first lines next);
+      names_are = grows.names_more ∙ ap (λ ns. ns ++ name_at next) gave.names_are ∙ sym (flat_map_one_more name_at lines next);
+      nears_are = grows.nears_more ∙ ap (λ ns. ns ++ near_at next) gave.nears_are ∙ sym (flat_map_one_more near_at lines next);
     }
 
 -- how far the reading has come, which began in the mode `first`: `left` of the text is unread, `number` lines were read, `given`
@@ -123,7 +123,7 @@ gave_more first mode lines next old new gave is grows =
 -- reached
 pub record ReadsTasks (text : List ℕ) (first : Mode) (left : Option (List ℕ)) (number : ℕ) (given : Given) (mode : Mode) : Type 0 where
   pub said : List TaskLine
-  pub reads : Reads IsTaskLine text left number said
+  pub reads : ReadsSoFar IsTaskLine text left number said
   pub follow : MayFollow [] [] said
   pub gave : LinesGave first said given
   pub mode_is : mode ≡ mode_after_lines first said
@@ -145,11 +145,11 @@ module _
       omega (arith, many, few, tasks_few, r.reads.count)
 
   -- each count of the mode is at most 65,537
-  pub counted : Counted mode 65537
+  pub counted : CountsAtMost mode 65537
   counted =
-      let all = counted_lines (first_mode deadline chained) r.said 0 (record { begun = omega arith; place = omega arith; link = omega arith }) in
+      let all = counts_after_lines (first_mode deadline chained) r.said 0 (record { begun = omega arith; place = omega arith; link = omega arith }) in
       let few = said_few in
-      subst (λ m. Counted m 65537) (sym r.mode_is) (record { begun = omega (arith, few, all.begun); place = omega (arith, few, all.place); link = omega (arith, few, all.link) })
+      subst (λ m. CountsAtMost m 65537) (sym r.mode_is) (record { begun = omega (arith, few, all.begun); place = omega (arith, few, all.place); link = omega (arith, few, all.link) })
 
   -- the cycle's commands are at most 65,537
   pub cycle_few : length given.cycle.items ≤ 65537
@@ -160,10 +160,10 @@ module _
     (text : List ℕ) (first : Mode) (left : Option (List ℕ)) (number : ℕ) (given : Given) (mode : Mode) (r : ReadsTasks text first left number given mode)
     (line : List ℕ) (rest : Option (List ℕ)) (at : HasRead IsTaskLine text (line ∷ lines_left rest) number r.said) where
   -- a line may follow the lines that were read exactly where it may follow the names and places so far
-  said_so : (said : TaskLine) → may_follow (names_of r.said) (nears_of r.said) said ≡ may_follow given.names.items given.nears.items said
-  said_so said = ap (λ ns. may_follow ns (nears_of r.said) said) (sym r.gave.names_are) ∙ ap (λ ps. may_follow given.names.items ps said) (sym r.gave.nears_are)
+  may_follow_so_far : (said : TaskLine) → may_follow (names_of r.said) (nears_of r.said) said ≡ may_follow given.names.items given.nears.items said
+  may_follow_so_far said = ap (λ ns. may_follow ns (nears_of r.said) said) (sym r.gave.names_are) ∙ ap (λ ps. may_follow given.names.items ps said) (sym r.gave.nears_are)
 
-  -- where it is skipped, it is read, and changes nothing but the number of lines
+  -- if the line is skipped, it is read, and changes nothing but the number of lines
   pub task_skips : is_skipped line ≡ true → ReadsTasks text first rest (number + 1) given mode
   task_skips is =
       record {
@@ -175,10 +175,10 @@ module _
         reached = r.reached;
       }
 
-  -- where it isn't skipped, and says nothing that may follow the lines before it, it is the first faulty one
-  faulty : is_skipped line ≡ false → ((said : TaskLine) → IsTaskLine line said → may_follow given.names.items given.nears.items said ≡ false)
-      → IsFirstFaultyTask text (number + 1)
-  faulty isnt none =
+  -- if the line isn't skipped, and says nothing that may follow the lines before it, it is the first faulty one
+  is_first_faulty : is_skipped line ≡ false → ((said : TaskLine) → IsTaskLine line said → may_follow given.names.items given.nears.items said ≡ false)
+      → FirstFaultyTaskLine text (number + 1)
+  is_first_faulty isnt none =
       record {
         front = at.read;
         line = line;
@@ -186,19 +186,19 @@ module _
         place = ap (λ n. n + 1) at.count;
         before = r.said;
         lines = record { forms = at.items_are; follow = r.follow };
-        faulty = λ said is. said_so said ∙ none said is;
+        faulty = λ said is. may_follow_so_far said ∙ none said is;
       }
 
-  -- where it isn't skipped and has no form, it is the first faulty one
-  pub task_fails : is_skipped line ≡ false → ((said : TaskLine) → IsTaskLine line said → ⊥) → IsFirstFaultyTask text (number + 1)
-  task_fails isnt none = faulty isnt (λ said is. absurd (none said is))
+  -- if the line isn't skipped and has no form, it is the first faulty one
+  pub task_fails : is_skipped line ≡ false → ((said : TaskLine) → IsTaskLine line said → ⊥) → FirstFaultyTaskLine text (number + 1)
+  task_fails isnt none = is_first_faulty isnt (λ said is. absurd (none said is))
 
-  -- where it isn't skipped, has a form, and may not follow the names and places so far (`may_follow`), it is the first faulty one
+  -- if the line isn't skipped, has a form, and may not follow the names and places so far (`may_follow`), it is the first faulty one
   pub task_refused : (said : TaskLine) (allowed : Bool) → is_skipped line ≡ false → IsTaskLine line said
-      → allowed ≡ may_follow given.names.items given.nears.items said → allowed ≡ false → IsFirstFaultyTask text (number + 1)
-  task_refused said allowed isnt is asked no_more = faulty isnt (λ other form. ap (may_follow given.names.items given.nears.items) (one_said line other said form is) ∙ sym asked ∙ no_more)
+      → allowed ≡ may_follow given.names.items given.nears.items said → allowed ≡ false → FirstFaultyTaskLine text (number + 1)
+  task_refused said allowed isnt is asked no_more = is_first_faulty isnt (λ other form. ap (may_follow given.names.items given.nears.items) (one_said line other said form is) ∙ sym asked ∙ no_more)
 
-  -- where it isn't skipped, has a form and may follow the names and places so far (`may_follow`), the text has a line that isn't
+  -- if the line isn't skipped, has a form and may follow the names and places so far (`may_follow`), the text has a line that isn't
   -- faulty, with no faulty line before it (`ReachesASoundTaskLine`): this is needed where memory is refused at the line
   pub task_wants : (said : TaskLine) (allowed : Bool) → is_skipped line ≡ false → IsTaskLine line said
       → allowed ≡ may_follow given.names.items given.nears.items said → allowed ≡ true → ReachesASoundTaskLine text
@@ -211,10 +211,10 @@ module _
         lines = record { forms = at.items_are; follow = r.follow };
         said = said;
         form = is;
-        allowed = said_so said ∙ sym asked ∙ did;
+        allowed = may_follow_so_far said ∙ sym asked ∙ did;
       }
 
-  -- where it isn't skipped, has a form and may follow the names and places so far (`may_follow`), it is read: what the lines gave
+  -- if the line isn't skipped, has a form and may follow the names and places so far (`may_follow`), it is read: what the lines gave
   -- grows by what it gives, and the mode is the one after it
   pub task_reads :
       (said : TaskLine) (new : Given) (next : Mode) (allowed : Bool)
@@ -225,8 +225,8 @@ module _
       record {
         said = r.said ++ said ∷ [];
         reads = line_reads IsTaskLine text line rest number r.said at said (r.said ++ said ∷ []) isnt is refl;
-        follow = follow_more [] [] r.said said r.follow (said_so said ∙ sym asked ∙ did);
-        gave = gave_more first mode r.said said given new r.gave r.mode_is grows;
+        follow = follow_one_more [] [] r.said said r.follow (may_follow_so_far said ∙ sym asked ∙ did);
+        gave = gave_with_one_more first mode r.said said given new r.gave r.mode_is grows;
         mode_is = more ∙ ap (λ m. mode_after m said) r.mode_is ∙ sym (mode_after_both first r.said (said ∷ []));
         reached = inr (task_wants said allowed isnt is asked did);
       }

@@ -8,7 +8,7 @@ use Rattle.gc_texts.specs.Wishes.{AsksFor, IsRawWish, IsWish}
 use Rattle.gc_texts.specs.declared.commands.Command.{Command}
 use Rattle.gc_texts.specs.declared.wish.Wish.{Wish}
 use Rattle.gc_texts.proofs.CommandForms.{one_command}
-use Rattle.gc_texts.proofs.RawForms.{never_both, one_raw}
+use Rattle.gc_texts.proofs.RawForms.{command_is_no_raw_wish, one_raw}
 
 -- two wishes with equal targets that ask for the same are equal
 pub same_wish : (v w : Wish) → v.target ≡ w.target → v.call ≡ w.call → v ≡ w
@@ -20,8 +20,8 @@ one_asking line m n (Table a) (Table b) x y =
     let same : ◌≡◌ {A = Command} (record { target = m; call = a }) (record { target = n; call = b }) = one_command line (record { target = m; call = a }) (record { target = n; call = b }) x y in
     (ap (λ (c : Command). c.target) same, ap (λ (c : Command). Table c.call) same)
 one_asking line m n (Raw a) (Raw b) x y = one_raw line m n a b x y
-one_asking line m n (Raw a) (Table b) x y = absurd (never_both line (record { target = n; call = b }) m a y x)
-one_asking line m n (Table a) (Raw b) x y = absurd (never_both line (record { target = m; call = a }) n b x y)
+one_asking line m n (Raw a) (Table b) x y = absurd (command_is_no_raw_wish line (record { target = n; call = b }) m a y x)
+one_asking line m n (Table a) (Raw b) x y = absurd (command_is_no_raw_wish line (record { target = m; call = a }) n b x y)
 
 -- a line has the form of one wish at most
 pub one_wish : (line : List ℕ) (v w : Wish) → IsWish line v → IsWish line w → v ≡ w

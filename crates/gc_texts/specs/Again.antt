@@ -9,16 +9,15 @@ use Rattle.gc_texts.specs.declared.codes.Codes.{Codes}
 abbrev pub no_again : Again
 no_again = record { codes = no_codes; unreadable = false; elsewhere = false; late = false; lost = false; skipped = false }
 
--- whether a reply's return code is one of `listed`; never where there is no code to look for (`None`), because the return code is 0, or the
--- communication code is another than 0
-abbrev pub has_code : Codes → Option ℕ → Bool
+-- whether `code`, the return code of a reply, is one of `listed`. `None` never is: it stands for return code 0, and for a reply
+-- whose communication code isn't 0
+abbrev pub has_code : (listed : Codes) → (code : Option ℕ) → Bool
 has_code listed None = false
 has_code listed (Some code) = lists_code listed code
 
 -- whether a chain with the rule `again` is repeated after this ending of one of its commands. An answered command decides by `code`, the
--- return code of its reply (`None` where it is 0, or the communication code is another than 0); any other ending decides by its outcome
--- alone, and a missed cycle never repeats a chain
-abbrev pub repeats_after : Again → Option ℕ → End → Bool
+-- return code of its reply (`has_code`); any other ending decides by its outcome alone, and a missed cycle never repeats a chain
+abbrev pub repeats_after : Again → (code : Option ℕ) → End → Bool
 repeats_after again code (Answered quality answer line) = has_code again.codes code
 repeats_after again code (Unreadable line fault) = again.unreadable
 repeats_after again code (Elsewhere line) = again.elsewhere

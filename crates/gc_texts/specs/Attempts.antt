@@ -28,8 +28,8 @@ attempts_from attempt (suc left) again chain =
 abbrev pub attempts : Retry → List Planned → List Task
 attempts retry chain = attempts_from 1 retry.times retry.again chain
 
--- the tasks of all attempts of `chain`, whose retry is `retry`, and of the chains that the commands `later` form after it: a
--- chained command belongs to the chain before it, `chain` being the first, and one that isn't chained begins the next chain
+-- the tasks of all attempts of `chain`, whose retry is `retry`, and then of the chains that the commands `later` form. A chained
+-- command is one more of the chain before it, as of `chain` at first, and one that isn't chained begins the next chain
 abbrev pub laid_from : Retry → (chain later : List Planned) → List Task
 laid_from retry chain [] = attempts retry chain
 laid_from retry chain (planned ∷ later) =

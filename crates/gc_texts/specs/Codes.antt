@@ -10,10 +10,6 @@ pub record IsCode (word : List ℕ) (code : ℕ) : Type 0 where
   pub number : IsNumber word code 65535
   pub some : 1 ≤ code
 
--- a text is these codes, at least one, with one space between two
-abbrev pub AreCodes : (text listed : List ℕ) → Type 0
-AreCodes text listed = AreWords IsCode text listed
-
 -- these codes, which are at most 16, in the first of 16 places, and 0, which is no code, in the others
 abbrev pub padded_codes : List ℕ → List ℕ
 padded_codes listed = listed ++ replicate (16 - length listed) 0
@@ -22,10 +18,10 @@ padded_codes listed = listed ++ replicate (16 - length listed) 0
 abbrev pub no_codes : Codes
 no_codes = record { codes = padded_codes [] }
 
--- a text is these codes, at least one and at most 16
+-- a text is the words of these codes, at least one and at most 16, with one space between two
 pub record IsCodeList (text : List ℕ) (codes : Codes) : Type 0 where
   pub listed : List ℕ
-  pub are : AreCodes text listed
+  pub are : AreWords IsCode text listed
   pub few : length listed ≤ 16
   pub filled_are : codes.codes ≡ padded_codes listed
 

@@ -46,9 +46,13 @@ escaped bytes = flat_map escape bytes
 abbrev pub BeginsWithNoByte : List ℕ → Type 0
 BeginsWithNoByte text = (b : ℕ) (more : List ℕ) → b < 256 → text ≡ escape b ++ more → ⊥
 
+-- a moment, a mark and what follows them, with one space between two
+abbrev pub marked_text : (moment : List ℕ) → LogMark → (rest : List ℕ) → List ℕ
+marked_text moment mark rest = moment ++ 32 ∷ (mark_text mark ++ 32 ∷ rest)
+
 -- a log line without its line feed: the moment, the mark, and the bytes
 abbrev pub log_text : (moment : List ℕ) → LogMark → (bytes : List ℕ) → List ℕ
-log_text moment mark bytes = moment ++ 32 ∷ (mark_text mark ++ 32 ∷ escaped bytes)
+log_text moment mark bytes = marked_text moment mark (escaped bytes)
 
 -- a log line with its line feed, of the moment `utc` milliseconds after the beginning of 1970
 abbrev pub log_line : ℕ → LogMark → List ℕ → List ℕ

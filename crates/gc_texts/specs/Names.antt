@@ -3,7 +3,7 @@ use Rattle.std.specs.Prelude.{ℕ, ◌==◌, ◌&&◌, ◌||◌, Bool, false, no
 use Rattle.std.specs.List.{list_any}
 use Rattle.gc_texts.specs.declared.name.Name.{Name}
 
--- whether a byte is allowed in no name: it isn't printable ASCII, or is a comma or a double quote
+-- whether a byte may not stand in a name: it isn't printable ASCII, or is a comma or a double quote
 abbrev pub is_foreign : ℕ → Bool
 is_foreign b = nat_lt b 32 || nat_lt 126 b || (b == 44) || (b == 34)
 
@@ -12,7 +12,7 @@ abbrev pub is_formula : List ℕ → Bool
 is_formula [] = false
 is_formula (b ∷ bs) = (b == 61) || (b == 43) || (b == 45) || (b == 64)
 
--- whether a text is a name: 1 to 64 bytes, each of which is allowed in a name, and no formula
+-- whether a text is a name: 1 to 64 bytes, each of which may stand in a name, and no formula
 abbrev pub is_name : List ℕ → Bool
 is_name text = nat_lt 0 (length text) && nat_lt (length text) 65 && not (is_formula text) && not (list_any is_foreign text)
 

@@ -14,17 +14,17 @@ outcome_text Late = codes " late"
 outcome_text Lost = codes " lost"
 
 -- the line of a settlement: its place, its target, and how it ended
-abbrev pub settlement_line : ℕ → Settlement Call → List ℕ
+abbrev pub settlement_line : (place : ℕ) → Settlement Call → List ℕ
 settlement_line place s = decimal place ++ codes " " ++ decimal s.target ++ outcome_text s.outcome ++ codes "\n"
 
 -- the lines of settlements, numbered from this place on
-abbrev pub lines_from : ℕ → List (Settlement Call) → List ℕ
-lines_from place [] = []
-lines_from place (s ∷ later) = settlement_line place s ++ lines_from (place + 1) later
+abbrev pub settlement_lines_from : (place : ℕ) → List (Settlement Call) → List ℕ
+settlement_lines_from place [] = []
+settlement_lines_from place (s ∷ later) = settlement_line place s ++ settlement_lines_from (place + 1) later
 
 -- the lines of settlements, numbered from place 0 on
 abbrev pub settlement_lines : List (Settlement Call) → List ℕ
-settlement_lines settlements = lines_from 0 settlements
+settlement_lines settlements = settlement_lines_from 0 settlements
 
 -- a sink took a part of the lines of these settlements, which are numbered from `place` on: the whole lines of the earlier ones, and the
 -- first `part` bytes, which aren't all, of the line of the next one. `old` and `new` are what it has taken before and after
@@ -35,11 +35,11 @@ pub record WrotePartOfSettlements (place : ℕ) (settled : List (Settlement Call
   pub order : settled ≡ earlier ++ next ∷ later
   pub part : ℕ
   pub not_all : part < length (settlement_line (place + length earlier) next)
-  pub took : Appends old new (lines_from place earlier ++ take part (settlement_line (place + length earlier) next))
+  pub took : Appends old new (settlement_lines_from place earlier ++ take part (settlement_line (place + length earlier) next))
 
 -- the result of writing the lines of these settlements, numbered from `place` on, to a sink: `Ok` if the sink took all of them,
 -- and `Output` if it took a part of them. `old` and `new` are what it has taken before and after
 abbrev pub WroteSettlements : (place : ℕ) → List (Settlement Call) → (old new : Option (List ℕ)) → Result (Unit {0}) RunFault → Type 0
-WroteSettlements place settled old new (Ok _) = Appends old new (lines_from place settled)
+WroteSettlements place settled old new (Ok _) = Appends old new (settlement_lines_from place settled)
 WroteSettlements place settled old new (Err Output) = WrotePartOfSettlements place settled old new
 WroteSettlements place settled old new (Err _) = ⊥

@@ -9,11 +9,6 @@ use Rattle.gc_texts.specs.declared.stamp.Date.{Date}
 abbrev pub year_days : ℕ → ℕ
 year_days year = if is_leap year then 366 else 365
 
--- how many days the first n months of a year have together
-unfoldable pub days_of_months : (year n : ℕ) → ℕ
-days_of_months year zero = 0
-days_of_months year (suc n) = days_of_months year n + month_days year (n + 1)
-
 -- the day after a day
 abbrev pub next_day : Date → Date
 next_day d =

@@ -26,7 +26,7 @@ pub record IsWordAnd (word : List ℕ) (Is : List ℕ → Type 0) (line : List �
   pub is : Is rest
 
 -- `deadline MS`, from 1 to 86400000 milliseconds
-pub record IsDeadline (line : List ℕ) (deadline : ℕ) : Type 0 where
+pub record IsDeadlineLine (line : List ℕ) (deadline : ℕ) : Type 0 where
   pub digits : List ℕ
   pub line_is : line ≡ codes "deadline " ++ digits
   pub number : IsNumber digits deadline 86400000
@@ -68,7 +68,7 @@ AsksForWish line wish false = IsWish line wish
 -- return codes are accepted, how often chains are repeated, or that the commands after it are setup or those of each cycle
 abbrev pub IsTaskLine : List ℕ → TaskLine → Type 0
 IsTaskLine line (says.Command wish now) = AsksForWish line wish now
-IsTaskLine line (says.Deadline deadline) = IsDeadline line deadline
+IsTaskLine line (says.Deadline deadline) = IsDeadlineLine line deadline
 IsTaskLine line says.Chained = line ≡ codes "chained"
 IsTaskLine line says.Unchained = line ≡ codes "unchained"
 IsTaskLine line (says.Naming name) = IsNameLine line name

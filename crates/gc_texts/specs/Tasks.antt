@@ -47,7 +47,7 @@ first_mode deadline chained =
     }
 
 -- each count of a mode is at most n
-pub record Counted (mode : Mode) (n : ℕ) : Type 0 where
+pub record CountsAtMost (mode : Mode) (n : ℕ) : Type 0 where
   pub begun : mode.begun ≤ n
   pub place : mode.place ≤ n
   pub link : mode.link ≤ n
@@ -179,8 +179,8 @@ abbrev pub IsAtCapacity : {X Z : Type 0} → Vec X Z → Type 0
 IsAtCapacity items = vec_capacity items ≤ vec_len items
 
 -- one of the four lists of what lines gave has no room for one more item, unless it grows
-abbrev pub HasFull : Given → Type 0
-HasFull given = (IsAtCapacity given.setup ⊎ IsAtCapacity given.cycle) ⊎ (IsAtCapacity given.names ⊎ IsAtCapacity given.nears)
+abbrev pub HasFullList : Given → Type 0
+HasFullList given = (IsAtCapacity given.setup ⊎ IsAtCapacity given.cycle) ⊎ (IsAtCapacity given.names ⊎ IsAtCapacity given.nears)
 
 -- a task with the place of its target: the first of `nears` that is of that target, and none where there is none
 abbrev pub placed : List Near → Task → Task
@@ -224,9 +224,9 @@ pub record IsTasks (text : List ℕ) (deadline : ℕ) (chained : Bool) (all : Ta
   pub names_are : all.names ≡ names_of said
   pub nears_are : all.nears ≡ nears_of said
 
--- line number n, counted from 1, is the first faulty one: it isn't skipped, and it has no form, or has one and may not
--- follow those before it
-pub record IsFirstFaultyTask (text : List ℕ) (n : ℕ) : Type 0 where
+-- line number n of a station's text, counted from 1, is the first faulty one: it isn't skipped, and it has no form, or has one
+-- and may not follow those before it
+pub record FirstFaultyTaskLine (text : List ℕ) (n : ℕ) : Type 0 where
   pub front : List (List ℕ)
   pub line : List ℕ
   pub here : HasKeptLine text front line
@@ -250,7 +250,7 @@ pub record ReachesASoundTaskLine (text : List ℕ) : Type 0 where
 -- why the reading of a station's text gave no tasks: the text is too long; or it isn't, and either line n is its first faulty one, or
 -- memory was refused at a line that has a form, isn't faulty and follows no faulty one
 abbrev pub TaskFault : List ℕ → RunFault → Type 0
-TaskFault text fault = TextFaultBy IsFirstFaultyTask ReachesASoundTaskLine text fault
+TaskFault text fault = TextFaultBy FirstFaultyTaskLine ReachesASoundTaskLine text fault
 
 -- what a task asks for when it is sent at the moment `utc`, in milliseconds since the beginning of 1970: what its command asks
 -- for; or, where the task's `now` is true, that the clock be set to that moment, as `date_time` has it

@@ -9,7 +9,7 @@ use Rattle.gc_catalogue.specs.declared.raw.RawFault.{RawFault}
 use Rattle.gc_catalogue.specs.declared.raw.RawFault.TheVariants.{InTable, TooLong}
 use Rattle.gc_values.specs.declared.fault.ValueFault.{ValueFault}
 use Rattle.gc_values.specs.declared.fault.ValueFault.TheVariants.{Count, TooMany}
-use Rattle.gc_texts.specs.Procedures.{IsNumber, IsRpc, IsTarget}
+use Rattle.gc_texts.specs.Procedures.{IsRpc, IsTarget}
 use Rattle.gc_texts.specs.Cuts.{behind}
 use Rattle.gc_texts.specs.ProcedureNames.{name_in_table}
 use Rattle.gc_texts.specs.Words.{first_word, second_word, third_word, after_two_words, after_three_words}
@@ -52,10 +52,6 @@ raw_trouble rpc _ = trouble.RawParameters
 abbrev pub IsRawTrouble : ℕ → List ℕ → Trouble → Type 0
 IsRawTrouble rpc params t =
     ((fault : RawFault) × IsRawRefusal rpc params fault × (t ≡ raw_trouble rpc fault)) ⊎ (IsRawCall rpc params × (t ≡ trouble.NoForm))
-
--- the text is no number up to this maximum
-abbrev pub NoNumber : List ℕ → ℕ → Type 0
-NoNumber text max = (n : ℕ) → IsNumber text n max → ⊥
 
 -- the text is the number of some target
 abbrev pub HasTarget : List ℕ → Type 0

@@ -29,8 +29,8 @@ abbrev pub source_of : Ports → Input
 source_of ports = record { remaining = ports.remaining; reads = ports.reads; ended = ports.ended; failed = ports.source_failed }
 
 -- a source gave some bytes, with at most one read for each byte and one for its end, and `claim` holds of these bytes
-abbrev pub Gave : (old new : Input) → (claim : List ℕ → Type 0) → Type 0
-Gave old new claim =
+abbrev pub GaveBytes : (old new : Input) → (claim : List ℕ → Type 0) → Type 0
+GaveBytes old new claim =
     (given : List ℕ) × Consumes old.remaining new.remaining given × (new.reads ≤ old.reads + length given + end_reads new.ended) × claim given
 
 -- reading took a source from `old` to `new`, with at most one read for each byte and one for the end, and gave this text, which is within
@@ -39,9 +39,9 @@ abbrev pub ReadsText : (old new : Input) → (text : List ℕ) → Type 0
 ReadsText old new text =
     Consumes old.remaining new.remaining text × (length text ≤ TEXT_LIMIT) × (new.reads ≤ old.reads + length text + end_reads new.ended)
 
--- reading took a source from `old` to `new`, as `Gave` says, and gave no text, for the reason that this fault says
+-- reading took a source from `old` to `new`, as `GaveBytes` says, and gave no text, for the reason that this fault says
 abbrev pub ReadsNoText : (old new : Input) → RunFault → Type 0
-ReadsNoText old new fault = Gave old new (λ given. IsReadFault given fault)
+ReadsNoText old new fault = GaveBytes old new (λ given. IsReadFault given fault)
 
 -- reading took a source from `old` to `new`, by one read or more, of which the last was the end, and the source has no byte left
 abbrev pub IsReadToEnd : (old new : Input) → Type 0
@@ -77,8 +77,8 @@ RefusesCommands given old new fault = RefusesText (TextFault IsCommand) given ol
 
 -- reading took a source from `old` to `new`, and gave the commands of the text that came
 abbrev pub ReadsCommands : (old new : Input) → List Command → Type 0
-ReadsCommands old new commands = Gave old new (λ given. GivesCommands given old new commands)
+ReadsCommands old new commands = GaveBytes old new (λ given. GivesCommands given old new commands)
 
 -- reading took a source from `old` to `new`, and gave no commands, for the reason that this fault says
 abbrev pub ReadsNoCommands : (old new : Input) → RunFault → Type 0
-ReadsNoCommands old new fault = Gave old new (λ given. RefusesCommands given old new fault)
+ReadsNoCommands old new fault = GaveBytes old new (λ given. RefusesCommands given old new fault)

@@ -4,12 +4,11 @@ use Rattle.gc_lines.specs.declared.fault.LineFault.{LineFault}
 use Rattle.gc_lines.specs.Readers.{reply_at}
 use Rattle.gc_lines.specs.Replies.{ReplyFields, reply_text}
 
--- the line that `line` would be if its return code were 0. The first argument is what `line` reads as: if it is a reply, the
--- result is the line of the same fields with return code 0; else it is `line` itself
-abbrev pub zeroed : Result ReplyFields LineFault → (line : List ℕ) → List ℕ
+-- where `line` reads as the fields of a reply, the line of the same fields with return code 0; where it doesn't, `line` itself
+abbrev pub zeroed : (read : Result ReplyFields LineFault) → (line : List ℕ) → List ℕ
 zeroed (Ok r) line = reply_text (record r { rc = 0 })
 zeroed (Err fault) line = line
 
--- the line that a reply line would be if its return code were 0; a line that is no reply stays as it is
+-- the line that a line would be if its return code were 0 (`zeroed`)
 unfoldable pub as_zero : List ℕ → List ℕ
 as_zero line = zeroed (reply_at line) line

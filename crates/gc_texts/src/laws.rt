@@ -19,8 +19,8 @@ pub fn commands_have_one_reading()
     ensures { OneCommandList }
 {}
 
-/// With the same deadline and chaining of its caller, a station's text gives at most one list of tasks, one count of those that are setup,
-/// one list of names, and one of places.
+/// For each deadline, and each `chained`, that its caller gives, a station's text gives at most one list of tasks, one count of those that
+/// are setup, one list of names, and one of places.
 pub fn tasks_have_one_reading()
     ensures { OneTaskList }
 {}

@@ -5,7 +5,7 @@
 //! commands of the setup are one chain.
 
 ghost use Rattle.std.specs.Prelude.{◌≡◌};
-ghost use Rattle.gc_texts.specs.Tasks.{Counted, first_mode, mode_after, mode_after_command, continues_group, chained_at, place_in_chain, task_at};
+ghost use Rattle.gc_texts.specs.Tasks.{CountsAtMost, first_mode, mode_after, mode_after_command, continues_group, chained_at, place_in_chain, task_at};
 
 use crate::again::Again;
 use crate::codes::Codes;
@@ -83,7 +83,7 @@ fn chained_at(mode: Mode, target: u32) -> bool
 
 // The mode after a command for this target: the command is counted, and its target is that of the group.
 fn mode_after_command(mode: Mode, target: u32) -> Mode
-    requires { Counted mode 4294967295 }
+    requires { CountsAtMost mode 4294967295 }
     ensures { result ≡ mode_after_command mode target }
 {
     let link = place_in_chain(mode, chained_at(mode, target)) + 1;
@@ -109,7 +109,7 @@ fn mode_after_command(mode: Mode, target: u32) -> Mode
 // are chained, `retry` how often chains are repeated, and `at start` and `each cycle` the section; these lines also end the group.
 // A name or a place changes nothing.
 pub(crate) fn mode_after(mode: Mode, said: &TaskLine) -> Mode
-    requires { Counted mode 4294967295 }
+    requires { CountsAtMost mode 4294967295 }
     ensures { result ≡ mode_after mode said.now }
 {
     match said {

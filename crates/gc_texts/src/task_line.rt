@@ -1,7 +1,7 @@
 //! Reads one line of a station's text.
 
 ghost use Rattle.gc_texts.specs.LineForms.{IsReadAs};
-ghost use Rattle.gc_texts.specs.TaskLines.{IsDeadline, IsNameLine, IsNearLine, SetsAccepted, SetsRetry, SetsClock, IsTaskLine};
+ghost use Rattle.gc_texts.specs.TaskLines.{IsDeadlineLine, IsNameLine, IsNearLine, SetsAccepted, SetsRetry, SetsClock, IsTaskLine};
 
 use crate::codes::{Codes, read_code_list};
 use crate::cuts::{after_prefix, before, behind, cut_at, is_word};
@@ -43,7 +43,7 @@ pub(crate) enum TaskLine {
 
 // Reads `deadline MS`: from 1 millisecond to a day. `None`: the line has no such form, or the number lies outside.
 fn read_deadline(line: &[u8]) -> Option<u64>
-    ensures { IsReadAs (IsDeadline line.now) result }
+    ensures { IsReadAs (IsDeadlineLine line.now) result }
 {
     let digits = after_prefix(b"deadline ", line)?;
     let deadline = number_of(digits, DEADLINE_MAX)?;

@@ -6,7 +6,7 @@ ghost use Rattle.std.specs.List.{list_any};
 ghost use Rattle.gc_texts.specs.LineForms.{MemoryOnlyIf, NamesFaulty, RefusesLong};
 ghost use Rattle.gc_texts.specs.Names.{name_text};
 ghost use Rattle.gc_texts.specs.Nears.{asked_gives_direction};
-ghost use Rattle.gc_texts.specs.Tasks.{LinesGave, Grows, HasFull, call_at, placed, may_follow, tasks_seen, IsTasks, IsFirstFaultyTask, ReachesASoundTaskLine, TaskFault};
+ghost use Rattle.gc_texts.specs.Tasks.{LinesGave, Grows, HasFullList, call_at, placed, may_follow, tasks_seen, IsTasks, FirstFaultyTaskLine, ReachesASoundTaskLine, TaskFault};
 ghost use Rattle.gc_texts.specs.declared.mode.Mode.{Mode};
 ghost use Rattle.gc_texts.specs.declared.text.TheConstants.{TEXT_LIMIT};
 
@@ -115,7 +115,7 @@ struct Given {
 }
 
 impl Given {
-    // What no line gave.
+    // What was given before the first line: nothing.
     fn new(alloc: Global) -> Given
         ensures { (first : Mode) → LinesGave first [] result }
     {
@@ -144,7 +144,7 @@ impl Given {
     // Appends what a line gives, if it gives anything. `mode` is the mode before the line. Fails if memory was refused.
     fn append(&mut self, mode: Mode, said: TaskLine) -> Result<(), AllocError>
         ensures grows { OnOk result (Grows mode said self.old self.new) }
-        ensures wants { OnErr result (HasFull self.old) }
+        ensures wants { OnErr result (HasFullList self.old) }
     {
         match said {
             TaskLine::Command(command, now) => {
@@ -203,7 +203,7 @@ pub fn read_tasks(
 ) -> Result<Tasks, RunFault>
     ensures found { IfOk result (λ all. IsTasks text.now deadline chained (tasks_seen all)) }
     ensures too_long { RefusesLong text.now result }
-    ensures faulty { NamesFaulty (IsFirstFaultyTask text.now) result }
+    ensures faulty { NamesFaulty (FirstFaultyTaskLine text.now) result }
     ensures memory { MemoryOnlyIf (ReachesASoundTaskLine text.now) result }
     ensures faults { IfErr result (λ e. TaskFault text.now e) }
 {

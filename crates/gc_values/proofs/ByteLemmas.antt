@@ -6,9 +6,9 @@ use Rattle.hex.specs.Hex.{hex_digit_value, lower_digits, encode_with, encode_low
 use Rattle.hex.proofs.HexLemmas.{IsDigits-lower_digits}
 use Rattle.gc_values.specs.Byte.{IsByte, byte_text}
 
--- where equal bytes are hexadecimal digits, these have the same value
-one_digit : (a b x y : ℕ) → a ≡ b → hex_digit_value a ≡ Some x → hex_digit_value b ≡ Some y → x ≡ y
-one_digit a b x y e p q = let f = ap hex_digit_value e in let s : ◌≡◌ {A = Option ℕ} (Some x) (Some y) = sym p ∙ f ∙ q in cc
+-- if equal bytes are hexadecimal digits, these have the same value
+one_digit_value : (a b x y : ℕ) → a ≡ b → hex_digit_value a ≡ Some x → hex_digit_value b ≡ Some y → x ≡ y
+one_digit_value a b x y e p q = let f = ap hex_digit_value e in let s : ◌≡◌ {A = Option ℕ} (Some x) (Some y) = sym p ∙ f ∙ q in cc
 
 -- a text is the byte parameter of at most one number
 pub one_byte : (text : List ℕ) (m n : ℕ) → IsByte text m → IsByte text n → m ≡ n
@@ -16,8 +16,8 @@ one_byte text m n x y =
     let same = sym x.text_is ∙ y.text_is in
     let first : x.a ≡ y.a = cc in
     let second : x.b ≡ y.b = cc in
-    let high = one_digit x.a y.a x.high y.high first x.high_is y.high_is in
-    let low = one_digit x.b y.b x.low y.low second x.low_is y.low_is in
+    let high = one_digit_value x.a y.a x.high y.high first x.high_is y.high_is in
+    let low = one_digit_value x.b y.b x.low y.low second x.low_is y.low_is in
     x.value ∙ ap (λ h. h * 16 + x.low) high ∙ ap (λ l. y.high * 16 + l) low ∙ sym y.value
 
 -- the written text of a byte, a number below 256, reads as the byte

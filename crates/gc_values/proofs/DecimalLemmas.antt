@@ -8,7 +8,7 @@ use Rattle.gc_values.specs.declared.decimal.Decimal.{Decimal}
 abbrev decimal_with : (m : ℤ) (s : ℕ) → s ≤ 24 → IsInRange m s → IsCanonical m s → Decimal
 decimal_with m s p r c = record { digits = m; scale = s; has_few_places = p; is_in_range = r; is_canonical = c }
 
--- decimals of the same digits and scale are equal whatever the proofs are
+-- two decimals that are made of one number as digits and one scale are equal, whatever the proofs of their facts are
 same_proofs : (m : ℤ) (s : ℕ) (p p' : s ≤ 24) (r r' : IsInRange m s) (c c' : IsCanonical m s) → decimal_with m s p r c ≡ decimal_with m s p' r' c'
 same_proofs m s p p' r r' c c' =
     let one_few : IsProp (s ≤ 24) = hlevel props in
@@ -16,7 +16,7 @@ same_proofs m s p p' r r' c c' =
     let one_canonical : IsProp (IsCanonical m s) = hlevel props in
     ap (λ x. decimal_with m s x r c) (one_few p p') ∙ ap (λ x. decimal_with m s p' x c) (one_in_range r r') ∙ ap (decimal_with m s p' r') (one_canonical c c')
 
--- decimals of equal digits and scales are equal whatever the proofs are
+-- two decimals are equal if their digits and their scales are, whatever the proofs of their facts are
 same_fields : (m : ℤ) (s : ℕ) (p : s ≤ 24) (r : IsInRange m s) (c : IsCanonical m s) (n : ℤ) (t : ℕ) → m ≡ n → s ≡ t
     → (p' : t ≤ 24) (r' : IsInRange n t) (c' : IsCanonical n t) → decimal_with m s p r c ≡ decimal_with n t p' r' c'
 same_fields m s p r c n t e f =

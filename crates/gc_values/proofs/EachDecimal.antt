@@ -8,11 +8,11 @@ use Rattle.gc_values.specs.Digits.{number}
 use Rattle.gc_values.specs.Fraction.{signed}
 use Rattle.gc_values.specs.Nearest.{half_up}
 use Rattle.gc_values.specs.RoundedFacts.{half_up_rounds}
-use Rattle.gc_values.specs.Spelling.{is_minus, Exponent, IsExponentDigits, IsExponent, exponent_text, mark, ups, downs, fraction_digits, Parts, IsNumeral, spelling, value, Spells, SpellsBeyond, SpellsNothing}
+use Rattle.gc_values.specs.Spelling.{is_minus, Exponent, IsExponentDigits, IsExponent, exponent_text, mark, ups, downs, fraction_digits, Parts, IsNumeral, spelling, parts_value, Spells, SpellsBeyond, SpellsNothing}
 use Rattle.gc_values.specs.declared.decimal.Decimal.{Decimal}
 use Rattle.gc_values.proofs.EachWhole.{IsDecided, digits_or_not, digits_cut, sign_cut}
 use Rattle.gc_values.proofs.Powers.{ten_pow_pos}
-use Rattle.gc_values.proofs.Rounded.{zeros_off, rounded_from}
+use Rattle.gc_values.proofs.Rounded.{has_form_without_zeros, rounded_from}
 use Rattle.gc_values.proofs.Unique.{Cut, same_parts, numeral_of, cut_is_numeral, sign_once, digits_no_sign}
 
 -- each text that begins with no digit is cut into a fraction, or none, and a rest
@@ -36,9 +36,9 @@ fraction_cut (b ∷ bs) none = elim (cases_eq b 46) [
 ]
 
 -- a text is one to three digits, or isn't
-short_or_not : (text : List ℕ) → IsDecided (IsExponentDigits text)
-short_or_not [] = inr (λ s. let some = s.some in omega (arith, some))
-short_or_not (b ∷ bs) = elim (cases_lt 3 (length (b ∷ bs))) [
+exponent_digits_or_not : (text : List ℕ) → IsDecided (IsExponentDigits text)
+exponent_digits_or_not [] = inr (λ s. let some = s.some in omega (arith, some))
+exponent_digits_or_not (b ∷ bs) = elim (cases_lt 3 (length (b ∷ bs))) [
   | inl long ↦ inr (λ s. let few = s.few in omega (arith, long, few))
   | inr few ↦ elim (digits_or_not (b ∷ bs)) [
     | inl digits ↦ inl (record { digits_are = digits; some = omega arith; few = few })
@@ -50,12 +50,12 @@ short_or_not (b ∷ bs) = elim (cases_lt 3 (length (b ∷ bs))) [
 abbrev ExponentOf : List ℕ → Type 0
 ExponentOf text = (e : Option Exponent) × IsExponent e × (text ≡ exponent_text e)
 
--- where a mark and the bytes bs are the text of an exponent, and bs is cut into a sign and a rest, the rest is the exponent's
+-- if a mark and the bytes bs are the text of an exponent, and bs is cut into a sign and a rest, the rest is the exponent's
 -- digits
-same_digits : (capital : Bool) (bs : List ℕ) (negative : Bool) (rest : List ℕ) → CutsSign bs negative rest → (e : Exponent)
+rest_is_exponent_digits : (capital : Bool) (bs : List ℕ) (negative : Bool) (rest : List ℕ) → CutsSign bs negative rest → (e : Exponent)
     → IsExponentDigits e.digits
     → mark capital ∷ bs ≡ exponent_text (Some e) → rest ≡ e.digits
-same_digits capital bs negative rest cut e short is =
+rest_is_exponent_digits capital bs negative rest cut e short is =
     let behind : bs ≡ Rattle.gc_values.specs.Spelling.sign_text e.sign ++ e.digits = cc in
     let bare : StartsNoSign e.digits = digits_no_sign e.digits short.digits_are in
     (sign_once cut.sign e.sign rest e.digits cut.first bare (sym cut.text_is ∙ behind)).1
@@ -64,19 +64,19 @@ same_digits capital bs negative rest cut e short is =
 exponent_after_mark : (capital : Bool) (bs : List ℕ) → IsDecided (ExponentOf (mark capital ∷ bs))
 exponent_after_mark capital bs =
     let cut = sign_cut bs in
-    elim (short_or_not cut.1) [
+    elim (exponent_digits_or_not cut.1) [
       | inl short ↦ inl (Some (record { capital = capital; sign = cut.2.sign; digits = cut.1 }), short, ap (λ xs. mark capital ∷ xs) cut.2.text_is)
       | inr other ↦ inr (none other)
     ] where
-      -- where the bytes after the mark and a sign aren't one to three digits, the text is no exponent
+      -- if the bytes after the mark and a sign aren't one to three digits, the text is no exponent
       none : (IsExponentDigits (sign_cut bs).1 → ⊥) → ExponentOf (mark capital ∷ bs) → ⊥
       none other (None, form, is) = absurd (cc)
-      none other (Some e, form, is) = let cut = sign_cut bs in other (subst IsExponentDigits (sym (same_digits capital bs cut.0 cut.1 cut.2 e form is)) form)
+      none other (Some e, form, is) = let cut = sign_cut bs in other (subst IsExponentDigits (sym (rest_is_exponent_digits capital bs cut.0 cut.1 cut.2 e form is)) form)
 
 -- a text whose first byte is no mark (`e` or `E`) is no exponent (`ExponentOf`)
-no_mark : (b : ℕ) (bs : List ℕ) → (b ≡ 101 → ⊥) → (b ≡ 69 → ⊥) → ExponentOf (b ∷ bs) → ⊥
-no_mark b bs small large (None, form, is) = absurd (cc)
-no_mark b bs small large (Some e, form, is) = by_capital e.capital refl where
+no_exponent_without_mark : (b : ℕ) (bs : List ℕ) → (b ≡ 101 → ⊥) → (b ≡ 69 → ⊥) → ExponentOf (b ∷ bs) → ⊥
+no_exponent_without_mark b bs small large (None, form, is) = absurd (cc)
+no_exponent_without_mark b bs small large (Some e, form, is) = by_capital e.capital refl where
   -- whichever of the two marks the exponent has, the text doesn't begin with it
   by_capital : (c : Bool) → e.capital ≡ c → ⊥
   by_capital true same = let first : b ≡ mark e.capital = cc in large (first ∙ ap mark same)
@@ -89,7 +89,7 @@ exponent_or_not (b ∷ bs) = elim (cases_eq b 101) [
   | inl small ↦ subst (λ x. IsDecided (ExponentOf (x ∷ bs))) (sym small) (exponent_after_mark false bs)
   | inr no_small ↦ elim (cases_eq b 69) [
     | inl large ↦ subst (λ x. IsDecided (ExponentOf (x ∷ bs))) (sym large) (exponent_after_mark true bs)
-    | inr no_large ↦ inr (no_mark b bs no_small no_large)
+    | inr no_large ↦ inr (no_exponent_without_mark b bs no_small no_large)
   ]
 ]
 
@@ -105,10 +105,10 @@ cut_from_left text =
     let f = fraction_cut d.1 d.2.longest in
     record { negative = s.0; behind_sign = s.1; whole = d.0; behind_whole = d.1; fraction = f.0; rest = f.1; sign = s.2; digits = d.2; point = f.2 }
 
--- where a text was cut, as `Cut` has it, into at least one digit in all, and a rest that is an exponent or empty, the text is a
+-- if a text was cut, as `Cut` has it, into at least one digit in all, and a rest that is an exponent or empty, the text is a
 -- numeral
-numeral_made : (text : List ℕ) (c : Cut text) → 0 < length c.whole + length c.fraction → ExponentOf c.rest → NumeralOf text
-numeral_made text c some x =
+numeral_from_cut : (text : List ℕ) (c : Cut text) → 0 < length c.whole + length c.fraction → ExponentOf c.rest → NumeralOf text
+numeral_from_cut text c some x =
     let r = cut_is_numeral text c (numeral_of c (ups x.0) (downs x.0)) (refl, refl, refl) some (record { exponent = x.0; form = x.1; text_is = x.2; up_is = refl; down_is = refl }) in
     (r.parts, r.form, r.text_is)
 
@@ -120,7 +120,7 @@ numeral_or_not text =
       | inr empty ↦ inr (λ n. let same = same_parts text c n.0 n.1 n.2 in
           let none = n.1.some in omega (arith, empty, none, ap length same.whole_is, ap length same.fraction_is))
       | inl some ↦ elim (exponent_or_not c.rest) [
-        | inl x ↦ inl (numeral_made text c some x)
+        | inl x ↦ inl (numeral_from_cut text c some x)
         | inr none ↦ inr (λ n. none (n.0.exponent, n.1.exponent, (same_parts text c n.0 n.1 n.2).rest_is))
       ]
     ]
@@ -137,8 +137,8 @@ rounded_of text n =
     let a = number (p.whole ++ fraction_digits p.fraction) * 10 ^ ups p.exponent in
     let k = length (fraction_digits p.fraction) + downs p.exponent in
     let near = half_up_rounds (a * 10 ^ 24) (10 ^ k) (ten_pow_pos k) in
-    let z = zeros_off (half_up (a * 10 ^ 24) (10 ^ k)) 24 in
-    (signed neg z.0, z.1, (value p, (p, n.1, n.2, refl), rounded_from neg a k 24 (half_up (a * 10 ^ 24) (10 ^ k)) z.0 z.1 near z.2))
+    let z = has_form_without_zeros (half_up (a * 10 ^ 24) (10 ^ k)) 24 in
+    (signed neg z.0, z.1, (parts_value p, (p, n.1, n.2, refl), rounded_from neg a k 24 (half_up (a * 10 ^ 24) (10 ^ k)) z.0 z.1 near z.2))
 
 -- each text spells a decimal, or no number, or one out of range
 pub each_decimal : (text : List ℕ) → ((d : Decimal) × SpellsDecimal text d) ⊎ (SpellsNothing text ⊎ SpellsBeyond text)

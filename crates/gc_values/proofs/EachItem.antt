@@ -32,9 +32,9 @@ abbrev ByteOf : List ℕ → Type 0
 ByteOf item = (n : ℕ) × IsByte item n
 
 -- two bytes between single quotes are a byte parameter, or aren't
-byte_or_not : (a b : ℕ) → IsDecided (ByteOf (39 ∷ a ∷ b ∷ 39 ∷ []))
-byte_or_not a b = by_high (hex_digit_value a) refl where
-  -- where a is a hexadecimal digit: a byte parameter or none, by whether b is a hexadecimal digit
+quoted_byte_or_not : (a b : ℕ) → IsDecided (ByteOf (39 ∷ a ∷ b ∷ 39 ∷ []))
+quoted_byte_or_not a b = by_high (hex_digit_value a) refl where
+  -- if a is a hexadecimal digit: a byte parameter or none, by whether b is a hexadecimal digit
   by_low : (high : ℕ) → hex_digit_value a ≡ Some high → (low : Option ℕ) → hex_digit_value b ≡ low → IsDecided (ByteOf (39 ∷ a ∷ b ∷ 39 ∷ []))
   by_low high h (Some low) l = inl (high * 16 + low, record { a = a; b = b; high = high; low = low; text_is = refl; high_is = h; low_is = l; value = refl })
   by_low high h None l = inr (λ x. let same : b ≡ x.1.b = let e = x.1.text_is in cc in let is = x.1.low_is in let none = ap hex_digit_value same in absurd (cc))
@@ -49,21 +49,21 @@ no_quoted_byte : (p a b q : ℕ) → (p ≡ 39 → q ≡ 39 → ⊥) → ByteOf 
 no_quoted_byte p a b q none x = let e = x.1.text_is in none (let first : p ≡ 39 = cc in first) (let last : q ≡ 39 = cc in last)
 
 -- an item is a byte parameter, or isn't
-each_byte : (item : List ℕ) → IsDecided (ByteOf item)
-each_byte [] = inr (λ x. let e = x.1.text_is in absurd (cc))
-each_byte (p ∷ []) = inr (λ x. let e = x.1.text_is in absurd (cc))
-each_byte (p ∷ a ∷ []) = inr (λ x. let e = x.1.text_is in absurd (cc))
-each_byte (p ∷ a ∷ b ∷ []) = inr (λ x. let e = x.1.text_is in absurd (cc))
-each_byte (p ∷ a ∷ b ∷ q ∷ r ∷ rest) = inr (λ x. let e = x.1.text_is in absurd (cc))
-each_byte (p ∷ a ∷ b ∷ q ∷ []) = elim (cases_eq p 39) [
+byte_or_not : (item : List ℕ) → IsDecided (ByteOf item)
+byte_or_not [] = inr (λ x. let e = x.1.text_is in absurd (cc))
+byte_or_not (p ∷ []) = inr (λ x. let e = x.1.text_is in absurd (cc))
+byte_or_not (p ∷ a ∷ []) = inr (λ x. let e = x.1.text_is in absurd (cc))
+byte_or_not (p ∷ a ∷ b ∷ []) = inr (λ x. let e = x.1.text_is in absurd (cc))
+byte_or_not (p ∷ a ∷ b ∷ q ∷ r ∷ rest) = inr (λ x. let e = x.1.text_is in absurd (cc))
+byte_or_not (p ∷ a ∷ b ∷ q ∷ []) = elim (cases_eq p 39) [
   | inr other ↦ inr (no_quoted_byte p a b q (λ first last. other first))
   | inl first ↦ elim (cases_eq q 39) [
     | inr other ↦ inr (no_quoted_byte p a b q (λ first last. other last))
-    | inl last ↦ subst (λ x. IsDecided (ByteOf (x ∷ a ∷ b ∷ q ∷ []))) (sym first) (subst (λ x. IsDecided (ByteOf (39 ∷ a ∷ b ∷ x ∷ []))) (sym last) (byte_or_not a b))
+    | inl last ↦ subst (λ x. IsDecided (ByteOf (x ∷ a ∷ b ∷ q ∷ []))) (sym first) (subst (λ x. IsDecided (ByteOf (39 ∷ a ∷ b ∷ x ∷ []))) (sym last) (quoted_byte_or_not a b))
   ]
 ]
 
--- the bytes before a double quote at the end of a text
+-- a text ends in a double quote: it is some bytes, and then the quote
 abbrev EndsInQuote : List ℕ → Type 0
 EndsInQuote text = (bytes : List ℕ) × (text ≡ bytes ++ 34 ∷ [])
 
@@ -72,24 +72,24 @@ one_byte_ends_in_no_quote : (b : ℕ) → b ≢ 34 → EndsInQuote (b ∷ []) �
 one_byte_ends_in_no_quote b other (bytes, is) = other (same_from_push [] bytes b 34 is).1
 
 -- a text of at least two bytes that ends in a double quote still does without its first byte
-end_behind : (b c : ℕ) (rest : List ℕ) → EndsInQuote (b ∷ c ∷ rest) → EndsInQuote (c ∷ rest)
-end_behind b c rest ([], is) = absurd (cc)
-end_behind b c rest (x ∷ xs, is) = (xs, let same : c ∷ rest ≡ xs ++ 34 ∷ [] = cc in same)
+ends_in_quote_without_first : (b c : ℕ) (rest : List ℕ) → EndsInQuote (b ∷ c ∷ rest) → EndsInQuote (c ∷ rest)
+ends_in_quote_without_first b c rest ([], is) = absurd (cc)
+ends_in_quote_without_first b c rest (x ∷ xs, is) = (xs, let same : c ∷ rest ≡ xs ++ 34 ∷ [] = cc in same)
 
 -- a text ends in a double quote, or doesn't
-end_or_not : (text : List ℕ) → IsDecided (EndsInQuote text)
-end_or_not [] = inr none where
+end_quote_or_not : (text : List ℕ) → IsDecided (EndsInQuote text)
+end_quote_or_not [] = inr none where
   -- the empty text doesn't end in a double quote
   none : EndsInQuote [] → ⊥
   none ([], is) = absurd (cc)
   none (x ∷ xs, is) = absurd (cc)
-end_or_not (b ∷ []) = elim (cases_eq b 34) [
+end_quote_or_not (b ∷ []) = elim (cases_eq b 34) [
   | inl quote ↦ inl ([], ap (λ x. x ∷ []) quote)
   | inr other ↦ inr (one_byte_ends_in_no_quote b other)
 ]
-end_or_not (b ∷ c ∷ rest) = elim (end_or_not (c ∷ rest)) [
+end_quote_or_not (b ∷ c ∷ rest) = elim (end_quote_or_not (c ∷ rest)) [
   | inl found ↦ inl (b ∷ found.0, ap (λ xs. b ∷ xs) found.1)
-  | inr none ↦ inr (λ h. none (end_behind b c rest h))
+  | inr none ↦ inr (λ h. none (ends_in_quote_without_first b c rest h))
 ]
 
 -- a byte is allowed in a string, or isn't
@@ -118,7 +118,7 @@ string_or_not : (item : List ℕ) → IsDecided (StringOf item)
 string_or_not [] = inr (λ s. let e = s.1.item_is in absurd (cc))
 string_or_not (b ∷ rest) = elim (cases_eq b 34) [
   | inr other ↦ inr (λ s. let e = s.1.item_is in other (let same : b ≡ 34 = cc in same))
-  | inl quote ↦ elim (end_or_not rest) [
+  | inl quote ↦ elim (end_quote_or_not rest) [
     | inr none ↦ inr (λ s. let e = s.1.item_is in none (s.0, let same : rest ≡ s.0 ++ 34 ∷ [] = cc in same))
     | inl found ↦
         let whole : b ∷ rest ≡ quoted found.0 = ap (λ x. x ∷ rest) quote ∙ ap (λ xs. 34 ∷ xs) found.1 in
@@ -130,15 +130,15 @@ string_or_not (b ∷ rest) = elim (cases_eq b 34) [
 ]
 
 -- a number from 0 to 1 is that of a truth value
-number_of_boolean : (z : ℤ) → IsBetween 0 1 z → (b : Bool) × (z ≡ pos (number_of b))
-number_of_boolean (pos zero) within = (false, refl)
-number_of_boolean (pos (suc zero)) within = (true, refl)
-number_of_boolean (pos (suc (suc n))) within = let high = within.1 in absurd (omega (arith, ints, high))
-number_of_boolean (negsuc n) within = let low = within.0 in absurd (omega (arith, ints, low))
+boolean_of_number : (z : ℤ) → IsBetween 0 1 z → (b : Bool) × (z ≡ pos (number_of b))
+boolean_of_number (pos zero) within = (false, refl)
+boolean_of_number (pos (suc zero)) within = (true, refl)
+boolean_of_number (pos (suc (suc n))) within = let high = within.1 in absurd (omega (arith, ints, high))
+boolean_of_number (negsuc n) within = let low = within.0 in absurd (omega (arith, ints, low))
 
 -- an item that writes a whole number from 0 to 1 is a Boolean
-boolean_of : (item : List ℕ) → ((z : ℤ) × NamesWhole item z × IsBetween 0 1 z) → (b : Bool) × NamesBoolean item b
-boolean_of item found = let t = number_of_boolean found.0 found.2 in (t.0, subst (NamesWhole item) t.1 found.1)
+boolean_of_item : (item : List ℕ) → ((z : ℤ) × NamesWhole item z × IsBetween 0 1 z) → (b : Bool) × NamesBoolean item b
+boolean_of_item item found = let t = boolean_of_number found.0 found.2 in (t.0, subst (NamesWhole item) t.1 found.1)
 
 -- each item is read as a value of each kind, or has a fault for it
 pub each_item : (k : Kind) (item : List ℕ) → IsReadOrFaulty k item
@@ -158,11 +158,11 @@ each_item kind.Short item = elim (whole_between 32768 32767 item) [
   | inr (inr far) ↦ inr (fault.Range, inr (refl, far))
 ]
 each_item kind.Bool item = elim (whole_between 0 1 item) [
-  | inl found ↦ let b = boolean_of item found in inl (value.Bool b.0, refl, b.1)
+  | inl found ↦ let b = boolean_of_item item found in inl (value.Bool b.0, refl, b.1)
   | inr (inl none) ↦ inr (fault.Spelling, inl (refl, none))
   | inr (inr far) ↦ inr (fault.Range, inr (refl, far))
 ]
-each_item kind.Byte item = elim (each_byte item) [
+each_item kind.Byte item = elim (byte_or_not item) [
   | inl found ↦ inl (value.Byte found.0, refl, found.1)
   | inr none ↦ inr (fault.Spelling, inl (refl, λ n is. none (n, is)))
 ]
@@ -216,7 +216,7 @@ spaces_or_not (b ∷ bs) = elim (cases_eq b 32) [
   first b bs other (zero, is) = absurd (cc)
   first b bs other (suc n, is) = other (let same : b ≡ 32 = cc in same)
 
-  -- where the bytes after the first one aren't spaces alone, neither are all of them
+  -- if the bytes after the first one aren't spaces alone, neither are all of them
   rest : (b : ℕ) (bs : List ℕ) → (AreSpaces bs → ⊥) → AreSpaces (b ∷ bs) → ⊥
   rest b bs none (zero, is) = absurd (cc)
   rest b bs none (suc n, is) = none (n, let same : bs ≡ replicate n 32 = cc in same)

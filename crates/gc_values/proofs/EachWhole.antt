@@ -8,7 +8,7 @@ use Rattle.gc_values.specs.Digits.{IsDigit, AreDigits, number}
 use Rattle.gc_values.specs.Fraction.{signed}
 use Rattle.gc_values.specs.Spelling.{Absent, Plus, Minus}
 use Rattle.gc_values.specs.Whole.{NamesNumber, NamesWhole, NamesNoWhole, NamesWholeBeyond, IsBetween}
-use Rattle.gc_values.proofs.WholeLemmas.{cut_names, names_cut}
+use Rattle.gc_values.proofs.WholeLemmas.{text_names_from_rest, rest_names_from_text}
 
 -- something holds, or it doesn't
 abbrev pub IsDecided : Type 0 → Type 0
@@ -24,7 +24,7 @@ digit_or_not b = elim (cases_lt b 48) [
   ]
 ]
 
--- where each byte has a property, or hasn't it, all bytes of a text have it, or not
+-- if each byte has a property, or hasn't it, all bytes of a text have it, or not
 pub all_or_not : (P : ℕ → Type 0) → ((b : ℕ) → IsDecided (P b)) → (bytes : List ℕ) → IsDecided (AllByRecursion P bytes)
 all_or_not P each [] = inl tt
 all_or_not P each (b ∷ bs) = elim (each b) [
@@ -70,8 +70,8 @@ pub whole_or_not : (text : List ℕ) → ((z : ℤ) × NamesWhole text z) ⊎ Na
 whole_or_not text =
     let cut = sign_cut text in
     elim (number_or_not cut.1) [
-      | inl found ↦ inl (signed cut.0 found.0, cut_names text cut.1 cut.0 found.0 cut.2 found.1)
-      | inr none ↦ inr (λ z w. let r = names_cut text cut.1 cut.0 z cut.2 w in none r.0 r.1)
+      | inl found ↦ inl (signed cut.0 found.0, text_names_from_rest text cut.1 cut.0 found.0 cut.2 found.1)
+      | inr none ↦ inr (λ z w. let r = rest_names_from_text text cut.1 cut.0 z cut.2 w in none r.0 r.1)
     ]
 
 -- a number is from -below to above, or isn't

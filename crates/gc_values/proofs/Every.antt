@@ -7,7 +7,7 @@ use Rattle.std.proofs.lemmas.List.Elements.{All-from_recursion, recursion_from_A
 use Rattle.std.specs.List.{AllByRecursion}
 pub use Rattle.std.proofs.Permutation.{every_append, every_at}
 
--- where P of an element implies Q of it, and P holds of each element, Q holds of each
+-- if P of an element implies Q of it, and P holds of each element, Q holds of each
 pub every_weaker : {A : Type 0} (P Q : A → Type 0) (xs : List A) → ((x : A) → P x → Q x) → AllByRecursion P xs → AllByRecursion Q xs
 every_weaker P Q xs step all = recursion_from_All Q xs (elements.All-weaker P Q step xs (All-from_recursion P xs all))
 

@@ -4,7 +4,7 @@ use Rattle.std.proofs.Math.Nat.{mul-le-mul_left, mul-le-mul_right, pow-suc}
 use Rattle.std.proofs.lemmas.Nat.{pow-add}
 use Rattle.std.proofs.lemmas.List.{drop_more, length-take-le, take-append-drop}
 use Rattle.gc_values.specs.Digits.{AreDigits, IsDigit, number}
-use Rattle.gc_values.specs.Nearest.{MadeOf}
+use Rattle.gc_values.specs.Nearest.{SignedWithoutZeros}
 use Rattle.gc_values.specs.Plainly.{CountsDigits, CutsPlain, CutsDecimal, CutsNumber, IsItemAndRest}
 use Rattle.gc_values.specs.RoundedFacts.{ten_pow_cut}
 use Rattle.gc_values.specs.Spelling.{Absent, Spells}
@@ -17,8 +17,8 @@ use Rattle.gc_values.proofs.ReadLemmas.{reads_value}
 use Rattle.gc_values.proofs.TextShape.{IsBare, bare_above, bare_digits, bare_param}
 use Rattle.gc_values.proofs.UnitsLemmas.{capped_short}
 
--- a step of counting digits, as `CountsDigits` has it: where i digits were counted after the number `front`, fewer than `most`,
--- and the next byte is a digit, i + 1 are counted, with ten times the number so far, plus that digit, as their number.
+-- if i digits were counted after those of `front` (`CountsDigits`), fewer than `most`, and the next byte is a digit, i + 1 are
+-- counted with it, and their number is ten times the one so far, plus that digit
 pub counts_more : (front : ℕ) (text : List ℕ) (most value more i : ℕ) → (counted : CountsDigits front text most value i)
     → (inside : i < length text) → (few : i < most) → (digit : IsDigit (get_or text i 0)) → (more_is : more ≡ value * 10 + (get_or text i 0 - 48))
     → CountsDigits front text most more (i + 1)
@@ -40,16 +40,16 @@ counts_small front text most value i c inside room =
     let all : (front + 1) * 10 ^ (i + 1) ≤ (front + 1) * 10 ^ most = mul-le-mul_left {m = 10 ^ (i + 1)} {n = 10 ^ most} (front + 1) (ten_pow_le (i + 1) most (omega arith)) in
     omega (arith, c.value_is, small, ap (λ k. 10 ^ k) size, ap (λ p. (front + 1) * p) power, all, room)
 
--- where i digits, at most 18, were counted with no number in front, their number leaves room within 10^18 for 18 - i more: that
+-- if i digits, at most 18, were counted with no number in front, their number leaves room within 10^18 for 18 - i more: that
 -- number plus 1, times 10^(18 - i), is at most 10^18
-pub counts_room : (text : List ℕ) (most value i : ℕ) → CountsDigits 0 text most value i → i ≤ 18 → (value + 1) * 10 ^ (18 - i) ≤ 10 ^ 18
-counts_room text most value i c few =
+pub counted_leave_room : (text : List ℕ) (most value i : ℕ) → CountsDigits 0 text most value i → i ≤ 18 → (value + 1) * 10 ^ (18 - i) ≤ 10 ^ 18
+counted_leave_room text most value i c few =
     let small : number (take i text) < 10 ^ length (take i text) = number-lt (take i text) c.digits in
     let size : length (take i text) ≡ i = length-take-le i text c.within in
     let most : (value + 1) * 10 ^ (18 - i) ≤ 10 ^ i * 10 ^ (18 - i) = mul-le-mul_right {m = value + 1} {n = 10 ^ i} (10 ^ (18 - i)) (omega (arith, c.value_is, small, ap (λ k. 10 ^ k) size)) in
     omega (arith, most, ten_pow_cut i 18 few)
 
--- where a text is an item and then a tail, and the tail is empty or begins with a comma, the text is the item and what follows
+-- if a text is an item and then a tail, and the tail is empty or begins with a comma, the text is the item and what follows
 -- the item's comma, if there is one, as `IsItemAndRest` has it
 item_before_comma : (text item tail : List ℕ) (rest : Option (List ℕ)) → text ≡ item ++ tail → IsItemAndRest tail [] rest
     → IsItemAndRest text item rest
@@ -57,9 +57,9 @@ item_before_comma text item tail None e h = e ∙ ap (λ t. item ++ t) h ∙ app
 item_before_comma text item tail (Some behind) e h = e ∙ ap (λ t. item ++ t) h
 
 -- digits, a point and digits, up to the end or a comma, are cut off as an item
-front_cut : (text w f tail : List ℕ) (rest : Option (List ℕ)) → text ≡ w ++ 46 ∷ (f ++ tail) → AreDigits w → AreDigits f
+front_decimal_cut : (text w f tail : List ℕ) (rest : Option (List ℕ)) → text ≡ w ++ 46 ∷ (f ++ tail) → AreDigits w → AreDigits f
     → IsItemAndRest tail [] rest → CutsPlain text (w ++ 46 ∷ f) rest
-front_cut text w f tail rest e is_w is_f stands = record {
+front_decimal_cut text w f tail rest e is_w is_f stands = record {
   text_is = item_before_comma text (w ++ 46 ∷ f) tail rest (e ∙ sym (append_assoc w (46 ∷ f) tail)) stands;
   param = bare_param (w ++ 46 ∷ f) (every_append IsBare w (46 ∷ f) (bare_digits w is_w) (bare_above 46 (omega arith), bare_digits f is_f));
   some = omega (arith, length-append w (46 ∷ f));
@@ -67,10 +67,10 @@ front_cut text w f tail rest e is_w is_f stands = record {
 
 -- digits w, 1 to 13 of them, a point and digits f, at most 18 digits in all, spell the decimal made of their number with as many
 -- places as f has digits
-front_spells : (w f : List ℕ) (units : ℕ) (m : ℤ) (s : ℕ) → (is_w : AreDigits w) → (is_f : AreDigits f) → (some : 0 < length w)
+front_decimal_spells : (w f : List ℕ) (units : ℕ) (m : ℤ) (s : ℕ) → (is_w : AreDigits w) → (is_f : AreDigits f) → (some : 0 < length w)
     → (short : length w ≤ 13) → (few : length w + length f ≤ 18) → (units_are : units ≡ number (w ++ f))
-    → (made : MadeOf false units (length f) m s) → Spells (w ++ 46 ∷ f) m s
-front_spells w f units m s is_w is_f some short few e made =
+    → (made : SignedWithoutZeros false units (length f) m s) → Spells (w ++ 46 ∷ f) m s
+front_decimal_spells w f units m s is_w is_f some short few e made =
     let n : Numeral = record {
       negative = false;
       whole = record { ref_ptr = (0, 0); now = w };
@@ -113,11 +113,11 @@ pub record HasFrontDigits (text tail : List ℕ) (value places : ℕ) : Type 0 w
   pub after_point : CountsDigits whole behind (18 - at) value places
   pub tail_is : tail ≡ drop places behind
 
--- where digits, a point and digits come first in a text (`HasFrontDigits`), and the end or a comma follows them, the decimal that
+-- if digits, a point and digits come first in a text (`HasFrontDigits`), and the end or a comma follows them, the decimal that
 -- is made of their number was cut off
-pub front_found : (text tail : List ℕ) (value places : ℕ) (rest : Option (List ℕ)) (d : Decimal) → HasFrontDigits text tail value places
-    → IsItemAndRest tail [] rest → MadeOf false value places d.digits d.scale → CutsDecimal text d rest
-front_found text tail value places rest d h stands made =
+pub front_decimal_found : (text tail : List ℕ) (value places : ℕ) (rest : Option (List ℕ)) (d : Decimal) → HasFrontDigits text tail value places
+    → IsItemAndRest tail [] rest → SignedWithoutZeros false value places d.digits d.scale → CutsDecimal text d rest
+front_decimal_found text tail value places rest d h stands made =
     let at : ℕ = h.at in
     let behind : List ℕ = h.behind in
     let a = h.before_point in
@@ -136,16 +136,16 @@ front_found text tail value places rest d h stands made =
     ∙ ap (λ k. number w * 10 ^ k + number f) (sym long_f) ∙ sym (number-append w f) in
     record {
       item = w ++ 46 ∷ f;
-      cut = front_cut text w f tail rest whole_text a.digits b.digits stands;
-      is = front_spells w f value d.digits d.scale a.digits b.digits (omega (arith, long_w)) (omega (arith, long_w))
-          (omega (arith, long_w, long_f)) number_is (subst (λ k. MadeOf false value k d.digits d.scale) (sym long_f) made);
+      cut = front_decimal_cut text w f tail rest whole_text a.digits b.digits stands;
+      is = front_decimal_spells w f value d.digits d.scale a.digits b.digits (omega (arith, long_w)) (omega (arith, long_w))
+          (omega (arith, long_w, long_f)) number_is (subst (λ k. SignedWithoutZeros false value k d.digits d.scale) (sym long_f) made);
     }
 
--- the number of the digits that were counted before the point, at most 13, and after it is in range with as many places as come
--- after it
-pub front_range : (text behind : List ℕ) (at places whole value : ℕ) → CountsDigits 0 text 13 whole at
+-- if at most 13 digits were counted before the point, and others after it, the number of all, with as many places as there are
+-- digits after the point, is in range
+pub front_decimal_in_range : (text behind : List ℕ) (at places whole value : ℕ) → CountsDigits 0 text 13 whole at
     → CountsDigits whole behind (18 - at) value places → value ≤ 10 ^ 13 * 10 ^ places
-front_range text behind at places whole value a b =
+front_decimal_in_range text behind at places whole value a b =
     let small_a : number (take at text) < 10 ^ length (take at text) = number-lt (take at text) a.digits in
     let small_b : number (take places behind) < 10 ^ length (take places behind) = number-lt (take places behind) b.digits in
     let long_w : length (take at text) ≡ at = length-take-le at text a.within in
@@ -155,10 +155,10 @@ front_range text behind at places whole value a b =
     let all : (whole + 1) * 10 ^ places ≤ 10 ^ 13 * 10 ^ places = mul-le-mul_right {m = whole + 1} {n = 10 ^ 13} (10 ^ places) (omega (arith, a.value_is, small_a, ap (λ k. 10 ^ k) long_w, most)) in
     omega (arith, b.value_is, small_b, ap (λ k. 10 ^ k) long_f, all)
 
--- where 1 to 18 digits were counted, and the end or a comma follows them, a whole number was cut off
-pub number_found : (text tail : List ℕ) (count n : ℕ) (rest : Option (List ℕ)) → CountsDigits 0 text 18 n count → 0 < count → tail ≡ drop count text
+-- if 1 to 18 digits were counted, and the end or a comma follows them, a whole number was cut off
+pub front_number_found : (text tail : List ℕ) (count n : ℕ) (rest : Option (List ℕ)) → CountsDigits 0 text 18 n count → 0 < count → tail ≡ drop count text
     → IsItemAndRest tail [] rest → CutsNumber text n rest
-number_found text tail count n rest c some tail_is stands =
+front_number_found text tail count n rest c some tail_is stands =
     let ds : List ℕ = take count text in
     let size : length ds ≡ count = length-take-le count text c.within in
     let parted : text ≡ ds ++ tail = sym (take-append-drop count text) ∙ ap (λ t. ds ++ t) (sym tail_is) in

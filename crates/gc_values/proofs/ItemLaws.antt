@@ -55,12 +55,12 @@ one_value (value.Text t) (value.Text u) item e x y = ap (λ z. value.Text z) (on
 one_value v w item e x y = absurd (cc)
 
 -- an item that writes a whole number from -below to above doesn't write one out of that range
-not_beyond : (item : List ℕ) (z : ℤ) (below above : ℕ) → NamesWhole item z → IsBetween below above z → NamesWholeBeyond below above item → ⊥
-not_beyond item z below above w h far = far.2 (subst (λ y. IsBetween below above y) (one_whole item z far.0 w far.1) h)
+between_not_beyond : (item : List ℕ) (z : ℤ) (below above : ℕ) → NamesWhole item z → IsBetween below above z → NamesWholeBeyond below above item → ⊥
+between_not_beyond item z below above w h far = far.2 (subst (λ y. IsBetween below above y) (one_whole item z far.0 w far.1) h)
 
 -- an item that is a string of at most 64 bytes isn't a string of more than 64
-not_long : (item bytes : List ℕ) → IsTextItem item bytes → IsLongString item → ⊥
-not_long item bytes t long = let same = one_string item bytes long.0 t.string long.1 in let few = t.few in let many = long.2 in omega (arith, few, many, ap length same)
+text_item_not_long : (item bytes : List ℕ) → IsTextItem item bytes → IsLongString item → ⊥
+text_item_not_long item bytes t long = let same = one_string item bytes long.0 t.string long.1 in let few = t.few in let many = long.2 in omega (arith, few, many, ap length same)
 
 -- an item that is read as a value has the form of the value's kind
 pub item_has_form : (v : Value) (item : List ℕ) → IsItem item v → HasNoForm (kind_of v) item → ⊥
@@ -74,11 +74,11 @@ item_has_form (value.Text t) item x f = f t x.string
 -- an item that is read as a value isn't beyond the range of the value's kind
 pub item_is_in_range : (v : Value) (item : List ℕ) → IsItem item v → IsBeyond (kind_of v) item → ⊥
 item_is_in_range (value.Double d) item x f = in_range_only item d.digits d.scale x d.is_in_range f
-item_is_in_range (value.Long z) item x f = not_beyond item z 2147483648 2147483647 x.0 x.1 f
-item_is_in_range (value.Short z) item x f = not_beyond item z 32768 32767 x.0 x.1 f
+item_is_in_range (value.Long z) item x f = between_not_beyond item z 2147483648 2147483647 x.0 x.1 f
+item_is_in_range (value.Short z) item x f = between_not_beyond item z 32768 32767 x.0 x.1 f
 item_is_in_range (value.Byte n) item x f = f
-item_is_in_range (value.Bool b) item x f = not_beyond item (pos (number_of b)) 0 1 x (boolean_between b) f
-item_is_in_range (value.Text t) item x f = not_long item t x f
+item_is_in_range (value.Bool b) item x f = between_not_beyond item (pos (number_of b)) 0 1 x (boolean_between b) f
+item_is_in_range (value.Text t) item x f = text_item_not_long item t x f
 
 -- an item that is read as a value has no fault for the value's kind
 pub item_has_no_fault : (v : Value) (item : List ℕ) (e : ValueFault) → IsItem item v → IsItemFault (kind_of v) item e → ⊥
@@ -101,7 +101,7 @@ one_fault k item e f (inl x) (inr y) = absurd (no_form_not_beyond k item x.1 y.1
 one_fault k item e f (inr x) (inl y) = absurd (no_form_not_beyond k item y.1 x.1)
 one_fault k item e f (inr x) (inr y) = x.0 ∙ sym y.0
 
--- where r answers `Range` only for a number out of range, and `Spelling` only for no number, as `Decimal::read` does, its fault
+-- if r answers `Range` only for a number out of range, and `Spelling` only for no number, as `Decimal::read` does, its fault
 -- is the item's fault for the kind `Double`
 pub double_fault : (r : Result Decimal ValueFault) (item : List ℕ) → IfErr r (λ e. IsEither fault.Range fault.Spelling e)
     → (r ≡ Err fault.Range → SpellsBeyond item) → (r ≡ Err fault.Spelling → SpellsNothing item)

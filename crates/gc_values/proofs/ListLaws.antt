@@ -14,15 +14,15 @@ use Rattle.gc_values.proofs.ParamLists as splitting
 use Rattle.gc_values.proofs.TextShape.{joined_splits}
 
 -- items are read as at most one list of values of given kinds
-pub one_reading : (vs ws : List Value) (items : List (List ℕ)) → kinds_of vs ≡ kinds_of ws → AreItems items vs → AreItems items ws → vs ≡ ws
-one_reading [] [] items e x y = refl
-one_reading [] (w ∷ ws) items e x y = absurd (cc)
-one_reading (v ∷ vs) [] items e x y = absurd (cc)
-one_reading (v ∷ vs) (w ∷ ws) [] e x y = absurd x
-one_reading (v ∷ vs) (w ∷ ws) (item ∷ items) e x y =
+pub one_values_of_items : (vs ws : List Value) (items : List (List ℕ)) → kinds_of vs ≡ kinds_of ws → AreItems items vs → AreItems items ws → vs ≡ ws
+one_values_of_items [] [] items e x y = refl
+one_values_of_items [] (w ∷ ws) items e x y = absurd (cc)
+one_values_of_items (v ∷ vs) [] items e x y = absurd (cc)
+one_values_of_items (v ∷ vs) (w ∷ ws) [] e x y = absurd x
+one_values_of_items (v ∷ vs) (w ∷ ws) (item ∷ items) e x y =
     let first : kind_of v ≡ kind_of w = cc in
     let rest : kinds_of vs ≡ kinds_of ws = cc in
-    cc (one_value v w item first x.0 y.0, one_reading vs ws items rest x.1 y.1)
+    cc (one_value v w item first x.0 y.0, one_values_of_items vs ws items rest x.1 y.1)
 
 -- items that are read as values have no fault for the values' kinds
 pub no_first_fault : (vs : List Value) (items : List (List ℕ)) (e : ValueFault) → AreItems items vs → FirstFault (kinds_of vs) items e → ⊥
@@ -65,7 +65,7 @@ one_list_fault ks params e f (faulty_items items s x) (faulty_items others t y) 
 
 -- a parameter list is read as at most one list of values of given kinds
 pub one_values : (vs ws : List Value) (params : List ℕ) → kinds_of vs ≡ kinds_of ws → AreParams params vs → AreParams params ws → vs ≡ ws
-one_values vs ws params e x y = one_reading vs ws x.items e x.read (subst (λ i. AreItems i ws) (splitting.one_list params y.items x.items y.split x.split) y.read)
+one_values vs ws params e x y = one_values_of_items vs ws x.items e x.read (subst (λ i. AreItems i ws) (splitting.one_list params y.items x.items y.split x.split) y.read)
 
 -- items that are read as at most six values have no fault for the kinds of these values
 no_items_fault : (vs : List Value) (items : List (List ℕ)) (e : ValueFault) → length vs ≤ 6 → AreItems items vs

@@ -26,24 +26,24 @@ sum_small : (x y : ℤ) → unsigned_abs x ≤ 2 * 10 ^ 37 → unsigned_abs y �
 sum_small x y h k = omega (arith, ints)
 
 -- a number of at most 2 * 10^37 either way plus at most two turns either way, computed in 128 bits, is exact
-turned_held : (turns x : ℤ) → unsigned_abs turns ≤ 2 → unsigned_abs x ≤ 2 * 10 ^ 37
+turned_exact : (turns x : ℤ) → unsigned_abs turns ≤ 2 → unsigned_abs x ≤ 2 * 10 ^ 37
     → as_i128 (as_i128 x +ℤ as_i128 (as_i128 turns *ℤ turn)) ≡ x +ℤ turns *ℤ turn
-turned_held turns x few small =
+turned_exact turns x few small =
     ap (λ t. as_i128 (as_i128 x +ℤ as_i128 (t *ℤ turn))) (as_i128_same turns (omega (arith, few)))
     ∙ ap (λ t. as_i128 (as_i128 x +ℤ t)) (as_i128_same (turns *ℤ turn) (omega (arith, turns_small turns few)))
     ∙ ap (λ t. as_i128 (t +ℤ turns *ℤ turn)) (as_i128_same x (omega (arith, small)))
     ∙ as_i128_same (x +ℤ turns *ℤ turn) (sum_small x (turns *ℤ turn) small (turns_small turns few))
 
--- the test that the code makes in 128 bits is `is_close_turned`, where 128 bits hold `most`, the turns are at most two either
+-- the test that the code makes in 128 bits is `is_close_turned`, if 128 bits hold `most`, the turns are at most two either
 -- way, x is at most 2 * 10^37 from 0, and y at most 10^37
 pub close_turned : (most turns x y : ℤ) → FitsSigned w128 most → unsigned_abs turns ≤ 2 → unsigned_abs x ≤ 2 * 10 ^ 37 → unsigned_abs y ≤ 10 ^ 37
     → is_close (as_i128 most) (as_i128 (as_i128 x +ℤ as_i128 (as_i128 turns *ℤ turn))) (as_i128 y) ≡ is_close_turned most turns x y
 close_turned most turns x y fits few small low =
     ap (λ m. is_close m (as_i128 (as_i128 x +ℤ as_i128 (as_i128 turns *ℤ turn))) (as_i128 y)) (to_z-of_z w128 most fits)
-    ∙ ap (λ z. is_close most z (as_i128 y)) (turned_held turns x few small)
+    ∙ ap (λ z. is_close most z (as_i128 y)) (turned_exact turns x few small)
     ∙ ap (λ z. is_close most (x +ℤ turns *ℤ turn) z) (as_i128_same y (omega (arith, low)))
 
--- where v and hz are the tests of the two angles, both together are `is_near`
+-- if v and hz are the tests of the two angles, both together are `is_near`
 pub near_by_angles : (d place : Direction) (tolerance : Decimal) (v hz : Bool) → v ≡ is_close (units tolerance) (v_in_face_one d) (units place.v)
     → hz ≡ is_close_on_circle (units tolerance) (hz_in_face_one d) (units place.hz) → (v && hz) ≡ is_near d place tolerance
 unfolding is_near
@@ -54,34 +54,34 @@ abbrev IsCloseAfterTurns : (most x y : ℤ) → Type 0
 IsCloseAfterTurns most x y = (k : ℤ) × (unsigned_abs k ≤ 2) × (is_close_turned most k x y ≡ true)
 
 -- numbers that are close on the circle are close after some number of turns, at most two either way
-some_turns : (most x y : ℤ) → is_close_on_circle most x y ≡ true → IsCloseAfterTurns most x y
-some_turns most x y e = first (or_cases _ _ e) where
-  -- where x is close to y after 1 or 2 turns, `IsCloseAfterTurns` is true of x and y
+close_after_turns : (most x y : ℤ) → is_close_on_circle most x y ≡ true → IsCloseAfterTurns most x y
+close_after_turns most x y e = first (or_cases _ _ e) where
+  -- if x is close to y after 1 or 2 turns, `IsCloseAfterTurns` is true of x and y
   last : (is_close_turned most (pos 1) x y ≡ true) ⊎ (is_close_turned most (pos 2) x y ≡ true) → IsCloseAfterTurns most x y
   last (inl h) = (pos 1, omega arith, h)
   last (inr h) = (pos 2, omega arith, h)
 
-  -- where x is close to y after 0, 1 or 2 turns, `IsCloseAfterTurns` is true of x and y
+  -- if x is close to y after 0, 1 or 2 turns, `IsCloseAfterTurns` is true of x and y
   third : (is_close_turned most (pos 0) x y ≡ true) ⊎ ((is_close_turned most (pos 1) x y || is_close_turned most (pos 2) x y) ≡ true)
       → IsCloseAfterTurns most x y
   third (inl h) = (pos 0, omega arith, h)
   third (inr h) = last (or_cases _ _ h)
 
-  -- where x is close to y after -1, 0, 1 or 2 turns, `IsCloseAfterTurns` is true of x and y
+  -- if x is close to y after -1, 0, 1 or 2 turns, `IsCloseAfterTurns` is true of x and y
   second : (is_close_turned most (negsuc 0) x y ≡ true)
       ⊎ ((is_close_turned most (pos 0) x y || (is_close_turned most (pos 1) x y || is_close_turned most (pos 2) x y)) ≡ true)
       → IsCloseAfterTurns most x y
   second (inl h) = (negsuc 0, omega arith, h)
   second (inr h) = third (or_cases _ _ h)
 
-  -- where x is close to y after -2, -1, 0, 1 or 2 turns, `IsCloseAfterTurns` is true of x and y
+  -- if x is close to y after -2, -1, 0, 1 or 2 turns, `IsCloseAfterTurns` is true of x and y
   first : (is_close_turned most (negsuc 1) x y ≡ true)
       ⊎ ((is_close_turned most (negsuc 0) x y || (is_close_turned most (pos 0) x y || (is_close_turned most (pos 1) x y || is_close_turned most (pos 2) x y))) ≡ true)
       → IsCloseAfterTurns most x y
   first (inl h) = (negsuc 1, omega arith, h)
   first (inr h) = second (or_cases _ _ h)
 
--- where any of five tests holds, so does the test that joins them by `||`
+-- if any of five tests holds, so does the test that joins them by `||`
 or_of_five : (a b c d e : Bool) → (a ≡ true) ⊎ ((b ≡ true) ⊎ ((c ≡ true) ⊎ ((d ≡ true) ⊎ (e ≡ true)))) → (a || (b || (c || (d || e)))) ≡ true
 or_of_five a b c d e (inl h) = or_left a (b || (c || (d || e))) h
 or_of_five a b c d e (inr (inl h)) = or_right a (b || (c || (d || e))) (or_left b (c || (d || e)) h)
@@ -89,7 +89,7 @@ or_of_five a b c d e (inr (inr (inl h))) = or_right a (b || (c || (d || e))) (or
 or_of_five a b c d e (inr (inr (inr (inl h)))) = or_right a (b || (c || (d || e))) (or_right b (c || (d || e)) (or_right c (d || e) (or_left d e h)))
 or_of_five a b c d e (inr (inr (inr (inr h)))) = or_right a (b || (c || (d || e))) (or_right b (c || (d || e)) (or_right c (d || e) (or_right d e h)))
 
--- an integer of magnitude at most 2 is -2, -1, 0, 1 or 2
+-- turns that are at most two either way are -2, -1, 0, 1 or 2
 few_turns : (k : ℤ) → unsigned_abs k ≤ 2 → (k ≡ negsuc 1) ⊎ ((k ≡ negsuc 0) ⊎ ((k ≡ pos 0) ⊎ ((k ≡ pos 1) ⊎ (k ≡ pos 2))))
 few_turns (pos zero) few = inr (inr (inl refl))
 few_turns (pos (suc zero)) few = inr (inr (inr (inl refl)))
@@ -100,23 +100,23 @@ few_turns (negsuc (suc zero)) few = inl refl
 few_turns (negsuc (suc (suc n))) few = absurd (omega (arith, few))
 
 -- numbers that are close after at most two turns either way are close on the circle
-on_circle : (most x y k : ℤ) → unsigned_abs k ≤ 2 → is_close_turned most k x y ≡ true → is_close_on_circle most x y ≡ true
-on_circle most x y k few near =
+close_on_circle : (most x y k : ℤ) → unsigned_abs k ≤ 2 → is_close_turned most k x y ≡ true → is_close_on_circle most x y ≡ true
+close_on_circle most x y k few near =
     or_of_five (is_close_turned most (negsuc 1) x y) (is_close_turned most (negsuc 0) x y) (is_close_turned most (pos 0) x y) (is_close_turned most (pos 1) x y) (is_close_turned most (pos 2) x y)
     (which (few_turns k few)) where
-      -- where k is j, x is close to y after j turns
-      so : (j : ℤ) → k ≡ j → is_close_turned most j x y ≡ true
-      so j e = ap (λ i. is_close_turned most i x y) (sym e) ∙ near
+      -- if k is j, x is close to y after j turns
+      close_after : (j : ℤ) → k ≡ j → is_close_turned most j x y ≡ true
+      close_after j e = ap (λ i. is_close_turned most i x y) (sym e) ∙ near
 
       -- by which of the five numbers k is: x is close to y after that number of turns
       which : (k ≡ negsuc 1) ⊎ ((k ≡ negsuc 0) ⊎ ((k ≡ pos 0) ⊎ ((k ≡ pos 1) ⊎ (k ≡ pos 2))))
           → (is_close_turned most (negsuc 1) x y ≡ true) ⊎ ((is_close_turned most (negsuc 0) x y ≡ true) ⊎ ((is_close_turned most (pos 0) x y ≡ true)
           ⊎ ((is_close_turned most (pos 1) x y ≡ true) ⊎ (is_close_turned most (pos 2) x y ≡ true))))
-      which (inl e) = inl (so (negsuc 1) e)
-      which (inr (inl e)) = inr (inl (so (negsuc 0) e))
-      which (inr (inr (inl e))) = inr (inr (inl (so (pos 0) e)))
-      which (inr (inr (inr (inl e)))) = inr (inr (inr (inl (so (pos 1) e))))
-      which (inr (inr (inr (inr e)))) = inr (inr (inr (inr (so (pos 2) e))))
+      which (inl e) = inl (close_after (negsuc 1) e)
+      which (inr (inl e)) = inr (inl (close_after (negsuc 0) e))
+      which (inr (inr (inl e))) = inr (inr (inl (close_after (pos 0) e)))
+      which (inr (inr (inr (inl e)))) = inr (inr (inr (inl (close_after (pos 1) e))))
+      which (inr (inr (inr (inr e)))) = inr (inr (inr (inr (close_after (pos 2) e))))
 
 -- `is_near` says exactly whether a direction is near a place
 pub near_is_within : NearIsWithinTheTolerance
@@ -124,7 +124,7 @@ unfolding is_near
 near_is_within d place tolerance = (
   (λ e.
       let parts = and_parts (is_close (units tolerance) (v_in_face_one d) (units place.v)) (is_close_on_circle (units tolerance) (hz_in_face_one d) (units place.hz)) e in
-      let some = some_turns (units tolerance) (hz_in_face_one d) (units place.hz) parts.1 in
+      let some = close_after_turns (units tolerance) (hz_in_face_one d) (units place.hz) parts.1 in
       record {
         turns = some.0;
         few = some.1;
@@ -135,5 +135,5 @@ near_is_within d place tolerance = (
       let v : is_close (units tolerance) (v_in_face_one d) (units place.v) ≡ true = (int_le_exactly (pos (unsigned_abs (v_in_face_one d -ℤ units place.v))) (units tolerance)).1 is.v_near in
       let hz = (int_le_exactly (pos (unsigned_abs (hz_in_face_one d +ℤ is.turns *ℤ turn -ℤ units place.hz))) (units tolerance)).1 is.hz_near in
       ap (λ b. b && is_close_on_circle (units tolerance) (hz_in_face_one d) (units place.hz)) v
-      ∙ on_circle (units tolerance) (hz_in_face_one d) (units place.hz) is.turns is.few hz),
+      ∙ close_on_circle (units tolerance) (hz_in_face_one d) (units place.hz) is.turns is.few hz),
 )

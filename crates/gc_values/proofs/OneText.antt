@@ -24,7 +24,7 @@ use Rattle.gc_values.proofs.ReadLemmas.{spells_once}
 use Rattle.gc_values.proofs.Signs.{unsigned_abs-signed}
 use Rattle.gc_values.proofs.WholeLemmas.{one_whole}
 use Rattle.gc_values.proofs.WholeText.{signed_reads}
-use Rattle.gc_values.proofs.WrittenLemmas.{length-last_digits, last_over}
+use Rattle.gc_values.proofs.WrittenLemmas.{length-last_digits, mod_pow_last}
 use Rattle.gc_values.proofs.WrittenSpells.{writes_whole, AreDigits-last_digits, number-last_digits, is_fraction_text, written_spells}
 
 -- two runs of equally many digits that write one number are the same
@@ -53,9 +53,9 @@ record IsSized (ds : List ℕ) : Type 0 where
   pub least : 1 < length ds → 10 ^ (length ds - 1) ≤ number ds
 
 -- each whole part has the size that `IsSized` says
-sized : (ds : List ℕ) → IsWholePart ds → IsSized ds
-sized [] w = let s = w.some in absurd (omega (arith, s))
-sized (b ∷ bs) w = record {
+whole_part_is_sized : (ds : List ℕ) → IsWholePart ds → IsSized ds
+whole_part_is_sized [] w = let s = w.some in absurd (omega (arith, s))
+whole_part_is_sized (b ∷ bs) w = record {
   some = w.some;
   small = number-lt (b ∷ bs) w.are_digits;
   least = λ more. elim (cases_order b 48) [
@@ -83,8 +83,8 @@ pub whole_once : (xs ys : List ℕ) → IsWholePart xs → IsWholePart ys → nu
 whole_once xs ys x y e = elim (cases_order (length xs) (length ys)) [
   | inl same ↦ digits_once xs ys x.are_digits y.are_digits same e
   | inr other ↦ elim other [
-    | inl less ↦ absurd (shorter_is_smaller xs ys (sized xs x) (sized ys y) e less)
-    | inr more ↦ absurd (shorter_is_smaller ys xs (sized ys y) (sized xs x) (sym e) more)
+    | inl less ↦ absurd (shorter_is_smaller xs ys (whole_part_is_sized xs x) (whole_part_is_sized ys y) e less)
+    | inr more ↦ absurd (shorter_is_smaller ys xs (whole_part_is_sized ys y) (whole_part_is_sized xs x) (sym e) more)
   ]
 ]
 
@@ -93,7 +93,7 @@ no_zero_first : (ds rest : List ℕ) → 0 < get_or ds 0 0 → map (λ d. 48 + d
 no_zero_first [] rest some e = omega (arith, some)
 no_zero_first (d ∷ ds) rest some e = let h : 48 + d ≡ 48 = cc in omega (arith, some, h)
 
--- where '0' alone is a '0' and a rest, the rest is empty
+-- if '0' alone is a '0' and a rest, the rest is empty
 zero_alone : (rest : List ℕ) → 48 ∷ [] ≡ 48 ∷ rest → rest ≡ []
 zero_alone [] e = refl
 zero_alone (r ∷ rest) e = absurd (let l = ap length e in omega (arith, l))
@@ -201,8 +201,8 @@ whole_is_written text f none =
     is_written_text text f (number f.whole) 0 (λ e. let h = f.no_minus_on_zero e in omega (arith, h, all)) (λ h. absurd (omega (arith, h))) (lit≤ tt) (div-one (number f.whole)) (sym none)
 
 -- s digits, at least one, that write n are what is written after the point for n at s places
-behind_again : (s n : ℕ) (ds : List ℕ) → AreDigits ds → length ds ≡ s → number ds ≡ n → 0 < s → behind_text s n ≡ ds
-behind_again s n ds digits long is some = elim (eqb_tells s 0) [
+behind_text-number : (s n : ℕ) (ds : List ℕ) → AreDigits ds → length ds ≡ s → number ds ≡ n → 0 < s → behind_text s n ≡ ds
+behind_text-number s n ds digits long is some = elim (eqb_tells s 0) [
   | inl none ↦ let e = none.1 in absurd (omega (arith, e, some))
   | inr more ↦
       ap (λ b. cond b (48 ∷ []) (last_digits s n)) more.0
@@ -219,9 +219,9 @@ fraction_is_written text f other =
     let tens : number (f.whole ++ f.fraction) % 10 ≡ number f.fraction % 10 = last_of_all f.whole f.fraction f.fraction_is.some in
     is_written_text text f (number (f.whole ++ f.fraction)) (length f.fraction) f.no_minus_on_zero (λ _ divides. other (sym tens ∙ divides)) f.fraction_is.few
     (ap (λ x. x / p) all ∙ div-mul-add (number f.whole) p (number f.fraction) few)
-    (behind_again (length f.fraction) (number (f.whole ++ f.fraction) % p) f.fraction f.fraction_is.are_digits refl
+    (behind_text-number (length f.fraction) (number (f.whole ++ f.fraction) % p) f.fraction f.fraction_is.are_digits refl
     (sym (ap (λ x. x % p) all ∙ mod-mul-add (number f.whole) p (number f.fraction) few)) f.fraction_is.some) where
-      -- where the second of two runs of digits isn't empty, the number of both in a row has the last digit that the number of the
+      -- if the second of two runs of digits isn't empty, the number of both in a row has the last digit that the number of the
       -- second has
       last_of_all : (ws fs : List ℕ) → 0 < length fs → number (ws ++ fs) % 10 ≡ number fs % 10
       last_of_all ws [] some = absurd (omega (arith, some))
@@ -240,49 +240,49 @@ form_is_written text f = elim (eqb_tells (number f.fraction % 10) 0) [
 ]
 
 -- a lone 0 is a fraction part
-zero_behind : IsFractionPart (48 ∷ [])
-zero_behind = record { are_digits = ((lit≤ tt, lit≤ tt), tt); some = lit< tt; few = lit≤ tt; no_zero_at_the_end = λ front e. sym (same_from_push [] front 48 48 e).0 }
+zero_fraction_part : IsFractionPart (48 ∷ [])
+zero_fraction_part = record { are_digits = ((lit≤ tt, lit≤ tt), tt); some = lit< tt; few = lit≤ tt; no_zero_at_the_end = λ front e. sym (same_from_push [] front 48 48 e).0 }
 
 -- the last s digits, 1 to 24, of a number that doesn't end in 0 are a fraction part
-last_part : (a s : ℕ) → s ≤ 24 → 0 < s → a % 10 ≢ 0 → IsFractionPart (last_digits s (a % 10 ^ s))
-last_part a zero few some other = absurd (omega (arith, some))
-last_part a (suc s) few some other = record {
+last_digits_fraction_part : (a s : ℕ) → s ≤ 24 → 0 < s → a % 10 ≢ 0 → IsFractionPart (last_digits s (a % 10 ^ s))
+last_digits_fraction_part a zero few some other = absurd (omega (arith, some))
+last_digits_fraction_part a (suc s) few some other = record {
   are_digits = AreDigits-last_digits (suc s) (a % 10 ^ suc s);
   some = omega (arith, length-last_digits (suc s) (a % 10 ^ suc s));
   few = omega (arith, length-last_digits (suc s) (a % 10 ^ suc s));
   no_zero_at_the_end = λ front e.
       let last = (same_from_push (last_digits s (a % 10 ^ suc s / 10)) front (48 + a % 10 ^ suc s % 10) 48 e).1 in
-      absurd (other (let o = last_over a s in omega (arith, last, o)));
+      absurd (other (let o = mod_pow_last a s in omega (arith, last, o)));
 }
 
--- where there are at most 24 places, and all of them are needed, what is written after the point is a fraction part
+-- if there are at most 24 places, and all of them are needed, what is written after the point is a fraction part
 fraction_part : (a s : ℕ) → s ≤ 24 → (0 < s → a % 10 ≢ 0) → IsFractionPart (behind_text s (a % 10 ^ s))
 fraction_part a s few canonical = elim (eqb_tells s 0) [
-  | inl none ↦ subst IsFractionPart (ap (λ b. cond b (48 ∷ []) (last_digits s (a % 10 ^ s))) (sym none.0)) zero_behind
+  | inl none ↦ subst IsFractionPart (ap (λ b. cond b (48 ∷ []) (last_digits s (a % 10 ^ s))) (sym none.0)) zero_fraction_part
   | inr more ↦
       let some : 0 < s = pos_of_ne-zero more.1 in
-      subst IsFractionPart (ap (λ b. cond b (48 ∷ []) (last_digits s (a % 10 ^ s))) (sym more.0)) (last_part a s few some (canonical some))
+      subst IsFractionPart (ap (λ b. cond b (48 ∷ []) (last_digits s (a % 10 ^ s))) (sym more.0)) (last_digits_fraction_part a s few some (canonical some))
 ]
 
--- where x * b is the product of two numbers above 0, x is above 0
+-- if x * b is the product of two numbers above 0, x is above 0
 factor_positive : (a p x b : ℕ) → 0 < a → 0 < p → a * p ≡ x * b → 0 < x
 factor_positive a p zero b h k e = let both : 0 < a * p = mul-pos h k in absurd (omega (arith, e, both))
 factor_positive a p (suc x) b h k e = omega arith
 
--- what is written of a sign, digits and places has a decimal's form, where there are at most 24 places, all of them needed, and
--- no minus is before zero
-decimal_form_of : (negative : Bool) (a s : ℕ) → s ≤ 24 → (0 < s → a % 10 ≢ 0) → (negative ≡ true → 0 < a) →
-    HasDecimalForm (minus_where negative ++ (whole_text (a / 10 ^ s) ++ (46 ∷ behind_text s (a % 10 ^ s))))
-decimal_form_of negative a s few canonical some = record {
+-- what is written of the number of sign `negative` and magnitude a, over 10^s, has a decimal's form, if there are at most 24
+-- places, all of them needed, and no minus is before zero
+decimal_form-signed : (negative : Bool) (a s : ℕ) → s ≤ 24 → (0 < s → a % 10 ≢ 0) → (negative ≡ true → 0 < a)
+    → HasDecimalForm (written (signed negative a) s)
+decimal_form-signed negative a s few canonical some = record {
   negative = negative;
   whole = whole_text (a / 10 ^ s);
   fraction = behind_text s (a % 10 ^ s);
-  text_is = refl;
+  text_is = written-signed negative a s some;
   whole_is = whole_part (a / 10 ^ s);
   fraction_is = fraction_part a s few canonical;
   no_minus_on_zero = λ e. above_zero (some e);
 } where
-  -- where a is above 0, so is the number that the digits before and after the point write
+  -- if a is above 0, so is the number that the digits before and after the point write
   above_zero : 0 < a → 0 < number (whole_text (a / 10 ^ s) ++ behind_text s (a % 10 ^ s))
   above_zero h =
       let b = is_fraction_text a s in
@@ -293,8 +293,8 @@ decimal_form_of negative a s few canonical some = record {
 
 -- what is written of m / 10^s, which needs all its places and has at most 24, has a decimal's form
 decimal_form : (m : ℤ) (s : ℕ) → IsCanonical m s → s ≤ 24 → HasDecimalForm (written m s)
-decimal_form (pos n) s canonical few = decimal_form_of false n s few canonical (λ e. absurd (cc))
-decimal_form (negsuc n) s canonical few = decimal_form_of true (suc n) s few canonical (λ _. omega arith)
+decimal_form (pos n) s canonical few = decimal_form-signed false n s few canonical (λ e. absurd (cc))
+decimal_form (negsuc n) s canonical few = decimal_form-signed true (suc n) s few canonical (λ _. omega arith)
 
 -- a text is the written one of a decimal exactly where the text has a decimal's form and spells that decimal
 pub decimal_text_once : (d : Decimal) (text : List ℕ) → (text ≡ decimal_text d) ↔ (HasDecimalForm text × SpellsDecimal text d)

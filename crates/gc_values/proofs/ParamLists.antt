@@ -7,12 +7,12 @@ use Rattle.std.proofs.lemmas.Bool.{cases_eq}
 use Rattle.std.specs.List.{AllByRecursion}
 use Rattle.gc_values.specs.Params.{quotes, AreSpaces, HasCommasInQuotes, IsParam, IsPadded, ArePieces, joined, AreJoined, IsParams}
 use Rattle.gc_values.specs.Pieces.{CutsPiece, IsTrimmed, without_front_spaces, without_end_spaces}
-use Rattle.gc_values.proofs.Quotes.{IsPiece, quotes-append, quotes_same, quotes-spaces, HasCommasInQuotes-nil, HasCommasInQuotes-push, not_inside, one_cut}
-use Rattle.gc_values.proofs.Trimming.{padded_keeps, quotes-padded, trimmed_is_param, param_is_trimmed, one_trimmed, trimmed_exists, front_not_spaces}
+use Rattle.gc_values.proofs.Quotes.{IsPiece, quotes-append, quotes_same, quotes-spaces, HasCommasInQuotes-nil, HasCommasInQuotes-push, even_not_before_comma, one_comma_cut}
+use Rattle.gc_values.proofs.Trimming.{HasCommasInQuotes-padded, quotes-padded, trimmed_is_param, param_is_trimmed, one_trimmed, trimmed_exists, front_not_spaces}
 
 -- a parameter with spaces round it is a piece
 padded_piece : (piece item : List ℕ) → IsPadded piece item → IsParam item → IsPiece piece
-padded_piece piece item p h = record { keeps = padded_keeps piece item p h; even = let same = quotes-padded piece item p in let even = h.pairs in omega (arith, same, even) }
+padded_piece piece item p h = record { keeps = HasCommasInQuotes-padded piece item p h; even = let same = quotes-padded piece item p in let even = h.pairs in omega (arith, same, even) }
 
 -- parameters with spaces round them are pieces
 pub pieces_of : (ps is : List (List ℕ)) → ArePieces ps is → AllByRecursion IsPiece ps
@@ -67,10 +67,10 @@ params_even bytes (i ∷ is) h = ap (λ xs. quotes xs % 2) h.bytes_are ∙ joine
 same_pieces : (p q : List ℕ) (ps qs : List (List ℕ)) → AllByRecursion IsPiece (p ∷ ps) → AllByRecursion IsPiece (q ∷ qs)
     → joined (p ∷ ps) ≡ joined (q ∷ qs) → p ∷ ps ≡ q ∷ qs
 same_pieces p q [] [] hp hq e = ap (λ xs. xs ∷ []) (sym (append-nil p) ∙ e ∙ append-nil q)
-same_pieces p q [] (r ∷ rs) hp hq e = absurd (not_inside p q (joined (r ∷ rs)) hp.0.keeps hq.0.even (sym (append-nil p) ∙ e))
-same_pieces p q (r ∷ rs) [] hp hq e = absurd (not_inside q p (joined (r ∷ rs)) hq.0.keeps hp.0.even (sym (append-nil q) ∙ sym e))
+same_pieces p q [] (r ∷ rs) hp hq e = absurd (even_not_before_comma p q (joined (r ∷ rs)) hp.0.keeps hq.0.even (sym (append-nil p) ∙ e))
+same_pieces p q (r ∷ rs) [] hp hq e = absurd (even_not_before_comma q p (joined (r ∷ rs)) hq.0.keeps hp.0.even (sym (append-nil q) ∙ sym e))
 same_pieces p q (r ∷ rs) (s ∷ ss) hp hq e =
-    let cut = one_cut p q (joined (r ∷ rs)) (joined (s ∷ ss)) hp.0 hq.0 e in
+    let cut = one_comma_cut p q (joined (r ∷ rs)) (joined (s ∷ ss)) hp.0 hq.0 e in
     let first = cut.0 in
     let rest = same_pieces r s rs ss hp.1 hq.1 cut.1 in
     cc
@@ -138,7 +138,7 @@ more_pieces piece rest is r =
       are = (t.padded, trimmed_is_param piece _ t is, r.are);
     }
 
--- where a text's quotes are in pairs, and those before one of its commas are, those after that comma are, too
+-- if a text's quotes are in pairs, and those before one of its commas are, those after that comma are, too
 even_behind : (xs ys : List ℕ) → quotes xs % 2 ≡ 0 → quotes (xs ++ 44 ∷ ys) % 2 ≡ 0 → quotes ys % 2 ≡ 0
 even_behind xs ys first both = let sum = quotes-comma xs ys in omega (arith, first, both, sum)
 
@@ -179,7 +179,7 @@ pub record SplitSoFar (text : List ℕ) (items : List (List ℕ)) (rest : List �
   pub are : ArePieces pieces items
   pub even : quotes rest % 2 ≡ 0
 
--- where a text is split so far into items and a rest, and one more piece is cut off that rest, and trimmed to `item`, the text is
+-- if a text is split so far into items and a rest, and one more piece is cut off that rest, and trimmed to `item`, the text is
 -- split so far into the items and then `item`, and what follows the piece's comma, `next`
 pub split_more : (text rest piece next item : List ℕ) (items : List (List ℕ)) → SplitSoFar text items rest → CutsPiece rest piece (Some next)
     → IsTrimmed piece item → SplitSoFar text (items ++ item ∷ []) next
@@ -195,8 +195,8 @@ params_from : (bytes : List ℕ) (items : List (List ℕ)) → 0 < length items 
 params_from bytes [] some h = absurd (omega arith)
 params_from bytes (i ∷ is) some h = h
 
--- where a text that isn't spaces alone is split so far into items and a rest, the rest is the last piece, and `item` is that
--- piece, trimmed, the items and then `item` are the text's list of parameters
+-- if a text that isn't spaces alone is split so far into items and a rest, the rest is all of the last piece, and that piece
+-- is trimmed to `item`, the text's list of parameters is the items and then `item`
 pub split_last : (text rest piece item : List ℕ) (items : List (List ℕ)) → SplitSoFar text items rest → CutsPiece rest piece None
     → IsTrimmed piece item
     → (AreSpaces text → ⊥) → IsParams text (items ++ item ∷ [])
@@ -209,7 +209,7 @@ split_last text rest piece item items s cut t some =
       some = some;
     })
 
--- where a text that isn't spaces alone is split so far into items and a rest, the text is a list of more items than these
+-- if a text that isn't spaces alone is split so far into items and a rest, the text is a list of more items than these
 pub split_longer : (text rest : List ℕ) (items : List (List ℕ)) → SplitSoFar text items rest → (AreSpaces text → ⊥)
     → (all : List (List ℕ)) × IsParams text all × (length items < length all)
 split_longer text rest items s some =

@@ -12,25 +12,25 @@ use Rattle.gc_values.proofs.ParamLists.{joined_params}
 use Rattle.gc_values.proofs.TextShape.{AreBare, bare_param}
 
 -- bare bytes, at least one, up to a comma are cut off as an item
-pub plain_cut : (text : List ℕ) (i : ℕ) → AreBare (take i text) → 0 < i → i < length text → get_or text i 0 ≡ 44
+pub bare_cut_at_comma : (text : List ℕ) (i : ℕ) → AreBare (take i text) → 0 < i → i < length text → get_or text i 0 ≡ 44
     → CutsPlain text (take i text) (Some (drop (i + 1) text))
-plain_cut text i h some within comma = record {
+bare_cut_at_comma text i h some within comma = record {
   text_is = sym (take-append-drop i text) ∙ ap (λ xs. take i text ++ xs) (drop_more text i 0 within ∙ ap (λ b. b ∷ drop (i + 1) text) comma);
   param = bare_param (take i text) h;
   some = omega (arith, length-take-le i text (omega arith));
 }
 
 -- bare bytes, at least one, up to the end are cut off as an item
-pub plain_all : (text : List ℕ) (i : ℕ) → AreBare (take i text) → length text ≤ i → 0 < length text → CutsPlain text text None
-plain_all text i h all some = record {
+pub bare_cut_at_end : (text : List ℕ) (i : ℕ) → AreBare (take i text) → length text ≤ i → 0 < length text → CutsPlain text text None
+bare_cut_at_end text i h all some = record {
   text_is = refl;
   param = bare_param text (subst AreBare (take_all i text all) h);
   some = some;
 }
 
--- where an item up to the end is read as a value, the text is a list in the common spelling of that value alone
-one_plain : (text item : List ℕ) (v : Value) → CutsPlain text item None → IsItem item v → ArePlain text (v ∷ [])
-one_plain text item v cut x = record {
+-- if an item up to the end is read as a value, the text is a list, in the common spelling, of that value alone
+plain_of_one_item : (text item : List ℕ) (v : Value) → CutsPlain text item None → IsItem item v → ArePlain text (v ∷ [])
+plain_of_one_item text item v cut x = record {
   first = item;
   more = [];
   text_is = cut.text_is ∙ sym (append-nil item);
@@ -39,11 +39,11 @@ one_plain text item v cut x = record {
   read = (x, tt);
 }
 
--- where an item up to a comma is read as a value, and the text after the comma is a list in the common spelling, the whole text
+-- if an item up to a comma is read as a value, and the text after the comma is a list in the common spelling, the whole text
 -- is one of one value more
-next_plain : (text item rest : List ℕ) (v : Value) (vs : List Value) → CutsPlain text item (Some rest) → IsItem item v → ArePlain rest vs
+plain_of_item_and_list : (text item rest : List ℕ) (v : Value) (vs : List Value) → CutsPlain text item (Some rest) → IsItem item v → ArePlain rest vs
     → ArePlain text (v ∷ vs)
-next_plain text item rest v vs cut x left = record {
+plain_of_item_and_list text item rest v vs cut x left = record {
   first = item;
   more = left.first ∷ left.more;
   text_is = cut.text_is ∙ ap (λ bytes. item ++ 44 ∷ bytes) left.text_is;
@@ -52,16 +52,16 @@ next_plain text item rest v vs cut x left = record {
   read = (x, left.read);
 }
 
--- where an item that was cut off is read as a value, and what is left after it, if there is any, is a list in the common
+-- if an item that was cut off is read as a value, and what is left after it, if there is any, is a list in the common
 -- spelling, the whole text is one of one value more
-pub plain_next : (text item : List ℕ) (rest : Option (List ℕ)) (v : Value) (vs : List Value) → CutsPlain text item rest → IsItem item v
+pub plain_of_cut_item : (text item : List ℕ) (rest : Option (List ℕ)) (v : Value) (vs : List Value) → CutsPlain text item rest → IsItem item v
     → LeftPlain rest vs → ArePlain text (v ∷ vs)
-plain_next text item None v vs cut x left = subst (λ ws. ArePlain text (v ∷ ws)) (sym left) (one_plain text item v cut x)
-plain_next text item (Some rest) v vs cut x left = next_plain text item rest v vs cut x left
+plain_of_cut_item text item None v vs cut x left = subst (λ ws. ArePlain text (v ∷ ws)) (sym left) (plain_of_one_item text item v cut x)
+plain_of_cut_item text item (Some rest) v vs cut x left = plain_of_item_and_list text item rest v vs cut x left
 
 -- a list in the common spelling is a list of parameters that is read as the same values
-pub plain_params : (text : List ℕ) (vs : List Value) → ArePlain text vs → AreParams text vs
-plain_params text vs x = record {
+pub plain_list_read : (text : List ℕ) (vs : List Value) → ArePlain text vs → AreParams text vs
+plain_list_read text vs x = record {
   items = x.first ∷ x.more;
   split = rw x.text_is (joined_params (x.first ∷ x.more) x.params x.some);
   read = x.read;
@@ -72,13 +72,14 @@ pub no_params : (text : List ℕ) (vs : List Value) → length text ≡ 0 → vs
 no_params [] vs none e = rw e (record { items = []; split = (0, refl); read = tt })
 no_params (b ∷ bs) vs none e = absurd (omega (arith, none))
 
--- a quick reader that is as it was is left with the values that it was left with
+-- if the quick reader is the same after a call as before it, what `QuickReads` says of it after the call is so before it, too
 pub left_as_it_was : (old new : Quick) (vs : List Value) → new ≡ old → QuickReads new vs → QuickReads old vs
 left_as_it_was old new vs same left = subst (λ q. QuickReads q vs) same left
 
--- a quick reader that took an item, and gives what was read of it, took the value that it gives
-pub taken : {T E : Type 0} (make : T → Value) (item : List ℕ) (read : Result T E) (x : T) (old mid new : Quick) → TakesItem item old mid
+-- if the quick reader took an item (`TakesItem`), `read` is what the item reads as, and x is what the reader gives of that
+-- (`GivesRead`), the reader took the value that `make` makes of x (`TakesPlainly`)
+pub takes_read_value : {T E : Type 0} (make : T → Value) (item : List ℕ) (read : Result T E) (x : T) (old mid new : Quick) → TakesItem item old mid
     → IfOk read (λ y. IsItem item (make y)) → GivesRead read x mid new → TakesPlainly (make x) old new
-taken make item read x old mid new takes is gives vs left =
+takes_read_value make item read x old mid new takes is gives vs left =
     let given = gives left.well in
     takes (make x) (subst (λ r. IfOk r (λ y. IsItem item (make y))) given.0 is) vs (left_as_it_was mid new vs given.1 left)

@@ -41,7 +41,7 @@ pub empty_has_none : (front rest : List ℕ) (b : ℕ) → [] ≡ front ++ b ∷
 empty_has_none [] rest b e = cc
 empty_has_none (f ∷ fs) rest b e = cc
 
--- where xs and then b are cut at a comma into `front` and `rest`, b is that comma, and `front` is xs, or xs has a comma after
+-- if xs and then b are cut at a comma into `front` and `rest`, b is that comma, and `front` is xs, or xs has a comma after
 -- `front`
 pub push_cut : (xs front rest : List ℕ) (b : ℕ) → xs ++ b ∷ [] ≡ front ++ 44 ∷ rest
     → ((b ≡ 44) × (front ≡ xs)) ⊎ ((r : List ℕ) × (xs ≡ front ++ 44 ∷ r))
@@ -82,9 +82,9 @@ cuts_compare (x ∷ xs) (y ∷ ys) us vs e =
       | inr (inr h) ↦ inr (inr (h.0, let s = h.1 in cc))
     ]
 
--- where commas in xs are within quotes, and ys has its quotes in pairs, ys isn't what comes before a comma of xs
-pub not_inside : (xs ys vs : List ℕ) → HasCommasInQuotes xs → quotes ys % 2 ≡ 0 → xs ≡ ys ++ 44 ∷ vs → ⊥
-not_inside xs ys vs keeps even e = let odd = keeps ys vs e in omega (arith, odd, even)
+-- if commas in xs are within quotes, and ys has its quotes in pairs, ys isn't what comes before a comma of xs
+pub even_not_before_comma : (xs ys vs : List ℕ) → HasCommasInQuotes xs → quotes ys % 2 ≡ 0 → xs ≡ ys ++ 44 ∷ vs → ⊥
+even_not_before_comma xs ys vs keeps even e = let odd = keeps ys vs e in omega (arith, odd, even)
 
 -- a piece between commas: its quotes are in pairs, and each comma is inside a pair
 pub record IsPiece (piece : List ℕ) : Type 0 where
@@ -92,9 +92,9 @@ pub record IsPiece (piece : List ℕ) : Type 0 where
   pub even : quotes piece % 2 ≡ 0
 
 -- a text is cut at a comma in at most one way into a piece and what follows the comma
-pub one_cut : (xs ys us vs : List ℕ) → IsPiece xs → IsPiece ys → xs ++ 44 ∷ us ≡ ys ++ 44 ∷ vs → (xs ≡ ys) × (us ≡ vs)
-one_cut xs ys us vs x y e = elim (cuts_compare xs ys us vs e) [
+pub one_comma_cut : (xs ys us vs : List ℕ) → IsPiece xs → IsPiece ys → xs ++ 44 ∷ us ≡ ys ++ 44 ∷ vs → (xs ≡ ys) × (us ≡ vs)
+one_comma_cut xs ys us vs x y e = elim (cuts_compare xs ys us vs e) [
   | inl h ↦ h
-  | inr (inl h) ↦ absurd (not_inside xs ys h.0 x.keeps y.even h.1)
-  | inr (inr h) ↦ absurd (not_inside ys xs h.0 y.keeps x.even h.1)
+  | inr (inl h) ↦ absurd (even_not_before_comma xs ys h.0 x.keeps y.even h.1)
+  | inr (inr h) ↦ absurd (even_not_before_comma ys xs h.0 y.keeps x.even h.1)
 ]

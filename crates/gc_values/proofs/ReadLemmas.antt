@@ -2,16 +2,16 @@
 use Rattle.std.proofs.Common.{◌≡◌, ℕ, ◌+◌, ◌-◌, ◌*◌, ◌^◌, ◌<◌, ◌≤◌, Bool, List, ◌++◌, length, ℤ, unsigned_abs, sym, ap, ◌∙◌, subst, arith}
 use Rattle.std.proofs.Math.Nat.{mul-lt-mul_of_pos_left, lt_of_mul-lt-mul_left}
 use Rattle.gc_values.specs.Cut.{ReadsNumeral}
-use Rattle.gc_values.specs.DecimalOrder.{zeros_at_last}
+use Rattle.gc_values.specs.DecimalOrder.{zeros_at_24}
 use Rattle.gc_values.specs.Digits.{number}
 use Rattle.gc_values.specs.Fraction.{Fraction, signed, IsRounded, IsInRange}
 use Rattle.gc_values.specs.KeptDigits.{IsRoundedWithCap, all_digits}
-use Rattle.gc_values.specs.Nearest.{RoundsHalfUp, MadeOf}
-use Rattle.gc_values.specs.Spelling.{value, Names, Spells, SpellsBeyond, is_minus, fraction_digits, ups}
+use Rattle.gc_values.specs.Nearest.{RoundsHalfUp, SignedWithoutZeros}
+use Rattle.gc_values.specs.Spelling.{parts_value, NamesFraction, Spells, SpellsBeyond, is_minus, fraction_digits, ups}
 use Rattle.gc_values.specs.Zeros.{WithoutZeros}
 use Rattle.gc_values.specs.declared.numeral.Numeral.{Numeral}
 use Rattle.gc_values.proofs.Powers.{ten_pow_pos, bound_fits}
-use Rattle.gc_values.proofs.Rounded.{zeros_off, rounded_from, rounds_to_one}
+use Rattle.gc_values.proofs.Rounded.{has_form_without_zeros, rounded_from, rounds_to_one}
 use Rattle.gc_values.proofs.Signs.{unsigned_abs-signed}
 use Rattle.gc_values.proofs.Unique.{names_once}
 
@@ -23,8 +23,8 @@ fraction_with negative whole fraction up down = record { n = signed negative (nu
 abbrev fraction_of : Numeral → Fraction
 fraction_of n = fraction_with n.negative n.whole.now n.fraction.now n.up n.down
 
--- where a text reads as a numeral, the fraction of this numeral is the value of the text's parts
-same_fraction : (text : List ℕ) (n : Numeral) (r : ReadsNumeral text n) → fraction_of n ≡ value r.parts
+-- if a text reads as a numeral, the fraction of this numeral is the value of the text's parts
+same_fraction : (text : List ℕ) (n : Numeral) (r : ReadsNumeral text n) → fraction_of n ≡ parts_value r.parts
 same_fraction text n r =
     ap (λ b. fraction_with b n.whole.now n.fraction.now n.up n.down) r.negative_is
     ∙ ap (λ w. fraction_with (is_minus r.parts.sign) w n.fraction.now n.up n.down) r.whole_is
@@ -33,7 +33,7 @@ same_fraction text n r =
     ∙ ap (λ d. fraction_with (is_minus r.parts.sign) r.parts.whole (fraction_digits r.parts.fraction) (ups r.parts.exponent) d) r.down_is
 
 -- a text that reads as a numeral names the fraction of this numeral
-reads_names : (text : List ℕ) (n : Numeral) → ReadsNumeral text n → Names text (fraction_of n)
+reads_names : (text : List ℕ) (n : Numeral) → ReadsNumeral text n → NamesFraction text (fraction_of n)
 reads_names text n r = (r.parts, r.form, r.text_is, same_fraction text n r)
 
 -- the text is a number with the parts of this numeral, and `units` over 10^p is its magnitude, rounded to 24 places and cut off at
@@ -42,10 +42,10 @@ pub record ReadsUnits (text : List ℕ) (n : Numeral) (units p : ℕ) : Type 0 w
   pub numeral : ReadsNumeral text n
   pub rounded : IsRoundedWithCap n (10 ^ 37 + 1) units p
 
--- where a text reads as `units` over 10^p (`ReadsUnits`), this is in range, and m / 10^s is made of it (`MadeOf`), the text
--- spells m / 10^s
+-- if a text reads as `units` over 10^p (`ReadsUnits`), this is in range, and m / 10^s is made of it (`SignedWithoutZeros`),
+-- the text spells m / 10^s
 pub reads_value : (text : List ℕ) (n : Numeral) (units p : ℕ) (m : ℤ) (s : ℕ) → ReadsUnits text n units p → units ≤ 10 ^ 13 * 10 ^ p
-    → MadeOf n.negative units p m s → Spells text m s
+    → SignedWithoutZeros n.negative units p m s → Spells text m s
 reads_value text n units p m s r within made =
     let a : ℕ = number (all_digits n) * 10 ^ n.up in
     let k : ℕ = length n.fraction.now + n.down in
@@ -56,7 +56,7 @@ reads_value text n units p m s r within made =
       subst (λ z. IsRounded (fraction_of n) 24 z s) (sym made.m_is)
           (rounded_from n.negative a k 24 (units * 10 ^ (24 - p)) made.n s
           (subst (λ u. RoundsHalfUp (a * 10 ^ 24) (10 ^ k) (u * 10 ^ (24 - p))) same c.rounds)
-          (zeros_at_last units p made.n s c.places made.zeros)),
+          (zeros_at_24 units p made.n s c.places made.zeros)),
     )
 
 -- a number above the bound, 10^13, is still above it without the zeros at its end
@@ -65,20 +65,20 @@ beyond_bound m p n s large w =
     let same = w.same in
     lt_of_mul-lt-mul_left (10 ^ p) (omega (arith, same, mul-lt-mul_of_pos_left {m = 10 ^ 13 * 10 ^ p} {n = m} {k = 10 ^ s} large (ten_pow_pos s)))
 
--- where a text reads as `units` over 10^p (`ReadsUnits`), and this is above the bound, 10^13, the text spells a number out of
+-- if a text reads as `units` over 10^p (`ReadsUnits`), and this is above the bound, 10^13, the text spells a number out of
 -- range
 pub reads_beyond : (text : List ℕ) (n : Numeral) (units p : ℕ) → ReadsUnits text n units p → 10 ^ 13 * 10 ^ p < units → SpellsBeyond text
 reads_beyond text n units p r above =
     let a : ℕ = number (all_digits n) * 10 ^ n.up in
     let c = r.rounded in
     let large : 10 ^ 13 * 10 ^ p < c.m = let e = c.capped in omega arith in
-    let z = zeros_off c.m p in (
+    let z = has_form_without_zeros c.m p in (
       signed n.negative z.0,
       z.1,
       (
         fraction_of n,
         reads_names text n r.numeral,
-        rounded_from n.negative a (length n.fraction.now + n.down) 24 (c.m * 10 ^ (24 - p)) z.0 z.1 c.rounds (zeros_at_last c.m p z.0 z.1 c.places z.2),
+        rounded_from n.negative a (length n.fraction.now + n.down) 24 (c.m * 10 ^ (24 - p)) z.0 z.1 c.rounds (zeros_at_24 c.m p z.0 z.1 c.places z.2),
       ),
       subst (λ n. 10 ^ 13 * 10 ^ z.1 < n) (sym (unsigned_abs-signed n.negative z.0)) (beyond_bound c.m p z.0 z.1 large z.2),
     )

@@ -1,7 +1,7 @@
 -- What `Decimal::read` answers for a text, as `IsDecimalRead` has it.
 use Rattle.std.proofs.Common.{◌≡◌, ◌↔◌, inl, ℕ, ◌*◌, ◌^◌, ◌<◌, ◌≤◌, List, Result, Ok, Err, IfOk, IfErr, MatchResult, refl, ap}
 use Rattle.gc_values.specs.Decimals.{GivesSpelled, SpellsDecimal}
-use Rattle.gc_values.specs.Nearest.{MadeOf}
+use Rattle.gc_values.specs.Nearest.{SignedWithoutZeros}
 use Rattle.gc_values.specs.Spelling.{SpellsBeyond, SpellsNothing}
 use Rattle.gc_values.specs.ValueFault.{IsEither}
 use Rattle.gc_values.specs.declared.decimal.Decimal.{Decimal}
@@ -25,8 +25,8 @@ ok_is_no_err : (d : Decimal) (e : ValueFault) (r : Result Decimal ValueFault) �
 ok_is_no_err d e r h k = absurd (cc)
 
 -- a result isn't both the fault `Range` and the fault `Spelling`
-range_is_other : (r : Result Decimal ValueFault) → r ≡ Err Range → r ≡ Err Spelling → ⊥
-range_is_other r h k = absurd (cc)
+range_is_not_spelling : (r : Result Decimal ValueFault) → r ≡ Err Range → r ≡ Err Spelling → ⊥
+range_is_not_spelling r h k = absurd (cc)
 
 -- a text that spells a decimal is read as that decimal (`IsDecimalRead`)
 pub reads_ok : (text : List ℕ) (d : Decimal) → SpellsDecimal text d → IsDecimalRead text (Ok d)
@@ -44,14 +44,14 @@ reads_range text e is beyond = record {
   value = tt;
   only = λ d spelled. absurd (spelled_not_beyond text d spelled beyond);
   range = (λ _. beyond, λ _. ap Err is);
-  spelling = (λ h. absurd (range_is_other (Err e) (ap Err is) h), λ nothing. absurd (nothing beyond.2.0 beyond.2.1));
+  spelling = (λ h. absurd (range_is_not_spelling (Err e) (ap Err is) h), λ nothing. absurd (nothing beyond.2.0 beyond.2.1));
   faults = inl is;
 }
 
--- where a text reads as `units` over 10^p (`ReadsUnits`), and r is the decimal that is made of it (`MadeOf`), or `Range` where it
--- is out of range, the text is read as r (`IsDecimalRead`)
+-- if a text reads as `units` over 10^p (`ReadsUnits`), and r is the decimal that is made of it (`SignedWithoutZeros`), or
+-- `Range` where it is out of range, the text is read as r (`IsDecimalRead`)
 pub reads_units : (text : List ℕ) (n : Numeral) (units p : ℕ) (r : Result Decimal ValueFault) → ReadsUnits text n units p
-    → IfOk r (λ d. MadeOf n.negative units p d.digits d.scale)
+    → IfOk r (λ d. SignedWithoutZeros n.negative units p d.digits d.scale)
     → MatchResult r (λ _. units ≤ 10 ^ 13 * 10 ^ p) (λ e. (e ≡ Range) × (10 ^ 13 * 10 ^ p < units)) → IsDecimalRead text r
 reads_units text n units p (Ok d) reads made within = reads_ok text d (reads_value text n units p d.digits d.scale reads within made)
 reads_units text n units p (Err e) reads made above = reads_range text e above.0 (reads_beyond text n units p reads above.1)

@@ -3,8 +3,8 @@
 use Rattle.std.proofs.Common.{◌≡◌, ℕ, zero, suc, ◌+◌, ◌-◌, ◌*◌, ◌%◌, ◌^◌, ◌<◌, ◌≤◌, Bool, true, false, ℤ, pos, negsuc, ◌*ℤ◌, ◌-ℤ◌, unsigned_abs, refl, sym, ap, ◌∙◌, subst, arith}
 use Rattle.std.proofs.Math.Nat.{mul-pos, mul-le-mul_right, le_of_mul-le-mul_right, lt_of_mul-lt-mul_left, eq_of_mul-eq-mul_left, mul-lt-mul_of_pos_left}
 use Rattle.std.proofs.lemmas.Int.{ints}
-use Rattle.gc_values.specs.Fraction.{Fraction, signed, distance, IsCanonical, IsRounded}
-use Rattle.gc_values.specs.Nearest.{MadeOf}
+use Rattle.gc_values.specs.Fraction.{Fraction, SameValue, signed, distance, IsCanonical, IsRounded}
+use Rattle.gc_values.specs.Nearest.{SignedWithoutZeros}
 use Rattle.gc_values.specs.Zeros.{WithoutZeros, stripped}
 pub use Rattle.gc_values.specs.RoundedFacts.{places_in_range, stripped_is}
 use Rattle.gc_values.specs.RoundedFacts.{ten_pow_cut}
@@ -14,15 +14,15 @@ use Rattle.gc_values.proofs.Rounding.{gap, gap_comm, gap-mul, RoundsHalfUp, roun
 use Rattle.gc_values.proofs.Signs.{scaled_distance_signed, unsigned_abs-signed}
 
 -- m / 10^s has a form without the zeros at its end
-pub zeros_off : (m s : ℕ) → (n : ℕ) × (t : ℕ) × WithoutZeros m s n t
-zeros_off m s = ((stripped m s).digits, (stripped m s).places, stripped_is m s)
+pub has_form_without_zeros : (m s : ℕ) → (n : ℕ) × (t : ℕ) × WithoutZeros m s n t
+has_form_without_zeros m s = ((stripped m s).digits, (stripped m s).places, stripped_is m s)
 
 -- the distance of n / 10^s and a / 10^k, both with the same sign, is that of the magnitudes, multiplied out
 distance_signed : (neg : Bool) (n s a k : ℕ) → distance (signed neg n) s (signed neg a) k ≡ gap (n * 10 ^ k) (a * 10 ^ s)
 distance_signed false n s a k = scaled_distance_signed false n (10 ^ k) false a (10 ^ s)
 distance_signed true n s a k = scaled_distance_signed true n (10 ^ k) true a (10 ^ s)
 
--- where n / 10^s and m / 10^p are one value, the distance of a / 10^k from the one is its distance from the other, multiplied out
+-- if n / 10^s and m / 10^p are one value, the distance of a / 10^k from the one is its distance from the other, multiplied out
 gap_at_other_scale : (a k p m n s : ℕ) → m * 10 ^ s ≡ n * 10 ^ p → gap (n * 10 ^ k) (a * 10 ^ s) * 10 ^ p ≡ gap (a * 10 ^ p) (m * 10 ^ k) * 10 ^ s
 gap_at_other_scale a k p m n s same =
     let left : n * 10 ^ k * 10 ^ p ≡ m * 10 ^ k * 10 ^ s = omega (arith, ap (λ x. x * 10 ^ k) same) in
@@ -30,7 +30,7 @@ gap_at_other_scale a k p m n s same =
     sym (gap-mul (n * 10 ^ k) (a * 10 ^ s) (10 ^ p)) ∙ ap (λ x. gap x (a * 10 ^ s * 10 ^ p)) left ∙ ap (gap (m * 10 ^ k * 10 ^ s)) right
     ∙ gap_comm (m * 10 ^ k * 10 ^ s) (a * 10 ^ p * 10 ^ s) ∙ gap-mul (a * 10 ^ p) (m * 10 ^ k) (10 ^ s)
 
--- where m is the whole number of units of 10^-p that is nearest to a / 10^k, m / 10^p without the zeros at its end is a / 10^k
+-- if m is the whole number of units of 10^-p that is nearest to a / 10^k, m / 10^p without the zeros at its end is a / 10^k
 -- rounded to p places, with either sign
 pub rounded_from : (neg : Bool) (a k p m n s : ℕ) → RoundsHalfUp (a * 10 ^ p) (10 ^ k) m → WithoutZeros m p n s
     → IsRounded (record { n = signed neg a; k = k }) p (signed neg n) s
@@ -49,7 +49,7 @@ rounded_from neg a k p m n s r w =
           omega (arith, less, ap (λ x. x * 10 ^ s) (unsigned_abs-signed neg a), ap (λ x. x * 10 ^ k) (unsigned_abs-signed neg n));
     }
 
--- where s is at most p, the sum of (x + 1) / 10^s and a / 10^k is more than half of 10^-p: a number of the other sign is too far
+-- if s is at most p, the sum of (x + 1) / 10^s and a / 10^k is more than half of 10^-p: a number of the other sign is too far
 -- away to be the rounding
 far_apart : (x k p a s : ℕ) → s ≤ p → 2 * ((suc x) * 10 ^ k + a * 10 ^ s) * 10 ^ p ≤ 10 ^ s * 10 ^ k → ⊥
 far_apart x k p a s places near =
@@ -65,17 +65,17 @@ keeps_sign true a k p (negsuc x) s r = (suc x, refl)
 keeps_sign true a k p (pos zero) s r = (0, refl)
 keeps_sign true a k p (pos (suc x)) s r = absurd (far_apart x k p a s r.places (subst (λ d. 2 * d * 10 ^ p ≤ 10 ^ s * 10 ^ k) (scaled_distance_signed false (suc x) (10 ^ k) true a (10 ^ s)) r.near))
 
--- u is the whole number of units of 10^-p that is nearest to a / 10^k, and m / 10^s is made of u / 10^p and the sign, as `MadeOf`
--- has it
+-- u is the whole number of units of 10^-p that is nearest to a / 10^k, and m / 10^s is made of u / 10^p and the sign, as
+-- `SignedWithoutZeros` has it
 pub record IsNearestUnits (neg : Bool) (a k p : ℕ) (m : ℤ) (s : ℕ) : Type 0 where
   pub u : ℕ
-  pub made : MadeOf neg u p m s
+  pub made : SignedWithoutZeros neg u p m s
   pub rounds : RoundsHalfUp (a * 10 ^ p) (10 ^ k) u
 
 -- each rounding to p places that has the sign of its fraction is the nearest whole number of units, as `IsNearestUnits` has it
-with_sign_known : (neg : Bool) (a k p n s : ℕ) → IsRounded (record { n = signed neg a; k = k }) p (signed neg n) s
+signed_is_nearest_units : (neg : Bool) (a k p n s : ℕ) → IsRounded (record { n = signed neg a; k = k }) p (signed neg n) s
     → IsNearestUnits neg a k p (signed neg n) s
-with_sign_known neg a k p n s r =
+signed_is_nearest_units neg a k p n s r =
     let u : ℕ = n * 10 ^ (p - s) in
     let places : s ≤ p = r.places in
     let same : u * 10 ^ s ≡ n * 10 ^ p = omega (arith, ap (λ x. n * x) (ten_pow_cut s p places)) in
@@ -104,7 +104,7 @@ pub rounding_is_nearest_units : (neg : Bool) (a k p : ℕ) (m : ℤ) (s : ℕ) �
 rounding_is_nearest_units neg a k p m s r =
     let sign = keeps_sign neg a k p m s r in
     let there : IsRounded (record { n = signed neg a; k = k }) p (signed neg sign.0) s = subst (λ z. IsRounded (record { n = signed neg a; k = k }) p z s) sign.1 r in
-    subst (λ z. IsNearestUnits neg a k p z s) (sym sign.1) (with_sign_known neg a k p sign.0 s there)
+    subst (λ z. IsNearestUnits neg a k p z s) (sym sign.1) (signed_is_nearest_units neg a k p sign.0 s there)
 
 -- a fraction that is given by its sign and its magnitude rounds to at most one m / 10^s
 pub rounded_once : (neg : Bool) (a k p : ℕ) (m : ℤ) (s : ℕ) (n : ℤ) (t : ℕ) → IsRounded (record { n = signed neg a; k = k }) p m s
@@ -136,8 +136,8 @@ no_distance x = omega (arith, ints)
 twice_zero : (x : ℕ) → 2 * 0 * x ≡ 0
 twice_zero x = omega arith
 
--- where m / 10^s has the value of q, needs all its places and has at most p, it is q rounded to p places
-pub exact_rounds : (q : Fraction) (p : ℕ) (m : ℤ) (s : ℕ) → IsCanonical m s → s ≤ p → m *ℤ pos (10 ^ q.k) ≡ q.n *ℤ pos (10 ^ s) → IsRounded q p m s
+-- if m / 10^s has the value of q, needs all its places and has at most p, it is q rounded to p places
+pub exact_rounds : (q : Fraction) (p : ℕ) (m : ℤ) (s : ℕ) → IsCanonical m s → s ≤ p → SameValue m s q.n q.k → IsRounded q p m s
 exact_rounds q p m s canonical places same =
     let near : distance m s q.n q.k ≡ 0 = ap (λ x. unsigned_abs (x -ℤ q.n *ℤ pos (10 ^ s))) same ∙ no_distance (q.n *ℤ pos (10 ^ s)) in
     let none : 2 * distance m s q.n q.k * 10 ^ p ≡ 0 = ap (λ d. 2 * d * 10 ^ p) near ∙ twice_zero (10 ^ p) in

@@ -4,7 +4,7 @@ use Rattle.std.proofs.lemmas.Bool.{cases_lt}
 use Rattle.gc_values.specs.Decimals.{fraction, rounded}
 use Rattle.gc_values.specs.Fraction.{signed, is_negative, IsRounded}
 use Rattle.gc_values.specs.Nearest.{half_up, rounded_to}
-use Rattle.gc_values.specs.RoundedFacts.{half_up_rounds, rounded_canonical, rounded_to_zeros, ten_pow_pos}
+use Rattle.gc_values.specs.RoundedFacts.{half_up_rounds, rounded_canonical, rounded_to_is, ten_pow_pos}
 use Rattle.gc_values.specs.Zeros.{WithoutZeros}
 use Rattle.gc_values.specs.declared.decimal.Decimal.{Decimal}
 use Rattle.gc_values.proofs.DecimalLemmas.{same_decimal}
@@ -19,11 +19,11 @@ half_up-one m = omega arith
 abbrev pub RoundsWithSign : (b : Bool) (m s p : ℕ) → Type 0
 RoundsWithSign b m s p = IsRounded (record { n = signed b m; k = s }) p (signed b (rounded_to m s p).digits) (rounded_to m s p).places
 
--- where p is s or more, `RoundsWithSign` is true
+-- if p is s or more, `RoundsWithSign` is true
 rounded_at_enough_places : (b : Bool) (m s p : ℕ) → s ≤ p → RoundsWithSign b m s p
 rounded_at_enough_places b m s p h =
     let r = rounded_to m s p in
-    let zeros = rounded_to_zeros m s p in
+    let zeros = rounded_to_is m s p in
     let none : s - p ≡ 0 = omega arith in
     let own : min s p ≡ s = omega arith in
     let whole : half_up m (10 ^ (s - p)) ≡ m = ap (λ e. half_up m (10 ^ e)) none ∙ half_up-one m in
@@ -31,12 +31,12 @@ rounded_at_enough_places b m s p h =
     exact_rounds (record { n = signed b m; k = s }) p (signed b r.digits) r.places (rounded_canonical b m s p) (let f = zeros.fewer in omega (arith, f))
     (signed-mul b r.digits (10 ^ s) ∙ ap (signed b) same ∙ sym (signed-mul b m (10 ^ r.places)))
 
--- where p is less than s, `RoundsWithSign` is true
+-- if p is less than s, `RoundsWithSign` is true
 rounded_at_fewer_places : (b : Bool) (m s p : ℕ) → p < s → RoundsWithSign b m s p
 rounded_at_fewer_places b m s p h =
     let r = rounded_to m s p in
     let few : min s p ≡ p = omega arith in
-    let zeros : WithoutZeros (half_up m (10 ^ (s - p))) p r.digits r.places = subst (λ e. WithoutZeros (half_up m (10 ^ (s - p))) e r.digits r.places) few (rounded_to_zeros m s p) in
+    let zeros : WithoutZeros (half_up m (10 ^ (s - p))) p r.digits r.places = subst (λ e. WithoutZeros (half_up m (10 ^ (s - p))) e r.digits r.places) few (rounded_to_is m s p) in
     rounded_from b m s p (half_up m (10 ^ (s - p))) r.digits r.places
     (rounds_places m s p (half_up m (10 ^ (s - p))) (omega arith) (half_up_rounds m (10 ^ (s - p)) (ten_pow_pos (s - p)))) zeros
 

@@ -22,7 +22,7 @@ gap-mul a b c = elim (cases_lt a b) [
       gap_comm (a * c) (b * c) ∙ subst (λ x. gap (b * c) (x * c) ≡ gap b x * c) e (gap-mul_up b (a - b) c) ∙ ap (λ x. x * c) (gap_comm b a)
 ]
 
--- where a / b and c / d are one value, and b and d are above 0, what a / b rounds to, c / d rounds to
+-- if a / b and c / d are one value, and b and d are above 0, what a / b rounds to, c / d rounds to
 pub rounds_same_value : (a b c d m : ℕ) → 0 < b → 0 < d → a * d ≡ c * b → RoundsHalfUp a b m → RoundsHalfUp c d m
 rounds_same_value a b c d m b_pos d_pos same r =
     let shuffled : m * d * b ≡ m * b * d = omega arith in
@@ -35,7 +35,7 @@ rounds_same_value a b c d m b_pos d_pos same r =
           lt_of_mul-lt-mul_left b (omega (arith, shuffled, same, mul-lt-mul_of_pos_left {m = a} {n = m * b} {k = d} (r.tie there) d_pos));
     }
 
--- where a / b, for b above 0, rounds to m, as `RoundsHalfUp` has it, it rounds to no greater number n
+-- if a / b, for b above 0, rounds to m, as `RoundsHalfUp` has it, it rounds to no greater number n
 no_greater : (a b m n : ℕ) → 0 < b → m < n → RoundsHalfUp a b m → RoundsHalfUp a b n → ⊥
 no_greater a b m n pos lt r s =
     let apart : b + m * b ≤ n * b = omega (arith, mul-le-mul_right {m = m + 1} {n = n} b (omega arith)) in

@@ -23,7 +23,7 @@ parity_step n true false h = omega arith
 parity_step n false true h = omega arith
 parity_step n false false h = omega arith
 
--- where `quoted` says whether the number n of double quotes is odd, and is true, n is odd
+-- if `quoted` says whether the number n of double quotes is odd, and is true, n is odd
 odd_inside : (n : ℕ) (quoted : Bool) → quoted ≡ true → n % 2 ≡ cond quoted 1 0 → n % 2 ≡ 1
 odd_inside n quoted e h = h ∙ ap (λ b. cond b 1 0) e
 
@@ -37,7 +37,7 @@ scanned_more text i quoted now s within comma step =
       parity = ap (λ n. n % 2) (quotes_more text i within) ∙ parity_step (quotes (take i text)) quoted (eqb b 34) s.parity ∙ ap (λ q. cond q 1 0) (sym step);
     }
 
--- where the first i bytes were scanned and end outside quotes, and the byte at place i is a comma, the first i bytes are a piece
+-- if the first i bytes were scanned and end outside quotes, and the byte at place i is a comma, the first i bytes are a piece
 -- that is cut off the text
 pub scanned_cut : (text : List ℕ) (i : ℕ) (quoted : Bool) → Scanned text i quoted → i < length text → get_or text i 0 ≡ 44
     → quoted ≡ false → CutsPiece text (take i text) (Some (drop (i + 1) text))

@@ -36,7 +36,7 @@ pub record IsBare (b : ℕ) : Type 0 where
   pub cr : b ≢ 13
   pub lf : b ≢ 10
 
--- bytes that are all bare
+-- bytes of which none is a space, double quote, comma, CR or LF (`IsBare`)
 abbrev pub AreBare : List ℕ → Type 0
 AreBare bs = AllByRecursion IsBare bs
 
@@ -87,16 +87,16 @@ bare_written m s =
     (bare_above 46 (lit< tt), bare_digits (behind_text s (n % 10 ^ s)) (is_fraction_text n s).digits))
 
 -- a hexadecimal digit is above 44, the comma
-pub digit_above : (d : ℕ) → d < 16 → 44 < slice_index lower_digits d
-digit_above d h = ltb-true 44 (slice_index lower_digits d) (agree_below_at (λ k. ltb 44 (slice_index lower_digits k)) (λ _. true) 16 d refl h)
+pub hex_digit_above_comma : (d : ℕ) → d < 16 → 44 < slice_index lower_digits d
+hex_digit_above_comma d h = ltb-true 44 (slice_index lower_digits d) (agree_below_at (λ k. ltb 44 (slice_index lower_digits k)) (λ _. true) 16 d refl h)
 
 -- the text of a byte parameter, a number below 256, is bare
 bare_byte : (n : ℕ) → n < 256 → AreBare (byte_text n)
 bare_byte n h = (
   bare_quote,
   (
-    bare_above (slice_index lower_digits (n / 16)) (digit_above (n / 16) (omega arith)),
-    (bare_above (slice_index lower_digits (n % 16)) (digit_above (n % 16) (omega arith)), (bare_quote, tt)),
+    bare_above (slice_index lower_digits (n / 16)) (hex_digit_above_comma (n / 16) (omega arith)),
+    (bare_above (slice_index lower_digits (n % 16)) (hex_digit_above_comma (n % 16) (omega arith)), (bare_quote, tt)),
   ),
 )
 
@@ -162,13 +162,13 @@ text_not_empty (value.Text bytes) = omega arith
 
 -- what is true of each bare byte, of each byte that is allowed in a string, and of a double quote is true of each byte of the text
 -- of a value in its kind's range
-text_bytes : (P : ℕ → Type 0) → ((b : ℕ) → IsBare b → P b) → ((b : ℕ) → IsStringByte b → P b) → P 34 → (v : Value) → IsValue v → AllByRecursion P (text v)
-text_bytes P bare allowed quote (value.Double d) h = every_weaker IsBare P _ bare (bare_written d.digits d.scale)
-text_bytes P bare allowed quote (value.Long z) h = every_weaker IsBare P _ bare (bare_signed z)
-text_bytes P bare allowed quote (value.Short z) h = every_weaker IsBare P _ bare (bare_signed z)
-text_bytes P bare allowed quote (value.Byte n) h = every_weaker IsBare P (byte_text n) bare (bare_byte n h)
-text_bytes P bare allowed quote (value.Bool b) h = every_weaker IsBare P _ bare (bare_boolean b)
-text_bytes P bare allowed quote (value.Text bytes) h =
+true_of_text_bytes : (P : ℕ → Type 0) → ((b : ℕ) → IsBare b → P b) → ((b : ℕ) → IsStringByte b → P b) → P 34 → (v : Value) → IsValue v → AllByRecursion P (text v)
+true_of_text_bytes P bare allowed quote (value.Double d) h = every_weaker IsBare P _ bare (bare_written d.digits d.scale)
+true_of_text_bytes P bare allowed quote (value.Long z) h = every_weaker IsBare P _ bare (bare_signed z)
+true_of_text_bytes P bare allowed quote (value.Short z) h = every_weaker IsBare P _ bare (bare_signed z)
+true_of_text_bytes P bare allowed quote (value.Byte n) h = every_weaker IsBare P (byte_text n) bare (bare_byte n h)
+true_of_text_bytes P bare allowed quote (value.Bool b) h = every_weaker IsBare P _ bare (bare_boolean b)
+true_of_text_bytes P bare allowed quote (value.Text bytes) h =
     (quote, every_append P bytes (34 ∷ []) (every_weaker IsStringByte P bytes allowed h.plain) (quote, tt))
 
 -- the text of a value in its kind's range has no CR and no LF
@@ -176,7 +176,7 @@ pub text_is_plain : (v : Value) → IsValue v → All (λ b. (b ≢ 10) × (b �
 text_is_plain v h =
     let ends_no_line : ℕ → Type 0 = λ b. (b ≢ 10) × (b ≢ 13) in
     let quote : ends_no_line 34 = (λ e. omega (arith, e), λ e. omega (arith, e)) in
-    All-from_recursion ends_no_line (text v) (text_bytes ends_no_line (λ b bare. (bare.lf, bare.cr)) (λ b allowed. (allowed.2, allowed.1)) quote v h)
+    All-from_recursion ends_no_line (text v) (true_of_text_bytes ends_no_line (λ b bare. (bare.lf, bare.cr)) (λ b allowed. (allowed.2, allowed.1)) quote v h)
 
 -- what is written of m / 10^s, which is in range and has at most 24 places, has at most 40 bytes
 pub length-written : (m : ℤ) (s : ℕ) → IsInRange m s → s ≤ 24 → length (written m s) ≤ 40

@@ -7,22 +7,22 @@ use Rattle.gc_values.specs.Pieces.{without_front_spaces, put_before, without_end
 use Rattle.gc_values.proofs.Quotes.{IsPiece, empty_has_none, quotes-append, quotes_same, quotes-spaces, HasCommasInQuotes-push}
 
 -- spaces before a text leave its commas within quotes
-front_spaces : (n : ℕ) (xs : List ℕ) → HasCommasInQuotes xs → HasCommasInQuotes (replicate n 32 ++ xs)
-front_spaces zero xs keeps front rest e = keeps front rest e
-front_spaces (suc n) xs keeps [] rest e = let h : ◌≡◌ {A = ℕ} 32 44 = cc in absurd (omega (arith, h))
-front_spaces (suc n) xs keeps (f ∷ fs) rest e =
+HasCommasInQuotes-spaces_before : (n : ℕ) (xs : List ℕ) → HasCommasInQuotes xs → HasCommasInQuotes (replicate n 32 ++ xs)
+HasCommasInQuotes-spaces_before zero xs keeps front rest e = keeps front rest e
+HasCommasInQuotes-spaces_before (suc n) xs keeps [] rest e = let h : ◌≡◌ {A = ℕ} 32 44 = cc in absurd (omega (arith, h))
+HasCommasInQuotes-spaces_before (suc n) xs keeps (f ∷ fs) rest e =
     let head : f ≡ 32 = cc in
     let tail : replicate n 32 ++ xs ≡ fs ++ 44 ∷ rest = cc in
     let other : quotes (f ∷ fs) ≡ quotes fs = subst (λ b. quotes (b ∷ fs) ≡ quotes fs) (sym head) (quotes_same 32 fs refl) in
-    let odd = front_spaces n xs keeps fs rest tail in
+    let odd = HasCommasInQuotes-spaces_before n xs keeps fs rest tail in
     omega (arith, odd, other)
 
 -- spaces after a text leave its commas within quotes
-back_spaces : (n : ℕ) (xs : List ℕ) → HasCommasInQuotes xs → HasCommasInQuotes (xs ++ replicate n 32)
-back_spaces zero xs keeps = subst HasCommasInQuotes (sym (append-nil xs)) keeps
-back_spaces (suc n) xs keeps =
+HasCommasInQuotes-spaces_after : (n : ℕ) (xs : List ℕ) → HasCommasInQuotes xs → HasCommasInQuotes (xs ++ replicate n 32)
+HasCommasInQuotes-spaces_after zero xs keeps = subst HasCommasInQuotes (sym (append-nil xs)) keeps
+HasCommasInQuotes-spaces_after (suc n) xs keeps =
     let more : HasCommasInQuotes (xs ++ 32 ∷ []) = HasCommasInQuotes-push xs 32 keeps (λ h. omega (arith, h)) in
-    subst HasCommasInQuotes (append_assoc xs (32 ∷ []) (replicate n 32)) (back_spaces n (xs ++ 32 ∷ []) more)
+    subst HasCommasInQuotes (append_assoc xs (32 ∷ []) (replicate n 32)) (HasCommasInQuotes-spaces_after n (xs ++ 32 ∷ []) more)
 
 -- the quotes of a padded item are the item's
 pub quotes-padded : (piece item : List ℕ) → IsPadded piece item → quotes piece ≡ quotes item
@@ -37,8 +37,9 @@ quotes-padded piece item p =
     )
 
 -- a parameter with spaces round it has its commas within quotes
-pub padded_keeps : (piece item : List ℕ) → IsPadded piece item → IsParam item → HasCommasInQuotes piece
-padded_keeps piece item p h = subst HasCommasInQuotes (sym p.piece_is) (front_spaces p.before (item ++ replicate p.behind 32) (back_spaces p.behind item h.commas))
+pub HasCommasInQuotes-padded : (piece item : List ℕ) → IsPadded piece item → IsParam item → HasCommasInQuotes piece
+HasCommasInQuotes-padded piece item p h =
+    subst HasCommasInQuotes (sym p.piece_is) (HasCommasInQuotes-spaces_before p.before (item ++ replicate p.behind 32) (HasCommasInQuotes-spaces_after p.behind item h.commas))
 
 -- bytes with a comma among them may be grouped round the comma
 regroup_at_comma : (a b c d : List ℕ) → a ++ ((b ++ 44 ∷ c) ++ d) ≡ (a ++ b) ++ 44 ∷ (c ++ d)
@@ -82,22 +83,22 @@ put_before_same b [] h = ap (λ c. cond c [] (b ∷ [])) (ne_eqb b 32 (λ e. h [
 put_before_same b (x ∷ xs) h = refl
 
 -- a text without spaces at its end still has none there when its first byte is taken off
-tail_ends : (b : ℕ) (bs : List ℕ) → EndsNoSpace (b ∷ bs) → EndsNoSpace bs
-tail_ends b bs h front e = h (b ∷ front) (ap (λ xs. b ∷ xs) e)
+EndsNoSpace-tail : (b : ℕ) (bs : List ℕ) → EndsNoSpace (b ∷ bs) → EndsNoSpace bs
+EndsNoSpace-tail b bs h front e = h (b ∷ front) (ap (λ xs. b ∷ xs) e)
 
 -- `without_end_spaces` takes off just the spaces that follow a text without a space at its end
 end_spaces_same : (xs : List ℕ) (n : ℕ) → EndsNoSpace xs → without_end_spaces (xs ++ replicate n 32) ≡ xs
 end_spaces_same [] n h = end_spaces_left_out n
-end_spaces_same (b ∷ bs) n h = ap (put_before b) (end_spaces_same bs n (tail_ends b bs h)) ∙ put_before_same b bs h
+end_spaces_same (b ∷ bs) n h = ap (put_before b) (end_spaces_same bs n (EndsNoSpace-tail b bs h)) ∙ put_before_same b bs h
 
 -- a text without a space in front is empty, or has none in front when spaces are put after it
-empty_or_first : (xs : List ℕ) (n : ℕ) → StartsNoSpace xs → (xs ≡ []) ⊎ (StartsNoSpace (xs ++ replicate n 32))
-empty_or_first [] n h = inl refl
-empty_or_first (b ∷ bs) n h = inr (λ rest e. h bs (let head : b ≡ 32 = cc in ap (λ x. x ∷ bs) head))
+empty_or_starts_no_space : (xs : List ℕ) (n : ℕ) → StartsNoSpace xs → (xs ≡ []) ⊎ (StartsNoSpace (xs ++ replicate n 32))
+empty_or_starts_no_space [] n h = inl refl
+empty_or_starts_no_space (b ∷ bs) n h = inr (λ rest e. h bs (let head : b ≡ 32 = cc in ap (λ x. x ∷ bs) head))
 
 -- a text without spaces at its ends, with spaces put after it, is trimmed back to that text
 trims_once : (n : ℕ) (xs : List ℕ) → StartsNoSpace xs → EndsNoSpace xs → without_end_spaces (without_front_spaces (xs ++ replicate n 32)) ≡ xs
-trims_once n xs f l = elim (empty_or_first xs n f) [
+trims_once n xs f l = elim (empty_or_starts_no_space xs n f) [
   | inl h ↦ ap (λ ys. without_end_spaces (without_front_spaces (ys ++ replicate n 32))) h ∙ ap without_end_spaces
       (let e : without_front_spaces (replicate n 32) ≡ [] = ap without_front_spaces (sym (append-nil (replicate n 32))) ∙ front_spaces_left_out n [] in e) ∙ sym h
   | inr h ↦ ap without_end_spaces (front_spaces_same (xs ++ replicate n 32) h) ∙ end_spaces_same xs n l
@@ -132,13 +133,13 @@ trims_front (b ∷ bs) = elim (cases_eq b 32) [
 ]
 
 -- a text of at least one byte that doesn't end in a space still doesn't with a byte before it
-longer_last : (b : ℕ) (xs front : List ℕ) (x : ℕ) → EndsNoSpace (x ∷ xs) → b ∷ x ∷ xs ≡ front ++ 32 ∷ [] → ⊥
-longer_last b xs [] x h e = cc
-longer_last b xs (f ∷ fs) x h e = let t : x ∷ xs ≡ fs ++ 32 ∷ [] = cc in h fs t
+EndsNoSpace-cons : (b x : ℕ) (xs : List ℕ) → EndsNoSpace (x ∷ xs) → EndsNoSpace (b ∷ x ∷ xs)
+EndsNoSpace-cons b x xs h [] e = cc
+EndsNoSpace-cons b x xs h (f ∷ fs) e = let t : x ∷ xs ≡ fs ++ 32 ∷ [] = cc in h fs t
 
--- where a text is trimmed at its end, the text with one more byte in front is trimmed to what `put_before` gives
-back_step : (b : ℕ) (bs item : List ℕ) → TrimsBack bs item → TrimsBack (b ∷ bs) (put_before b item)
-back_step b bs [] r = elim (cases_eq b 32) [
+-- if a text is trimmed at its end, the text with one more byte in front is trimmed to what `put_before` gives
+TrimsBack-cons : (b : ℕ) (bs item : List ℕ) → TrimsBack bs item → TrimsBack (b ∷ bs) (put_before b item)
+TrimsBack-cons b bs [] r = elim (cases_eq b 32) [
   | inl h ↦
       let off : put_before b [] ≡ [] = ap (λ c. cond c [] (b ∷ [])) (eq-eqb b 32 h) in
       subst (λ ys. TrimsBack (b ∷ bs) ys) (sym off) (record { count = suc r.count; text_is = let t = r.text_is in cc; last = λ front e. empty_has_none front [] 32 e })
@@ -146,20 +147,20 @@ back_step b bs [] r = elim (cases_eq b 32) [
       let off : put_before b [] ≡ b ∷ [] = ap (λ c. cond c [] (b ∷ [])) (ne_eqb b 32 h) in
       subst (λ ys. TrimsBack (b ∷ bs) ys) (sym off) (record { count = r.count; text_is = let t = r.text_is in cc; last = λ front e. h (same_from_push [] front b 32 e).1 })
 ]
-back_step b bs (x ∷ xs) r = record {
+TrimsBack-cons b bs (x ∷ xs) r = record {
   count = r.count;
   text_is = let t = r.text_is in cc;
-  last = λ front e. longer_last b xs front x r.last e;
+  last = EndsNoSpace-cons b x xs r.last;
 }
 
 -- `without_end_spaces` trims every text at its end
 trims_back : (xs : List ℕ) → TrimsBack xs (without_end_spaces xs)
 trims_back [] = record { count = 0; text_is = refl; last = λ front e. empty_has_none front [] 32 e }
-trims_back (b ∷ bs) = back_step b bs (without_end_spaces bs) (trims_back bs)
+trims_back (b ∷ bs) = TrimsBack-cons b bs (without_end_spaces bs) (trims_back bs)
 
 -- trimming the front and then the end trims both
-pub both_ends : (text middle item : List ℕ) → TrimsFront text middle → TrimsBack middle item → IsTrimmed text item
-both_ends text middle item f b = record {
+pub trims_both_ends : (text middle item : List ℕ) → TrimsFront text middle → TrimsBack middle item → IsTrimmed text item
+trims_both_ends text middle item f b = record {
   padded = record { before = f.count; behind = b.count; piece_is = f.text_is ∙ ap (λ xs. replicate f.count 32 ++ xs) b.text_is };
   first = λ rest e. f.first (rest ++ replicate b.count 32) (b.text_is ∙ ap (λ xs. xs ++ replicate b.count 32) e);
   last = b.last;
@@ -167,39 +168,39 @@ both_ends text middle item f b = record {
 
 -- `without_front_spaces` and then `without_end_spaces` trim every text at both ends
 pub trimmed_exists : (text : List ℕ) → IsTrimmed text (without_end_spaces (without_front_spaces text))
-trimmed_exists text = both_ends text (without_front_spaces text) _ (trims_front text) (trims_back (without_front_spaces text))
+trimmed_exists text = trims_both_ends text (without_front_spaces text) _ (trims_front text) (trims_back (without_front_spaces text))
 
--- where a loop from the front passed i spaces and stops at another byte, the bytes from place i on are the text without the
+-- if a loop from the front passed i spaces and stops at another byte, the bytes from place i on are the text without the
 -- spaces at its front
-pub front_at : (text : List ℕ) (i : ℕ) → i < length text → take i text ≡ replicate i 32 → (get_or text i 0 ≡ 32 → ⊥) → TrimsFront text (drop i text)
-front_at text i within spaces other = record {
+pub trims_front_at : (text : List ℕ) (i : ℕ) → i < length text → take i text ≡ replicate i 32 → (get_or text i 0 ≡ 32 → ⊥) → TrimsFront text (drop i text)
+trims_front_at text i within spaces other = record {
   count = i;
   text_is = sym (take-append-drop i text) ∙ ap (λ xs. xs ++ drop i text) spaces;
   first = λ rest e. other (let d = drop_more text i 0 within in cc);
 }
 
--- where the first i bytes of a text are spaces, and the text has no more, the text without the spaces at its front is empty
-pub front_all : (text : List ℕ) (i : ℕ) → length text ≤ i → take i text ≡ replicate i 32 → TrimsFront text []
-front_all text i all spaces = record {
+-- if the first i bytes of a text are spaces, and the text has no more, the text without the spaces at its front is empty
+pub trims_front_all : (text : List ℕ) (i : ℕ) → length text ≤ i → take i text ≡ replicate i 32 → TrimsFront text []
+trims_front_all text i all spaces = record {
   count = i;
   text_is = sym (take_all i text all) ∙ spaces ∙ sym (append-nil (replicate i 32));
   first = λ rest e. cc;
 }
 
--- where the text from `end` on is spaces, and a space is before that, the text from `end - 1` on is spaces, too
-pub back_more : (text : List ℕ) (end : ℕ) → 0 < end → end ≤ length text → drop end text ≡ replicate (length text - end) 32
+-- if the text from `end` on is spaces, and a space is before that, the text from `end - 1` on is spaces, too
+pub end_spaces_more : (text : List ℕ) (end : ℕ) → 0 < end → end ≤ length text → drop end text ≡ replicate (length text - end) 32
     → get_or text (end - 1) 0 ≡ 32
     → drop (end - 1) text ≡ replicate (length text - (end - 1)) 32
-back_more text end some within spaces here =
+end_spaces_more text end some within spaces here =
     let back : end - 1 + 1 ≡ end = omega arith in
     let size : suc (length text - end) ≡ length text - (end - 1) = omega arith in
     drop_more text (end - 1) 0 (omega arith) ∙ ap (λ b. b ∷ drop (end - 1 + 1) text) here ∙ ap (λ i. 32 ∷ drop i text) back ∙ ap (λ xs. 32 ∷ xs) spaces ∙ ap (λ n. replicate n 32) size
 
--- where a loop from the end passed the spaces from place `end` on, and stops at the front of the text or after another byte, the
+-- if a loop from the end passed the spaces from place `end` on, and stops at the front of the text or after another byte, the
 -- bytes before `end` are the text without the spaces at its end
-pub back_at : (text : List ℕ) (end : ℕ) → end ≤ length text → drop end text ≡ replicate (length text - end) 32
+pub trims_back_at : (text : List ℕ) (end : ℕ) → end ≤ length text → drop end text ≡ replicate (length text - end) 32
     → (end ≡ 0) ⊎ ((0 < end) × (get_or text (end - 1) 0 ≡ 32 → ⊥)) → TrimsBack text (take end text)
-back_at text end within spaces stop = record {
+trims_back_at text end within spaces stop = record {
   count = length text - end;
   text_is = sym (take-append-drop end text) ∙ ap (λ xs. take end text ++ xs) spaces;
   last = λ front e. elim stop [

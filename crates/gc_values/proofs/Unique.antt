@@ -3,7 +3,7 @@ use Rattle.std.proofs.Common.{◌≡◌, ◌≢◌, ℕ, ℤ, ◌+◌, ◌*◌, 
 use Rattle.gc_values.specs.Fraction.{Fraction, signed}
 use Rattle.gc_values.specs.Digits.{IsDigit, AreDigits, number}
 use Rattle.gc_values.specs.Cut.{StartsNoDigit, StartsNoSign, StartsNoPoint, CutsDigits, CutsSign, CutsFraction, ReadsExponent, ReadsNumeral}
-use Rattle.gc_values.specs.Spelling.{Sign, Absent, Plus, Minus, sign_text, is_minus, Exponent, IsExponent, exponent_text, mark, ups, downs, fraction_text, fraction_digits, Parts, IsNumeral, spelling, value, Names}
+use Rattle.gc_values.specs.Spelling.{Sign, Absent, Plus, Minus, sign_text, is_minus, Exponent, IsExponent, exponent_text, mark, ups, downs, fraction_text, fraction_digits, Parts, IsNumeral, spelling, parts_value, NamesFraction}
 use Rattle.gc_values.specs.declared.numeral.Numeral.{Numeral}
 
 -- a text is cut in at most one way into digits and a rest that doesn't begin with a digit
@@ -66,10 +66,10 @@ number_no_sign (b ∷ bs) f rest digits some = (λ h. let d = digits.0 in omega 
 
 -- a text is cut in at most one way into a fraction, or none, and a rest, as `CutsFraction` has it
 pub fraction_once : (text xs ys us vs : List ℕ) → CutsFraction text xs us → CutsFraction text ys vs → (xs ≡ ys) × (us ≡ vs)
-fraction_once text xs ys us vs c d = by c.fraction refl d.fraction refl where
+fraction_once text xs ys us vs c d = by_points c.fraction refl d.fraction refl where
   -- by whether the text begins with a point in each of the two cuts
-  by : (f : Option (List ℕ)) → c.fraction ≡ f → (g : Option (List ℕ)) → d.fraction ≡ g → (xs ≡ ys) × (us ≡ vs)
-  by f p g q =
+  by_points : (f : Option (List ℕ)) → c.fraction ≡ f → (g : Option (List ℕ)) → d.fraction ≡ g → (xs ≡ ys) × (us ≡ vs)
+  by_points f p g q =
       let first : text ≡ fraction_text f ++ us = c.text_is ∙ ap (λ o. fraction_text o ++ us) p in
       let second : text ≡ fraction_text g ++ vs = d.text_is ∙ ap (λ o. fraction_text o ++ vs) q in
       let xs_are : xs ≡ fraction_digits f = c.run_is ∙ ap fraction_digits p in
@@ -116,7 +116,7 @@ pub record SameParts (negative : Bool) (whole fraction rest : List ℕ) (p : Par
   pub fraction_is : fraction ≡ fraction_digits p.fraction
   pub rest_is : rest ≡ exponent_text p.exponent
 
--- where a text was cut, as `Cut` has it, the parts that were cut off are those of each numeral with this text
+-- if a text was cut, as `Cut` has it, the parts that were cut off are those of each numeral with this text
 pub same_parts : (text : List ℕ) (c : Cut text) (p : Parts) → IsNumeral p → text ≡ spelling p → SameParts c.negative c.whole c.fraction c.rest p
 same_parts text c p n e =
     let s = c.sign in
@@ -142,7 +142,7 @@ numeral_of c up down = record {
   fraction_are_digits = c.point.digits;
 }
 
--- where a text was cut, as `Cut` has it, into at least one digit in all, and a rest that is an exponent or empty, and a numeral has
+-- if a text was cut, as `Cut` has it, into at least one digit in all, and a rest that is an exponent or empty, and a numeral has
 -- the parts that were cut off, the text is a number with the parts of that numeral
 pub cut_is_numeral : (text : List ℕ) (c : Cut text) (n : Numeral)
     → (n.negative ≡ c.negative) × (n.whole.now ≡ c.whole) × (n.fraction.now ≡ c.fraction)
@@ -204,7 +204,7 @@ numeral_cut p n = record {
 }
 
 -- numerals of one text have one value
-pub same_value : (p r : Parts) → IsNumeral p → IsNumeral r → spelling p ≡ spelling r → value p ≡ value r
+pub same_value : (p r : Parts) → IsNumeral p → IsNumeral r → spelling p ≡ spelling r → parts_value p ≡ parts_value r
 unfolding numeral_cut
 same_value p r np nr e =
     let same = same_parts (spelling p) (numeral_cut p np) r nr e in
@@ -218,8 +218,8 @@ same_value p r np nr e =
     ap (λ b. signed b (number (p.whole ++ fraction_digits p.fraction) * 10 ^ ups p.exponent)) same.sign ∙ ap (signed (is_minus r.sign)) size in
     let under : length (fraction_digits p.fraction) + downs p.exponent ≡ length (fraction_digits r.fraction) + downs r.exponent =
     ap (λ ds. length ds + downs p.exponent) same.fraction_is ∙ ap (λ n. length (fraction_digits r.fraction) + n) power.1 in
-    ap (λ (z : ℤ). let f : Fraction = record { n = z; k = (value p).k } in f) top ∙ ap (λ (j : ℕ). let f : Fraction = record { n = (value r).n; k = j } in f) under
+    ap (λ (z : ℤ). let f : Fraction = record { n = z; k = (parts_value p).k } in f) top ∙ ap (λ (j : ℕ). let f : Fraction = record { n = (parts_value r).n; k = j } in f) under
 
 -- a text names at most one fraction
-pub names_once : (text : List ℕ) (q f : Fraction) → Names text q → Names text f → q ≡ f
+pub names_once : (text : List ℕ) (q f : Fraction) → NamesFraction text q → NamesFraction text f → q ≡ f
 names_once text q f x y = x.3 ∙ same_value x.0 y.0 x.1 y.1 (sym x.2 ∙ y.2) ∙ sym y.3

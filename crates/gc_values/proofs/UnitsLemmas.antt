@@ -8,11 +8,11 @@ use Rattle.gc_values.specs.KeptDigits.{IsRoundedWithCap, RoundsToUnits, all_digi
 use Rattle.gc_values.specs.RoundedFacts.{ten_pow_cut}
 use Rattle.gc_values.specs.declared.numeral.Numeral.{Numeral}
 use Rattle.gc_values.proofs.Every.{every_append}
-use Rattle.gc_values.proofs.Kept.{number-lt, rounds_digits, kept_behind, min_mul}
+use Rattle.gc_values.proofs.Kept.{number-lt, rounds_digits, kept_and_rounded_past, min_mul}
 use Rattle.gc_values.proofs.Powers.{ten_pow_pos, ten_pow_le}
 use Rattle.gc_values.proofs.Rounding.{RoundsHalfUp, rounds_same_value, rounds_whole, rounds_to_zero}
 
--- a number times 10^0 is the number
+-- a number times 10^(24 - 24), which is 1, is the number
 times_one : (n : ℕ) → n ≡ n * 10 ^ (24 - 24)
 times_one n = omega arith
 
@@ -34,7 +34,7 @@ size_counts_digits n = length-append n.whole.now n.fraction.now
 
 -- a numeral with k digits up to the last of 24 places
 module _ (n : Numeral) (k : ℕ) (places : k + n.down ≡ length n.whole.now + n.up + 24) where
-  -- in units of 10^-24, its magnitude rounds to what the first k digits write, with the next one rounded in
+  -- in units of 10^-24, the numeral's magnitude rounds to what the first k digits write, with the next one rounded in
   rounds_kept : (m : ℕ) → kept_and_rounded (all_digits n) k ≡ m → RoundsToUnits n m
   rounds_kept m e =
       let ds = all_digits n in
@@ -48,16 +48,16 @@ module _ (n : Numeral) (k : ℕ) (places : k + n.down ≡ length n.whole.now + n
       (rounds_same_value (number ds * 10 ^ k) (10 ^ length ds) (number ds * 10 ^ n.up * 10 ^ 24) (10 ^ below) (kept_and_rounded ds k) (ten_pow_pos (length ds))
       (ten_pow_pos below) same (rounds_digits ds k (all_are_digits n)))
 
-  -- where k is `zeros` more than all digits, the first k digits are all of them and `zeros` zeros
+  -- if k is `zeros` more than all digits, the first k digits are all of them and `zeros` zeros
   all_kept : (zeros : ℕ) → size_of n + zeros ≡ k → kept_and_rounded (all_digits n) k ≡ kept (all_digits n) (size_of n) * 10 ^ zeros
   all_kept zeros behind =
       let ds = all_digits n in
       let size = size_counts_digits n in
       let own : k - length ds ≡ zeros = omega (arith, size, behind) in
-      kept_behind ds k (omega (arith, size, behind)) ∙ ap (λ i. kept ds i * 10 ^ (k - length ds)) size ∙ ap (λ z. kept ds (size_of n) * 10 ^ z) own
+      kept_and_rounded_past ds k (omega (arith, size, behind)) ∙ ap (λ i. kept ds i * 10 ^ (k - length ds)) size ∙ ap (λ z. kept ds (size_of n) * 10 ^ z) own
 
-  -- its magnitude, rounded to 24 places and cut off at the cap, has as many units of 10^-24 as the first k digits write, with the
-  -- next one rounded in, or as the cap says where that is less
+  -- the numeral's magnitude, rounded to 24 places and cut off at the cap, has as many units of 10^-24 as the first k digits
+  -- write, with the next one rounded in, or as the cap says where that is less
   pub capped_few : (cap units : ℕ) → units ≡ min cap (kept_and_rounded (all_digits n) k) → IsRoundedWithCap n cap units 24
   capped_few cap units e = record {
     m = kept_and_rounded (all_digits n) k;
@@ -66,8 +66,8 @@ module _ (n : Numeral) (k : ℕ) (places : k + n.down ≡ length n.whole.now + n
     places = lit≤ tt;
   }
 
-  -- where the last digit is at place p after the point, for p up to 24, its magnitude, cut off at the cap, is what all digits
-  -- write, or the cap where that is less, over 10^p
+  -- if the last digit is at place p after the point, for p up to 24, the numeral's magnitude, cut off at the cap, is what
+  -- all digits write, or the cap where that is less, over 10^p
   pub capped_zeros : (cap more units p : ℕ) → size_of n + more ≡ k → more + p ≡ 24 → units ≡ min cap (kept (all_digits n) (size_of n))
       → IsRoundedWithCap n cap units p
   capped_zeros cap more units p behind all e = record {
@@ -77,8 +77,8 @@ module _ (n : Numeral) (k : ℕ) (places : k + n.down ≡ length n.whole.now + n
     places = omega (arith, all);
   }
 
-  -- where the last digit is `more` places before the last place before the point, its magnitude, cut off at the cap, is what all
-  -- digits and `more` zeros after them write, or the cap where that is less
+  -- if the last digit is `more` places before the last place before the point, the numeral's magnitude, cut off at the cap,
+  -- is what all digits and `more` zeros after them write, or the cap where that is less
   pub capped_many : (cap more x units : ℕ) → size_of n + (24 + more) ≡ k → x ≡ min cap (kept (all_digits n) (size_of n)) → units ≡ min cap (x * 10 ^ more)
       → IsRoundedWithCap n cap units 0
   capped_many cap more x units behind all e =
@@ -93,7 +93,7 @@ module _ (n : Numeral) (k : ℕ) (places : k + n.down ≡ length n.whole.now + n
         places = lit≤ tt;
       }
 
--- where the exponent moves all digits more than a place after the last of 24 places, the numeral's magnitude, rounded to 24
+-- if the exponent moves all digits more than a place after the last of 24 places, the numeral's magnitude, rounded to 24
 -- places, is 0
 pub capped_none : (n : Numeral) (cap : ℕ) → length n.whole.now + n.up + 24 < n.down → IsRoundedWithCap n cap 0 24
 capped_none n cap places = record { m = 0; rounds = rounds; capped = omega arith; places = lit≤ tt } where
@@ -110,7 +110,7 @@ capped_none n cap places = record { m = 0; rounds = rounds; capped = omega arith
       let shape : number ds * 10 ^ (n.up + 24) ≡ number ds * 10 ^ n.up * 10 ^ 24 = omega (arith, ap (λ x. number ds * x) (pow-add 10 n.up 24)) in
       rounds_to_zero (number ds * 10 ^ n.up * 10 ^ 24) (10 ^ below) (ten_pow_pos below) (omega arith)
 
--- where a numeral has at most 18 digits and no exponent, its magnitude is what all digits write, over 10^(the count of those after
+-- if a numeral has at most 18 digits and no exponent, its magnitude is what all digits write, over 10^(the count of those after
 -- the point), and a cap from 10^18 on changes nothing
 pub capped_short : (n : Numeral) (cap units : ℕ) → size_of n ≤ 18 → n.up ≡ 0 → n.down ≡ 0 → 10 ^ 18 ≤ cap → units ≡ number (all_digits n)
     → IsRoundedWithCap n cap units (length n.fraction.now)

@@ -15,7 +15,7 @@ use Rattle.gc_values.proofs.Powers.{ten_pow_pos}
 use Rattle.gc_values.proofs.Rounded.{has_sign}
 use Rattle.gc_values.proofs.Signs.{signed_distance, signed_distance-mul, scaled_distance, scaled_distance_signed}
 
--- where k and l are both multiplied by p, the two products are p times as far apart; the numbers are given as signs and
+-- if k and l are both multiplied by p, the two products are p times as far apart; the numbers are given as signs and
 -- magnitudes
 scaled_distance-mul_signed : (b : Bool) (m k : ℕ) (c : Bool) (n l p : ℕ)
     → scaled_distance (signed b m) k (signed c n) l * p ≡ scaled_distance (signed b m) (k * p) (signed c n) (l * p)
@@ -25,7 +25,7 @@ scaled_distance-mul_signed b m k c n l p =
     ap (λ x. x * p) (scaled_distance_signed b m k c n l) ∙ sym (signed_distance-mul b (m * k) c (n * l) p)
     ∙ ap (λ x. signed_distance b x c (n * l * p)) left ∙ ap (signed_distance b (m * (k * p)) c) right ∙ sym (scaled_distance_signed b m (k * p) c n (l * p))
 
--- where k and l are both multiplied by p, z * k and w * l are p times as far apart
+-- if k and l are both multiplied by p, z * k and w * l are p times as far apart
 scaled_distance-mul : (z : ℤ) (k : ℕ) (w : ℤ) (l p : ℕ) → scaled_distance z k w l * p ≡ scaled_distance z (k * p) w (l * p)
 scaled_distance-mul z k w l p =
     let x = has_sign z in
@@ -33,17 +33,17 @@ scaled_distance-mul z k w l p =
     subst (λ z. scaled_distance z k w l * p ≡ scaled_distance z (k * p) w (l * p)) (sym x.2)
     (subst (λ w. scaled_distance (signed x.0 x.1) k w l * p ≡ scaled_distance (signed x.0 x.1) (k * p) w (l * p)) (sym y.2) (scaled_distance-mul_signed x.0 x.1 k y.0 y.1 l p))
 
--- the distance of z / a and w / b in units of 1 / p, in which they are z * a' and w * b', times a * b is the distance that is
--- multiplied out, times p
-in_units : (z : ℤ) (a a' : ℕ) (w : ℤ) (b b' p : ℕ) → a * a' ≡ p → b * b' ≡ p → scaled_distance z a' w b' * (a * b) ≡ scaled_distance z b w a * p
-in_units z a a' w b b' p e f =
+-- if a * a' and b * b' are both p: how far z * a' and w * b' are apart, times a * b, is how far z * b and w * a are apart,
+-- times p
+distance_in_units : (z : ℤ) (a a' : ℕ) (w : ℤ) (b b' p : ℕ) → a * a' ≡ p → b * b' ≡ p → scaled_distance z a' w b' * (a * b) ≡ scaled_distance z b w a * p
+distance_in_units z a a' w b b' p e f =
     let left : a' * (a * b) ≡ b * p = omega (arith, ap (λ x. x * b) e) in
     let right : b' * (a * b) ≡ a * p = omega (arith, ap (λ x. x * a) f) in
     scaled_distance-mul z a' w b' (a * b) ∙ ap (λ x. scaled_distance z x w (b' * (a * b))) left ∙ ap (λ x. scaled_distance z (b * p) w x) right ∙ sym (scaled_distance-mul z b w a p)
 
--- no distance is at most a negative area
-below_zero : (x n k : ℕ) → 0 < k → pos x ≤ℤ (negsuc n *ℤ pos k) → ⊥
-below_zero x n k some h =
+-- for k above 0, no number from 0 on is at most a number below 0 times k
+not_within_negative : (x n k : ℕ) → 0 < k → pos x ≤ℤ (negsuc n *ℤ pos k) → ⊥
+not_within_negative x n k some h =
     let there : pos x ≤ℤ neg_ℤ (pos (suc n * k)) = subst (λ z. pos x ≤ℤ z) (negsuc-*ℤ-pos n k) h in
     omega (arith, ints, there)
 
@@ -57,26 +57,26 @@ le_pos x y h = omega (arith, ints, h)
 
 -- a distance is y over ab, which is x units of 1 / p, and an area is a number over c, which has c' units for each 1 / c
 module _ (x y ab c c' p : ℕ) (e : x * ab ≡ y * p) (f : c * c' ≡ p) where
-  -- where the distance is at most the area n / c, both in units, it is at most the area multiplied out, too
-  within_to : (n : ℕ) → 0 < p → x ≤ n * c' → y * c ≤ n * ab
-  within_to n some h =
+  -- if the distance is at most the area n / c, both in units, it is at most the area multiplied out, too
+  within_multiplied : (n : ℕ) → 0 < p → x ≤ n * c' → y * c ≤ n * ab
+  within_multiplied n some h =
       le_of_mul-le-mul_right {m = y * c} {n = n * ab} {k = p}
       (omega (arith, ap (λ u. u * c) e, ap (λ u. u * (n * ab)) f, mul-le-mul_right {m = x} {n = n * c'} (ab * c) h)) some
 
-  -- where the distance is at most the area n / c, both multiplied out, it is at most the area in units, too
-  within_from : (n : ℕ) → 0 < ab * c → y * c ≤ n * ab → x ≤ n * c'
-  within_from n some h =
+  -- if the distance is at most the area n / c, both multiplied out, it is at most the area in units, too
+  within_in_units : (n : ℕ) → 0 < ab * c → y * c ≤ n * ab → x ≤ n * c'
+  within_in_units n some h =
       le_of_mul-le-mul_right {m = x} {n = n * c'} {k = ab * c}
       (omega (arith, ap (λ u. u * c) e, ap (λ u. u * (n * ab)) f, mul-le-mul_right {m = y * c} {n = n * ab} p h)) some
 
-  -- where the area is z / c, and may be below zero, the distance is at most the area in units exactly where it is multiplied out
+  -- if the area is z / c, and may be below zero, the distance is at most the area in units exactly where it is multiplied out
   within_scaled : (z : ℤ) → (p_pos : 0 < p) → (c'_pos : 0 < c') → (abc_pos : 0 < ab * c) → (ab_pos : 0 < ab)
       → (pos x ≤ℤ (z *ℤ pos c')) ↔ (pos (y * c) ≤ℤ (z *ℤ pos ab))
   within_scaled (pos n) p_pos c'_pos abc_pos ab_pos = (
-    λ h. subst (λ w. pos (y * c) ≤ℤ w) (sym (pos-*ℤ-pos n ab)) (pos_le (y * c) (n * ab) (within_to n p_pos (le_pos x (n * c') (subst (λ w. pos x ≤ℤ w) (pos-*ℤ-pos n c') h)))),
-    λ h. subst (λ w. pos x ≤ℤ w) (sym (pos-*ℤ-pos n c')) (pos_le x (n * c') (within_from n abc_pos (le_pos (y * c) (n * ab) (subst (λ w. pos (y * c) ≤ℤ w) (pos-*ℤ-pos n ab) h)))),
+    λ h. subst (λ w. pos (y * c) ≤ℤ w) (sym (pos-*ℤ-pos n ab)) (pos_le (y * c) (n * ab) (within_multiplied n p_pos (le_pos x (n * c') (subst (λ w. pos x ≤ℤ w) (pos-*ℤ-pos n c') h)))),
+    λ h. subst (λ w. pos x ≤ℤ w) (sym (pos-*ℤ-pos n c')) (pos_le x (n * c') (within_in_units n abc_pos (le_pos (y * c) (n * ab) (subst (λ w. pos (y * c) ≤ℤ w) (pos-*ℤ-pos n ab) h)))),
   )
-  within_scaled (negsuc n) p_pos c'_pos abc_pos ab_pos = (λ h. absurd (below_zero x n c' c'_pos h), λ h. absurd (below_zero (y * c) n ab ab_pos h))
+  within_scaled (negsuc n) p_pos c'_pos abc_pos ab_pos = (λ h. absurd (not_within_negative x n c' c'_pos h), λ h. absurd (not_within_negative (y * c) n ab ab_pos h))
 
 -- two values are at most the area apart in units of 10^-24 exactly where their fractions are
 pub within_units : (a b area : Decimal) → (pos (unsigned_abs (units a -ℤ units b)) ≤ℤ units area) ↔ IsWithin (fraction a) (fraction b) (fraction area)
@@ -84,7 +84,8 @@ within_units a b area =
     let both : 0 < 10 ^ a.scale * 10 ^ b.scale = mul-pos (ten_pow_pos a.scale) (ten_pow_pos b.scale) in
     within_scaled (scaled_distance a.digits (10 ^ (24 - a.scale)) b.digits (10 ^ (24 - b.scale))) (distance a.digits a.scale b.digits b.scale)
     (10 ^ a.scale * 10 ^ b.scale) (10 ^ area.scale) (10 ^ (24 - area.scale)) (10 ^ 24)
-    (in_units a.digits (10 ^ a.scale) (10 ^ (24 - a.scale)) b.digits (10 ^ b.scale) (10 ^ (24 - b.scale)) (10 ^ 24) (ten_pow_cut a.scale 24 a.has_few_places) (ten_pow_cut b.scale 24 b.has_few_places))
+    (distance_in_units a.digits (10 ^ a.scale) (10 ^ (24 - a.scale)) b.digits (10 ^ b.scale) (10 ^ (24 - b.scale)) (10 ^ 24)
+    (ten_pow_cut a.scale 24 a.has_few_places) (ten_pow_cut b.scale 24 b.has_few_places))
     (ten_pow_cut area.scale 24 area.has_few_places) area.digits
     (ten_pow_pos 24) (ten_pow_pos (24 - area.scale)) (mul-pos both (ten_pow_pos area.scale)) both
 

@@ -8,7 +8,7 @@ use Rattle.std.specs.Int.Digits.{digits_of, number_from_digits_after, AllBelowBa
 use Rattle.std.proofs.lemmas.Int.Digits.{number_digits_of, all_below_base_digits_of}
 use Rattle.gc_values.specs.Digits.{IsDigit, AreDigits, number}
 use Rattle.gc_values.specs.Fraction.{signed, IsCanonical}
-use Rattle.gc_values.specs.Spelling.{Sign, Absent, Minus, sign_text, is_minus, Parts, value, Spells}
+use Rattle.gc_values.specs.Spelling.{Sign, Absent, Minus, sign_text, is_minus, Parts, parts_value, Spells}
 use Rattle.gc_values.specs.Whole.{NamesNumber}
 use Rattle.gc_values.specs.Written.{digits_text, whole_text, last_digits, behind_text, written}
 use Rattle.gc_values.proofs.Every.{every_append}
@@ -19,13 +19,13 @@ use Rattle.gc_values.proofs.Signs.{signed-mul}
 use Rattle.gc_values.proofs.WrittenLemmas.{digits_text_step, length-last_digits}
 
 -- 48, the byte '0', plus a number below ten is a digit
-a_digit : (d : ℕ) → d < 10 → IsDigit (48 + d)
-a_digit d h = (omega arith, omega arith)
+digit_plus_48 : (d : ℕ) → d < 10 → IsDigit (48 + d)
+digit_plus_48 d h = (omega arith, omega arith)
 
 -- the last k digits are digits
 pub AreDigits-last_digits : (k n : ℕ) → AreDigits (last_digits k n)
 AreDigits-last_digits zero n = tt
-AreDigits-last_digits (suc k) n = every_append IsDigit (last_digits k (n / 10)) _ (AreDigits-last_digits k (n / 10)) (a_digit (n % 10) (mod-lt n (lit< tt)), tt)
+AreDigits-last_digits (suc k) n = every_append IsDigit (last_digits k (n / 10)) _ (AreDigits-last_digits k (n / 10)) (digit_plus_48 (n % 10) (mod-lt n (lit< tt)), tt)
 
 -- the last k digits of a number below 10^k write it
 pub number-last_digits : (k n : ℕ) → n < 10 ^ k → number (last_digits k n) ≡ n
@@ -57,7 +57,7 @@ number-digits_text n = omega (arith, digits_after 0 (digits_of 10 n), number_dig
 -- values below ten, written, are digits
 map_digits : (ds : List ℕ) → AllBelowBase 10 ds → AreDigits (map (λ d. 48 + d) ds)
 map_digits [] h = tt
-map_digits (d ∷ ds) h = (a_digit d h.0, map_digits ds h.1)
+map_digits (d ∷ ds) h = (digit_plus_48 d h.0, map_digits ds h.1)
 
 -- a number's digits are digits
 AreDigits-digits_text : (n : ℕ) → AreDigits (digits_text n)
@@ -66,7 +66,7 @@ AreDigits-digits_text n = map_digits (digits_of 10 n) (all_below_base_digits_of 
 -- a whole number's text writes it
 pub writes_whole : (n : ℕ) → NamesNumber (whole_text n) n
 writes_whole n = elim (eqb_tells n 0) [
-  | inl none ↦ subst (λ xs. NamesNumber xs n) (ap (λ b. cond b (48 ∷ []) (digits_text n)) (sym none.0)) (record { digits = (a_digit 0 (lit< tt), tt); some = lit< tt; value = none.1 })
+  | inl none ↦ subst (λ xs. NamesNumber xs n) (ap (λ b. cond b (48 ∷ []) (digits_text n)) (sym none.0)) (record { digits = (digit_plus_48 0 (lit< tt), tt); some = lit< tt; value = none.1 })
   | inr some ↦ subst (λ xs. NamesNumber xs n) (ap (λ b. cond b (48 ∷ []) (digits_text n)) (sym some.0)) (record {
     digits = AreDigits-digits_text n;
     some = let h : 0 < n = pos_of_ne-zero some.1 in omega (arith, ap length (digits_text_step n h), length-append (digits_text (n / 10)) ((48 + n % 10) ∷ []));
@@ -85,7 +85,7 @@ pub record IsFractionText (a s : ℕ) (text : List ℕ) : Type 0 where
 
 -- without places, a lone 0 follows the point
 fraction_text_none : (a : ℕ) → IsFractionText a 0 (48 ∷ [])
-fraction_text_none a = record { digits = (a_digit 0 (lit< tt), tt); same = let e : a / 10 ^ 0 ≡ a = div-one a in let f : (a / 10 ^ 0 * 10 + 0) * 1 ≡ a * 10 = omega (arith, e) in sym f }
+fraction_text_none a = record { digits = (digit_plus_48 0 (lit< tt), tt); same = let e : a / 10 ^ 0 ≡ a = div-one a in let f : (a / 10 ^ 0 * 10 + 0) * 1 ≡ a * 10 = omega (arith, e) in sym f }
 
 -- with places, the last s digits follow the point
 fraction_text_some : (a s : ℕ) → 0 < s → IsFractionText a s (last_digits s (a % 10 ^ s))
@@ -107,7 +107,7 @@ is_fraction_text a s = elim (eqb_tells s 0) [
   | inr some ↦ subst (λ xs. IsFractionText a s xs) (ap (λ b. cond b (48 ∷ []) (last_digits s (a % 10 ^ s))) (sym some.0)) (fraction_text_some a s (pos_of_ne-zero some.1))
 ]
 
--- where m, a number with the sign `sign` and the magnitude a, needs all its places s, at most 24, its sign, the digits before the
+-- if m, a number with the sign `sign` and the magnitude a, needs all its places s, at most 24, its sign, the digits before the
 -- point, a point and the digits after it spell m / 10^s
 parts_spell : (sign : Sign) (m : ℤ) (s : ℕ) (a : ℕ) → m ≡ signed (is_minus sign) a → IsCanonical m s → s ≤ 24 →
     Spells (sign_text sign ++ (whole_text (a / 10 ^ s) ++ (46 ∷ behind_text s (a % 10 ^ s)))) m s
@@ -124,14 +124,14 @@ parts_spell sign m s a m_is canonical places =
     let same : m *ℤ pos (10 ^ (length frac + 0)) ≡ signed (is_minus sign) (number (whole ++ frac) * 10 ^ 0) *ℤ pos (10 ^ s) =
     ap (λ z. z *ℤ pos (10 ^ (length frac + 0))) m_is ∙ signed-mul (is_minus sign) a (10 ^ (length frac + 0)) ∙ ap (signed (is_minus sign)) size
     ∙ sym (signed-mul (is_minus sign) (number (whole ++ frac) * 10 ^ 0) (10 ^ s)) in (
-      value parts,
+      parts_value parts,
       (
         parts,
         record { whole = w.digits; fraction = b.digits; some = let h = w.some in omega arith; exponent = tt },
         ap (λ xs. sign_text sign ++ (whole ++ (46 ∷ xs))) (sym (append-nil frac)),
         refl,
       ),
-      exact_rounds (value parts) 24 m s canonical places same,
+      exact_rounds (parts_value parts) 24 m s canonical places same,
     )
 
 -- the written text of m / 10^s, which needs all its places and has at most 24, spells m / 10^s

@@ -18,8 +18,8 @@ abbrev pub IsFoundOrFirstFault : (found : Option ValueFault) (ks : List Kind) (i
 IsFoundOrFirstFault (Some kept) ks items e = e ≡ kept
 IsFoundOrFirstFault None ks items e = FirstFault ks items e
 
--- the fault of a list whose items before `place` were read, `fault` being the first fault among them, if it is asked for items of
--- these kinds from there on: `Count` where there are more or fewer items than kinds; else the first fault of all
+-- the items before `place` were read, `fault` being the first fault among them, and from there on items of these kinds are asked
+-- for. The list then has the fault e: `Count` if there are more or fewer items than kinds, else the first fault of all
 -- (`IsFoundOrFirstFault`)
 pub data IsFaultFrom (items : List (List ℕ)) (place : ℕ) (fault : Option ValueFault) (ks : List Kind) (e : ValueFault) : Type 0 where
   wrong_count : e ≡ Count → length ks + place ≢ length items → IsFaultFrom items place fault ks e

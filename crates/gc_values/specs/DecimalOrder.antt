@@ -35,10 +35,10 @@ zeros_once m p n s k t v w = elim (cases_order s t) [
   ]
 ]
 
--- where n / 10^s is m / 10^p without the zeros at its end, it is m * 10^(24 - p) over 10^24 without the zeros at its end, too,
--- for p up to 24
-pub zeros_at_last : (m p n s : ℕ) → p ≤ 24 → WithoutZeros m p n s → WithoutZeros (m * 10 ^ (24 - p)) 24 n s
-zeros_at_last m p n s places w = record {
+-- for p up to 24, m / 10^p and m * 10^(24 - p) / 10^24 are one number: where n / 10^s is the first without the zeros at its end,
+-- it is the second without them, too
+pub zeros_at_24 : (m p n s : ℕ) → p ≤ 24 → WithoutZeros m p n s → WithoutZeros (m * 10 ^ (24 - p)) 24 n s
+zeros_at_24 m p n s places w = record {
   same = omega (arith, ap (λ x. x * 10 ^ (24 - p)) w.same, ap (λ x. n * x) (ten_pow_cut p 24 places));
   fewer = let f = w.fewer in omega (arith, f);
   canonical = w.canonical;
@@ -46,7 +46,7 @@ zeros_at_last m p n s places w = record {
 
 -- where m / 10^s has at most 24 places and needs them all, it is m * 10^(24 - s) over 10^24 without the zeros at its end
 units_without_zeros : (m s : ℕ) → s ≤ 24 → (0 < s → m % 10 ≢ 0) → WithoutZeros (m * 10 ^ (24 - s)) 24 m s
-units_without_zeros m s places canonical = zeros_at_last m s m s places (record { same = refl; fewer = omega arith; canonical = canonical })
+units_without_zeros m s places canonical = zeros_at_24 m s m s places (record { same = refl; fewer = omega arith; canonical = canonical })
 
 -- integers z and w of one magnitude are equal where z * p and w * p are, for p above 0
 factor_cancels : (z w : ℤ) (p : ℕ) → 0 < p → unsigned_abs z ≡ unsigned_abs w → z *ℤ pos p ≡ w *ℤ pos p → z ≡ w

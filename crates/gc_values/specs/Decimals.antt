@@ -65,7 +65,3 @@ decimal_text d = written d.digits d.scale
 -- where the text spells a decimal, the result is this decimal
 abbrev pub GivesSpelled : {E : Type 0} → (text : List ℕ) → Result Decimal E → Type 0
 GivesSpelled text result = (d : Decimal) → SpellsDecimal text d → result ≡ Ok d
-
--- where the text is the one that is written of a decimal, the result is this decimal
-abbrev pub GivesWritten : {E : Type 0} → (text : List ℕ) → Result Decimal E → Type 0
-GivesWritten text result = (d : Decimal) → text ≡ decimal_text d → result ≡ Ok d

@@ -51,8 +51,8 @@ abbrev pub IsListReadOrFaulty : List Kind → List ℕ → Type 0
 IsListReadOrFaulty kinds params =
     ((vs : List Value) × (kinds_of vs ≡ kinds) × AreParams params vs) ⊎ ((e : ValueFault) × IsListFault kinds params e)
 
--- a call asked for one parameter, and gave this value of it: if what is left after the call reads as `vs`, what was left before it
--- read as the value and then `vs`
+-- a call asked for one parameter, and got this value: if what is left after the call reads as `vs`, what was left before it reads
+-- as the value and then `vs`
 abbrev pub ReadsOne : {S : Type 0} → (reads : S → List Value → Type 0) → (old new : S) → Value → Type 0
 ReadsOne reads old new v = (vs : List Value) → reads new vs → reads old (v ∷ vs)
 

@@ -12,7 +12,7 @@ pub record RoundsHalfUp (a b m : ℕ) : Type 0 where
   pub tie : 2 * gap a (m * b) ≡ b → a < m * b
 
 -- m / 10^s is magnitude / 10^p with a minus where `negative`, and without the zeros at its end
-pub record MadeOf (negative : Bool) (magnitude p : ℕ) (m : ℤ) (s : ℕ) : Type 0 where
+pub record SignedWithoutZeros (negative : Bool) (magnitude p : ℕ) (m : ℤ) (s : ℕ) : Type 0 where
   pub n : ℕ
   pub m_is : m ≡ signed negative n
   pub zeros : WithoutZeros magnitude p n s

@@ -1,6 +1,6 @@
 -- Parameter lists: parameters between commas, and strings in double quotes, as in the GeoCOM manual's chapter on the ASCII
 -- protocol. That spaces round a parameter don't count is this project's own.
-use Rattle.std.specs.Prelude.{◌≡◌, ℕ, ◌+◌, ◌%◌, ◌<◌, ◌≤◌, ◌==◌, Bool, not, if◌then◌else◌, List, [], ◌∷◌, ◌++◌, length, replicate, count_by, Result, Ok}
+use Rattle.std.specs.Prelude.{◌≡◌, ℕ, ◌+◌, ◌%◌, ◌<◌, ◌==◌, Bool, not, if◌then◌else◌, List, [], ◌∷◌, ◌++◌, length, replicate, count_by}
 use Rattle.std.specs.List.{flat_map}
 
 -- how many double quotes are in the bytes
@@ -76,7 +76,3 @@ IsParams bytes (item ∷ items) = AreJoined bytes (item ∷ items)
 -- the bytes are a list of more than 16 parameters. The limit is this project's own
 abbrev pub AreTooMany : List ℕ → Type 0
 AreTooMany bytes = (items : List (List ℕ)) × IsParams bytes items × (16 < length items)
-
--- where the bytes are a list of at most 16 parameters, the result is these
-abbrev pub GivesFew : {E : Type 0} → (bytes : List ℕ) → Result (List (List ℕ)) E → Type 0
-GivesFew bytes result = (items : List (List ℕ)) → IsParams bytes items → length items ≤ 16 → result ≡ Ok items

@@ -21,8 +21,8 @@ pub record CutsPlain (text item : List ℕ) (rest : Option (List ℕ)) : Type 0 
   pub param : IsParam item
   pub some : 0 < length item
 
--- the first `count` bytes of the text are digits, `count` is at most `most`, and `value` is the number that the digits of the
--- number `front` and then these digits write
+-- the first `count` bytes of the text are digits, at most `most` of them, and `value` is the number that the digits of `front`
+-- and then these write
 pub record CountsDigits (front : ℕ) (text : List ℕ) (most value count : ℕ) : Type 0 where
   pub within : count ≤ length text
   pub few : count ≤ most

@@ -82,12 +82,12 @@ places_in_range a s p places h =
 
 -- `rounded_to` gives the nearest whole number to m / 10^(s - p), over 10^s or 10^p, whichever is less, without the zeros at its
 -- end
-pub rounded_to_zeros : (m s p : ℕ) → Stripped (half_up m (10 ^ (s - p))) (min s p) (rounded_to m s p)
-rounded_to_zeros m s p = stripped_is (half_up m (10 ^ (s - p))) (min s p)
+pub rounded_to_is : (m s p : ℕ) → Stripped (half_up m (10 ^ (s - p))) (min s p) (rounded_to m s p)
+rounded_to_is m s p = stripped_is (half_up m (10 ^ (s - p))) (min s p)
 
 -- a number of at most 24 places has at most 24 when it is rounded
 pub rounded_few : (m s p : ℕ) → s ≤ 24 → (rounded_to m s p).places ≤ 24
-rounded_few m s p h = let w = (rounded_to_zeros m s p).fewer in omega (arith, w)
+rounded_few m s p h = let w = (rounded_to_is m s p).fewer in omega (arith, w)
 
 -- a number in range stays so when it is rounded
 pub rounded_in_range : (b : Bool) (m s p : ℕ) → m ≤ 10 ^ 13 * 10 ^ s → IsInRange (signed b (rounded_to m s p).digits) (rounded_to m s p).places
@@ -96,13 +96,13 @@ rounded_in_range b m s p h =
     subst (λ e. m ≤ 10 ^ 13 * 10 ^ min s p * 10 ^ e) (let off : s - min s p ≡ s - p = omega arith in off) (places_in_range m s (min s p) (omega arith) h) in
     let near = half_up_rounds m (10 ^ (s - p)) (ten_pow_pos (s - p)) in
     let whole = rounds_bound m (10 ^ (s - p)) (half_up m (10 ^ (s - p))) (10 ^ 13 * 10 ^ min s p) (ten_pow_pos (s - p)) near size in
-    let all = zeros_in_range (half_up m (10 ^ (s - p))) (min s p) (rounded_to m s p).digits (rounded_to m s p).places (rounded_to_zeros m s p) whole in
+    let all = zeros_in_range (half_up m (10 ^ (s - p))) (min s p) (rounded_to m s p).digits (rounded_to m s p).places (rounded_to_is m s p) whole in
     subst (λ n. n ≤ 10 ^ 13 * 10 ^ (rounded_to m s p).places) (sym (unsigned_abs-signed b (rounded_to m s p).digits)) all
 
 -- a rounded number has no place more than it needs
 pub rounded_canonical : (b : Bool) (m s p : ℕ) → IsCanonical (signed b (rounded_to m s p).digits) (rounded_to m s p).places
 rounded_canonical b m s p some divides =
-    (rounded_to_zeros m s p).canonical some (ap (λ n. n % 10) (sym (unsigned_abs-signed b (rounded_to m s p).digits)) ∙ divides)
+    (rounded_to_is m s p).canonical some (ap (λ n. n % 10) (sym (unsigned_abs-signed b (rounded_to m s p).digits)) ∙ divides)
 
 -- 0.0 has at most 24 places
 pub zero_few : 0 ≤ 24

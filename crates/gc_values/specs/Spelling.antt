@@ -47,7 +47,7 @@ abbrev pub fraction_digits : Option (List ℕ) → List ℕ
 fraction_digits None = []
 fraction_digits (Some ds) = ds
 
--- `E` where it is a capital (true), else `e`
+-- the mark of an exponent: `E` where `capital` is true, else `e`
 abbrev pub mark : (capital : Bool) → ℕ
 mark capital = if capital then 69 else 101
 
@@ -91,19 +91,19 @@ spelling p = sign_text p.sign ++ (p.whole ++ (fraction_text p.fraction ++ expone
 
 -- the value of the parts: all the digits as a whole number with the sign, divided by ten for each digit after the point, and
 -- multiplied or divided as the exponent says
-abbrev pub value : Parts → Fraction
-value p = record {
+abbrev pub parts_value : Parts → Fraction
+parts_value p = record {
   n = signed (is_minus p.sign) (number (p.whole ++ fraction_digits p.fraction) * 10 ^ ups p.exponent);
   k = length (fraction_digits p.fraction) + downs p.exponent;
 }
 
 -- the text is a number's, and the fraction is its value, before any rounding
-abbrev pub Names : List ℕ → Fraction → Type 0
-Names text q = (p : Parts) × IsNumeral p × (text ≡ spelling p) × (q ≡ value p)
+abbrev pub NamesFraction : List ℕ → Fraction → Type 0
+NamesFraction text q = (p : Parts) × IsNumeral p × (text ≡ spelling p) × (q ≡ parts_value p)
 
 -- the text spells m / 10^s: the fraction that it names, rounded to 24 places
 abbrev pub Spells : (text : List ℕ) → (m : ℤ) → (s : ℕ) → Type 0
-Spells text m s = (q : Fraction) × Names text q × IsRounded q 24 m s
+Spells text m s = (q : Fraction) × NamesFraction text q × IsRounded q 24 m s
 
 -- the text is a number, and its value, rounded to 24 places, is further from 0 than 10^13
 abbrev pub SpellsBeyond : List ℕ → Type 0
@@ -111,4 +111,4 @@ SpellsBeyond text = (m : ℤ) × (s : ℕ) × Spells text m s × (10 ^ 13 * 10 ^
 
 -- the text is no number
 abbrev pub SpellsNothing : List ℕ → Type 0
-SpellsNothing text = (q : Fraction) → Names text q → ⊥
+SpellsNothing text = (q : Fraction) → NamesFraction text q → ⊥

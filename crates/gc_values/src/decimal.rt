@@ -8,7 +8,7 @@ ghost use Rattle.std.proofs.Common.{rules};
 ghost use Rattle.std.specs.Cmp.Rules.{comparing};
 ghost use Rattle.std.specs.Ordering.{as_partial_cmp};
 ghost use Rattle.gc_values.specs.Fraction.{signed, SameValue, IsCanonical, IsInRange};
-ghost use Rattle.gc_values.specs.Nearest.{MadeOf, RoundsHalfUp};
+ghost use Rattle.gc_values.specs.Nearest.{SignedWithoutZeros, RoundsHalfUp};
 ghost use Rattle.gc_values.specs.Spelling.{SpellsBeyond, SpellsNothing};
 ghost use Rattle.gc_values.specs.ValueFault.{IsEither};
 ghost use Rattle.gc_values.specs.Written.{behind_text};
@@ -122,7 +122,7 @@ fn with_sign(negative: bool, magnitude: u128) -> i128
 impl Decimal {
     ghost use Rattle.gc_values.specs.declared.decimal.Decimal.{Decimal};
     ghost use Rattle.gc_values.specs.Fraction.{is_decimal, IsRounded, IsWithin};
-    ghost use Rattle.gc_values.specs.Decimals.{GivesSpelled, GivesWritten, SpellsDecimal, decimal, decimal_text, fraction, is_within, rounded, units, zero};
+    ghost use Rattle.gc_values.specs.Decimals.{GivesSpelled, SpellsDecimal, decimal, decimal_text, fraction, is_within, rounded, units, zero};
     ghost use Rattle.gc_values.specs.Written.{minus_text};
 
     /// The decimal 0.0.
@@ -162,7 +162,7 @@ impl Decimal {
     /// `magnitude / 10^scale` is above 10^13.
     fn try_from_parts(negative: bool, magnitude: u128, scale: u8) -> Result<Decimal, ValueFault>
         requires { scale ≤ 24 }
-        ensures made { IfOk result (λ d. MadeOf negative magnitude scale d.digits d.scale) }
+        ensures made { IfOk result (λ d. SignedWithoutZeros negative magnitude scale d.digits d.scale) }
         ensures exact { MatchResult result (λ _. magnitude ≤ 10 ^ 13 * 10 ^ scale)
             (λ e. (e ≡ ValueFault.Range) × (10 ^ 13 * 10 ^ scale < magnitude)) }
     {
@@ -176,7 +176,7 @@ impl Decimal {
     pub(crate) fn from_parts(negative: bool, magnitude: u128, scale: u8) -> Decimal
         requires places { scale ≤ 24 }
         requires range { magnitude ≤ 10 ^ 13 * 10 ^ scale }
-        ensures { MadeOf negative magnitude scale result.digits result.scale }
+        ensures { SignedWithoutZeros negative magnitude scale result.digits result.scale }
     {
         let (magnitude, scale) = without_zeros(magnitude, scale);
         Decimal {
@@ -193,7 +193,7 @@ impl Decimal {
     pub fn read(text: &[u8]) -> Result<Decimal, ValueFault>
         ensures value { IfOk result (λ d. SpellsDecimal text.now d) }
         ensures only { GivesSpelled text.now result }
-        ensures again { GivesWritten text.now result }
+        ensures again { (d : Decimal) → text.now ≡ decimal_text d → result ≡ Ok d }
         ensures range { (result ≡ Err ValueFault.Range) ↔ SpellsBeyond text.now }
         ensures spelling { (result ≡ Err ValueFault.Spelling) ↔ SpellsNothing text.now }
         ensures faults { IfErr result (λ e. IsEither ValueFault.Range ValueFault.Spelling e) }

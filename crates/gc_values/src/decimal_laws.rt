@@ -7,13 +7,13 @@ ghost use Rattle.gc_values.specs.Decimals.{SpellsDecimal, decimal_text, fraction
 ghost use Rattle.gc_values.specs.Directions.{NearIsWithinTheTolerance};
 ghost use Rattle.gc_values.specs.NearExamples.{NearByExample};
 ghost use Rattle.gc_values.specs.Fraction.{Fraction, SameValue, IsRounded, IsBelow, IsWithin};
-ghost use Rattle.gc_values.specs.Spelling.{Names, SpellsBeyond, SpellsNothing};
+ghost use Rattle.gc_values.specs.Spelling.{NamesFraction, SpellsBeyond, SpellsNothing};
 ghost use Rattle.gc_values.specs.WrittenForm.{HasDecimalForm};
 ghost use Rattle.gc_values.specs.declared.decimal.Decimal.{Decimal};
 
 /// A text names one fraction at most.
 pub fn text_names_one_fraction()
-    ensures { (text : List ℕ) (p q : Fraction) → Names text p → Names text q → p ≡ q }
+    ensures { (text : List ℕ) (p q : Fraction) → NamesFraction text p → NamesFraction text q → p ≡ q }
 {}
 
 /// A text spells one decimal at most.

@@ -4,7 +4,7 @@
 
 ghost use Rattle.std.specs.Prelude.{◌≡◌, ◌↔◌, ◌<◌, ◌≤◌, [], List, ℕ, length, slice_index_or, IsTrue, IfOk, IfErr};
 ghost use Rattle.std.specs.Option.{option_copied};
-ghost use Rattle.gc_values.specs.Params.{AreTooMany, GivesFew, HasOpenQuote, IsParams};
+ghost use Rattle.gc_values.specs.Params.{AreTooMany, HasOpenQuote, IsParams};
 ghost use Rattle.gc_values.specs.Pieces.{CutsPiece, IsTrimmed, TrimsFront, TrimsBack};
 ghost use Rattle.gc_values.specs.ValueFault.{IsEither};
 
@@ -110,7 +110,7 @@ fn trim(text: &[u8]) -> &[u8]
 /// `TooMany`.
 pub fn split(params: &[u8]) -> Result<Items<'_>, ValueFault>
     ensures found { IfOk result (λ items. IsParams params.now items × (length items ≤ 16)) }
-    ensures only { GivesFew params.now result }
+    ensures only { (items : List (List ℕ)) → IsParams params.now items → length items ≤ 16 → result ≡ Ok items }
     ensures open_quote { (result ≡ Err ValueFault.OpenQuote) ↔ HasOpenQuote params.now }
     ensures too_many { (result ≡ Err ValueFault.TooMany) ↔ AreTooMany params.now }
     ensures faults { IfErr result (λ e. IsEither ValueFault.OpenQuote ValueFault.TooMany e) }

@@ -36,7 +36,7 @@ fn followed_by(front: u64, digits: &[u8]) -> u64
 // All digits of a numeral are those before its point and then those after it, in a row.
 impl Numeral<'_> {
     /// The digit at a place, counted from 0, of all digits, and 0 after the last one.
-    #[tactic(auto, using(crate::proofs::Kept::at_first, crate::proofs::Kept::at_second, crate::proofs::Kept::at_neither, crate::proofs::Kept::digit_at_least_48))]
+    #[tactic(auto, using(crate::proofs::Kept::digit_in_first, crate::proofs::Kept::digit_in_second, crate::proofs::Kept::digit_after_both, crate::proofs::Kept::digit_at_least_48))]
     fn digit_at(&self, place: usize) -> u8
         ensures { result ≡ digit_or_zero (all_digits self.now) place }
     {

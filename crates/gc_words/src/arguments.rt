@@ -17,8 +17,8 @@ pub enum Takes {
     Unsigned(u64, u64),
 }
 
-/// A row: the name of an argument, what it takes and what help calls that, its default, the arguments that it needs, those that it
-/// excludes, and its help. A list is empty if there is no such value.
+/// A row: the name of an argument, what it takes and what help calls that, its default, the arguments that it needs, those that
+/// it excludes, and its help. A list is empty if there is no such value.
 #[derive(Clone, Copy)]
 pub struct Argument<'a> {
     pub name: &'a str,
@@ -64,8 +64,8 @@ pub const SCENE: Argument<'static> = Argument {
     ..FLAG
 };
 
-/// A subcommand for clap with this name, the line that says what it does (`about`), what its help ends with, and the arguments of this
-/// table. `Err`: memory ran out.
+/// A subcommand for clap with this name, the line that says what it does (`about`), what its help ends with, and the arguments of
+/// this table. `Err`: memory ran out.
 // The arguments are made first: the proof of a `Command` that is alive across a `?` costs much.
 pub fn command_of<'a>(
     alloc: Global,
@@ -90,8 +90,8 @@ fn args_of<'a>(alloc: Global, table: &[Argument<'a>]) -> Result<Vec<Arg<'a>>, Al
     Ok(args)
 }
 
-// clap's argument for a row: a positional one, or an option. Of the row of a positional one clap gets the name, the value's name and the
-// help alone. `Err`: memory ran out.
+// clap's argument for a row: a positional one, or an option. Of the row of a positional one clap gets the name, the value's name
+// and the help alone. `Err`: memory ran out.
 fn arg_of<'a>(alloc: Global, row: &Argument<'a>) -> Result<Arg<'a>, AllocError> {
     match row.takes {
         Takes::Positional => Ok(positional_of(alloc, row)),

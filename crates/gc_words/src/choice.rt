@@ -139,26 +139,26 @@ impl Choice {
 }
 
 /// The settings of a station that the options ask for, without the paths of files, and for a run that hasn't begun. A flag or a
-/// text that the subcommand doesn't have counts as not given. `None`: a number is missing, or doesn't fit its type. In fact clap fills
-/// in the default of a missing number and refuses one outside its bounds, but no clause of clap's says so.
-pub fn station_of(matches: &ArgMatches) -> Option<Settings> {
+/// text that the subcommand doesn't have counts as not given. `None`: a number is missing, or doesn't fit its type. In fact clap
+/// fills in the default of a missing number and refuses one outside its bounds, but no clause of clap's says so.
+pub fn station_of(words: &ArgMatches) -> Option<Settings> {
     Some(Settings {
         layout: Layout {
-            form: form_of(matches),
+            form: form_of(words),
             headed: false,
             run: 0,
         },
         choice: Choice {
-            width: matches.get_one::<u8>("width")?,
-            deadline: matches.get_one::<u64>("deadline")?,
-            chained: !matches.get_flag("unchained"),
-            every: matches.get_one::<u64>("every")?.saturating_mul(SECOND),
-            cycles: times_of(matches.get_one::<u64>("cycles")?, u64::MAX),
-            quiet: matches.get_one::<u64>("quiet")?,
-            retries: times_of(matches.get_one::<u32>("retries")?, u32::MAX),
-            stale: matches.get_one::<u64>("stale")?.saturating_mul(SECOND),
-            watched: matches.get_str("until").is_some(),
-            watch: if matches.get_flag("silent") {
+            width: words.get_one::<u8>("width")?,
+            deadline: words.get_one::<u64>("deadline")?,
+            chained: !words.get_flag("unchained"),
+            every: words.get_one::<u64>("every")?.saturating_mul(SECOND),
+            cycles: times_of(words.get_one::<u64>("cycles")?, u64::MAX),
+            quiet: words.get_one::<u64>("quiet")?,
+            retries: times_of(words.get_one::<u32>("retries")?, u32::MAX),
+            stale: words.get_one::<u64>("stale")?.saturating_mul(SECOND),
+            watched: words.get_str("until").is_some(),
+            watch: if words.get_flag("silent") {
                 Watch::Nobody
             } else {
                 Watch::Lines
@@ -168,12 +168,12 @@ pub fn station_of(matches: &ArgMatches) -> Option<Settings> {
 }
 
 // The form of records that the options ask for; lines without such an option. `columns` includes what `csv` asks for.
-fn form_of(matches: &ArgMatches) -> Form {
-    if matches.get_flag("json") {
+fn form_of(words: &ArgMatches) -> Form {
+    if words.get_flag("json") {
         Form::Json
-    } else if matches.get_flag("columns") {
+    } else if words.get_flag("columns") {
         Form::Columns
-    } else if matches.get_flag("csv") {
+    } else if words.get_flag("csv") {
         Form::Csv
     } else {
         Form::Lines

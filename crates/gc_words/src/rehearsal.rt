@@ -76,8 +76,8 @@ pub fn rehearse_command<'a>(alloc: Global, name: &'a str) -> Result<Command<'a>,
     )
 }
 
-/// What is to be rehearsed: the paths of the files of the scene and of the line, where they are named, how many nights, how many cycles
-/// each has, with which seed, and the settings of the station.
+/// What is to be rehearsed: the paths of the files of the scene and of the line, where they are named, how many nights, how many
+/// cycles each has, with which seed, and the settings of the station.
 #[derive(Clone, Copy)]
 pub struct Rehearsal<'a> {
     pub scene: Option<&'a str>,

@@ -23,7 +23,8 @@ pub(crate) const LOG_BYTES: Argument<'static> = Argument {
     ..FLAG
 };
 
-/// The path of the file in which what was on the link is logged, and the most bytes that the file may have; the greatest `u64`: any number.
+/// The path of the file in which what was on the link is logged, and the most bytes that the file may have; the greatest `u64`:
+/// any number.
 #[derive(Clone, Copy)]
 pub struct LogPlace<'a> {
     pub path: &'a str,

@@ -1,6 +1,6 @@
 -- The client that knows ids does what the oracle client does. `Sound` is the invariant of the run by numbers: what always
 -- holds of its wire and its client.
-use Rattle.std.proofs.Common.{◌≡◌, ℕ, zero, suc, ◌+◌, ◌-◌, ◌%◌, ◌<◌, ◌≤◌, Bool, true, false, List, [], ◌∷◌, ◌++◌, length, map, take, drop, Option, Some, None, refl, sym, ◌∙◌, ap, subst, arith, length-drop, ltb, eqb}
+use Rattle.std.proofs.Common.{◌≡◌, ℕ, zero, suc, ◌+◌, ◌-◌, ◌%◌, ◌<◌, ◌≤◌, Bool, true, false, List, [], ◌∷◌, ◌++◌, length, map, drop, Option, Some, None, refl, sym, ◌∙◌, ap, subst, arith, length-drop, ltb, eqb}
 use Rattle.std.specs.List.{AllByRecursion}
 use mathlib.Core.Path.{ap₂}
 use Rattle.std.proofs.lemmas.List.{drop-drop, drop-append-le, length_push, drop_all}
@@ -11,7 +11,7 @@ use Rattle.gc_client.specs.Rule.{Sending}
 use Rattle.gc_world.specs.World as calls
 use Rattle.gc_world.specs.World.{call_line}
 use Rattle.gc_world.specs.Worlds.{Request, Numbered, Ends, Step, Send, Up_deliver, Up_lose, Up_repeat, Down_deliver, Down_lose, Down_repeat, Expire, Restart_client, Restart_instrument, Nothing, Wire, World, without, doubled, idle, up_delivered, with_up, with_down, started, instrument_restarted, on_wire, requested, with_settled, down_delivered, client_restarted, happens, run}
-use Rattle.gc_world.specs.Clients.{ByNumber, by_ids, ids_open, number_send, number_reply, by_numbers, numbers_open, run_by_ids, run_by_numbers}
+use Rattle.gc_world.specs.Clients.{ByNumber, by_ids, ids_open, number_send, number_reply, expired_from, by_numbers, numbers_open, run_by_ids, run_by_numbers}
 use Rattle.gc_world.specs.Exchange.{IsExchange}
 use Rattle.gc_world.specs.Order.{Rising, numbers, in_flight, IsOrderly}
 use Rattle.gc_world.proofs.Ids.{place_within, place_before}
@@ -61,7 +61,7 @@ same_send {Q} a b target call deadline false h1 h2 h =
 
 -- in a list of requests: expiring all but the first k, and then dropping the first k, gives the same as dropping the first k and
 -- then expiring the rest
-drop_expired : {Q : Type 0} (now k : ℕ) (ps : List (Pending Q)) → map (expired now) (drop k ps) ≡ drop k (take k ps ++ map (expired now) (drop k ps))
+drop_expired : {Q : Type 0} (now k : ℕ) (ps : List (Pending Q)) → map (expired now) (drop k ps) ≡ drop k (expired_from now k ps)
 drop_expired now zero ps = refl
 drop_expired now (suc k) [] = refl
 drop_expired now (suc k) (p ∷ ps) = drop_expired now k ps

@@ -1,5 +1,5 @@
 -- What functions of the code leave, by their contracts: variables such as `executed` and `made` are the values that they left.
-use Rattle.std.proofs.Common.{◌≡◌, ℕ, ◌<◌, List, [], ◌∷◌, ◌++◌, length, Option, Some}
+use Rattle.std.proofs.Common.{◌≡◌, ℕ, List, [], ◌∷◌, ◌++◌, length, Option, Some}
 use Rattle.std.specs.Prelude.{slice_get}
 use Rattle.gc_catalogue.specs.declared.call.Call.{Call}
 use Rattle.gc_catalogue.specs.Calls.{IsFitting}
@@ -7,17 +7,16 @@ use Rattle.gc_catalogue.specs.Texts.{request_line}
 use Rattle.gc_client.specs.declared.settlement.Settlement.{Settlement}
 use Rattle.gc_client.specs.Rule.{Windowed, heard, hears, sends, restarts}
 use Rattle.gc_client.specs.Settlements.{AreSettlements}
-use Rattle.gc_instrument.specs.State.{State, restarted}
-use Rattle.gc_instrument.specs.Replying.{IsExchanged}
+use Rattle.gc_instrument.specs.State.{State, restarted, kept_id}
+use Rattle.gc_instrument.specs.Replying.{IsExchanged, OfItsCall}
 use Rattle.gc_world.specs.declared.report.Made.{Made}
 use Rattle.gc_world.specs.declared.report.Report.{Report}
 use Rattle.gc_world.specs.declared.report.Sent.{Sent}
-use Rattle.gc_world.proofs.Handing.{kept_id}
 
--- where the line is the request line of a call that fits, with whatever id below 8, the instrument got from `before` to `after`,
--- and gave this reply, as `IsExchanged` has it
-abbrev pub ExchangesAny : (before : State) → (line : List ℕ) → (after : State) → (reply : Option (List ℕ)) → Type 0
-ExchangesAny before line after reply = (id : ℕ) (call : Call) → id < 8 → IsFitting call → line ≡ request_line (Some id) call → IsExchanged before id call after reply
+-- if the line is the request line of a call (`OfItsCall`), `IsExchanged` holds of the call, of the instrument from `before` to
+-- `after`, and of this reply
+abbrev pub ExchangesItsCall : (before : State) → (line : List ℕ) → (after : State) → (reply : Option (List ℕ)) → Type 0
+ExchangesItsCall before line after reply = OfItsCall line (λ id call. IsExchanged before id call after reply)
 
 -- the number n was appended to `old`, which gave `new`, where the kept id changed from `before` to `after`; else `new` is `old`
 pub record Notes (before after : State) (n : ℕ) (old new : List ℕ) : Type 0 where
@@ -52,7 +51,7 @@ pub record HandsToInstrument (r : Report) (up down rest : List ℕ) : Type 0 whe
   pub queue : List ℕ
   pub front : up ≡ number ∷ rest
   pub found : slice_get r.sent number ≡ Some request
-  pub replied : ExchangesAny r.instrument request.line.items state reply
+  pub replied : ExchangesItsCall r.instrument request.line.items state reply
   pub told : reply ≡ Some entry.line.items
   pub same : entry.number ≡ number
   pub executed_is : Notes r.instrument state number r.executed executed

@@ -26,16 +26,16 @@ pub record IsWithin {State : Type 0} (n : ℕ) (w : Wire State) : Type 0 where
   pub idle : w.idle ≤ n
 
 -- a loss makes no list longer
-none_longer : {A : Type 0} (k : ℕ) (xs : List A) → length (without k xs) ≤ length xs
-none_longer k [] = omega arith
-none_longer zero (x ∷ xs) = omega arith
-none_longer (suc k) (x ∷ xs) = omega (arith, none_longer k xs)
+without_no_longer : {A : Type 0} (k : ℕ) (xs : List A) → length (without k xs) ≤ length xs
+without_no_longer k [] = omega arith
+without_no_longer zero (x ∷ xs) = omega arith
+without_no_longer (suc k) (x ∷ xs) = omega (arith, without_no_longer k xs)
 
 -- a repeat makes a list longer by at most one
-one_longer : {A : Type 0} (k : ℕ) (xs : List A) → length (doubled k xs) ≤ length xs + 1
-one_longer k [] = omega arith
-one_longer zero (x ∷ xs) = omega arith
-one_longer (suc k) (x ∷ xs) = omega (arith, one_longer k xs)
+doubled_one_longer : {A : Type 0} (k : ℕ) (xs : List A) → length (doubled k xs) ≤ length xs + 1
+doubled_one_longer k [] = omega arith
+doubled_one_longer zero (x ∷ xs) = omega arith
+doubled_one_longer (suc k) (x ∷ xs) = omega (arith, doubled_one_longer k xs)
 
 -- no more lines are completed than there are
 cut_few : (lines : List (List ℕ)) (n : ℕ) → (cut lines n).lines ≤ length lines
@@ -180,8 +180,8 @@ module _ {Client State : Type 0} (ends : Ends State) (rule : Rule Client) (n : �
   pub one_step : (w : World Client State) (e : Step) → IsWithin n w.wire → IsWithin (n + 1) (happens ends rule w e).wire
   one_step w (Send target call deadline) h = sends w target call (rule.send w.client target call deadline) h
   one_step w Up_deliver h = delivers w.wire w.wire.up refl h
-  one_step w (Up_lose k) h = changes_up w.wire (without k w.wire.up) (ltb k (length w.wire.up)) (omega (arith, none_longer k w.wire.up)) h
-  one_step w (Up_repeat k) h = changes_up w.wire _ (ltb k (length w.wire.up)) (one_longer k w.wire.up) h
+  one_step w (Up_lose k) h = changes_up w.wire (without k w.wire.up) (ltb k (length w.wire.up)) (omega (arith, without_no_longer k w.wire.up)) h
+  one_step w (Up_repeat k) h = changes_up w.wire _ (ltb k (length w.wire.up)) (doubled_one_longer k w.wire.up) h
   one_step w Down_deliver h = hears w w.wire.down h
   one_step w (Down_lose k) h = changes_down w.wire _ (ltb k (length w.wire.down)) h
   one_step w (Down_repeat k) h = changes_down w.wire _ (ltb k (length w.wire.down)) h

@@ -1,4 +1,4 @@
--- The executions of a run are as `IsExecution` has them, and each booked answer was made for its request. Both are drawn from a
+-- The executions of a run are as `HasExecutions` has them, and each booked answer was made for its request. Both are drawn from a
 -- replay (`Replays`): the executions of requests ns, one after the other, with replies ms, from the state s to the state t; j
 -- executions came before.
 use Rattle.std.proofs.Common.{◌≡◌, ℕ, zero, suc, ◌+◌, ◌-◌, Bool, true, false, List, [], ◌∷◌, length, Option, Some, refl, sym, ◌∙◌, ap, subst, arith}
@@ -9,7 +9,7 @@ use Rattle.gc_world.specs.World.{Sent, Numbered, Ends, Wire}
 use Rattle.gc_world.specs.Worlds
 use Rattle.gc_world.specs.Exchange.{IsExchange}
 use Rattle.gc_world.specs.Faithful.{has_number, restarted_if}
-use Rattle.gc_world.specs.Record.{Increasing, IsOneForOne, IsReplyTo, IsBooked, IsExecutedIn, handed_in, IsExecuted, IsReplyAt, IsExecution}
+use Rattle.gc_world.specs.Record.{Increasing, IsOneForOne, IsReplyTo, IsBooked, IsExecutedIn, handed_in, IsExecuted, IsReplyAt, HasExecutions}
 use Rattle.gc_world.proofs.Booked.{Has, has_at, AllMade, answer_made}
 use Rattle.gc_world.proofs.Replay.{Executes, Replays}
 use Rattle.std.proofs.lemmas.Option.{same_Some, none-some, slice_get_within}
@@ -142,8 +142,8 @@ module _ {State : Type 0} (ends : Ends State) where
         let found : slice_get w.executed at.0 ≡ Some entry.number = n.1 ∙ ap Some number in
         subst (λ (m : Numbered (List ℕ)). IsReplyAt ends w state_before m) (sym entry_is) (record { j = at.0; executed = n.1; execution = executed_at at.0 n.0 n.1; line = refl })
 
-    -- where the executed numbers strictly increase, the executions are as `IsExecution` has them
-    pub execution : Increasing 0 w.executed → IsExecution ends opening w
+    -- where the executed numbers strictly increase, the executions are as `HasExecutions` has them
+    pub execution : Increasing 0 w.executed → HasExecutions ends opening w
     unfolding state_before
     execution climbs =
         let state = ends.restarted opening in

@@ -12,7 +12,7 @@ use Rattle.gc_client.specs.declared.window.TheConstants.{WINDOW}
 use Rattle.gc_client.specs.Rule.{ById, Settlement, Outcome, Answered, Late, Lost, pending_of, lost, settle}
 use Rattle.gc_client.specs.OneForOne.{Wanted, of_settled, of_pending}
 use Rattle.gc_client.proofs.Ends.{settle_is}
-use Rattle.gc_client.proofs.Lists.{drop_turn}
+use Rattle.gc_client.proofs.Lists.{drop_next}
 use Rattle.gc_instrument.specs.State.{State, restarted}
 use Rattle.gc_world.specs.declared.event.Event.{Event}
 use Rattle.gc_world.specs.declared.event.Event.TheVariants.{DownDeliver}
@@ -20,8 +20,7 @@ use Rattle.gc_world.specs.declared.event.Event.TheVariants as event
 use Rattle.gc_world.specs.Clients.{ByNumber, number_send, number_reply, by_ids, by_numbers, ids_open, numbers_open, run_by_ids, streams_by_ids, streams_by_numbers}
 use Rattle.gc_world.specs.FirstReply.{IsDelivery, HasSend, IsInTime, IsTooLate, IsSettledAs, settled_as, between, DeliverySettles}
 use Rattle.gc_world.specs.Streams.{Streams, untouched, flows}
-use Rattle.gc_world.specs.Laws.{left_by_ids}
-use Rattle.gc_world.specs.Clients.{ends}
+use Rattle.gc_world.specs.Clients.{ends, left_by_ids}
 use Rattle.gc_world.specs.World.{Sent, Numbered, Wire, World, Send, Down_deliver, requested, down_delivered, happens, run, call_line}
 use Rattle.gc_world.proofs.Agree.{Agree, agree_at, sound_at}
 use Rattle.gc_world.proofs.Flow.{taken, flow_run, flow_append, AreLevel, level_at, level_wire}
@@ -90,7 +89,7 @@ settles_through settled waiting sent n line p whole le h =
       request = some.0;
       found = sym (slice_drop m sent n le) ∙ some.1;
       settlements =
-          settle_is k line waiting p (drop (suc k) waiting) (drop_turn waiting k p h)
+          settle_is k line waiting p (drop (suc k) waiting) (drop_next waiting k p h)
           ∙ ap₂ (λ (l : List (Settlement Call)) (a : Wanted Call). l ++ settled_wanted (outcome_of p line) a ∷ []) (lost_alike (take k waiting) (take k (drop m sent)) first) (sym some.2);
     }
 
@@ -230,8 +229,8 @@ module _ (width : ℕ) (narrow : width ≤ WINDOW) (opening : State) where
 
   -- where request n is in time after these events, the delivery of a first reply to it settles it as answered with the reply's
   -- line, and the unsettled requests before it as lost (`DeliverySettles`)
-  pub books : (events : List Event) (n : ℕ) (line : List ℕ) → IsInTime width opening events n → DeliverySettles width opening events n line (Answered line)
-  books events n line t delivery is next =
+  pub in_time_is_answered : (events : List Event) (n : ℕ) (line : List ℕ) → IsInTime width opening events n → DeliverySettles width opening events n line (Answered line)
+  in_time_is_answered events n line t delivery is next =
       let s = t.sent in
       let p = mark_of s.earlier s.target s.call s.deadline s.later in
       subst (λ b. IsSettledAs (left_by_ids width opening events) (left_by_ids width opening (events ++ delivery ∷ [])) n (cond b Late (Answered line)))
@@ -240,8 +239,8 @@ module _ (width : ℕ) (narrow : width ≤ WINDOW) (opening : State) where
 
   -- where request n is too late after these events, the delivery of a first reply to it settles it as late, and the unsettled
   -- requests before it as lost (`DeliverySettles`)
-  pub is_late : (events : List Event) (n : ℕ) (line : List ℕ) → IsTooLate width opening events n → DeliverySettles width opening events n line Late
-  is_late events n line t delivery is next =
+  pub too_late_is_late : (events : List Event) (n : ℕ) (line : List ℕ) → IsTooLate width opening events n → DeliverySettles width opening events n line Late
+  too_late_is_late events n line t delivery is next =
       let s = t.sent in
       let p = mark_of s.earlier s.target s.call s.deadline s.later in
       subst (λ b. IsSettledAs (left_by_ids width opening events) (left_by_ids width opening (events ++ delivery ∷ [])) n (cond b Late (Answered line)))

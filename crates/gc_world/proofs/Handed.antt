@@ -91,8 +91,8 @@ module _ {Client State : Type 0} (ends : Ends State) (rule : Rule Client) (d : D
       ap (λ (x : Streams Client State). x.world.wire.idle) (delivered ends rule d v) ∙ not_idle ends rule d v.world (omega (arith, some))
 
   -- where no byte of the front line remains, handing over n bytes changes nothing: by `IsPart` no line is in flight then
-  pub ended : (n : ℕ) → IsPart (gone d v) (lines d v.world.wire) → to_go d v ≡ 0 → handed_over ends rule d v n ≡ v
-  ended n part e =
+  pub none_to_hand_over : (n : ℕ) → IsPart (gone d v) (lines d v.world.wire) → to_go d v ≡ 0 → handed_over ends rule d v n ≡ v
+  none_to_hand_over n part e =
       let none = none_in_flight (gone d v) (lines d v.world.wire) part e in
       ap (λ q. after_cut ends rule d v (cut q (gone d v + n))) none.0 ∙ ap (with_front_gone d v v.world) (sym none.1) ∙ unmoved d v v.world
 
@@ -135,10 +135,10 @@ module _ (width : ℕ) (v : Streams (ById Call) State) where
 
 -- in either direction: where the bytes of an event complete the front line and take no memory, the delivery of this line takes
 -- none, and the other bytes take none after it
-spared : (width : ℕ) (d : Direction) (v : Streams (ById Call) State) (n used : ℕ) → IsNext ends (by_ids width ends) d v n used → TakesNoMemory width v (bytes d n)
+front_spared : (width : ℕ) (d : Direction) (v : Streams (ById Call) State) (n used : ℕ) → IsNext ends (by_ids width ends) d v n used → TakesNoMemory width v (bytes d n)
     → TakesNoMemory width v (delivery d) × TakesNoMemory width (after_event ends width v (delivery d)) (bytes d (n - used))
-spared width Up v n used h t = absurd (next_takes width v n used h t)
-spared width Down v n used h t = next_strays width v n used h v.world.wire.down refl t
+front_spared width Up v n used h t = absurd (next_takes width v n used h t)
+front_spared width Down v n used h t = next_strays width v n used h v.world.wire.down refl t
 
 -- n bytes are to be handed over on the streams v, and `left` of them are left: the stage shows streams `now` from which handing
 -- over those left leads where all n lead from v. Since v no event was counted as not possible; and those left take no memory if
@@ -151,8 +151,8 @@ pub record IsReached (width : ℕ) (d : Direction) (s : StageParts) (v : Streams
   pub idle : now.world.wire.idle ≡ v.world.wire.idle
 
 -- where a stage shows the streams v, `IsReached` holds before any byte was handed over, with all n bytes left
-pub reached : (width : ℕ) (d : Direction) (s : StageParts) (v : Streams (ById Call) State) (n : ℕ) → AreStreamsOf width s v → IsReached width d s v n n
-reached width d s v n h = record { now = v; shows = h; same = refl; spare = λ t. t; idle = refl }
+pub reached_at_first : (width : ℕ) (d : Direction) (s : StageParts) (v : Streams (ById Call) State) (n : ℕ) → AreStreamsOf width s v → IsReached width d s v n n
+reached_at_first width d s v n h = record { now = v; shows = h; same = refl; spare = λ t. t; idle = refl }
 
 module _ (width : ℕ) (d : Direction) (s : StageParts) (v : Streams (ById Call) State) (n left : ℕ) (h : IsReached width d s v n left) where
   -- `IsReached` holds also once one more line was delivered, which took `used` of the bytes that were left: `left - used` are
@@ -165,7 +165,7 @@ module _ (width : ℕ) (d : Direction) (s : StageParts) (v : Streams (ById Call)
         now = after_event ends width h.now (delivery d);
         shows = shows;
         same = sym (next_same ends (by_ids width ends) d h.now left used one) ∙ h.same;
-        spare = λ t. (spared width d h.now left used one (h.spare t)).1;
+        spare = λ t. (front_spared width d h.now left used one (h.spare t)).1;
         idle = next_idle ends (by_ids width ends) d h.now left used one ∙ h.idle;
       }
 
@@ -173,7 +173,7 @@ module _ (width : ℕ) (d : Direction) (s : StageParts) (v : Streams (ById Call)
   -- the delivery of this line takes none
   pub next_spares : (used : ℕ) → used ≡ to_go d h.now → 0 < used → used ≤ left
       → TakesNoMemory width v (bytes d n) → TakesNoMemory width h.now (delivery d)
-  next_spares used e some le t = (spared width d h.now left used (next ends (by_ids width ends) d h.now left used e some le) (h.spare t)).0
+  next_spares used e some le t = (front_spared width d h.now left used (next ends (by_ids width ends) d h.now left used e some le) (h.spare t)).0
 
   -- where a stage shows the streams that handing over the bytes that are left leads to, it shows those that all n bytes lead to
   pub reaches_end : (t : StageParts) → AreStreamsOf width t (after_bytes ends width d h.now left) → AreStreamsOf width t (after_bytes ends width d v n)
@@ -181,10 +181,9 @@ module _ (width : ℕ) (d : Direction) (s : StageParts) (v : Streams (ById Call)
 
   -- where no byte is in flight any more, the stage shows the streams that all n bytes lead to
   pub runs_dry : to_go d h.now ≡ 0 → AreStreamsOf width s (after_bytes ends width d v n)
-  runs_dry e = subst (λ x. AreStreamsOf width s x) (sym (ended ends (by_ids width ends) d h.now left (part width s h.now h.shows d) e) ∙ h.same) h.shows
+  runs_dry e = subst (λ x. AreStreamsOf width s x) (sym (none_to_hand_over ends (by_ids width ends) d h.now left (part width s h.now h.shows d) e) ∙ h.same) h.shows
 
--- where the test `completes`, of a line with r bytes left and of l bytes, fails (b is false) though l is at least r, no byte of
--- the line was left: r is 0
-pub runs_out : (b : Bool) (r l : ℕ) → IsTrue b ↔ ((0 < r) × (r ≤ l)) → b ≡ false → (l < r → ⊥) → r ≡ 0
-runs_out b zero l iff e le = refl
-runs_out b (suc r) l iff e le = absurd (both_ways b e (iff.1 (omega arith, omega (arith, le))))
+-- where l bytes are at least the r bytes that are left of a line, and don't complete it (b is false), no byte is left: r is 0
+pub none_left_if_incomplete : (b : Bool) (r l : ℕ) → IsTrue b ↔ ((0 < r) × (r ≤ l)) → b ≡ false → (l < r → ⊥) → r ≡ 0
+none_left_if_incomplete b zero l iff e le = refl
+none_left_if_incomplete b (suc r) l iff e le = absurd (both_ways b e (iff.1 (omega arith, omega (arith, le))))

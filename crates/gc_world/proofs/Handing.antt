@@ -1,6 +1,5 @@
 -- What the instrument does with a request that a client wrote, and how its reply reads.
 use Rattle.std.proofs.Common.{◌≡◌, ℕ, ◌<◌, Bool, true, false, cond, List, Option, Some, None, Ok, inl, inr, refl, sym, ap, ◌∙◌, subst, lit<, eqb}
-use Rattle.std.specs.Option.{option_map}
 use Rattle.std.proofs.lemmas.Bool.{eqb-true, eq-eqb, cond_both}
 use Rattle.gc_lines.specs.Readers.{reply_at}
 use Rattle.gc_lines.specs.Replies.{IsReply, reply_text}
@@ -13,7 +12,7 @@ use Rattle.gc_catalogue.specs.Readings.{IsReading}
 use Rattle.gc_catalogue.specs.Texts.{reply_of}
 use Rattle.gc_catalogue.proofs.AnswerLaws.{one_reading}
 use Rattle.gc_client.specs.Rule.{id_in, heard}
-use Rattle.gc_instrument.specs.State.{State, KeptReply, IsFittingState, IsFittingKept, IsFittingReply, restarted}
+use Rattle.gc_instrument.specs.State.{State, KeptReply, IsFittingState, IsFittingKept, IsFittingReply, kept_id, restarted}
 use Rattle.gc_instrument.specs.Execution.{Executed, exec}
 use Rattle.gc_instrument.specs.Replying.{Handed, handed, kept_line, kept_after, without_kept, executed_line, reading_of}
 pub use Rattle.gc_instrument.specs.Replying.{kept_of}
@@ -96,44 +95,40 @@ keeper =
     }
 
 -- a request that was executed didn't have the kept id
-new_id : (s : State) (id : ℕ) (call : Call) → (handed s id call).executed ≡ true → kept_line s.kept (Some id) ≡ None
-new_id s id call e = elim (some_line_or_none (kept_line s.kept (Some id))) [
+executed_id_is_new : (s : State) (id : ℕ) (call : Call) → (handed s id call).executed ≡ true → kept_line s.kept (Some id) ≡ None
+executed_id_is_new s id call e = elim (some_line_or_none (kept_line s.kept (Some id))) [
   | inl h ↦ let wrong : false ≡ true = sym (ap (λ (x : Handed State). x.executed) (handed_again s id call h.0 h.1)) ∙ e in let never : ⊥ = cc in absurd never
   | inr none ↦ none
 ]
 
 -- apart from the kept reply, the state after a request was executed is the one after carrying out its call
-pub bare_after : (s : State) (id : ℕ) (call : Call) → (handed s id call).executed ≡ true → without_kept (handed s id call).state ≡ (exec (without_kept s) call).state
-bare_after s id call e =
-    ap (λ (x : Handed State). without_kept x.state) (handed_new s id call (new_id s id call e))
+pub without_kept_after : (s : State) (id : ℕ) (call : Call) → (handed s id call).executed ≡ true → without_kept (handed s id call).state ≡ (exec (without_kept s) call).state
+without_kept_after s id call e =
+    ap (λ (x : Handed State). without_kept x.state) (handed_new s id call (executed_id_is_new s id call e))
     ∙ sym (ap (λ (x : Executed). x.state) (executes_apart s None call))
 
 -- the reply to a request that was executed is the reply line of carrying out its call in the state with nothing kept
-pub bare_line : (s : State) (id : ℕ) (call : Call) → (handed s id call).executed ≡ true → (handed s id call).reply ≡ executed_line id (exec (without_kept s) call)
-bare_line s id call e =
-    ap (λ (x : Handed State). x.reply) (handed_new s id call (new_id s id call e))
+pub line_without_kept : (s : State) (id : ℕ) (call : Call) → (handed s id call).executed ≡ true → (handed s id call).reply ≡ executed_line id (exec (without_kept s) call)
+line_without_kept s id call e =
+    ap (λ (x : Handed State). x.reply) (handed_new s id call (executed_id_is_new s id call e))
     ∙ sym (ap (λ (x : Executed). executed_line id x) (executes_apart s None call))
 
 -- where the state s, without its kept reply, is t, it still is once both were restarted (b true), and also if neither was
-pub bare_restarted : (b : Bool) (s t : State) → without_kept s ≡ t → without_kept (restarted_if restarted b s) ≡ restarted_if restarted b t
-bare_restarted false s t e = e
-bare_restarted true s t e = ap restarted e
-
--- the id with which a reply is kept, if one is kept
-abbrev pub kept_id : Option KeptReply → Option ℕ
-kept_id k = option_map (λ (r : KeptReply). r.id) k
+pub without_kept_restarted : (b : Bool) (s t : State) → without_kept s ≡ t → without_kept (restarted_if restarted b s) ≡ restarted_if restarted b t
+without_kept_restarted false s t e = e
+without_kept_restarted true s t e = ap restarted e
 
 -- where the kept line for an id (`kept_line`) is this one, this line is kept, with that id
-pub kept_own : (k : Option KeptReply) (id : ℕ) (line : List ℕ) → kept_line k (Some id) ≡ Some line → k ≡ Some (record { id = id; line = line })
-kept_own None id line e = absurd (none-some line e)
-kept_own (Some k) id line e =
+pub kept_line_is_kept : (k : Option KeptReply) (id : ℕ) (line : List ℕ) → kept_line k (Some id) ≡ Some line → k ≡ Some (record { id = id; line = line })
+kept_line_is_kept None id line e = absurd (none-some line e)
+kept_line_is_kept (Some k) id line e =
     let c = cond_some (eqb k.id id) k.line line e in
     ap (λ i. Some (record { id = i; line = k.line })) (eqb-true k.id id c.0) ∙ ap (λ l. Some (record { id = id; line = l })) c.1
 
 -- the line that an instrument sends again for an id, if it sends lines again at all (b), is kept with that id
 pub again_kept : (b : Bool) (k : Option KeptReply) (id : ℕ) (line : List ℕ) → cond b (kept_line k (Some id)) None ≡ Some line
     → k ≡ Some (record { id = id; line = line })
-again_kept true k id line e = kept_own k id line e
+again_kept true k id line e = kept_line_is_kept k id line e
 again_kept false k id line e = absurd (none-some line e)
 
 -- the line of a reply with codes of 16 bits and an id below 8 reads as a reply with that id
@@ -149,9 +144,9 @@ kept_reads true id line k h = h
 kept_reads false id line k h = tt
 
 -- where no line is kept for an id (`kept_line`), no reply is kept with that id
-pub other_id : (k : Option KeptReply) (id : ℕ) → kept_line k (Some id) ≡ None → kept_id k ≡ Some id → ⊥
-other_id None id e is = cc
-other_id (Some k) id e is =
+pub id_is_not_kept : (k : Option KeptReply) (id : ℕ) → kept_line k (Some id) ≡ None → kept_id k ≡ Some id → ⊥
+id_is_not_kept None id e is = cc
+id_is_not_kept (Some k) id e is =
     let same : k.id ≡ id = same_Some k.id id is in
     let yes : eqb k.id id ≡ true = eq-eqb k.id id same in
     none-some k.line (sym e ∙ ap (λ b. cond b (Some k.line) None) yes)
@@ -163,7 +158,7 @@ fine_reading x = cond_both (eqb x.rc 0) (Value (rounded_answer x.state.precision
 -- a reply that was made on executing a call that fits, in a fitting state, reads as a value or a refusal
 pub fine : RepliesAreFine
 fine call bytes reading made fits read =
-    let a = handed_answered made.state made.id call made.good made.small fits (new_id made.state made.id call made.executed) in
+    let a = handed_answered made.state made.id call made.good made.small fits (executed_id_is_new made.state made.id call made.executed) in
     let same : a.fields ≡ read.reply = one_reply bytes a.fields read.reply (subst (λ (l : List ℕ). IsReply l a.fields) (sym made.reply) a.is_reply) read.is_reply in
     let one : reading_of (exec made.state call) ≡ reading = one_reading call read.reply _ reading (subst (λ f. IsReading call f (reading_of (exec made.state call))) same a.reading) read.is_reading in
     subst IsValueOrRefusal one (fine_reading (exec made.state call))

@@ -1,12 +1,12 @@
 -- What the oracle client remembers of one request, until it is settled: whether it had timed out.
-use Rattle.std.proofs.Common.{◌≡◌, ℕ, ◌-◌, ◌≤◌, Bool, true, false, List, [], ◌∷◌, ◌++◌, length, map, take, drop, zero, suc, Some, refl, sym, ◌∙◌, ap, arith, ltb, eqb}
+use Rattle.std.proofs.Common.{◌≡◌, ℕ, ◌-◌, ◌≤◌, Bool, true, false, List, [], ◌∷◌, length, zero, suc, Some, refl, sym, ◌∙◌, ap, arith, ltb, eqb}
 use Rattle.std.specs.Prelude.{slice_get}
 use Rattle.std.proofs.lemmas.Bool.{ltb-false}
 use Rattle.gc_catalogue.specs.declared.call.Call.{Call}
 use Rattle.gc_client.specs.declared.pending.Pending.{Pending}
 use Rattle.gc_client.specs.Rule.{pending_of, expired}
 use Rattle.gc_world.specs.World.{Request, Numbered, Ends, Step, Send, Up_deliver, Up_lose, Up_repeat, Down_deliver, Down_lose, Down_repeat, Expire, Restart_client, Restart_instrument, Nothing, World, requested, down_delivered, client_restarted, happens, run, call_line}
-use Rattle.gc_world.specs.Clients.{ByNumber, number_send, number_reply, by_numbers}
+use Rattle.gc_world.specs.Clients.{ByNumber, number_send, number_reply, expired_from, by_numbers}
 use Rattle.gc_world.specs.Exchange.{IsExchange}
 use Rattle.std.proofs.lemmas.Option.{none-some, slice_get_within}
 use Rattle.gc_world.proofs.Places.{get_map, get_more}
@@ -35,7 +35,7 @@ untouched_onward e c t = record { count = omega arith; entries = λ n p h le. h 
 -- where a moment is applied to the requests from place k on, and n is at least k, place n has `expired now p` afterwards if it
 -- had p before
 expired_at : (now k : ℕ) (ps : List (Pending Call)) (n : ℕ) (p : Pending Call) → k ≤ n → slice_get ps n ≡ Some p
-    → slice_get (take k ps ++ map (expired now) (drop k ps)) n ≡ Some (expired now p)
+    → slice_get (expired_from now k ps) n ≡ Some (expired now p)
 expired_at now zero ps n p le h = get_map (expired now) ps n p h
 expired_at now (suc k) [] n p le h = absurd (none-some p h)
 expired_at now (suc k) (q ∷ ps) zero p le h = absurd (omega (arith, le))

@@ -34,8 +34,8 @@ untouched_by : (e : Event) (p : Pending Call) → ((now : ℕ) → e ≡ Expire 
 untouched_by e p none = record { deadline = refl; stays = λ g. g; early = λ g h. g; reached = λ now is le. absurd (none now is) }
 
 -- equal `Expire` events have the same moment
-moment_is : (a b : ℕ) → Expire a ≡ Expire b → a ≡ b
-moment_is a b e = cc
+same_moment : (a b : ℕ) → Expire a ≡ Expire b → a ≡ b
+same_moment a b e = cc
 
 -- a step leaves every request that waits as it is
 abbrev IsQuiet : Step → Type 0
@@ -78,7 +78,7 @@ module _ {Client State : Type 0} (ends : Ends State) (rule : Rule Client) where
         deadline = refl;
         stays = λ g. or_left p.given_up (leb p.deadline now) g;
         early = λ g h. or_from p.given_up (leb p.deadline now) g (lt-leb _ _ (h now refl));
-        reached = λ m is le. or_right p.given_up (leb p.deadline now) (le-leb p.deadline now (omega (arith, moment_is now m is, le)));
+        reached = λ m is le. or_right p.given_up (leb p.deadline now) (le-leb p.deadline now (omega (arith, same_moment now m is, le)));
       }
   touch v (Send target call deadline) p = untouched_by (Send target call deadline) p (λ now is. cc)
   touch v UpDeliver p = untouched_by UpDeliver p (λ now is. cc)
@@ -161,7 +161,7 @@ Reaches deadline e = (now : ℕ) × (e ≡ Expire now) × (deadline ≤ now)
 -- a moment lies before a deadline, or reaches it
 moment_early_or_reaching : (deadline now : ℕ) (b : Bool) → leb deadline now ≡ b → IsEarly deadline (Expire now) ⊎ Reaches deadline (Expire now)
 moment_early_or_reaching deadline now true t = inr (now, refl, leb-true _ _ t)
-moment_early_or_reaching deadline now false t = inl (λ m is. omega (arith, moment_is now m is, leb-false _ _ t))
+moment_early_or_reaching deadline now false t = inl (λ m is. omega (arith, same_moment now m is, leb-false _ _ t))
 
 -- an event is early, or reaches the deadline
 event_early_or_reaching : (deadline : ℕ) (e : Event) → IsEarly deadline e ⊎ Reaches deadline e

@@ -20,7 +20,7 @@ use Rattle.gc_world.specs.World.{Request, Sent, Numbered, Ends, Step, World, Wir
 use Rattle.gc_world.proofs.Booked.{Has, has_more, has_push}
 use Rattle.std.proofs.lemmas.Option.{cond_some, same_Some}
 use Rattle.gc_world.proofs.Places.{get_push}
-use Rattle.gc_world.proofs.Replay.{IsAsSent, of_more, Replays, replays_more, replays_push, replays_started, no_number}
+use Rattle.gc_world.proofs.Replay.{IsAsSent, as_sent_more, Replays, replays_more, replays_push, replays_started, no_number}
 use Rattle.gc_world.proofs.Rows.{each_number, each_without, each_doubled, rising_each, rising_tail}
 use Rattle.gc_world.proofs.Sound.{IsGoing, Sound, keeps, sound_open, length_expired}
 use Rattle.gc_world.proofs.Stable.{IsStable, stable_all}
@@ -67,10 +67,10 @@ not_chosen true l e = cc
 not_chosen false l e = refl
 
 -- where `IsAboveExecuted` holds, and no line is kept for the id of the front request, its number is `top` or a higher one
-is_new : (kept : Option KeptReply) (since count top : ℕ) (x : Numbered Request) (up : List (Numbered Request))
+front_is_new : (kept : Option KeptReply) (since count top : ℕ) (x : Numbered Request) (up : List (Numbered Request))
     → kept_line kept (Some ((x.number - since) % 8)) ≡ None → IsAboveExecuted kept since count top (x ∷ up) → top ≤ x.number
-is_new None since count top x up e h = h.0
-is_new (Some k) since count top x up e h =
+front_is_new None since count top x up e h = h.0
+front_is_new (Some k) since count top x up e h =
     let ne = eqb-false _ _ (not_chosen (eqb k.id ((x.number - since) % 8)) k.line e) in
     elim (cases_eq (x.number + 1) top) [
       | inl same ↦ absurd (ne (omega (arith, h.1, same)))
@@ -79,11 +79,11 @@ is_new (Some k) since count top x up e h =
 
 -- where `IsAboveExecuted` holds, at most seven requests aren't settled, and a line is kept for the id of the front request, which
 -- is as `IsGoing` says, this request is number top - 1
-is_last : {line : List ℕ} (kept : Option KeptReply) (since count top total : ℕ) (x : Numbered Request) (up : List (Numbered Request))
+front_is_last : {line : List ℕ} (kept : Option KeptReply) (since count top total : ℕ) (x : Numbered Request) (up : List (Numbered Request))
     → kept_line kept (Some x.line.id) ≡ Some line → IsGoing since total x → total ≤ count + 7
     → IsAboveExecuted kept since count top (x ∷ up) → x.number + 1 ≡ top
-is_last {line} None since count top total x up is going few h = cc
-is_last {line} (Some k) since count top total x up is going few h =
+front_is_last {line} None since count top total x up is going few h = cc
+front_is_last {line} (Some k) since count top total x up is going few h =
     let same = eqb-true k.id x.line.id (cond_some (eqb k.id x.line.id) k.line line is).0 in
     omega (arith, same, going.id, going.recent, going.sent, few, h.0, h.1, h.2, h.3.0)
 
@@ -202,7 +202,7 @@ module _ {State : Type 0} (width : ℕ) (narrow : width ≤ 7) (ends : Ends Stat
       let c = w.client in
       let g = subst (λ l. AllByRecursion (IsGoing c.since (length c.requests)) l) q s.going in
       let a = subst (λ l. IsAboveExecuted (kept w.wire.state) c.since c.count h.top l) q h.above in
-      let new = is_new (kept w.wire.state) c.since c.count h.top x rest (subst (λ i. kept_line (kept w.wire.state) (Some i) ≡ None) g.0.id none) a in
+      let new = front_is_new (kept w.wire.state) c.since c.count h.top x rest (subst (λ i. kept_line (kept w.wire.state) (Some i) ≡ None) g.0.id none) a in
       let order = rising_tail c.count x.number (numbers w.wire.down) (numbers rest) (subst (λ l. Rising c.count (numbers w.wire.down ++ numbers l)) q s.order) in
       let keeps_it : kept hd.state ≡ Some (record { id = x.line.id; line = hd.reply }) =
       subst (λ (k : Handed State). kept k.state ≡ Some (record { id = x.line.id; line = k.reply })) is (keeper.keeps w.wire.state x.line.id x.line.call none) in
@@ -228,7 +228,7 @@ module _ {State : Type 0} (width : ℕ) (narrow : width ≤ 7) (ends : Ends Stat
       let r = h.replayed in
       let g = subst (λ l. AllByRecursion (IsGoing c.since (length c.requests)) l) q s.going in
       let a = subst (λ l. IsAboveExecuted (kept w.wire.state) c.since c.count h.top l) q h.above in
-      let last = is_last (kept w.wire.state) w.client.since w.client.count h.top (length w.client.requests) x rest is g.0 (omega (arith, narrow, s.few)) a in
+      let last = front_is_last (kept w.wire.state) w.client.since w.client.count h.top (length w.client.requests) x rest is g.0 (omega (arith, narrow, s.few)) a in
       let y : Numbered (List ℕ) = record { number = x.number; line = line } in
       record {
         top = h.top;
@@ -286,7 +286,7 @@ module _ {State : Type 0} (width : ℕ) (narrow : width ≤ 7) (ends : Ends Stat
           begins = t.begins;
           held = t.held;
           lines =
-              all_append _ w.wire.up _ (all_on _ _ w.wire.up (of_more call_line w.wire.sent (r ∷ [])) t.lines)
+              all_append _ w.wire.up _ (all_on _ _ w.wire.up (as_sent_more call_line w.wire.sent (r ∷ [])) t.lines)
               (record { request = r; found = get_push w.wire.sent r; small = digit; call = refl; text = refl }, tt);
         };
       }

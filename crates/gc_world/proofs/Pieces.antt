@@ -14,7 +14,7 @@ use Rattle.gc_lines.specs.Assembler.{Kept, StandsFor}
 use Rattle.gc_lines.specs.Frames.{is_line_feed, frame_of}
 use Rattle.gc_lines.specs.Lines.{IsPlainByte, IsPlain, with_end}
 use Rattle.gc_lines.specs.Taking.{KeepsPiece}
-use Rattle.gc_lines.proofs.Plain.{plain_frame}
+use Rattle.gc_lines.proofs.Plain.{frame_is_line}
 use Rattle.gc_world.specs.Sides.{StandsForPart}
 
 -- Plain bytes have no line feed.
@@ -70,22 +70,21 @@ pub fed_return : {used : ℕ} {frame : Frame} (old new : Kept) (line : List ℕ)
     → StandsForPart new m line
 fed_return old new line m e next stands = subst (StandsFor new) (sym (with_return line m e)) ((next refl).2 line stands)
 
--- where an assembler stands for all bytes of a line of at most 512 bytes and its CR LF but the line feed, the frame that a line
--- feed ends is that line
-pub fed_feed : (line : List ℕ) (g : ℕ) → g ≡ length line + 1 → length line ≤ 512 → frame_of (take g (with_end line) ++ []) ≡ Line (record { items = line })
-fed_feed line g e fits = ap frame_of (append-nil (take g (with_end line)) ∙ with_return line g e) ∙ sym (plain_frame line fits)
+-- the frame of the first g bytes of a line of at most 512 bytes with its CR LF, which are all but the line feed, is that line
+pub frame_of_line : (line : List ℕ) (g : ℕ) → g ≡ length line + 1 → length line ≤ 512 → frame_of (take g (with_end line) ++ []) ≡ Line (record { items = line })
+frame_of_line line g e fits = ap frame_of (append-nil (take g (with_end line)) ∙ with_return line g e) ∙ sym (frame_is_line line fits)
 
 -- two frames that are equal lines have equal bytes
 line_items : (xs ys : List ℕ) → ◌≡◌ {A = Frame} (Line (record { items = xs })) (Line (record { items = ys })) → xs ≡ ys
 line_items xs ys e = let same : ◌≡◌ {A = ArrayVec ℕ} (record { items = xs }) (record { items = ys }) = cc in ap (λ (v : ArrayVec ℕ). v.items) same
 
--- where a lent frame is the line l, and a line of these bytes (`IsLentLine`), l has these bytes
-pub came_out : (f : Lent) (l : _) (items : List ℕ) → f ≡ lent.Line l → IsLentLine f items → l.now ≡ items
-came_out f l items is seen = let e : Line (record { items = l.now }) ≡ Line (record { items = items }) = ap lent_seen (sym is) ∙ seen in line_items l.now items e
+-- where a lent frame is the line l, and `IsLentLine` says that it is a line of these bytes, these are the bytes of l
+pub lent_line_items : (f : Lent) (l : _) (items : List ℕ) → f ≡ lent.Line l → IsLentLine f items → l.now ≡ items
+lent_line_items f l items is seen = let e : Line (record { items = l.now }) ≡ Line (record { items = items }) = ap lent_seen (sym is) ∙ seen in line_items l.now items e
 
--- where `IsLentLine` holds of a lent frame, it can't be anything but `Line`
-pub none_else : (f : Lent) (items : List ℕ) → IsLentLine f items → ((l : _) → f ≡ lent.Line l → ⊥) → ⊥
-none_else (lent.Line l) items seen not = not l refl
-none_else lent.Cleared items seen not = cc
-none_else lent.Overlong items seen not = cc
-none_else lent.More items seen not = cc
+-- a lent frame of which `IsLentLine` holds is `Line` and nothing else
+pub no_other_lent : (f : Lent) (items : List ℕ) → IsLentLine f items → ((l : _) → f ≡ lent.Line l → ⊥) → ⊥
+no_other_lent (lent.Line l) items seen not = not l refl
+no_other_lent lent.Cleared items seen not = cc
+no_other_lent lent.Overlong items seen not = cc
+no_other_lent lent.More items seen not = cc

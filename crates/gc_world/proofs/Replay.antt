@@ -15,9 +15,9 @@ no_number n [] h = refl
 no_number n (x ∷ xs) h = ap (λ b. b || has_number n xs) (ne_eqb x n (λ e. omega (arith, h.0, e))) ∙ no_number n xs h.1
 
 -- appending a number m to a list doesn't change whether another number, n, is in it
-has_number_push : (n m : ℕ) (xs : List ℕ) → (m ≡ n → ⊥) → has_number n (xs ++ m ∷ []) ≡ has_number n xs
-has_number_push n m [] ne = ap (λ b. b || false) (ne_eqb m n ne)
-has_number_push n m (x ∷ xs) ne = ap (λ b. eqb x n || b) (has_number_push n m xs ne)
+has_number_push_other : (n m : ℕ) (xs : List ℕ) → (m ≡ n → ⊥) → has_number n (xs ++ m ∷ []) ≡ has_number n xs
+has_number_push_other n m [] ne = ap (λ b. b || false) (ne_eqb m n ne)
+has_number_push_other n m (x ∷ xs) ne = ap (λ b. eqb x n || b) (has_number_push_other n m xs ne)
 
 -- a number that was appended to a list is in it
 has_number_pushed : (n : ℕ) (xs : List ℕ) → has_number n (xs ++ n ∷ []) ≡ true
@@ -98,7 +98,7 @@ module _ {State : Type 0} (ends : Ends State) where
             ∙ restarted_twice twice (has_number (j + 1) starts) h.0 ∙ ap ends.restarted h.2,
       )
   replays_start twice sent starts j l s n (k ∷ ns) (m ∷ ms) t e h =
-      let b = has_number_push (j + 1) l starts (λ same. omega (arith, e, same)) in (
+      let b = has_number_push_other (j + 1) l starts (λ same. omega (arith, e, same)) in (
         h.0,
         h.1,
         subst (λ v. Replays sent (starts ++ l ∷ []) (j + 1) (restarted_if ends.restarted v h.0) (k ∷ ns) ms (ends.restarted t)) (sym b)
@@ -127,6 +127,6 @@ pub record IsAsSent {Q : Type 0} (written : ℕ → Q → List ℕ) (sent : List
   pub text : request.line ≡ written x.line.id x.line.call
 
 -- a request in flight stays the one that was sent with its number when more are sent
-pub of_more : {Q : Type 0} (written : ℕ → Q → List ℕ) (sent more : List (Worlds.Sent Q)) (x : Numbered (Worlds.Request Q)) → IsAsSent written sent x
+pub as_sent_more : {Q : Type 0} (written : ℕ → Q → List ℕ) (sent more : List (Worlds.Sent Q)) (x : Numbered (Worlds.Request Q)) → IsAsSent written sent x
     → IsAsSent written (sent ++ more) x
-of_more written sent more x h = record { request = h.request; found = get_more sent more x.number h.request h.found; small = h.small; call = h.call; text = h.text }
+as_sent_more written sent more x h = record { request = h.request; found = get_more sent more x.number h.request h.found; small = h.small; call = h.call; text = h.text }

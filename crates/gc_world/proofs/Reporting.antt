@@ -19,7 +19,7 @@ use Rattle.gc_world.specs.declared.report.Made.{Made}
 use Rattle.gc_world.specs.declared.report.Report.{Report}
 use Rattle.gc_world.specs.declared.report.Sent.{Sent}
 use Rattle.gc_world.specs.Faithful.{OneForOne, IsBookedAnswer, BooksAnswers, has_number, restarted_if, AreBefore, IsReplyOf, RecordsExecution, ActsOnce, sent_seen, AgreesWith}
-use Rattle.gc_world.specs.Record.{Increasing, IsOneForOne, IsBooked, IsExecutedIn, IsExecution}
+use Rattle.gc_world.specs.Record.{Increasing, IsOneForOne, IsBooked, IsExecutedIn, HasExecutions}
 use Rattle.gc_world.specs.Reports.{made_seen, IsReport, IsNoLongerThan}
 use Rattle.gc_world.specs.Clients.{ends}
 use Rattle.gc_instrument.specs.Execution.{exec}
@@ -27,7 +27,7 @@ use Rattle.gc_instrument.specs.Replying.{executed_line, without_kept}
 use Rattle.gc_world.specs.World
 use Rattle.gc_world.specs.World.{Numbered, Wire}
 use Rattle.gc_world.proofs.Counts.{IsWithin}
-use Rattle.gc_world.proofs.Handing.{bare_after, bare_line, bare_restarted, fine}
+use Rattle.gc_world.proofs.Handing.{without_kept_after, line_without_kept, without_kept_restarted, fine}
 use Rattle.std.proofs.lemmas.Option.{same_Some, none-some, slice_get_within}
 use Rattle.gc_world.proofs.Places.{get_map, get_seen, element_at, all_at}
 
@@ -38,11 +38,11 @@ above_low low (x ∷ xs) zero m h e = subst (λ k. low ≤ k) (same_Some x m e) 
 above_low low (x ∷ xs) (suc j) m h e = omega (arith, h.0, above_low (x + 1) xs j m h.1 e)
 
 -- of increasing numbers the one at a later place is greater than the one at an earlier place
-rises : (low : ℕ) (xs : List ℕ) (i j n m : ℕ) → Increasing low xs → i < j → slice_get xs i ≡ Some n → slice_get xs j ≡ Some m → n < m
-rises low [] i j n m h lt e f = absurd (none-some n e)
-rises low (x ∷ xs) i zero n m h lt e f = absurd (omega (arith, lt))
-rises low (x ∷ xs) zero (suc j) n m h lt e f = let above = above_low (x + 1) xs j m h.1 f in omega (arith, above, same_Some x n e)
-rises low (x ∷ xs) (suc i) (suc j) n m h lt e f = rises (x + 1) xs i j n m h.1 (omega (arith, lt)) e f
+increasing_rises : (low : ℕ) (xs : List ℕ) (i j n m : ℕ) → Increasing low xs → i < j → slice_get xs i ≡ Some n → slice_get xs j ≡ Some m → n < m
+increasing_rises low [] i j n m h lt e f = absurd (none-some n e)
+increasing_rises low (x ∷ xs) i zero n m h lt e f = absurd (omega (arith, lt))
+increasing_rises low (x ∷ xs) zero (suc j) n m h lt e f = let above = above_low (x + 1) xs j m h.1 f in omega (arith, above, same_Some x n e)
+increasing_rises low (x ∷ xs) (suc i) (suc j) n m h lt e f = increasing_rises (x + 1) xs i j n m h.1 (omega (arith, lt)) e f
 
 module _ (r : Report) (w : Wire State) (h : IsReport r w) where
   -- the report has as many requests as the run
@@ -102,7 +102,7 @@ module _ (r : Report) (w : Wire State) (h : IsReport r w) where
         (all_at (λ (x : Settlement Call). IsReadBy IsReading x.call x.outcome) r.settled m s
         (recursion_from_All (λ (x : Settlement Call). IsReadBy IsReading x.call x.outcome) r.settled h.settled.read) e)
 
-  module _ (opening : State) (x : IsExecution ends opening w) where
+  module _ (opening : State) (x : HasExecutions ends opening w) where
     -- the state before each execution, as the run has it, but with no kept reply
     abbrev before : ℕ → State
     before j = without_kept (x.before j)
@@ -126,14 +126,14 @@ module _ (r : Report) (w : Wire State) (h : IsReport r w) where
               let q = request_of j n d in
               let call : d.request.call ≡ request.call = sym (ap (λ (p : World.Sent). p.call) q.2) ∙ ap (λ (p : Sent). p.call) (same_Some q.0 request (sym q.1 ∙ sent)) in
               ap without_kept one.next
-              ∙ bare_restarted (has_number (j + 1) w.starts) _ _ (bare_after (x.before j) d.id d.request.call d.executed)
+              ∙ without_kept_restarted (has_number (j + 1) w.starts) _ _ (without_kept_after (x.before j) d.id d.request.call d.executed)
               ∙ ap (λ starts. restarted_if restarted (has_number (j + 1) starts) (exec (before j) d.request.call).state) (sym h.starts)
               ∙ ap (λ c. restarted_if restarted (has_number (j + 1) r.starts) (exec (before j) c).state) call;
         }
 
     -- the report's executed numbers strictly increase
     climbs : (i j n m : ℕ) → i < j → slice_get r.executed i ≡ Some n → slice_get r.executed j ≡ Some m → n < m
-    climbs i j n m lt e f = rises 0 w.executed i j n m x.climbs lt (executed_is i n e) (executed_is j m f)
+    climbs i j n m lt e f = increasing_rises 0 w.executed i j n m x.climbs lt (executed_is i n e) (executed_is j m f)
 
     -- no number was executed twice
     alone : (i j n : ℕ) → slice_get r.executed i ≡ Some n → slice_get r.executed j ≡ Some n → i ≡ j
@@ -162,7 +162,7 @@ module _ (r : Report) (w : Wire State) (h : IsReport r w) where
           id = d.id;
           digit = d.small;
           request_is = ap (λ (p : World.Sent). p.line) q.2 ∙ d.line ∙ ap (λ c. request_line (Some d.id) c) (sym call);
-          line_is = y.line ∙ bare_line (x.before y.j) d.id d.request.call d.executed ∙ ap (λ c. executed_line d.id (exec (before y.j) c)) (sym call);
+          line_is = y.line ∙ line_without_kept (x.before y.j) d.id d.request.call d.executed ∙ ap (λ c. executed_line d.id (exec (before y.j) c)) (sym call);
         }
 
     -- each executed number has a reply in the report

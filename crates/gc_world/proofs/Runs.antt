@@ -10,7 +10,7 @@ use Rattle.gc_client.specs.Rule.{Settlement}
 use Rattle.gc_world.specs.World.{Ends, Step, Wire, World, call_line}
 use Rattle.gc_world.specs.Clients.{ByNumber, run_by_ids, run_by_numbers}
 use Rattle.gc_world.specs.Exchange.{IsExchange, IsKeeper}
-use Rattle.gc_world.specs.Record.{IsOneForOne, IsBooked, IsExecution}
+use Rattle.gc_world.specs.Record.{IsOneForOne, IsBooked, HasExecutions}
 use Rattle.gc_world.proofs.Agree.{same_wire}
 use Rattle.gc_world.proofs.Booked.{Has, AllMade, backed_at}
 use Rattle.gc_world.proofs.Once.{Once, once_at, recent}
@@ -43,11 +43,11 @@ module _ {State : Type 0} (width : ℕ) (narrow : width ≤ 7) (ends : Ends Stat
   same : wire ≡ by_number.wire
   same = same_wire width narrow ends Good ex es (ends.restarted opening) good
 
-  -- the executions of the run by ids are as `IsExecution` has them, from the restarted opening state on
-  pub execution_at : IsExecution ends opening wire
+  -- the executions of the run by ids are as `HasExecutions` has them, from the restarted opening state on
+  pub execution_at : HasExecutions ends opening wire
   execution_at =
       let t = once.once.replayed in
-      subst (IsExecution ends opening) (sym same) (execution ends opening by_number.wire t.replies t.replays t.each t.among once.once.climbs)
+      subst (HasExecutions ends opening) (sym same) (execution ends opening by_number.wire t.replies t.replays t.each t.among once.once.climbs)
 
   -- while a reply is kept, each request in flight upward has the number executed last or one of the `width` above it
   pub recent_at : IsRecent width (kept wire.state) wire.executed (numbers wire.up)

@@ -14,8 +14,7 @@ use Rattle.gc_world.specs.Clients.{by_ids, ids_open, streams_by_ids}
 use Rattle.gc_world.specs.Streams.{Streams, untouched, cut, passed, is_begun, up_lines, down_lines, flows, flow}
 use Rattle.gc_world.specs.World
 use Rattle.gc_world.specs.FirstReply.{HasSend, IsInTime, IsTooLate, IsInTimeOrTooLate, IsNeverInTimeAndTooLate}
-use Rattle.gc_world.specs.Laws.{left_by_ids}
-use Rattle.gc_world.specs.Clients.{ends}
+use Rattle.gc_world.specs.Clients.{ends, left_by_ids}
 use Rattle.gc_world.specs.World.{Request, Numbered, Ends, Rule, Wire, World, Step, Up_deliver, Down_deliver, up_delivered, with_up, with_down, started, instrument_restarted, requested, down_delivered, client_restarted, happens, run}
 use Rattle.gc_world.proofs.Flow.{flow_append}
 use Rattle.gc_world.proofs.Moments.{AllEarly, OneReaches, early_or_reached}
@@ -120,7 +119,7 @@ module _ (width : ℕ) (opening : State) (n : ℕ) where
       ≡ (flows ends (by_ids width ends) (streams_by_ids width ends events (restarted opening)) e).world.wire
   left_more events e = ap (λ (v : Streams (ById Call) State). v.world.wire) (flow_append ends (by_ids width ends) events (e ∷ []) (untouched (ids_open (restarted opening))))
 
-  -- The list has the send of request n, where the event e sends a request, and at most n were sent before it: if n were (b true),
+  -- the list has the send of request n, where the event e sends a request, and at most n were sent before it: if n were (b true),
   -- that send is e; if fewer were (b false), the last premise gives it
   found_at : (earlier : List Event) (e : Event) (rest : List Event) (b : Bool) (test : eqb (sent_in earlier) n ≡ b) (few : sent_in earlier ≤ n) (send : IsSend e)
       (more : sent_in (earlier ++ e ∷ []) ≡ sent_in earlier + 1) (again : (sent_in (earlier ++ e ∷ []) ≤ n → HasSend width opening (earlier ++ e ∷ rest) n))

@@ -20,7 +20,7 @@ use Rattle.gc_client.specs.Rule.{ById, Windowed, Sending, heard, hears, place_in
 use Rattle.gc_client.specs.Rule
 use Rattle.gc_client.specs.Settlements.{AreSettlements}
 use Rattle.gc_client.proofs.Settling.{settled_append}
-use Rattle.gc_instrument.specs.State.{State, restarted}
+use Rattle.gc_instrument.specs.State.{State, restarted, kept_id}
 use Rattle.gc_instrument.specs.Replying.{Handed, handed, kept_line, IsExchanged, AppendsExchange}
 use Rattle.gc_instrument.proofs.Answering.{handed_again, handed_new, some_line_or_none}
 use Rattle.gc_world.specs.declared.report.Made.{Made}
@@ -34,21 +34,21 @@ use Rattle.gc_world.specs.Memory.{IsBusy}
 use Rattle.gc_world.specs.Order.{numbers}
 use Rattle.gc_world.specs.Reports.{made_seen, IsReport}
 use Rattle.gc_world.specs.Stages.{after_step, IsSentIn, replies_at, AreOfWorld}
-use Rattle.gc_world.proofs.Contracts.{ExchangesAny, Notes, Sends, HandsToInstrument, HandsToClient, RestartsBoth}
-use Rattle.gc_world.proofs.Handing.{kept_id, other_id}
+use Rattle.gc_world.proofs.Contracts.{ExchangesItsCall, Notes, Sends, HandsToInstrument, HandsToClient, RestartsBoth}
+use Rattle.gc_world.proofs.Handing.{id_is_not_kept}
 use Rattle.gc_world.proofs.Queues.{without_map, doubled_map, without_past, doubled_past}
 use Rattle.gc_world.proofs.Rows.{each_without, each_doubled}
 use Rattle.std.proofs.lemmas.Option.{same_Some, none-some}
 use Rattle.gc_world.proofs.Places.{get_map, get_more, get_push}
 
--- where the reply to the line, if there is one (b true), was appended to the empty text `old`, and gave `new`, `ExchangesAny`
+-- where the reply to the line, if there is one (b true), was appended to the empty text `old`, and gave `new`, `ExchangesItsCall`
 -- holds with `new` as the reply, or with no reply where b is false
-pub exchanges_any : (before : State) (bytes line : List ℕ) (after : State) (old new : List ℕ) (b : Bool) → bytes ≡ line → old ≡ []
-    → AppendsExchange before bytes after old new b → ExchangesAny before line after (cond b (Some new) None)
-exchanges_any before bytes line after old new true is none h id call digit fits e =
+pub exchanges_its_call : (before : State) (bytes line : List ℕ) (after : State) (old new : List ℕ) (b : Bool) → bytes ≡ line → old ≡ []
+    → AppendsExchange before bytes after old new b → ExchangesItsCall before line after (cond b (Some new) None)
+exchanges_its_call before bytes line after old new true is none h id call digit fits e =
     let a = h id call digit fits (is ∙ e) in
     subst (λ (t : List ℕ). IsExchanged before id call after (Some t)) (sym (a.2 ∙ ap (λ l. l ++ a.0) none)) a.1
-exchanges_any before bytes line after old new false is none h id call digit fits e = (h id call digit fits (is ∙ e)).0
+exchanges_its_call before bytes line after old new false is none h id call digit fits e = (h id call digit fits (is ∙ e)).0
 
 -- where `after` is the state after a request was handed to the instrument, and n was appended to `old` exactly if the kept id
 -- changed by that (`Notes`), n was appended exactly if the request was executed
@@ -62,7 +62,7 @@ noted s id call after n old new is h =
           h.same_is (sym (same ∙ ap (λ (x : Handed State). kept_id x.state.kept) did)) ∙ ap (λ (x : Handed State). cond x.executed (old ++ n ∷ []) old) (sym did)
       | inr none ↦
           let did = handed_new s id call none in
-          h.new_is (λ e. other_id s.kept id none (e ∙ same ∙ ap (λ (x : Handed State). kept_id x.state.kept) did))
+          h.new_is (λ e. id_is_not_kept s.kept id none (e ∙ same ∙ ap (λ (x : Handed State). kept_id x.state.kept) did))
           ∙ ap (λ (x : Handed State). cond x.executed (old ++ n ∷ []) old) (sym did)
     ]
 
@@ -140,9 +140,9 @@ none_settled old new line Stray more settled h not = sym (ap (λ l. settled ++ l
 none_settled old new line (Unread fault) more settled h not = sym (ap (λ l. settled ++ l) h.1 ∙ append-nil settled)
 
 -- where mapping a function over a list gives the empty list, the list is empty
-pub map_none : {A B : Type 0} (f : A → B) (xs : List A) → map f xs ≡ [] → xs ≡ []
-map_none f [] e = refl
-map_none f (x ∷ xs) e = cc
+pub map_nil : {A B : Type 0} (f : A → B) (xs : List A) → map f xs ≡ [] → xs ≡ []
+map_nil f [] e = refl
+map_nil f (x ∷ xs) e = cc
 
 module _ (width : ℕ) (r : Report) (up down : List ℕ) (c : Windowed Call) (w : World (ById Call) State) (h : AreOfWorld width r up down c w) where
   -- an event that is not possible is only counted, in the report as in the world
@@ -160,11 +160,11 @@ module _ (width : ℕ) (r : Report) (up down : List ℕ) (c : Windowed Call) (w 
 
   -- where the upward queue is empty, the world's is
   pub no_up : up ≡ [] → w.wire.up ≡ []
-  no_up e = map_none (λ x. x.number) w.wire.up (sym h.up_is ∙ e)
+  no_up e = map_nil (λ x. x.number) w.wire.up (sym h.up_is ∙ e)
 
   -- where the downward queue is empty, the world's is
   pub no_down : down ≡ [] → w.wire.down ≡ []
-  no_down e = map_none Some w.wire.down (sym h.down_is ∙ ap (replies_at r.made) e)
+  no_down e = map_nil Some w.wire.down (sym h.down_is ∙ ap (replies_at r.made) e)
 
   -- once the upward queue was replaced by `places`, the numbers of the sent requests `us`, if there is a line k (b true), or else
   -- stayed, and the event was counted as idle, report and queues show the world in which the same was done with `us`
@@ -323,9 +323,9 @@ module _ (width : ℕ) (r : Report) (up down : List ℕ) (c : Windowed Call) (w 
         calls = h.calls;
       })
 
-  -- where o is what the instrument replies to the front request (`ExchangesAny`), o isn't `None`
+  -- where o is what the instrument replies to the front request (`ExchangesItsCall`), o isn't `None`
   pub up_answered : (n : ℕ) (rest : List ℕ) (request : Sent) (state : State) (o : Option (List ℕ)) → up ≡ n ∷ rest → slice_get r.sent n ≡ Some request
-      → ExchangesAny r.instrument request.line.items state o → o ≡ None → ⊥
+      → ExchangesItsCall r.instrument request.line.items state o → o ≡ None → ⊥
   up_answered n rest request state o e found replied told =
       let f = up_front n rest e in
       let sound = subst (λ q. AllByRecursion (IsSentIn r.sent) q) f.2 h.requests in
@@ -399,7 +399,7 @@ module _ (width : ℕ) (r : Report) (up down : List ℕ) (c : Windowed Call) (w 
     where
       by_queues : (us : List (Numbered Request)) (ds : List (Numbered (List ℕ))) → w.wire.up ≡ us → w.wire.down ≡ ds
           → AreOfWorld width (counted false r) up down c (client_restarted ends (by_ids width ends) w us ds)
-      by_queues [] [] eu ed = absurd (b (h.up_is ∙ ap numbers eu, map_none (slice_get (map made_seen r.made)) down (h.down_is ∙ ap (map Some) ed)))
+      by_queues [] [] eu ed = absurd (b (h.up_is ∙ ap numbers eu, map_nil (slice_get (map made_seen r.made)) down (h.down_is ∙ ap (map Some) ed)))
       by_queues [] (y ∷ ds) eu ed = shows_idle
       by_queues (x ∷ us) ds eu ed = shows_idle
 
@@ -409,6 +409,6 @@ module _ (width : ℕ) (r : Report) (up down : List ℕ) (c : Windowed Call) (w 
     where
       by_queues : (us : List (Numbered Request)) (ds : List (Numbered (List ℕ))) → w.wire.up ≡ us → w.wire.down ≡ ds
           → AreOfWorld width (counted false r) up down c (on_wire w (instrument_restarted ends w.wire us ds))
-      by_queues [] [] eu ed = absurd (b (h.up_is ∙ ap numbers eu, map_none (slice_get (map made_seen r.made)) down (h.down_is ∙ ap (map Some) ed)))
+      by_queues [] [] eu ed = absurd (b (h.up_is ∙ ap numbers eu, map_nil (slice_get (map made_seen r.made)) down (h.down_is ∙ ap (map Some) ed)))
       by_queues [] (y ∷ ds) eu ed = shows_idle
       by_queues (x ∷ us) ds eu ed = shows_idle

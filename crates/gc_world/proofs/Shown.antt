@@ -24,7 +24,7 @@ use Rattle.gc_world.specs.Directions.{pick, bytes, texts, lines, gone, to_go, wi
 use Rattle.gc_world.specs.Memory.{IsBusy}
 use Rattle.gc_world.specs.Order.{numbers}
 use Rattle.gc_world.specs.Reports.{made_seen}
-use Rattle.gc_world.specs.Sides.{text_at, IsPart, IsFlow, Carries, Changes}
+use Rattle.gc_world.specs.Sides.{text_at, IsPart, IsFlow, Carries, ReplacesQueue}
 use Rattle.gc_world.specs.Stages.{StageParts, after_step, IsSentIn, replies_at, AreOfWorld, AreStreamsOf}
 use Rattle.gc_world.specs.Staging.{after_event, after_bytes}
 use Rattle.gc_world.specs.Streams.{Streams, up_texts, down_texts, is_begun, remaining}
@@ -226,7 +226,7 @@ module _ (width : ℕ) (s : StageParts) (v : Streams (ById Call) State) (h : Are
   -- the side before it and `side` after it, `g` is how many bytes of its front line have gone, and `put` sets a side and a
   -- count of idle events in the stage. The last premise is the case in which line k hasn't begun to go
   changes : (old : Side) (g : ℕ) (put : Side → ℕ → StageParts) (k : ℕ) (queue : List ℕ) (step : Step) (side : Side) (count : ℕ) → old.gone ≡ g
-      → put old (idle_after false) ≡ record s { report = counted false s.report } → Changes k queue old side s.report.idle_events count
+      → put old (idle_after false) ≡ record s { report = counted false s.report } → ReplacesQueue k queue old side s.report.idle_events count
       → (is_begun k old.gone ≡ false → (b : Bool) → b ≡ ltb k (length old.queue) → AreStreamsOf width (put (record old { queue = queue }) (idle_after b)) (stepped step))
       → AreStreamsOf width (put side count) (stepped (cond (is_begun k g) Nothing step))
   changes old g put k queue step side count gone_is same c done = by_begun (is_begun k g) (ap (is_begun k) gone_is)
@@ -236,36 +236,36 @@ module _ (width : ℕ) (s : StageParts) (v : Streams (ById Call) State) (h : Are
       by_begun false e = let was = c.done e in subst (λ t. AreStreamsOf width t (stepped step)) (sym (ap₂ put was.0 was.1)) (done e (ltb k (length old.queue)) refl)
 
   module _ (k : ℕ) (side : Side) (count : ℕ) where
-    -- once line k of the upward side was lost, or the event counted as idle where that isn't possible (`Changes`), the streams
-    -- after that event are shown
-    pub up_lost : Changes k (without k s.up.queue) s.up side s.report.idle_events count
+    -- once line k of the upward side was lost, or the event counted as idle where that isn't possible (`ReplacesQueue`), the
+    -- streams after that event are shown
+    pub up_lost : ReplacesQueue k (without k s.up.queue) s.up side s.report.idle_events count
         → AreStreamsOf width (with_up_side side count) (after_event ends width v (event.UpLose k))
     up_lost c =
         changes s.up v.up_gone with_up_side k (without k s.up.queue) (Up_lose k) side count h.up_is refl c
         (λ e b is. up_queue b (without k s.up.queue) (without k v.world.wire.up) k (shows_up_lose width s.report s.up.queue s.down.queue s.client v.world h.lines k b is)
         (subst (IsFlow s.up.assembler s.up.gone) (without_map (λ x. bytes_of x.line) k v.world.wire.up) (flow_without k s.up.assembler s.up.gone (up_texts v.world.wire) e h.up_flow)))
 
-    -- once line k of the upward side was repeated, or the event counted as idle where that isn't possible (`Changes`), the
+    -- once line k of the upward side was repeated, or the event counted as idle where that isn't possible (`ReplacesQueue`), the
     -- streams after that event are shown
-    pub up_repeated : Changes k (doubled k s.up.queue) s.up side s.report.idle_events count
+    pub up_repeated : ReplacesQueue k (doubled k s.up.queue) s.up side s.report.idle_events count
         → AreStreamsOf width (with_up_side side count) (after_event ends width v (event.UpRepeat k))
     up_repeated c =
         changes s.up v.up_gone with_up_side k (doubled k s.up.queue) (Up_repeat k) side count h.up_is refl c
         (λ e b is. up_queue b (doubled k s.up.queue) (doubled k v.world.wire.up) k (shows_up_repeat width s.report s.up.queue s.down.queue s.client v.world h.lines k b is)
         (subst (IsFlow s.up.assembler s.up.gone) (doubled_map (λ x. bytes_of x.line) k v.world.wire.up) (flow_doubled k s.up.assembler s.up.gone (up_texts v.world.wire) e h.up_flow)))
 
-    -- once line k of the downward side was lost, or the event counted as idle where that isn't possible (`Changes`), the streams
-    -- after that event are shown
-    pub down_lost : Changes k (without k s.down.queue) s.down side s.report.idle_events count
+    -- once line k of the downward side was lost, or the event counted as idle where that isn't possible (`ReplacesQueue`), the
+    -- streams after that event are shown
+    pub down_lost : ReplacesQueue k (without k s.down.queue) s.down side s.report.idle_events count
         → AreStreamsOf width (with_down_side side count) (after_event ends width v (event.DownLose k))
     down_lost c =
         changes s.down v.down_gone with_down_side k (without k s.down.queue) (Down_lose k) side count h.down_is refl c
         (λ e b is. down_queue b (without k s.down.queue) (without k v.world.wire.down) k (shows_down_lose width s.report s.up.queue s.down.queue s.client v.world h.lines k b is)
         (subst (IsFlow s.down.assembler s.down.gone) (without_map (λ x. x.line) k v.world.wire.down) (flow_without k s.down.assembler s.down.gone (down_texts v.world.wire) e h.down_flow)))
 
-    -- once line k of the downward side was repeated, or the event counted as idle where that isn't possible (`Changes`), the
-    -- streams after that event are shown
-    pub down_repeated : Changes k (doubled k s.down.queue) s.down side s.report.idle_events count
+    -- once line k of the downward side was repeated, or the event counted as idle where that isn't possible (`ReplacesQueue`),
+    -- the streams after that event are shown
+    pub down_repeated : ReplacesQueue k (doubled k s.down.queue) s.down side s.report.idle_events count
         → AreStreamsOf width (with_down_side side count) (after_event ends width v (event.DownRepeat k))
     down_repeated c =
         changes s.down v.down_gone with_down_side k (doubled k s.down.queue) (Down_repeat k) side count h.down_is refl c

@@ -1,6 +1,6 @@
 -- The invariant of the run by numbers: what holds of the client and of the line in every world of it. A world of which it holds
 -- is *sound*.
-use Rattle.std.proofs.Common.{◌≡◌, ℕ, zero, suc, ◌+◌, ◌-◌, ◌%◌, ◌<◌, ◌≤◌, Bool, true, false, List, [], ◌∷◌, ◌++◌, length, map, take, drop, Some, refl, sym, ◌∙◌, ap, subst, arith, length-append, length-drop, ltb, eqb}
+use Rattle.std.proofs.Common.{◌≡◌, ℕ, zero, suc, ◌+◌, ◌-◌, ◌%◌, ◌<◌, ◌≤◌, Bool, true, false, List, [], ◌∷◌, ◌++◌, length, map, drop, Some, refl, sym, ◌∙◌, ap, subst, arith, length-append, length-drop, ltb, eqb}
 use Rattle.std.specs.List.{AllByRecursion}
 use Rattle.std.proofs.lemmas.List.{length-map}
 use Rattle.std.proofs.lemmas.Bool.{ltb-false, eqb-false}
@@ -11,7 +11,7 @@ use Rattle.gc_client.specs.Rule.{pending_of, expired, lost}
 use Rattle.gc_client.specs.Rule.{Sending}
 use Rattle.gc_client.proofs.OneForOne.{length-settle}
 use Rattle.gc_world.specs.Worlds.{Request, Numbered, Ends, Step, World, without, doubled, replied, started, on_wire, requested, with_settled, happens, run}
-use Rattle.gc_world.specs.Clients.{ByNumber, number_send, number_reply, by_numbers, numbers_open}
+use Rattle.gc_world.specs.Clients.{ByNumber, number_send, number_reply, expired_from, by_numbers, numbers_open}
 use Rattle.gc_world.specs.Exchange.{IsExchange}
 use Rattle.gc_world.specs.Order.{Rising, numbers}
 use Rattle.gc_world.proofs.Rows.{each_number, each_without, each_doubled, rising_lower, rising_without, rising_doubled, rising_without_behind, rising_doubled_behind, rising_moved, rising_push}
@@ -19,7 +19,7 @@ use Rattle.gc_world.proofs.Stable.{IsStable, stable, stable_all}
 use Rattle.std.proofs.lemmas.Option.{same_Some}
 
 -- expiring all but the first k of a list of requests leaves as many requests as before
-pub length_expired : {Q : Type 0} (now k : ℕ) (ps : List (Pending Q)) → length (take k ps ++ map (expired now) (drop k ps)) ≡ length ps
+pub length_expired : {Q : Type 0} (now k : ℕ) (ps : List (Pending Q)) → length (expired_from now k ps) ≡ length ps
 length_expired now zero ps = length-map ps (expired now)
 length_expired now (suc k) [] = refl
 length_expired now (suc k) (p ∷ ps) = ap suc (length_expired now k ps)

@@ -9,23 +9,23 @@ use Rattle.gc_world.specs.declared.direction.Direction.TheVariants.{Up, Down}
 use Rattle.gc_world.specs.declared.event.Event.{Event}
 use Rattle.gc_world.specs.declared.report.Report.{Report}
 use Rattle.gc_world.specs.Reports.{IsReport, StandsForGone}
-use Rattle.gc_world.specs.Clients.{by_ids, ids_open, streams_by_ids, ends, streamed, played}
+use Rattle.gc_world.specs.Clients.{by_ids, ids_open, streams_by_ids, ends, streamed, played, left_by_ids}
 use Rattle.gc_world.specs.Stages.{StageParts, AreOfWorld, AreStreamsOf}
 use Rattle.gc_world.specs.Streams.{untouched, gone_of, up_lines, down_lines}
 use Rattle.gc_world.specs.World.{World, Ends}
 use Rattle.gc_world.proofs.Counts.{IsWithin, within_all}
 
 -- none of the lists and counts of a run by ids that `IsWithin` speaks of is above the count of its events
-pub run_within : {S : Type 0} (sides : Ends S) (width : ℕ) (state : S) (events : List Event)
-    → IsWithin (length events) (streams_by_ids width sides events state).world.wire
-run_within sides width state events =
+pub run_within : {S : Type 0} (any_ends : Ends S) (width : ℕ) (state : S) (events : List Event)
+    → IsWithin (length events) (streams_by_ids width any_ends events state).world.wire
+run_within any_ends width state events =
     let e : 0 + length events ≡ length events = omega arith in
-    subst (λ n. IsWithin n (streams_by_ids width sides events state).world.wire) e
-    (within_all sides (by_ids width sides) events (untouched (ids_open state)) 0 (record
+    subst (λ n. IsWithin n (streams_by_ids width any_ends events state).world.wire) e
+    (within_all any_ends (by_ids width any_ends) events (untouched (ids_open state)) 0 (record
     { sent = omega arith; executed = omega arith; made = omega arith; starts = omega arith; refused = omega arith; idle = omega arith }))
 
 -- none of the lists and counts of a run on the simulated instrument that `IsWithin` speaks of is above the count of its events
-pub played_within : (width : ℕ) (opening : State) (events : List Event) → IsWithin (length events) (played width opening events).wire
+pub played_within : (width : ℕ) (opening : State) (events : List Event) → IsWithin (length events) (left_by_ids width opening events)
 played_within width opening events = run_within ends width (restarted opening) events
 
 -- where a report, two queues and a client are those of a world (`AreOfWorld`), they still are with other assemblers in the report
@@ -51,9 +51,9 @@ all_shown width opening events s i all shows = subst (λ es. AreStreamsOf width 
 
 -- where s shows the streams after all events, and r is the report of s with the assemblers of its two sides, r with the queues and
 -- the client of s is that of the whole run (`AreOfWorld`)
-pub at_end : (width : ℕ) (opening : State) (events : List Event) (s : StageParts) (r : Report) → AreStreamsOf width s (streamed width opening events)
+pub report_at_end : (width : ℕ) (opening : State) (events : List Event) (s : StageParts) (r : Report) → AreStreamsOf width s (streamed width opening events)
     → r ≡ record s.report { up = s.up.assembler; down = s.down.assembler } → AreOfWorld width r s.up.queue s.down.queue s.client (played width opening events)
-at_end width opening events s r shows is =
+report_at_end width opening events s r shows is =
     subst (λ (x : Report). AreOfWorld width x s.up.queue s.down.queue s.client (played width opening events)) (sym is)
     (with_assemblers width s.report s.up.queue s.down.queue s.client (played width opening events) s.up.assembler s.down.assembler shows.lines)
 
@@ -69,7 +69,7 @@ stand_at_end width opening events s r shows is =
     (subst (λ (x : Report). StandsForGone Up width opening events x.up) (sym is) up, subst (λ (x : Report). StandsForGone Down width opening events x.down) (sym is) down)
 
 -- a report of the first i events has counted at most i refused sends and at most i idle events
-pub counts_at : (width : ℕ) (opening : State) (events : List Event) (i : ℕ) (report : Report) → IsReport report (played width opening (take i events)).wire
+pub counts_at : (width : ℕ) (opening : State) (events : List Event) (i : ℕ) (report : Report) → IsReport report (left_by_ids width opening (take i events))
     → i ≤ length events → (report.refused_sends ≤ i) × (report.idle_events ≤ i)
 counts_at width opening events i report h le =
     let w = played_within width opening (take i events) in

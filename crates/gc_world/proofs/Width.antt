@@ -16,13 +16,13 @@ abbrev pub opening_steps : List Step
 opening_steps = Send 1 NullProc 9 ∷ Up_deliver ∷ Down_repeat 0 ∷ []
 
 -- the eight further sends
-abbrev pub sends : List Step
-sends =
+abbrev pub eight_sends : List Step
+eight_sends =
     Send 2 NullProc 9 ∷ Send 3 NullProc 9 ∷ Send 4 NullProc 9 ∷ Send 5 NullProc 9 ∷ Send 6 NullProc 9 ∷ Send 7 NullProc 9 ∷ Send 8 NullProc 9 ∷ Send 9 NullProc 9 ∷ []
 
 -- all steps: the opening ones, the delivery of the reply, the sends, and the delivery of the repeat
 abbrev pub schedule : List Step
-schedule = opening_steps ++ Down_deliver ∷ sends ++ Down_deliver ∷ []
+schedule = opening_steps ++ Down_deliver ∷ eight_sends ++ Down_deliver ∷ []
 
 module _ {State : Type 0} (ends : Ends State) (Good : State → Type 0) (ex : IsExchange ends Good) (s : State) (good : Good s) where
   -- the line of the first reply, which is never looked into
@@ -43,7 +43,7 @@ module _ {State : Type 0} (ends : Ends State) (Good : State → Type 0) (ex : Is
 
   -- the world after the first reply was heard once, with the id 0, and then eight other requests were sent
   abbrev full : World (ById Call) State
-  full = run ends (by_ids 8 ends) sends (once_heard (Some 0))
+  full = run ends (by_ids 8 ends) eight_sends (once_heard (Some 0))
 
   -- the world after these sends (`full`), once the first reply was heard again, with this id
   abbrev heard_again : Option ℕ → World (ById Call) State
@@ -53,7 +53,7 @@ module _ {State : Type 0} (ends : Ends State) (Good : State → Type 0) (ex : Is
   -- the second the other eight
   pub settles_nine : length (run ends (by_ids 8 ends) schedule (ids_open s)).wire.settled ≡ 9
   settles_nine =
-      ap (λ o. length (run ends (by_ids 8 ends) (sends ++ Down_deliver ∷ []) (once_heard o)).wire.settled) zero_heard
+      ap (λ o. length (run ends (by_ids 8 ends) (eight_sends ++ Down_deliver ∷ []) (once_heard o)).wire.settled) zero_heard
       ∙ ap (λ o. length (heard_again o).wire.settled) zero_heard
 
   -- by numbers, with a window of eight, the steps of `schedule` settle one request

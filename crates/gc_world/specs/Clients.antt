@@ -10,7 +10,7 @@ use Rattle.gc_instrument.specs.Replying.{handed}
 use Rattle.gc_instrument.specs.State.{State, restarted}
 use Rattle.gc_world.specs.declared.event.Event.{Event}
 use Rattle.gc_world.specs.Streams.{Streams, untouched, flow}
-use Rattle.gc_world.specs.World.{Numbered, Ends, World, Step, opened, run}
+use Rattle.gc_world.specs.World.{Numbered, Ends, Wire, World, Step, opened, run}
 use Rattle.gc_world.specs.Worlds
 
 -- By ids.
@@ -34,8 +34,8 @@ pub record ByNumber (Q : Type 0) : Type 0 where
   pub requests : List (Pending Q)
   pub since : ℕ
 
--- a send: refused if the window is full (`full`). Else the request's id is the count of the requests that were sent since the last
--- start, modulo the number of ids
+-- a send: refused if the window is full (`full`). Else the request's id is the count of the requests that were sent since the
+-- last start, modulo the number of ids
 abbrev pub number_send : {Q : Type 0} → ByNumber Q → (target : ℕ) → Q → (deadline : ℕ) → (full : Bool) → Option (Sending (ByNumber Q))
 number_send c target call deadline true = None
 number_send c target call deadline false =
@@ -54,6 +54,10 @@ number_reply c x false =
       client = record { count = x.number + 1; requests = c.requests; since = c.since };
     }
 
+-- the requests after this moment, which reaches only those from place k on
+abbrev pub expired_from : {Q : Type 0} → (now k : ℕ) → List (Pending Q) → List (Pending Q)
+expired_from now k ps = take k ps ++ map (expired now) (drop k ps)
+
 -- the rule of the oracle client, for a window of this width: what the client would do if every reply carried its request's
 -- number. No id is read in a reply; sends are refused at the same width as by `by_ids`, and get the same ids
 abbrev pub by_numbers : {Q : Type 0} → ℕ → Worlds.Rule Q (ByNumber Q)
@@ -63,7 +67,7 @@ by_numbers width =
       reply = λ c x. number_reply c x (nat_lt x.number c.count);
       expire = λ c now. record {
         count = c.count;
-        requests = take c.count c.requests ++ map (expired now) (drop c.count c.requests);
+        requests = expired_from now c.count c.requests;
         since = c.since;
       };
       restart = λ c. record {
@@ -99,8 +103,8 @@ module _ {State : Type 0} where
   abbrev pub streams_by_ids : ℕ → Ends State → List Event → State → Streams (ById Call) State
   streams_by_ids width ends events state = flow ends (by_ids width ends) events (untouched (ids_open state))
 
-  -- the run by numbers of events instead of steps: the streams after these events, in order, that is, the world and how many bytes
-  -- of the front line of each direction have gone
+  -- the run by numbers of events instead of steps: the streams after these events, in order, that is, the world and how many
+  -- bytes of the front line of each direction have gone
   abbrev pub streams_by_numbers : ℕ → Ends State → List Event → State → Streams (ByNumber Call) State
   streams_by_numbers width ends events state = flow ends (by_numbers width) events (untouched (numbers_open state))
 
@@ -134,3 +138,12 @@ played width opening events = played_between ends width opening events
 -- the world that the run by numbers of these events leaves on the simulated instrument
 abbrev pub played_by_numbers : ℕ → State → List Event → World (ByNumber Call) State
 played_by_numbers width opening events = played_by_numbers_between ends width opening events
+
+-- the wire that the run by ids of these events leaves, from the restarted opening state, with a window of this width: the world
+-- but its client
+abbrev pub left_by_ids : ℕ → State → List Event → Wire State
+left_by_ids width opening events = (played width opening events).wire
+
+-- the wire that the run by numbers of these events leaves, from the restarted opening state, with a window of this width
+abbrev pub left_by_numbers : ℕ → State → List Event → Wire State
+left_by_numbers width opening events = (played_by_numbers width opening events).wire

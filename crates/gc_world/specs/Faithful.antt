@@ -17,7 +17,7 @@ use Rattle.gc_world.specs.declared.event.Event.{Event}
 use Rattle.gc_world.specs.declared.report.Made.{Made}
 use Rattle.gc_world.specs.declared.report.Report.{Report}
 use Rattle.gc_world.specs.declared.report.Sent.{Sent}
-use Rattle.gc_world.specs.Clients.{played_by_numbers}
+use Rattle.gc_world.specs.Clients.{left_by_numbers}
 use Rattle.gc_world.specs.World
 use Rattle.gc_world.specs.World.{Wire}
 
@@ -112,9 +112,9 @@ sent_seen s = record { target = s.target; call = s.call; line = s.line.items }
 
 -- agreement: the report's requests and settlements, with their lines and readings, and its counts of refused sends and of idle
 -- events are those of the wire w. In `Faithful` that wire is the one that the run by numbers of the same events leaves: what the
--- client would do if every reply carried its request's number. By that run each request's first reply is booked if it comes unsettled
--- and in time (`FirstReply.antt` says what these words mean); if it comes unsettled and too late, its request is settled as late. The
--- requests before it that weren't settled are lost.
+-- client would do if every reply carried its request's number. By that run each request's first reply is booked if it comes
+-- unsettled and in time (`FirstReply.antt` says what these words mean); if it comes unsettled and too late, its request is
+-- settled as late. The requests before it that weren't settled are lost.
 pub record AgreesWith (w : Wire State) (r : Report) : Type 0 where
   pub sent : map sent_seen r.sent ≡ w.sent
   pub settled : AreSettlements r.settled w.settled
@@ -126,4 +126,4 @@ pub record Faithful (width : ℕ) (opening : State) (events : List Event) (r : R
   pub one_for_one : OneForOne r
   pub booked : BooksAnswers r
   pub executed : RecordsExecution opening r
-  pub agrees : AgreesWith (played_by_numbers width opening events).wire r
+  pub agrees : AgreesWith (left_by_numbers width opening events) r

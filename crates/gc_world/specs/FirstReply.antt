@@ -1,5 +1,5 @@
--- The first reply to a request is booked if it comes while the request isn't settled, and in time. This is stated of the run by ids, in
--- terms of the list of events. This project's own.
+-- The first reply to a request is booked if it comes while the request isn't settled, and in time. This is stated of the run by
+-- ids, in terms of the list of events. This project's own.
 -- "First": the first of the replies to a request that is delivered. A reply that finds its request unsettled is the first,
 -- because it settles the request; a further one settles nothing. "Unsettled": the request's number isn't below the count of the
 -- settlements so far. "In time": since the request was sent the client got no moment at or past the request's deadline.
@@ -13,8 +13,7 @@ use Rattle.gc_client.specs.Rule.{ById, Outcome, Answered, Late, Lost, Settlement
 use Rattle.gc_instrument.specs.State.{State}
 use Rattle.gc_world.specs.declared.event.Event.{Event}
 use Rattle.gc_world.specs.declared.event.Event.TheVariants.{Send, DownDeliver, DownBytes, Expire}
-use Rattle.gc_world.specs.Clients.{streamed}
-use Rattle.gc_world.specs.Laws.{left_by_ids}
+use Rattle.gc_world.specs.Clients.{streamed, left_by_ids}
 use Rattle.gc_world.specs.Streams.{Streams, down_lines, remaining}
 use Rattle.gc_world.specs.World.{Sent, Numbered, Wire}
 

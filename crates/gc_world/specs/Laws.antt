@@ -8,39 +8,32 @@ use Rattle.gc_client.specs.Rule.{Settlement}
 use Rattle.gc_client.specs.Settlements.{ReadsAs}
 use Rattle.gc_instrument.specs.State.{State, IsFittingState, restarted}
 use Rattle.gc_world.specs.declared.event.Event.{Event}
-use Rattle.gc_world.specs.Clients.{ends, played, played_between, played_by_numbers, played_by_numbers_between}
+use Rattle.gc_world.specs.Clients.{ends, left_by_ids, played_between, played_by_numbers_between}
 use Rattle.gc_world.specs.Faithful.{IsValueOrRefusal}
 use Rattle.gc_world.specs.Order.{IsOrderly, IsRecent, numbers}
-use Rattle.gc_world.specs.Record.{IsOneForOne, IsReplyTo, IsBooked, IsExecution}
-use Rattle.gc_world.specs.World.{Ends, Wire}
-
--- the wire that the run by ids of these events leaves, from the restarted opening state, with a window of this width: the world
--- but its client
-abbrev pub left_by_ids : ℕ → State → List Event → Wire State
-left_by_ids width opening events = (played width opening events).wire
-
--- the wire that the run by numbers of these events leaves, from the restarted opening state, with a window of this width
-abbrev pub left_by_numbers : ℕ → State → List Event → Wire State
-left_by_numbers width opening events = (played_by_numbers width opening events).wire
+use Rattle.gc_world.specs.Record.{IsOneForOne, IsReplyTo, IsBooked, HasExecutions}
+use Rattle.gc_world.specs.World.{Ends}
 
 -- Laws of runs between any two ends: `ends` is those of the simulated instrument.
 
 module _ {S : Type 0} where
   -- with a window of at most seven, the wire that a list of events leaves by ids keeps the order of the line (`IsOrderly`)
   abbrev pub KeepsOrder : Ends S → Type 0
-  KeepsOrder sides = (width : ℕ) → width ≤ WINDOW → (opening : S) (events : List Event) → IsOrderly width (played_between sides width opening events).wire
+  KeepsOrder any_ends =
+      (width : ℕ) → width ≤ WINDOW → (opening : S) (events : List Event) →
+      IsOrderly width (played_between any_ends width opening events).wire
 
   -- with a window of at most seven, the run by ids and the run by numbers leave the same wire
   abbrev pub RunsAgree : Ends S → Type 0
-  RunsAgree sides =
+  RunsAgree any_ends =
       (width : ℕ) → width ≤ WINDOW → (opening : S) (events : List Event) →
-      (played_between sides width opening events).wire ≡ (played_by_numbers_between sides width opening events).wire
+      (played_between any_ends width opening events).wire ≡ (played_by_numbers_between any_ends width opening events).wire
 
   -- settlement m has the target and the call of request m, and there are no more settlements than requests
   abbrev pub SettlesInOrder : Ends S → Type 0
-  SettlesInOrder sides =
+  SettlesInOrder any_ends =
       (width : ℕ) (opening : S) (events : List Event) →
-      IsOneForOne (played_between sides width opening events).wire.sent (played_between sides width opening events).wire.settled
+      IsOneForOne (played_between any_ends width opening events).wire.sent (played_between any_ends width opening events).wire.settled
 
 -- Laws of runs on the simulated instrument.
 
@@ -67,9 +60,9 @@ RepliesAreFine =
     (call : Call) (bytes : List ℕ) (reading : Reading) → IsReplyTo ends IsFittingState call bytes → IsFitting call → ReadsAs call bytes reading →
     IsValueOrRefusal reading
 
--- with a window of at most seven, the executions that a list of events leads to are as `IsExecution` has them: each reply that
+-- with a window of at most seven, the executions that a list of events leads to are as `HasExecutions` has them: each reply that
 -- was made is that of an execution, in the state before that execution, each execution's reply was made, and requests are
 -- executed in order, none twice
 abbrev pub ExecutionsAreRecorded : Type 0
 ExecutionsAreRecorded =
-    (width : ℕ) → width ≤ WINDOW → (opening : State) (events : List Event) → IsExecution ends opening (left_by_ids width opening events)
+    (width : ℕ) → width ≤ WINDOW → (opening : State) (events : List Event) → HasExecutions ends opening (left_by_ids width opening events)

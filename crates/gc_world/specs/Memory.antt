@@ -23,13 +23,13 @@ AreStrays client (suc k) (x ∷ rest) = (fits client (heard x.line) ≡ false) �
 abbrev pub FrontIsStray : ById Call → List (Numbered (List ℕ)) → Type 0
 FrontIsStray client down = AreStrays client (suc zero) down
 
--- a repeat of line k of a queue isn't possible, where `gone` bytes of the front line have gone: there is no line k, or its first byte
--- has gone
+-- a repeat of line k of a queue isn't possible, where `gone` bytes of the front line have gone: there is no line k, or its first
+-- byte has gone
 abbrev pub IsNoRepeat : {A : Type 0} → (k gone : ℕ) → List A → Type 0
 IsNoRepeat k gone queue = (is_begun k gone ≡ true) ⊎ (length queue ≤ k)
 
--- on these streams, with a window of this width, the event takes no memory: it is a refused send, a loss, an expiry, a delivery of
--- strays, bytes that complete no line, or an event that isn't possible
+-- on these streams, with a window of this width, the event takes no memory: it is a refused send, a loss, an expiry, a delivery
+-- of strays, bytes that complete no line, or an event that isn't possible
 abbrev pub TakesNoMemory : ℕ → Streams (ById Call) State → Event → Type 0
 TakesNoMemory width v (Send target call deadline) = length v.world.client.waiting ≡ width
 TakesNoMemory width v UpDeliver = v.world.wire.up ≡ []

@@ -5,8 +5,8 @@ use Rattle.std.specs.List.{AllByRecursion}
 use Rattle.gc_instrument.specs.State.{KeptReply}
 use Rattle.gc_world.specs.Worlds.{Numbered, Wire}
 
--- the numbers of a list never fall from one to the next, and none is below low - 1: `low` is one above the number before the
--- list, or 0 if there is none
+-- no number of a list is below the one before it. `low` is one above the number that counts as the one before the list, or 0 if
+-- there is none
 abbrev pub Rising : (low : ℕ) → List ℕ → Type 0
 Rising low [] = Unit {0}
 Rising low (n ∷ ns) = (low ≤ n + 1) × Rising (n + 1) ns

@@ -52,8 +52,8 @@ module _ {State : Type 0} (ends : Ends State) where
   abbrev pub handed_in : {sent : List Sent} {n : ℕ} {state : State} → IsExecutedIn sent n state → Handed State
   handed_in {sent} {n} {state} d = ends.handed state d.id d.request.call
 
-  -- execution j is that of request n, in the state `before j`; and `before (j + 1)` is the state that comes of it, restarted where
-  -- `starts` has the number j + 1
+  -- execution j is that of request n, in the state `before j`; and `before (j + 1)` is the state that comes of it, restarted
+  -- where `starts` has the number j + 1
   pub record IsExecuted (w : Wire State) (before : ℕ → State) (j n : ℕ) : Type 0 where
     pub is_executed : IsExecutedIn w.sent n (before j)
     pub next : before (j + 1) ≡ restarted_if ends.restarted (has_number (j + 1) w.starts) (handed_in is_executed).state
@@ -70,7 +70,7 @@ module _ {State : Type 0} (ends : Ends State) where
 
   -- the executions of a run: `before j` is the state before execution j, at first the restarted opening state, and the wire's
   -- state is the one before the execution that would come next; each reply that was made is that of an execution
-  pub record IsExecution (opening : State) (w : Wire State) : Type 0 where
+  pub record HasExecutions (opening : State) (w : Wire State) : Type 0 where
     pub before : ℕ → State
     pub first : before 0 ≡ ends.restarted opening
     pub each : (j n : ℕ) → slice_get w.executed j ≡ Some n → IsExecuted w before j n

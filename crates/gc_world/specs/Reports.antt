@@ -10,7 +10,7 @@ use Rattle.gc_world.specs.declared.direction.Direction.TheVariants.{Up, Down}
 use Rattle.gc_world.specs.declared.event.Event.{Event}
 use Rattle.gc_world.specs.declared.report.Made.{Made}
 use Rattle.gc_world.specs.declared.report.Report.{Report}
-use Rattle.gc_world.specs.Clients.{played, streamed}
+use Rattle.gc_world.specs.Clients.{played, left_by_ids, streamed}
 use Rattle.gc_world.specs.Directions.{gone, lines}
 use Rattle.gc_world.specs.Faithful.{ActsOnce, Faithful, sent_seen}
 use Rattle.gc_world.specs.Streams.{gone_of}
@@ -49,7 +49,7 @@ StandsForGone d width opening events kept = let v = streamed width opening event
 -- in the report stands for what has gone over of the front line of its direction. The report is faithful, by it each request acts
 -- at most once, and none of its lists is longer than the list of events
 pub record IsPlayOf (width : ℕ) (opening : State) (events : List Event) (r : Report) (c : Windowed Call) : Type 0 where
-  pub report : IsReport r (played width opening events).wire
+  pub report : IsReport r (left_by_ids width opening events)
   pub client : c ≡ record { width = width; ids = (played width opening events).client }
   pub up : StandsForGone Up width opening events r.up
   pub down : StandsForGone Down width opening events r.down

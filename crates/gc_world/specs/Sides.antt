@@ -51,7 +51,7 @@ StandsForPart kept gone line = StandsFor kept (take gone (with_end line))
 -- what a loss or a repeat of line k does to a side, and to the count of idle events, which changes from `before` to `after`. If
 -- a byte of line k has gone, the side is as it was, and the count grows by one. Else this queue takes the place of the old one,
 -- and the count grows by one only where there is no line k
-pub record Changes (k : ℕ) (queue : List ℕ) (old new : Side) (before after : ℕ) : Type 0 where
+pub record ReplacesQueue (k : ℕ) (queue : List ℕ) (old new : Side) (before after : ℕ) : Type 0 where
   pub held : is_begun k old.gone ≡ true → (new ≡ old) × (after ≡ before + 1)
   pub done : is_begun k old.gone ≡ false
       → (new ≡ record old { queue = queue }) × (after ≡ (if nat_lt k (length old.queue) then before else before + 1))

@@ -43,8 +43,8 @@ module _ {Stage State : Type 0} (staging : Staging Stage State) where
   abbrev pub Follows : Stage → Event → Stage → Type 0
   Follows s e t = (width : ℕ) (v : Streams (ById Call) State) → staging.shows width s v → staging.shows width t (after_event staging.ends width v e)
 
-  -- whatever streams the stage s shows, the stage t, whose client's window is as wide, shows the streams after the next n bytes of
-  -- the direction
+  -- whatever streams the stage s shows, the stage t, whose client's window is as wide, shows the streams after the next n bytes
+  -- of the direction
   abbrev pub FollowsBytes : Stage → Direction → ℕ → Stage → Type 0
   FollowsBytes s d n t = (width : ℕ) (v : Streams (ById Call) State) → staging.shows width s v → staging.shows width t (after_bytes staging.ends width d v n)
 

@@ -1,10 +1,10 @@
--- Why the window is seven wide and not eight: with a width of eight the run by ids and the run by numbers differ. This project's own.
+-- Why the window is seven wide, not eight: with a width of eight the run by ids and that by numbers differ. This project's own.
 use Rattle.std.specs.Prelude.{◌≡◌, ◌≢◌, List, [], ◌∷◌, length}
 use Rattle.gc_catalogue.specs.declared.call.Call.TheVariants.{NullProc}
 use Rattle.gc_instrument.specs.State.{State}
 use Rattle.gc_world.specs.declared.event.Event.{Event}
 use Rattle.gc_world.specs.declared.event.Event.TheVariants.{Send, UpDeliver, DownDeliver, DownRepeat}
-use Rattle.gc_world.specs.Laws.{left_by_ids, left_by_numbers}
+use Rattle.gc_world.specs.Clients.{left_by_ids, left_by_numbers}
 
 -- the boundary of eight, for a window that is eight wide: the first request's reply comes twice, and the second time when eight
 -- others have been sent, the last of them with the first one's id

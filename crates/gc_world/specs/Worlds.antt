@@ -1,6 +1,6 @@
 -- The world of a client that may ask for anything of one type, this project's own: a client and an instrument, the line between
--- them, what may happen on it, and a run. Q is the type of what is asked for; `World.antt` has the world in which it is a call of the
--- table. `written` is the line that the client writes with an id for what it asks for.
+-- them, what may happen on it, and a run. Q is the type of what is asked for; `World.antt` has the world in which it is a call of
+-- the table. `written` is the line that the client writes with an id for what it asks for.
 use Rattle.std.specs.Prelude.{ℕ, zero, suc, ◌+◌, Bool, true, false, List, [], ◌∷◌, ◌++◌, length, Option, Some, None, if◌then◌else◌, nat_lt}
 use Rattle.gc_client.specs.OneForOne.{Wanted}
 use Rattle.gc_client.specs.Rule.{Settlement, Settled, Sending}
@@ -8,7 +8,8 @@ use Rattle.gc_instrument.specs.Replying.{Handed}
 
 -- The line.
 
--- a request that was sent: its target, what it asks for, and the line that its client wrote; its number is its place in the list of these
+-- a request that was sent: its target, what it asks for, and the line that its client wrote; its number is its place in the list
+-- of these
 pub record Sent (Q : Type 0) : Type 0 where
   pub target : ℕ
   pub call : Q
@@ -84,8 +85,8 @@ pub record Rule (Q Client : Type 0) : Type 0 where
 
 -- What may happen.
 
--- a step of the world. An upward line goes to the instrument, a downward one to the client; `which` counts a queue's lines from 0 at
--- its front
+-- a step of the world. An upward line goes to the instrument, a downward one to the client; `which` counts a queue's lines from 0
+-- at its front
 pub data Step (Q : Type 0) : Type 0 where
   Send : (target : ℕ) (call : Q) (deadline : ℕ) → Step Q
   -- the front line of a queue is handed over whole; a line is lost; a line is repeated directly after itself

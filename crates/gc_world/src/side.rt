@@ -4,7 +4,7 @@ ghost use Rattle.std.specs.Prelude.{◌≡◌, ◌+◌, ◌<◌, ◌≤◌, ◌^
 ghost use Rattle.gc_lines.specs.Assembler.{StandsFor};
 ghost use Rattle.gc_lines.specs.Lines.{with_end};
 ghost use Rattle.gc_world.specs.Memory.{IsNoRepeat};
-ghost use Rattle.gc_world.specs.Sides.{Carries, CarriesMoreThan, Changes, IsFlow, KeepsFlow, text_at};
+ghost use Rattle.gc_world.specs.Sides.{Carries, CarriesMoreThan, ReplacesQueue, IsFlow, KeepsFlow, text_at};
 ghost use Rattle.gc_world.specs.Streams.{remaining};
 ghost use Rattle.gc_world.specs.Worlds.{without, doubled};
 
@@ -93,7 +93,7 @@ impl Side {
     /// only `idle` changes: it grows by one.
     pub fn lose(&mut self, k: usize, idle: &mut usize)
         requires { idle.old + 1 < 2 ^ 64 }
-        ensures { Changes k (without k self.old.queue) self.old self.new idle.old idle.new }
+        ensures { ReplacesQueue k (without k self.old.queue) self.old self.new idle.old idle.new }
     {
         if is_begun(k, self.gone) || !self.queue.lose(k) {
             *idle += 1;
@@ -104,7 +104,7 @@ impl Side {
     /// gone, only `idle` changes: it grows by one. `Err`: memory was refused, and nothing changes.
     pub fn repeat(&mut self, k: usize, idle: &mut usize) -> Result<(), AllocError>
         requires { idle.old + 1 < 2 ^ 64 }
-        ensures changes { OnOk result (Changes k (doubled k self.old.queue) self.old self.new idle.old idle.new) }
+        ensures changes { OnOk result (ReplacesQueue k (doubled k self.old.queue) self.old self.new idle.old idle.new) }
         ensures spare { IsNoRepeat k self.old.gone self.old.queue → IsOk result }
     {
         if is_begun(k, self.gone) || !self.queue.repeat(k)? {

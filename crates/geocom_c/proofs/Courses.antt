@@ -18,7 +18,7 @@ use Rattle.gc_client.proofs.OneForOne.{accounts_for_sends}
 use Rattle.gc_station.proofs.Words.{left_none}
 use Rattle.gc_field.proofs.BeginWords.{cons_not_nil}
 use Rattle.geocom_c.specs.Beginning.{left_by_restart, given, left_by_bytes, unanswered_after}
-use Rattle.geocom_c.specs.Following.{CallsReach, CallStage, first_stage, left_by_call, stage_after}
+use Rattle.geocom_c.specs.Following.{CallsReach, CallStage, first_stage, hearing_lines, left_by_call, stage_after}
 use Rattle.geocom_c.specs.Laws.{CallsAreEvents}
 use Rattle.geocom_c.specs.Rest.{lines_completed}
 use Rattle.geocom_c.specs.Steps.{ClientEvent, Came, Stepped, AreEvents, AreInTurn, ask_events, begin_events, call_events, step_events, left_among, steps_among}
@@ -70,13 +70,13 @@ leads_begin width x (asked ∷ later) rest bytes =
 -- A client that hasn't synchronized has no outstanding request, so a line, a moment or a restart changes nothing in it.
 
 -- a new client (`fresh`) for requests of the catalogue
-abbrev new : ById Asked
-new = fresh
+abbrev new_client : ById Asked
+new_client = fresh
 
 -- a line, whether an id is heard in it or none, settles nothing of a new client, which stays new
-new_settles_none : (line : List ℕ) (o : Option ℕ) → hears new line o ≡ record { settlements = []; client = new }
+new_settles_none : (line : List ℕ) (o : Option ℕ) → hears new_client line o ≡ record { settlements = []; client = new_client }
 new_settles_none line None = refl
-new_settles_none line (Some id) = ap (settles_at new line (place_in new id)) (le-ltb (place_in new id) 0 (omega arith))
+new_settles_none line (Some id) = ap (settles_at new_client line (place_in new_client id)) (le-ltb (place_in new_client id) 0 (omega arith))
 
 -- what settles nothing of a new client leaves its course as it was
 stays_idle : (x : Course Asked) (s : Settled Asked (ById Asked)) → x.client ≡ fresh → s ≡ record { settlements = []; client = fresh } → settled_on x s ≡ x
@@ -98,9 +98,9 @@ idle_moment : (width : ℕ) (x : Course Asked) (now : ℕ) → x.client ≡ fres
 idle_moment width x now idle = ap (λ c. let y : Course Asked = record { sent = x.sent; settlements = x.settlements; client = c } in y) (ap (λ c. expires c now) idle ∙ sym idle)
 
 -- any lines change nothing in the course of a new client
-idle_lines : (width : ℕ) (x : Course Asked) (lines : List (List ℕ)) → x.client ≡ fresh → course width x (map one.Hear lines) ≡ x
+idle_lines : (width : ℕ) (x : Course Asked) (lines : List (List ℕ)) → x.client ≡ fresh → hearing_lines width x lines ≡ x
 idle_lines width x [] idle = refl
-idle_lines width x (line ∷ lines) idle = ap (λ y. course width y (map one.Hear lines)) (idle_line width x line idle) ∙ idle_lines width x lines idle
+idle_lines width x (line ∷ lines) idle = ap (λ y. hearing_lines width y lines) (idle_line width x line idle) ∙ idle_lines width x lines idle
 
 -- the empty list of events leads from a course to an equal one
 leads_unchanged : (width : ℕ) (x y : Course Asked) (left : List ℕ) → y ≡ x → Leads width x y left left []
@@ -111,7 +111,7 @@ abbrev IsNewUnlessBegun : Course Asked → List ℕ → Type 0
 IsNewUnlessBegun x left = (left ≡ [] → ⊥) → x.client ≡ fresh
 
 -- lines that are heard once no id is left are steps, and lead to the course that has heard them
-leads_heard : (width : ℕ) (x : Course Asked) (lines : List (List ℕ)) → Leads width x (course width x (map one.Hear lines)) [] [] (map Stepped (map one.Hear lines))
+leads_heard : (width : ℕ) (x : Course Asked) (lines : List (List ℕ)) → Leads width x (hearing_lines width x lines) [] [] (map Stepped (map one.Hear lines))
 leads_heard width x [] = leads_none width x []
 leads_heard width x (line ∷ lines) =
     let more = leads_heard width (course_after width x (one.Hear line)) lines in
@@ -119,7 +119,7 @@ leads_heard width x (line ∷ lines) =
 
 -- the events of lines that are fed lead to the course that has heard these lines, if the client is new unless it has synchronized
 leads_feed : (width : ℕ) (x : Course Asked) (left : List ℕ) (lines : List (List ℕ)) → IsNewUnlessBegun x left
-    → Leads width x (course width x (map one.Hear lines)) left left (step_events left (map one.Hear lines))
+    → Leads width x (hearing_lines width x lines) left left (step_events left (map one.Hear lines))
 leads_feed width x [] lines idle = leads_heard width x lines
 leads_feed width x (asked ∷ later) lines idle = leads_unchanged width x _ (asked ∷ later) (idle_lines width x lines (idle (cons_not_nil asked later)))
 
@@ -159,13 +159,13 @@ record Over (width : ℕ) (s : CallStage) (calls : List StateCall) (t : CallStag
   reached : t.reached ≡ course width s.reached (steps_among events)
   left : t.left ≡ left_among s.left events
 
--- where the events of a call that makes these steps lead to the stage after it, and later calls lead from there to stage t (`Over`),
--- the call and the later ones lead to t, if they are the events of the call and then those of the later calls
-over_call : (width : ℕ) (s : CallStage) (call : StateCall) (calls : List StateCall) (t : CallStage) (steps : List (one.Step Asked))
+-- where the events of a call that makes these steps lead to the stage after it, and later calls lead from there to stage t
+-- (`Over`), the call and the later ones lead to t, if their events are those of the call and then those of the later calls
+over_one_more_call : (width : ℕ) (s : CallStage) (call : StateCall) (calls : List StateCall) (t : CallStage) (steps : List (one.Step Asked))
     → Leads width s.reached (course width s.reached steps) s.left (left_by_call s.left s.rest call) (call_events s.left s.rest call steps)
     → (more : Over width (stage_after width s call steps) calls t) → AreEvents s.left s.rest (call ∷ calls) (call_events s.left s.rest call steps ++ more.events)
     → Over width s (call ∷ calls) t
-over_call width s call calls t steps l more are = record {
+over_one_more_call width s call calls t steps l more are = record {
   events = call_events s.left s.rest call steps ++ more.events;
   are = are;
   turns = l.turns more.events more.turns;
@@ -175,75 +175,75 @@ over_call width s call calls t steps l more are = record {
 
 -- calls that lead from stage s to stage t are events that lead from s to t (`Over`), if the client at s is a new one unless it
 -- has synchronized
-as_events : (width : ℕ) (s : CallStage) (calls : List StateCall) (t : CallStage) → IsNewUnlessBegun s.reached s.left → CallsReach width s calls t → Over width s calls t
-as_events width s [] t idle f = record { events = []; are = refl; turns = tt; reached = ap (λ (x : CallStage). x.reached) f; left = ap (λ (x : CallStage). x.left) f }
-as_events width s (Send target deadline procedure params ∷ calls) t idle (inl f) =
-    let more = as_events width (stage_after width s (Send target deadline procedure params) (one.Send target (Table f.0) deadline ∷ [])) calls t (λ no. absurd (no f.1)) f.3 in
-    over_call width s (Send target deadline procedure params) calls t (one.Send target (Table f.0) deadline ∷ [])
+calls_as_events : (width : ℕ) (s : CallStage) (calls : List StateCall) (t : CallStage) → IsNewUnlessBegun s.reached s.left → CallsReach width s calls t → Over width s calls t
+calls_as_events width s [] t idle f = record { events = []; are = refl; turns = tt; reached = ap (λ (x : CallStage). x.reached) f; left = ap (λ (x : CallStage). x.left) f }
+calls_as_events width s (Send target deadline procedure params ∷ calls) t idle (inl f) =
+    let more = calls_as_events width (stage_after width s (Send target deadline procedure params) (one.Send target (Table f.0) deadline ∷ [])) calls t (λ no. absurd (no f.1)) f.3 in
+    over_one_more_call width s (Send target deadline procedure params) calls t (one.Send target (Table f.0) deadline ∷ [])
     (leads_send width s.reached s.left target (Table f.0) deadline f.1) more (inl (f.0, f.1, f.2, (more.events, refl, more.are)))
-as_events width s (Send target deadline procedure params ∷ calls) t idle (inr f) =
-    let more = as_events width (stage_after width s (Send target deadline procedure params) []) calls t idle f.1 in
-    over_call width s (Send target deadline procedure params) calls t [] (leads_no_step width s.reached s.left) more (inr (f.0, (more.events, refl, more.are)))
-as_events width s (SendRaw target deadline procedure params ∷ calls) t idle (inl f) =
-    let more = as_events width (stage_after width s (SendRaw target deadline procedure params) (one.Send target (Raw f.0) deadline ∷ [])) calls t (λ no. absurd (no f.1)) f.3 in
-    over_call width s (SendRaw target deadline procedure params) calls t (one.Send target (Raw f.0) deadline ∷ [])
+calls_as_events width s (Send target deadline procedure params ∷ calls) t idle (inr f) =
+    let more = calls_as_events width (stage_after width s (Send target deadline procedure params) []) calls t idle f.1 in
+    over_one_more_call width s (Send target deadline procedure params) calls t [] (leads_no_step width s.reached s.left) more (inr (f.0, (more.events, refl, more.are)))
+calls_as_events width s (SendRaw target deadline procedure params ∷ calls) t idle (inl f) =
+    let more = calls_as_events width (stage_after width s (SendRaw target deadline procedure params) (one.Send target (Raw f.0) deadline ∷ [])) calls t (λ no. absurd (no f.1)) f.3 in
+    over_one_more_call width s (SendRaw target deadline procedure params) calls t (one.Send target (Raw f.0) deadline ∷ [])
     (leads_send width s.reached s.left target (Raw f.0) deadline f.1) more (inl (f.0, f.1, f.2, (more.events, refl, more.are)))
-as_events width s (SendRaw target deadline procedure params ∷ calls) t idle (inr f) =
-    let more = as_events width (stage_after width s (SendRaw target deadline procedure params) []) calls t idle f.1 in
-    over_call width s (SendRaw target deadline procedure params) calls t [] (leads_no_step width s.reached s.left) more (inr (f.0, (more.events, refl, more.are)))
-as_events width s (Begin bytes ∷ calls) t idle f =
+calls_as_events width s (SendRaw target deadline procedure params ∷ calls) t idle (inr f) =
+    let more = calls_as_events width (stage_after width s (SendRaw target deadline procedure params) []) calls t idle f.1 in
+    over_one_more_call width s (SendRaw target deadline procedure params) calls t [] (leads_no_step width s.reached s.left) more (inr (f.0, (more.events, refl, more.are)))
+calls_as_events width s (Begin bytes ∷ calls) t idle f =
     let lines = lines_completed s.rest bytes.now in
-    let more = as_events width (stage_after width s (Begin bytes) []) calls t (λ no. idle (λ e. no (ap (λ a. unanswered_after a lines) e ∙ left_none lines))) f in
-    over_call width s (Begin bytes) calls t [] (leads_begin width s.reached s.left s.rest bytes.now) more (more.events, refl, more.are)
-as_events width s (Feed bytes ∷ calls) t idle f =
+    let more = calls_as_events width (stage_after width s (Begin bytes) []) calls t (λ no. idle (λ e. no (ap (λ a. unanswered_after a lines) e ∙ left_none lines))) f in
+    over_one_more_call width s (Begin bytes) calls t [] (leads_begin width s.reached s.left s.rest bytes.now) more (more.events, refl, more.are)
+calls_as_events width s (Feed bytes ∷ calls) t idle f =
     let lines = lines_completed s.rest bytes.now in
-    let more = as_events width (stage_after width s (Feed bytes) (map one.Hear lines)) calls t
+    let more = calls_as_events width (stage_after width s (Feed bytes) (map one.Hear lines)) calls t
     (λ no. ap (λ (x : Course Asked). x.client) (idle_lines width s.reached lines (idle no)) ∙ idle no) f in
-    over_call width s (Feed bytes) calls t (map one.Hear lines) (leads_feed width s.reached s.left lines idle) more (more.events, refl, more.are)
-as_events width s (Expire now ∷ calls) t idle f =
-    let more = as_events width (stage_after width s (Expire now) (one.Expire now ∷ [])) calls t
+    over_one_more_call width s (Feed bytes) calls t (map one.Hear lines) (leads_feed width s.reached s.left lines idle) more (more.events, refl, more.are)
+calls_as_events width s (Expire now ∷ calls) t idle f =
+    let more = calls_as_events width (stage_after width s (Expire now) (one.Expire now ∷ [])) calls t
     (λ no. ap (λ (x : Course Asked). x.client) (idle_moment width s.reached now (idle no)) ∙ idle no) f in
-    over_call width s (Expire now) calls t (one.Expire now ∷ []) (leads_expire width s.reached s.left now idle) more (more.events, refl, more.are)
-as_events width s (Restart ∷ calls) t idle f =
-    let more = as_events width (stage_after width s Restart (one.Restart ∷ [])) calls t (λ no. refl) f in
-    over_call width s Restart calls t (one.Restart ∷ []) (leads_restart width s.reached s.left idle) more (more.events, refl, more.are)
+    over_one_more_call width s (Expire now) calls t (one.Expire now ∷ []) (leads_expire width s.reached s.left now idle) more (more.events, refl, more.are)
+calls_as_events width s (Restart ∷ calls) t idle f =
+    let more = calls_as_events width (stage_after width s Restart (one.Restart ∷ [])) calls t (λ no. refl) f in
+    over_one_more_call width s Restart calls t (one.Restart ∷ []) (leads_restart width s.reached s.left idle) more (more.events, refl, more.are)
 
 -- if the same calls are two lists of events, these lists are equal
-only_events : (left rest : List ℕ) (calls : List StateCall) (es fs : List ClientEvent) → AreEvents left rest calls es → AreEvents left rest calls fs → es ≡ fs
-only_events left rest [] es fs f g = f ∙ sym g
-only_events left rest (Send target deadline procedure params ∷ calls) es fs (inl f) (inl g) =
+same_events : (left rest : List ℕ) (calls : List StateCall) (es fs : List ClientEvent) → AreEvents left rest calls es → AreEvents left rest calls fs → es ≡ fs
+same_events left rest [] es fs f g = f ∙ sym g
+same_events left rest (Send target deadline procedure params ∷ calls) es fs (inl f) (inl g) =
     f.3.1
     ∙ ap (λ call. step_events left (one.Send target (Table call) deadline ∷ []) ++ f.3.0) (one_call procedure params.now f.0 g.0 f.2 g.2)
-    ∙ ap (λ later. step_events left (one.Send target (Table g.0) deadline ∷ []) ++ later) (only_events left rest calls f.3.0 g.3.0 f.3.2 g.3.2)
+    ∙ ap (λ later. step_events left (one.Send target (Table g.0) deadline ∷ []) ++ later) (same_events left rest calls f.3.0 g.3.0 f.3.2 g.3.2)
     ∙ sym g.3.1
-only_events left rest (Send target deadline procedure params ∷ calls) es fs (inl f) (inr g) = absurd (g.0 f.1 f.0 f.2)
-only_events left rest (Send target deadline procedure params ∷ calls) es fs (inr f) (inl g) = absurd (f.0 g.1 g.0 g.2)
-only_events left rest (Send target deadline procedure params ∷ calls) es fs (inr f) (inr g) =
-    f.1.1 ∙ ap (λ later. step_events left [] ++ later) (only_events left rest calls f.1.0 g.1.0 f.1.2 g.1.2) ∙ sym g.1.1
-only_events left rest (SendRaw target deadline procedure params ∷ calls) es fs (inl f) (inl g) =
+same_events left rest (Send target deadline procedure params ∷ calls) es fs (inl f) (inr g) = absurd (g.0 f.1 f.0 f.2)
+same_events left rest (Send target deadline procedure params ∷ calls) es fs (inr f) (inl g) = absurd (f.0 g.1 g.0 g.2)
+same_events left rest (Send target deadline procedure params ∷ calls) es fs (inr f) (inr g) =
+    f.1.1 ∙ ap (λ later. step_events left [] ++ later) (same_events left rest calls f.1.0 g.1.0 f.1.2 g.1.2) ∙ sym g.1.1
+same_events left rest (SendRaw target deadline procedure params ∷ calls) es fs (inl f) (inl g) =
     f.3.1
     ∙ ap (λ asked. step_events left (one.Send target asked deadline ∷ []) ++ f.3.0) (one_asked procedure params.now (Raw f.0) (Raw g.0) f.2 g.2)
-    ∙ ap (λ later. step_events left (one.Send target (Raw g.0) deadline ∷ []) ++ later) (only_events left rest calls f.3.0 g.3.0 f.3.2 g.3.2)
+    ∙ ap (λ later. step_events left (one.Send target (Raw g.0) deadline ∷ []) ++ later) (same_events left rest calls f.3.0 g.3.0 f.3.2 g.3.2)
     ∙ sym g.3.1
-only_events left rest (SendRaw target deadline procedure params ∷ calls) es fs (inl f) (inr g) = absurd (g.0 f.1 f.0 f.2)
-only_events left rest (SendRaw target deadline procedure params ∷ calls) es fs (inr f) (inl g) = absurd (f.0 g.1 g.0 g.2)
-only_events left rest (SendRaw target deadline procedure params ∷ calls) es fs (inr f) (inr g) =
-    f.1.1 ∙ ap (λ later. step_events left [] ++ later) (only_events left rest calls f.1.0 g.1.0 f.1.2 g.1.2) ∙ sym g.1.1
-only_events left rest (Begin bytes ∷ calls) es fs f g =
-    f.1 ∙ ap (λ later. begin_events left rest bytes.now ++ later) (only_events (left_by_bytes left rest bytes.now) (rest_behind rest bytes.now) calls f.0 g.0 f.2 g.2) ∙ sym g.1
-only_events left rest (Feed bytes ∷ calls) es fs f g =
-    f.1 ∙ ap (λ later. step_events left (map one.Hear (lines_completed rest bytes.now)) ++ later) (only_events left (rest_behind rest bytes.now) calls f.0 g.0 f.2 g.2) ∙ sym g.1
-only_events left rest (Expire now ∷ calls) es fs f g = f.1 ∙ ap (λ later. step_events left (one.Expire now ∷ []) ++ later) (only_events left rest calls f.0 g.0 f.2 g.2) ∙ sym g.1
-only_events left rest (Restart ∷ calls) es fs f g = f.1 ∙ ap (λ later. step_events left (one.Restart ∷ []) ++ later) (only_events (left_by_restart left) [] calls f.0 g.0 f.2 g.2) ∙ sym g.1
+same_events left rest (SendRaw target deadline procedure params ∷ calls) es fs (inl f) (inr g) = absurd (g.0 f.1 f.0 f.2)
+same_events left rest (SendRaw target deadline procedure params ∷ calls) es fs (inr f) (inl g) = absurd (f.0 g.1 g.0 g.2)
+same_events left rest (SendRaw target deadline procedure params ∷ calls) es fs (inr f) (inr g) =
+    f.1.1 ∙ ap (λ later. step_events left [] ++ later) (same_events left rest calls f.1.0 g.1.0 f.1.2 g.1.2) ∙ sym g.1.1
+same_events left rest (Begin bytes ∷ calls) es fs f g =
+    f.1 ∙ ap (λ later. begin_events left rest bytes.now ++ later) (same_events (left_by_bytes left rest bytes.now) (rest_behind rest bytes.now) calls f.0 g.0 f.2 g.2) ∙ sym g.1
+same_events left rest (Feed bytes ∷ calls) es fs f g =
+    f.1 ∙ ap (λ later. step_events left (map one.Hear (lines_completed rest bytes.now)) ++ later) (same_events left (rest_behind rest bytes.now) calls f.0 g.0 f.2 g.2) ∙ sym g.1
+same_events left rest (Expire now ∷ calls) es fs f g = f.1 ∙ ap (λ later. step_events left (one.Expire now ∷ []) ++ later) (same_events left rest calls f.0 g.0 f.2 g.2) ∙ sym g.1
+same_events left rest (Restart ∷ calls) es fs f g = f.1 ∙ ap (λ later. step_events left (one.Restart ∷ []) ++ later) (same_events (left_by_restart left) [] calls f.0 g.0 f.2 g.2) ∙ sym g.1
 
 -- the law: any calls on a state are one list of events, and bring the client to where its rule brings it over these
 pub over_events : CallsAreEvents
 over_events width calls t f =
-    let it = as_events width first_stage calls t (λ no. refl) f in
-    record { events = it.events; are = it.are; only = λ others are. only_events the_word [] calls others it.events are it.are; turns = it.turns; reached = it.reached; left = it.left }
+    let it = calls_as_events width first_stage calls t (λ no. refl) f in
+    record { events = it.events; are = it.are; only = λ others are. same_events the_word [] calls others it.events are it.are; turns = it.turns; reached = it.reached; left = it.left }
 
 -- the course after any calls accounts for its sends
-pub follow_accounts : (width : ℕ) (calls : List StateCall) (t : CallStage) → CallsReach width first_stage calls t → AccountsForSends t.reached
-follow_accounts width calls t f =
+pub calls_account_for_sends : (width : ℕ) (calls : List StateCall) (t : CallStage) → CallsReach width first_stage calls t → AccountsForSends t.reached
+calls_account_for_sends width calls t f =
     let it = over_events width calls t f in
     subst (λ (c : Course Asked). AccountsForSends c) (sym it.reached) (accounts_for_sends width (steps_among it.events))

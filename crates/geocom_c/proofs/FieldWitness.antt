@@ -14,34 +14,34 @@ use Rattle.gc_field.specs.Simulator.{simulator_ends}
 use Rattle.gc_field.specs.CountingChain.{counting, kept_by}
 use Rattle.gc_field.specs.Instrument.{AnyState, TreatsRawsAlike}
 use Rattle.gc_field.specs.Laws.{kept_of}
-use Rattle.gc_field.proofs.CountingChain.{counted}
-use Rattle.gc_field.proofs.Instruments.{simulator}
-use Rattle.gc_field.proofs.Witness.{fits, units}
+use Rattle.gc_field.proofs.CountingChain.{counted_in_field}
+use Rattle.gc_field.proofs.Instruments.{simulator_is_an_instrument}
+use Rattle.gc_field.proofs.Witness.{opening_fits, units}
 use Rattle.geocom_c.specs.FieldWitness.{AreInField, SomeCallsAreInField, counting_exchange, moves, simulator_exchange}
 
 -- procedure 5003 without parameters is a call
 procedure_is_call : IsCall 5003 [] InstrumentNo
 procedure_is_call = record { number = refl; values = record { items = []; split = (0, refl); read = tt } }
 
--- the word's first id, 6, isn't 0: so the word isn't in flight where nothing is but one reply with id 0
-not_alone : {A : Type 0} → (◌≡◌ {A = ℕ} 6 0 × A) ⊎ ⊥ → ⊥
-not_alone (inl f) = absurd (omega (arith, f.0))
-not_alone (inr f) = f
+-- the word, whose first id is 6, isn't in flight where nothing is but one reply with id 0
+zero_reply_isnt_the_word : {A : Type 0} → (◌≡◌ {A = ℕ} 6 0 × A) ⊎ ⊥ → ⊥
+zero_reply_isnt_the_word (inl f) = absurd (omega (arith, f.0))
+zero_reply_isnt_the_word (inr f) = f
 
 -- after each request, also a raw one, the instrument that counts retains its own reply, or nothing
 counting_alike : TreatsRawsAlike counting AnyState kept_by
-counting_alike state id call good lt = inr (counted.keeps.always state id call good lt refl)
+counting_alike state id call good lt = inr (counted_in_field.keeps.always state id call good lt refl)
 
 -- the calls over an instrument that counts meet every premise of `EachAnswerIsOwn` (`AreInField`)
 over_counting : (raw : RawCall) → AreInField counting AnyState kept_by (record { count = 27; keeps = None }) (counting_exchange raw)
 unfolding header_at reply_at digits
 over_counting raw =
     record {
-      instrument = counted.instrument;
+      instrument = counted_in_field.instrument;
       width = (lit≤ tt, lit≤ tt);
       follows = inl (InstrumentNo, refl, procedure_is_call, inl (raw, refl, (refl, refl), refl));
       lines = record { ids = tt; good = tt };
-      may = not_alone;
+      may = zero_reply_isnt_the_word;
       are = (
         _,
         refl,
@@ -109,11 +109,11 @@ over_simulator : AreInField simulator_ends IsFittingState kept_of simulator_open
 unfolding header_at reply_at handed exec digits
 over_simulator =
     record {
-      instrument = simulator.instrument;
+      instrument = simulator_is_an_instrument.instrument;
       width = (lit≤ tt, lit≤ tt);
       follows = inl (InstrumentNo, refl, procedure_is_call, inl (InstrumentNo, refl, procedure_is_call, refl));
-      lines = record { ids = tt; good = fits };
-      may = not_alone;
+      lines = record { ids = tt; good = opening_fits };
+      may = zero_reply_isnt_the_word;
       are = (
         _,
         refl,
@@ -177,5 +177,5 @@ over_simulator =
     }
 
 -- the law: there are calls that meet every premise of the laws
-pub in_field : SomeCallsAreInField
-in_field = record { any = over_counting; simulator = over_simulator }
+pub some_calls_are_in_field : SomeCallsAreInField
+some_calls_are_in_field = record { any = over_counting; simulator = over_simulator }

@@ -37,7 +37,7 @@ stands_with_rest s r c old new is rest =
       incomplete = rest;
     }
 
--- Here the frame f was fed, and q says the same of it as r (`IsFed`), but that `used` bytes were used.
+-- Here r is what is told of the frame f, which was fed (`IsFed`), and q is r with `used` bytes as those used.
 module _ (c : Windowed Asked) (f : Frame) (r q : GeocomHeard) (records : List GeocomSettlement) (text : List ℕ) (used : ℕ) (same : q ≡ record r { used = used })
     (is : IsFed c f (feed_effect r records text)) where
   -- `IsFed` holds of q, too, also with an equal frame g in place of f

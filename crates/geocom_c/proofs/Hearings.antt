@@ -71,9 +71,9 @@ pub heard_on : {X : Type 0} (hears : X → List (List ℕ) → X) (Old New : X �
 heard_on hears Old New x rest bytes left end f g = record { reached = g.reached; now = g.now; stands = g.stands; same = g.same ∙ f.same; behind = g.behind ∙ f.behind }
 
 -- `P` holds if it follows from there being no place, and from each place that there may be (`o` is the place, if there is one)
-pub either : {P : Type 0} (o : Option ℕ) → (o ≡ None → P) → ((at : ℕ) → o ≡ Some at → P) → P
-either None f g = f refl
-either (Some at) f g = g at refl
+pub by_place : {P : Type 0} (o : Option ℕ) → (o ≡ None → P) → ((at : ℕ) → o ≡ Some at → P) → P
+by_place None f g = f refl
+by_place (Some at) f g = g at refl
 
 -- if all bytes were used, none is left
 pub nothing_left : (bytes : List ℕ) (used : ℕ) → used ≡ length bytes → drop used bytes ≡ []

@@ -49,8 +49,8 @@ alike_cut t p rest h same more = cut_same (t ++ p) more h ∙ alike_all t p rest
 
 -- where n bytes of the piece p fill the room for 514 after t, t with these bytes begins with the same 513 bytes as t with all of
 -- p
-filled : (t p : List ℕ) (n : ℕ) → length t ≤ 514 → n ≡ 514 - length t → n ≤ length p → take 513 (t ++ take n p) ≡ take 513 (t ++ p)
-filled t p n short room fits = take-append 513 t (take n p) ∙ ap (λ xs. take 513 t ++ xs) (take-take (513 - length t) n p (omega (arith, room))) ∙ sym (take-append 513 t p)
+same_front_once_filled : (t p : List ℕ) (n : ℕ) → length t ≤ 514 → n ≡ 514 - length t → n ≤ length p → take 513 (t ++ take n p) ≡ take 513 (t ++ p)
+same_front_once_filled t p n short room fits = take-append 513 t (take n p) ∙ ap (λ xs. take 513 t ++ xs) (take-take (513 - length t) n p (omega (arith, room))) ∙ sym (take-append 513 t p)
 
 -- a piece `p` comes after the n bytes `t` that are kept, neither of which has a line feed, and f more bytes are kept, in the room
 -- `bytes`; `t` goes on as `rest` does, which came since the last line feed (`GoAlike`)
@@ -73,7 +73,7 @@ module _ (bytes t p rest : List ℕ) (n f : ℕ) (is : n ≡ length t) (clean : 
       let long : 513 < length (t ++ p) = omega (arith, is, sum, more, length-append t p) in
       let front : take 513 bytes ≡ take 513 (t ++ p) =
       sym (take-take 513 514 bytes (omega arith)) ∙ ap (λ k. take 513 (take k bytes)) (sym sum) ∙ ap (take 513) text
-      ∙ filled t p f (omega (arith, is, short)) (omega (arith, is, room)) (omega (arith, more)) in
+      ∙ same_front_once_filled t p f (omega (arith, is, short)) (omega (arith, is, room)) (omega (arith, more)) in
       let byte : last ≡ last_byte (t ++ p) = e ∙ sym (last-append t p (omega (arith, more))) in
       let whole : take (n + f) (slice_set bytes 513 last) ≡ take 513 (t ++ p) ++ last_byte (t ++ p) ∷ [] =
       ap (λ k. take k (slice_set bytes 513 last)) sum ∙ take_more_set bytes 513 last within ∙ ap₂ (λ u b. u ++ b ∷ []) front byte in

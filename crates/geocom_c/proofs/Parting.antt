@@ -17,8 +17,8 @@ use Rattle.gc_station.proofs.Behind.{course_append}
 use Rattle.gc_station.proofs.Lists.{all_append, all_on}
 use Rattle.gc_field.specs.World.{Ends}
 use Rattle.gc_field.specs.Begin.{InFlight, IsWellFormed, LacksTheWord, AreTurns, Asks, Comes, Foreign, Reaches, Up_lose, Up_repeat, Down_lose, Down_repeat, Anew, Changes, SyncModel, SyncTurn, UnderWay, asks, begins, comes, leaves, turned, turns}
-use Rattle.gc_field.specs.Beginnings.{IsOwnIf, Run, left_by_run, left_if, on_line, after_turns}
-use Rattle.gc_field.specs.Begun.{behind, ids_begun}
+use Rattle.gc_field.specs.Beginnings.{IsOwnIf, Run, left_by_run, left_if, under_way_on, after_turns}
+use Rattle.gc_field.specs.Begun.{world_once_begun, ids_begun}
 use Rattle.gc_field.specs.Field.{Move, Sends, Tells, OnLine, Joins, ArePossible, seen}
 use Rattle.gc_field.specs.Field as field
 use Rattle.gc_field.specs.Instrument.{IsAnInstrument}
@@ -153,7 +153,8 @@ module _ {State : Type 0} (width : ℕ) (ends : Ends State) where
         record {
           own = (ended, faithful ends Good kept is width narrow (leaves s) ended.clean p.run.moves run.moves);
           lines = record { ids = after.1; good = after.0 };
-          may = rising_lack_the_word (on_line (behind width ends (leaves s) p.run.moves).wire) (runs_leave_rising_ids ends Good kept is width narrow (leaves s) ended.clean p.run.moves run.moves);
+          may = rising_lack_the_word (under_way_on (world_once_begun width ends (leaves s) p.run.moves).wire)
+              (runs_leave_rising_ids ends Good kept is width narrow (leaves s) ended.clean p.run.moves run.moves);
         }
 
     -- each of these answers is its own request's
@@ -296,9 +297,9 @@ module _ {State : Type 0} (width : ℕ) (ends : Ends State) where
         (all_hold (next ∷ others) after now again possible.1 safe.1 pass.turns)
 
 -- the law: each answer is its own request's, over every instrument
-pub owned : {State : Type 0} (ends : Ends State) (Good : State → Type 0) (kept : State → Option KeptReply) → IsAnInstrument ends Good kept
+pub each_answer_is_own : {State : Type 0} (ends : Ends State) (Good : State → Type 0) (kept : State → Option KeptReply) → IsAnInstrument ends Good kept
     → EachAnswerIsOwn ends Good kept
-owned ends Good kept is width wide calls t follows u lines may rs are possible safe =
+each_answer_is_own ends Good kept is width wide calls t follows u lines may rs are possible safe =
     let ps = placed_runs width ends u rs in
     let over = over_events width calls t follows in
     let events = events_over width ends u rs in

@@ -30,7 +30,7 @@ module _ {A B : Type 0} (Is : A → B → Type 0) where
   first_written (a ∷ xs) (b ∷ ys) (suc k) x y are lt f is = (are.0, first_written xs ys k x y are.1 (omega (arith, lt)) f is)
 
 -- where `Is` implies `Be`, `FirstAre Is` implies `FirstAre Be`
-pub first_map : {A B : Type 0} (Is Be : A → B → Type 0) → ((x : A) (y : B) → Is x y → Be x y) → (xs : List A) (ys : List B) → FirstAre Is xs ys → FirstAre Be xs ys
-first_map Is Be step xs [] are = tt
-first_map Is Be step [] (b ∷ ys) are = absurd are
-first_map Is Be step (a ∷ xs) (b ∷ ys) are = (step a b are.0, first_map Is Be step xs ys are.1)
+pub first_are_weaker : {A B : Type 0} (Is Be : A → B → Type 0) → ((x : A) (y : B) → Is x y → Be x y) → (xs : List A) (ys : List B) → FirstAre Is xs ys → FirstAre Be xs ys
+first_are_weaker Is Be step xs [] are = tt
+first_are_weaker Is Be step [] (b ∷ ys) are = absurd are
+first_are_weaker Is Be step (a ∷ xs) (b ∷ ys) are = (step a b are.0, first_are_weaker Is Be step xs ys are.1)

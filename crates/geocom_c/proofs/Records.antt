@@ -21,7 +21,7 @@ use Rattle.geocom_c.specs.Feeding.{line_kind, fault_number_in}
 use Rattle.geocom_c.specs.Settled.{StandsAt, AreListed, AreReadAs, IsKind, HasReading, ListsItems, HasOutcome, IsRecord, AnswerHasLine, AnswersHaveLine}
 use Rattle.geocom_c.specs.declared.listed.GeocomItem.{GeocomItem}
 use Rattle.geocom_c.specs.declared.settled.GeocomSettlement.{GeocomSettlement}
-use Rattle.geocom_c.proofs.Places.{first_map}
+use Rattle.geocom_c.proofs.Places.{first_are_weaker}
 use Rattle.geocom_c.proofs.Items.{stands_more}
 use Rattle.std.proofs.lemmas.Bool.{false≢true}
 
@@ -34,7 +34,7 @@ value_listed asked answer text count places reply lists reads = of_asked asked r
   listed : (a : Asked) (xs : List (List ℕ)) → IsParams reply.params xs → length xs ≤ 16 → AreReadAs a answer xs → AreListed a answer count places text reply.params
   listed a xs split few read = record { items = xs; split = split; read = read; standing = lists xs split few }
 
-  -- the lemma above, by whether the call is one of the table
+  -- the items are listed, by whether the call is one of the table
   of_asked : (a : Asked) → IsAskedReading a reply (Value answer) → AreListed a answer count places text reply.params
   of_asked (Table call) says =
       let params = says.2.values in
@@ -67,7 +67,7 @@ more_reading asked r text more params (Value a) has =
         read = are.read;
         standing = record {
           counted = are.standing.counted;
-          stand = first_map (StandsAt text) (StandsAt (text ++ more)) (stands_more text more) r.places are.items are.standing.stand;
+          stand = first_are_weaker (StandsAt text) (StandsAt (text ++ more)) (stands_more text more) r.places are.items are.standing.stand;
         };
       },
     )

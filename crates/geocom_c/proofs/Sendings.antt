@@ -8,7 +8,7 @@ use Rattle.gc_catalogue.specs.declared.fault.CallFault.TheVariants.{Unknown, Par
 use Rattle.gc_catalogue.specs.declared.asked.Asked.{Asked}
 use Rattle.gc_catalogue.specs.declared.raw.RawFault.{RawFault}
 use Rattle.gc_catalogue.specs.declared.raw.RawFault.TheVariants as raw
-use Rattle.geocom_c.specs.Sending.{IsOfRequest, AsksOrRefuses, IsSend, RequestRule, SendEffect, SendsRead, WasAsked, raw_number}
+use Rattle.geocom_c.specs.Sending.{IsOfRequest, AsksOrRefuses, IsSend, RequestRule, SendEffect, WasAsked, raw_number, read_rule}
 use Rattle.geocom_c.specs.declared.header.TheConstants.{WINDOW_FULL}
 use Rattle.geocom_c.specs.declared.state.GeocomClient.{GeocomClient}
 use Rattle.geocom_c.proofs.Clients.{never_ok}
@@ -100,7 +100,7 @@ module _ {X E : Type 0} (rule : RequestRule X E) where
         record { client = was.client; rest = was.rest; asked = found.0; stands = was.stands; begun = was.begun; is = found.1; fills = was.fills }
 
     -- a send of what was read is a send of what is asked for
-    pub sends_as : (target deadline : ℕ) (s : SendEffect) → SendsRead read target deadline s → IsSend rule target deadline s
+    pub sends_as : (target deadline : ℕ) (s : SendEffect) → IsSend (read_rule read) target deadline s → IsSend rule target deadline s
     sends_as target deadline s did = record {
       sent = λ room c rest x stands begun is. did.sent room c rest (rule.to x) stands begun (r.only x is);
       refuses = λ room c rest e stands begun is. did.refuses room c rest (rule.number e) stands begun (r.refused e is);

@@ -7,17 +7,24 @@ use Rattle.gc_lines.specs.declared.frame.Frame.{Frame}
 use Rattle.gc_lines.specs.declared.frame.Frame.TheVariants.{Line}
 use Rattle.gc_client.specs.Beginning.{the_word, asks, left_by}
 pub use Rattle.gc_client.specs.Beginning.{unanswered_after}
-use Rattle.gc_catalogue.specs.declared.asked.Asked.{Asked}
-use Rattle.gc_client.specs.Rule.{Windowed, heard}
-use Rattle.geocom_c.specs.Rest.{lines_completed}
-use Rattle.geocom_c.specs.State.{StandsForClient, left_of}
+use Rattle.gc_client.specs.Rule.{heard}
+use Rattle.geocom_c.specs.Rest.{lines_completed, IsRest}
+use Rattle.geocom_c.specs.State.{IfOfClient, StandsForClient, left_of}
 use Rattle.geocom_c.specs.declared.answers.GeocomBeginning.{GeocomBeginning}
+use Rattle.geocom_c.specs.declared.rest.GeocomRest.{GeocomRest}
 use Rattle.geocom_c.specs.declared.state.GeocomClient.{GeocomClient}
 
 -- the ids that aren't answered after these bytes, where `left` weren't before: each line that the bytes end, after the bytes
 -- `rest` since the last line feed, is heard
 abbrev pub left_by_bytes : (left rest bytes : List ℕ) → List ℕ
 left_by_bytes left rest bytes = unanswered_after left (lines_completed rest bytes)
+
+-- no part of a promise: all these bytes were handed to a synchronization, whatever came since the last line feed, which has heard
+-- each line that they end. `old` and `new` are what is kept of an incomplete line before and after them, `before` and `after` the
+-- ids that aren't answered
+abbrev pub SynchronizesBy : (bytes : List ℕ) → (old new : GeocomRest) → (before after : List ℕ) → Type 0
+SynchronizesBy bytes old new before after =
+    (rest : List ℕ) → IsRest old rest → IsRest new (rest_behind rest bytes) × (after ≡ left_by_bytes before rest bytes)
 
 -- the ids that aren't answered after a frame, where `left` weren't before: a line is heard
 abbrev pub left_past : (left : List ℕ) → Frame → List ℕ
@@ -56,15 +63,16 @@ left_by_restart (asked ∷ later) = asked ∷ later
 -- client is the same, each line that the bytes end is heard, and the bytes since the last line feed are kept
 abbrev pub HearsBytes : (bytes : List ℕ) → (old new : GeocomClient) → (fault : ℕ) → Type 0
 HearsBytes bytes old new fault =
-    (c : Windowed Asked) (rest : List ℕ) → StandsForClient old c rest
-    → (fault ≡ 0) × StandsForClient new c (rest_behind rest bytes) × (left_of new ≡ left_by_bytes (left_of old) rest bytes)
+    IfOfClient old (λ c rest.
+    (fault ≡ 0) × StandsForClient new c (rest_behind rest bytes) × (left_of new ≡ left_by_bytes (left_of old) rest bytes))
 
 -- if the call that returned `told` had no fault, `room` has the line that is sent after these bytes, where `old` and `new` are
 -- the states before and after the call
 abbrev pub GivesLine : (bytes : List ℕ) → (old new : GeocomClient) → GeocomBeginning → (room : List ℕ) → Type 0
 GivesLine bytes old new told room = told.fault ≡ 0 → IsGiven (given bytes (left_of old) (left_of new)) told.count room
 
--- if there is no fault, `told` says that the client has synchronized if and only if no id is unanswered in this state
+-- if the call that returned `told` had no fault, `told` says that the client has synchronized if and only if no id is unanswered
+-- in this state
 abbrev pub ReportsBegun : GeocomBeginning → GeocomClient → Type 0
 ReportsBegun told state = told.fault ≡ 0 → (told.has_begun ≡ 1) ↔ (left_of state ≡ [])
 

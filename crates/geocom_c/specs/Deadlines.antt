@@ -2,7 +2,7 @@
 use Rattle.std.specs.Prelude.{◌≡◌, ◌≢◌, ℕ, List, length, take, Option, Some, None, if◌then◌else◌, nat_eq}
 use Rattle.gc_catalogue.specs.declared.asked.Asked.{Asked}
 use Rattle.gc_client.specs.Rule.{Windowed, IsEarliest, deadlines, expires, expiring}
-use Rattle.geocom_c.specs.State.{StandsForClient}
+use Rattle.geocom_c.specs.State.{IfOfClient, StandsForClient}
 use Rattle.geocom_c.specs.declared.answers.GeocomCount.{GeocomCount}
 use Rattle.geocom_c.specs.declared.answers.GeocomDeadline.{GeocomDeadline}
 use Rattle.geocom_c.specs.declared.state.GeocomClient.{GeocomClient}
@@ -23,13 +23,13 @@ pub record HasExpired (c : Windowed Asked) (rest : List ℕ) (now : ℕ) (state 
 -- the moment `now` was handed to a client in the state `old`: what was returned, the state `new` and the targets are as
 -- `HasExpired` says
 abbrev pub Expires : (now : ℕ) → (old new : GeocomClient) → (told : GeocomCount) → (targets : List ℕ) → Type 0
-Expires now old new told targets = (c : Windowed Asked) (rest : List ℕ) → StandsForClient old c rest → HasExpired c rest now new told targets
+Expires now old new told targets = IfOfClient old (λ c rest. HasExpired c rest now new told targets)
 
 -- for a client's state the fault is 0, and the deadline that was returned is the earliest of the client's requests that
 -- haven't timed out, if there is one
 abbrev pub ReportsEarliest : GeocomClient → GeocomDeadline → Type 0
 ReportsEarliest state told =
-    (c : Windowed Asked) (rest : List ℕ) → StandsForClient state c rest → (told.fault ≡ 0) × IsEarliest (deadlines c.ids.waiting) (earliest_in told)
+    IfOfClient state (λ c rest. (told.fault ≡ 0) × IsEarliest (deadlines c.ids.waiting) (earliest_in told))
 
 -- a record of plain fields that holds no deadline has 0 as `is_set` and as `deadline`
 abbrev pub IsBlankIfUnset : GeocomDeadline → Type 0
@@ -37,4 +37,4 @@ IsBlankIfUnset told = told.is_set ≢ 1 → (told.is_set ≡ 0) × (told.deadlin
 
 -- for a client's state the fault is 0, and the count that was returned is that of the client's outstanding requests
 abbrev pub ReportsWaiting : GeocomClient → GeocomCount → Type 0
-ReportsWaiting state told = (c : Windowed Asked) (rest : List ℕ) → StandsForClient state c rest → (told.fault ≡ 0) × (told.count ≡ length c.ids.waiting)
+ReportsWaiting state told = IfOfClient state (λ c rest. (told.fault ≡ 0) × (told.count ≡ length c.ids.waiting))

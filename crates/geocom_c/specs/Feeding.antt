@@ -14,7 +14,7 @@ use Rattle.gc_client.specs.declared.window.TheConstants.{WINDOW}
 use Rattle.geocom_c.specs.FirstAre.{FirstAre}
 use Rattle.geocom_c.specs.Rooms.{KeepsLength, WritesFirst}
 use Rattle.geocom_c.specs.Settled.{IsRecord}
-use Rattle.geocom_c.specs.State.{StandsForClient}
+use Rattle.geocom_c.specs.State.{IfOfClient, StandsForClient}
 use Rattle.geocom_c.specs.declared.answers.GeocomCount.{GeocomCount}
 use Rattle.geocom_c.specs.declared.answers.GeocomHeard.{GeocomHeard}
 use Rattle.geocom_c.specs.declared.header.TheConstants.{TEXT_ROOM, MORE, SETTLED, STRAY, UNREAD, CLEARED, OVERLONG}
@@ -135,4 +135,4 @@ pub record WritesSettled (count : ℕ) (before after : List GeocomSettlement) (t
 
 -- a client in the state `old` was restarted: what was returned, the state `new` and the records are as `HasRestarted` says
 abbrev pub RestartsClient : (old new : GeocomClient) → (told : GeocomCount) → (records : List GeocomSettlement) → Type 0
-RestartsClient old new told records = (c : Windowed Asked) (rest : List ℕ) → StandsForClient old c rest → HasRestarted c new told records
+RestartsClient old new told records = IfOfClient old (λ c rest. HasRestarted c new told records)

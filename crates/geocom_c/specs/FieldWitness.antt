@@ -80,14 +80,6 @@ calls x =
 abbrev pub beginning : {State : Type 0} → List (SyncTurn State)
 beginning = Asks ∷ Comes ∷ drop 1 eight_answered
 
--- the second command if it is one of the table
-abbrev pub table_second : StateCall
-table_second = Send 8 9 5003 (passed_bytes [])
-
--- the second command if it is for a procedure that isn't in the table
-abbrev pub raw_second : RawCall → StateCall
-raw_second raw = SendRaw 8 9 raw.rpc (passed_bytes (raw_params raw))
-
 -- the moves of the field for these calls: each command reaches the instrument, and its reply comes
 abbrev pub moves : {State : Type 0} → Exchange → List (Move State)
 moves x = Sends 7 (Table InstrumentNo) 9 ∷ Sends 8 x.asked 9 ∷ Tells 5 ∷ OnLine Up_deliver ∷ OnLine Up_deliver ∷ field.Comes x.one ∷ field.Comes x.other ∷ []
@@ -120,12 +112,23 @@ module _ {State : Type 0} (ends : Ends State) (Good : State → Type 0) (kept : 
 
 -- the exchange with the instrument that counts: the second command is for a procedure that isn't in the table
 abbrev pub counting_exchange : RawCall → Exchange
-counting_exchange raw = record { nulls = chain.null_replies; second = raw_second raw; asked = Raw raw; one = chain.first_reply; other = chain.second_reply }
+counting_exchange raw = record {
+  nulls = chain.null_replies;
+  second = SendRaw 8 9 raw.rpc (passed_bytes (raw_params raw));
+  asked = Raw raw;
+  one = chain.first_reply;
+  other = chain.second_reply;
+}
 
 -- the exchange with the simulator: the second command is one of the table
 abbrev pub simulator_exchange : Exchange
-simulator_exchange =
-    record { nulls = replies; second = table_second; asked = Table InstrumentNo; one = codes "%R1P,0,0:0,123456"; other = codes "%R1P,0,1:0,123456" }
+simulator_exchange = record {
+  nulls = replies;
+  second = Send 8 9 5003 (passed_bytes []);
+  asked = Table InstrumentNo;
+  one = codes "%R1P,0,0:0,123456";
+  other = codes "%R1P,0,1:0,123456";
+}
 
 -- there are such calls over the instrument that counts, with any procedure that isn't in the table, and over the simulator as it
 -- is at the start

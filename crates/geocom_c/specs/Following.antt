@@ -87,9 +87,9 @@ abbrev pub CallsReach : (width : ℕ) → (s : CallStage) → List StateCall →
 CallsReach width s [] t = t ≡ s
 CallsReach width s (call ∷ calls) t = CallMakes s.left s.rest call (λ steps. CallsReach width (stage_after width s call steps) calls t)
 
--- no part of a promise: the state is at some stage. Whatever the calls `later`, which are left, come to from that stage, `calls`
--- come to from the stage s
-pub record Reached (width : ℕ) (s : CallStage) (calls : List StateCall) (state : GeocomClient) (later : List StateCall) : Type 0 where
+-- no part of a promise: all these calls but the last ones, `later`, were made on a client at the stage s, which is at some stage
+-- (`stage`) since then. What `later` come to from there, `calls` come to from s
+pub record MadeBut (width : ℕ) (s : CallStage) (calls : List StateCall) (state : GeocomClient) (later : List StateCall) : Type 0 where
   pub stage : CallStage
   pub at : IsAt width stage state
   pub on : (t : CallStage) → CallsReach width stage later t → CallsReach width s calls t

@@ -79,9 +79,9 @@ module _ {State : Type 0} (width : ℕ) (ends : Ends State) (Good : State → Ty
     pub each : AllByRecursion IsOwnRun ps
 
 -- each answer is its own request's (`AreOwn`), over the ends `ends` with states of which `Good` holds, which retain the reply
--- `kept`: for every width, all calls on a state that are safe (`IsSafeRun`), whatever is in flight and well formed
--- (`IsWellFormed`) when the state is made, unless the word is (`LacksTheWord`), and all that the line and the instrument may do
--- meanwhile
+-- `kept`: for every width, all calls on a state, and all runs of which these are the events (`AreEvents`), if the runs are
+-- possible and safe (`ArePossibleRuns`, `IsSafeRun`); and whatever is in flight when the state is made, if it is well formed
+-- (`IsWellFormed`) and the word isn't in it (`LacksTheWord`)
 abbrev pub EachAnswerIsOwn : {State : Type 0} → (ends : Ends State) → (Good : State → Type 0) → (kept : State → Option KeptReply) → Type 0
 EachAnswerIsOwn {State = State} ends Good kept =
     (width : ℕ) → IsWidth width → (calls : List StateCall) (t : CallStage) → CallsReach width first_stage calls t →

@@ -1,7 +1,7 @@
 -- The lists that a call writes into (its rooms), this project's own: what stays as it was, and what a fault says.
 use Rattle.std.specs.Prelude.{◌≡◌, ◌≢◌, ◌↔◌, ◌<◌, ◌≤◌, ◌+◌, ◌++◌, ℕ, List, length, take, drop}
 use Rattle.gc_client.specs.declared.window.TheConstants.{WINDOW}
-use Rattle.geocom_c.specs.State.{IsAstray}
+use Rattle.geocom_c.specs.State.{IsOfNoClient}
 use Rattle.geocom_c.specs.declared.answers.GeocomCount.{GeocomCount}
 use Rattle.geocom_c.specs.declared.header.TheConstants.{NO_ROOM, NO_CLIENT}
 use Rattle.geocom_c.specs.declared.state.GeocomClient.{GeocomClient}
@@ -32,7 +32,7 @@ ReportsNoRoom room least fault = (fault ≡ NO_ROOM) ↔ (length room < least)
 
 -- the fault is `NO_CLIENT` if and only if the list `room` has at least `least` items and the bytes of the state are no client's
 abbrev pub ReportsNoClient : {A : Type 0} → (room : List A) → (least : ℕ) → GeocomClient → (fault : ℕ) → Type 0
-ReportsNoClient room least state fault = (fault ≡ NO_CLIENT) ↔ ((least ≤ length room) × IsAstray state)
+ReportsNoClient room least state fault = (fault ≡ NO_CLIENT) ↔ ((least ≤ length room) × IsOfNoClient state)
 
 -- a call that returned `told`: after a fault the count is 0, and the call changed neither the state (`old` before it, `new`
 -- after) nor its room (`before` and `after`)

@@ -11,7 +11,7 @@ use Rattle.gc_world.specs.Clients.{by_ids}
 use Rattle.gc_field.specs.World.{Ends, World}
 use Rattle.gc_field.specs.Begin.{InFlight, AreTurns, Asks, Comes, Foreign, SyncModel, SyncTurn, UnderWay, begins, leaves, turns}
 use Rattle.gc_field.specs.Beginnings.{Run, left_by_run, after_turns}
-use Rattle.gc_field.specs.Begun.{behind, ids_begun}
+use Rattle.gc_field.specs.Begun.{world_once_begun, ids_begun}
 use Rattle.gc_field.specs.Field.{ArePossible, seen}
 use Rattle.geocom_c.specs.Steps.{ClientEvent, Came, Stepped, ask_events}
 
@@ -56,7 +56,7 @@ module _ {State : Type 0} (width : ℕ) (ends : Ends State) where
 
   -- the world after a run
   abbrev pub world : PlacedRun State → World (ById Asked) State
-  world p = behind width ends (leaves (begun_at ends p)) p.run.moves
+  world p = world_once_begun width ends (leaves (begun_at ends p)) p.run.moves
 
   -- the runs, each with what was in flight when it began: `u` for the first, and for each other what the run before it left
   abbrev pub placed_runs : UnderWay State → List (Run State) → List (PlacedRun State)
@@ -71,7 +71,7 @@ module _ {State : Type 0} (width : ℕ) (ends : Ends State) where
       (AreTurns ends Good kept r.turns (begins u) × ArePossible ends Good kept (by_ids width ends) r.moves (ids_begun (leaves (after_turns ends u r))))
       × ArePossibleRuns Good kept (left_by_run width ends u r) rs
 
-  -- What they settle.
+  -- What runs settle.
 
   -- what the library settles in a run, by the ids that aren't answered: all but the eight null procedures once it has
   -- synchronized, and nothing before

@@ -19,7 +19,7 @@ use Rattle.gc_client.specs.Rule.{ById, Windowed, Sending, sends}
 use Rattle.geocom_c.specs.Beginning.{IsGiven}
 use Rattle.geocom_c.specs.Rest.{IsRest}
 use Rattle.geocom_c.specs.Rooms.{FaultLeavesAll, ReportsNoClient, ReportsNoRoom, WritesWithin}
-use Rattle.geocom_c.specs.State.{KeepsAnswered, StandsForClient, left_of}
+use Rattle.geocom_c.specs.State.{IfOfClient, KeepsAnswered, StandsForClient, left_of}
 use Rattle.geocom_c.specs.declared.answers.GeocomCount.{GeocomCount}
 use Rattle.geocom_c.specs.declared.header.TheConstants.{LINE_ROOM, WINDOW_FULL, NO_ROOM, NO_CLIENT, NOT_BEGUN, IN_TABLE}
 use Rattle.geocom_c.specs.declared.state.GeocomClient.{GeocomClient}
@@ -93,7 +93,7 @@ IsRefusalNumber {E = E} rule fault = IsOfRequest fault → (e : E) × rule.is_no
 
 -- a client that hasn't synchronized refuses to send
 abbrev pub RefusesUnbegun : GeocomClient → (fault : ℕ) → Type 0
-RefusesUnbegun state fault = (c : Windowed Asked) (rest : List ℕ) → StandsForClient state c rest → left_of state ≢ [] → fault ≡ NOT_BEGUN
+RefusesUnbegun state fault = IfOfClient state (λ c rest. left_of state ≢ [] → fault ≡ NOT_BEGUN)
 
 -- the state is that of a client that has synchronized, it was asked for an x of which `Is` holds, and the number of its
 -- outstanding requests and its width meet `Fills`
@@ -157,7 +157,3 @@ pub record AsksOrRefuses {X E : Type 0} (rule : RequestRule X E) (read : Result 
   pub refuses : (fault : ℕ) → read ≡ Err fault → (e : E) × rule.is_not e × (fault ≡ rule.number e)
   pub refused : (e : E) → rule.is_not e → read ≡ Err (rule.number e)
   pub number_of_request : (fault : ℕ) → read ≡ Err fault → IsOfRequest fault
-
--- no part of a promise: what a send of what was read did and returned
-abbrev pub SendsRead : (read : Result Asked ℕ) → (target deadline : ℕ) → SendEffect → Type 0
-SendsRead read target deadline s = IsSend (read_rule read) target deadline s

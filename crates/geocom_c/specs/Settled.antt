@@ -27,10 +27,6 @@ pub record StandsAt (text : List ℕ) (place : GeocomItem) (item : List ℕ) : T
   pub within : place.offset + place.length ≤ length text
   pub stands : take place.length (drop place.offset text) ≡ item
 
--- each of these items is in the text where its place says
-abbrev pub StandIn : (text : List ℕ) → (places : List GeocomItem) → (items : List (List ℕ)) → Type 0
-StandIn text places items = FirstAre (StandsAt text) places items
-
 -- if a call of the table was asked, these items are the values of its answer; of another procedure they are texts, of which
 -- nothing is said
 abbrev pub AreReadAs : Asked → Answer → List (List ℕ) → Type 0
@@ -40,7 +36,7 @@ AreReadAs (Raw raw) answer items = Unit {0}
 -- there are `count` items, each of which is in the text where its place says
 pub record AreStanding (count : ℕ) (places : List GeocomItem) (text : List ℕ) (items : List (List ℕ)) : Type 0 where
   pub counted : count ≡ length items
-  pub stand : StandIn text places items
+  pub stand : FirstAre (StandsAt text) places items
 
 -- `count` items of an answer are listed: they are those of the parameters, are in the text where `places` says, and, if a call of
 -- the table was asked, are the values of the answer (`AreReadAs`)

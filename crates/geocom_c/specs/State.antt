@@ -54,9 +54,13 @@ pub record StandsForClient (s : GeocomClient) (c : Windowed Asked) (rest : List 
   pub places : HoldRequests s.places c.ids.waiting
   pub incomplete : IsRest s.rest rest
 
+-- if the bytes of a state are some client's, `claim` holds of that client and of the bytes since the last line feed
+abbrev pub IfOfClient : GeocomClient → (claim : (c : Windowed Asked) → (rest : List ℕ) → Type 0) → Type 0
+IfOfClient s claim = (c : Windowed Asked) (rest : List ℕ) → StandsForClient s c rest → claim c rest
+
 -- the bytes of a state are no client's
-abbrev pub IsAstray : GeocomClient → Type 0
-IsAstray s = (c : Windowed Asked) (rest : List ℕ) → StandsForClient s c rest → ⊥
+abbrev pub IsOfNoClient : GeocomClient → Type 0
+IsOfNoClient s = IfOfClient s (λ c rest. ⊥)
 
 -- the bytes of a state are some client's
 abbrev pub IsOfClient : GeocomClient → Type 0

@@ -2,10 +2,10 @@
 //! answer.
 
 ghost use Rattle.std.specs.Prelude.{◌≡◌, ◌≤◌, ℕ, List, [], length, drop};
-ghost use Rattle.gc_lines.specs.Frames.{frame_of, rest_behind};
+ghost use Rattle.gc_lines.specs.Frames.{frame_of};
 ghost use Rattle.gc_lines.specs.Taking.{IsUsedOf};
 ghost use Rattle.gc_client.specs.Beginning.{asks, the_word};
-ghost use Rattle.geocom_c.specs.Beginning.{came_in_vain, given_unless, left_by_bytes, left_past, BeginFaultLeavesAll, GivesLine, HearsBytes, IsGiven, ReportsBegun};
+ghost use Rattle.geocom_c.specs.Beginning.{came_in_vain, given_unless, left_past, BeginFaultLeavesAll, GivesLine, HearsBytes, IsGiven, ReportsBegun, SynchronizesBy};
 ghost use Rattle.geocom_c.specs.Rest.{IsValid, IsRest, UsesFirstLine, UsesUnended};
 ghost use Rattle.geocom_c.specs.Rooms.{ReportsNoClient, ReportsNoRoom, WritesWithin};
 ghost use Rattle.geocom_c.specs.State.{IsOfClient};
@@ -48,8 +48,7 @@ fn hear_line(rest: &mut GeocomRest, beginning: &mut Beginning, bytes: &[u8]) -> 
 // Uses all bytes: hands each line that they end to the synchronization, which discards those after the eighth answer.
 fn hear_all(rest: &mut GeocomRest, beginning: &mut Beginning, bytes: &[u8])
     requires { IsValid rest.old }
-    ensures { (r : List ℕ) → IsRest rest.old r
-        → IsRest rest.new (rest_behind r bytes.now) × (beginning.new ≡ left_by_bytes beginning.old r bytes.now) }
+    ensures { SynchronizesBy bytes.now rest.old rest.new beginning.old beginning.new }
 {
     let mut left = bytes;
     while !left.is_empty() {

@@ -4,7 +4,7 @@ ghost use Rattle.std.specs.Prelude.{◌≡◌, ◌≢◌, ◌↔◌, ◌≤◌, 
 ghost use Rattle.gc_client.specs.Rule.{IsWidth};
 ghost use Rattle.gc_client.specs.Rule;
 ghost use Rattle.gc_client.specs.Beginning.{the_word};
-ghost use Rattle.geocom_c.specs.State.{StandsForClient, IsAstray, IsOfClient, KeepsAnswered, left_of};
+ghost use Rattle.geocom_c.specs.State.{StandsForClient, IsOfNoClient, IsOfClient, KeepsAnswered, left_of};
 ghost use Rattle.geocom_c.specs.Rooms.{FaultLeavesAll, ReportsNoClient, ReportsNoRoom, WritesFirst, WritesWithin};
 ghost use Rattle.geocom_c.specs.Deadlines.{Expires, IsBlankIfUnset, ReportsEarliest, ReportsWaiting};
 ghost use Rattle.geocom_c.specs.declared.header.TheConstants.{VERSION, NO_WIDTH, NO_CLIENT};
@@ -93,7 +93,7 @@ pub extern "C" fn geocom_client_expire(
 #[unsafe(no_mangle)]
 pub extern "C" fn geocom_client_next_deadline(state: &GeocomClient) -> GeocomDeadline
     ensures earliest { ReportsEarliest state.now result }
-    ensures astray { (result.fault ≡ NO_CLIENT) ↔ IsAstray state.now }
+    ensures astray { (result.fault ≡ NO_CLIENT) ↔ IsOfNoClient state.now }
     ensures done { result.fault ≡ 0 → IsOfClient state.now }
     ensures refused { result.fault ≢ 0 → result.is_set ≡ 0 }
     ensures unset { IsBlankIfUnset result }
@@ -120,7 +120,7 @@ pub extern "C" fn geocom_client_next_deadline(state: &GeocomClient) -> GeocomDea
 #[unsafe(no_mangle)]
 pub extern "C" fn geocom_client_waiting(state: &GeocomClient) -> GeocomCount
     ensures waiting { ReportsWaiting state.now result }
-    ensures astray { (result.fault ≡ NO_CLIENT) ↔ IsAstray state.now }
+    ensures astray { (result.fault ≡ NO_CLIENT) ↔ IsOfNoClient state.now }
     ensures done { result.fault ≡ 0 → IsOfClient state.now }
     ensures refused { result.fault ≢ 0 → result.count ≡ 0 }
 {

@@ -8,7 +8,7 @@ ghost use Rattle.gc_client.specs.Beginning.{the_word};
 ghost use Rattle.gc_client.specs.declared.window.TheConstants.{WINDOW};
 ghost use Rattle.geocom_c.specs.Beginning.{left_by_restart};
 ghost use Rattle.geocom_c.specs.Rest.{IsValid};
-ghost use Rattle.geocom_c.specs.State.{IsAstray, IsOfClient, KeepsAnswered, StandsForClient, left_of};
+ghost use Rattle.geocom_c.specs.State.{IsOfNoClient, IsOfClient, KeepsAnswered, StandsForClient, left_of};
 ghost use Rattle.geocom_c.specs.Rooms.{FaultLeavesAll, ReportsNoClient, ReportsNoRoom, WritesFirst};
 ghost use Rattle.geocom_c.specs.Feeding.{FeedFaultLeavesState, FeedsFirst, FeedsUnended, HasRoomToSettle, IsFed, RestartsClient, WritesSettled, client_past, feed_effect};
 ghost use Rattle.geocom_c.specs.declared.header.TheConstants.{NO_ROOM, NO_CLIENT};
@@ -136,7 +136,7 @@ pub extern "C" fn geocom_client_feed(
         → FeedsFirst c bytes.now state.old state.new (feed_effect result settlements.new text.new) }
     ensures used { (result.used ≤ length bytes.now) × (result.fault ≡ 0 → 0 < length bytes.now → 0 < result.used) }
     ensures room { (result.fault ≡ NO_ROOM) ↔ (HasRoomToSettle settlements.old text.old → ⊥) }
-    ensures astray { (result.fault ≡ NO_CLIENT) ↔ (HasRoomToSettle settlements.old text.old × IsAstray state.old) }
+    ensures astray { (result.fault ≡ NO_CLIENT) ↔ (HasRoomToSettle settlements.old text.old × IsOfNoClient state.old) }
     ensures done { result.fault ≡ 0 → IsOfClient state.old }
     ensures refused { FeedFaultLeavesState result state.old state.new }
     ensures answered { KeepsAnswered state.old state.new }

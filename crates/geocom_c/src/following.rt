@@ -5,7 +5,7 @@ ghost use Rattle.gc_lines.specs.Taking.{IsUsedOf};
 ghost use Rattle.gc_client.specs.Rule.{IsWidth};
 ghost use Rattle.gc_client.specs.OneForOne.{AccountsForSends};
 ghost use Rattle.geocom_c.specs.State.{KeepsAnswered};
-ghost use Rattle.geocom_c.specs.Following.{FeedsBut, FeedsBytes, CallsReach, IsAt, Reached, CallStage, first_stage};
+ghost use Rattle.geocom_c.specs.Following.{FeedsBut, FeedsBytes, CallsReach, IsAt, MadeBut, CallStage, first_stage};
 
 use crate::beginning::geocom_client_begin;
 use crate::calls::{geocom_client_expire, geocom_client_init};
@@ -87,7 +87,7 @@ fn feed_all(state: &mut GeocomClient, bytes: &[u8])
 // Makes this call, with ample room. What it returns and writes is dropped; a fault leaves the state as it is.
 fn make_call(state: &mut GeocomClient, call: &StateCall<'_>)
     ensures { (width : ℕ) (s : CallStage) (calls : List StateCall) → IsAt width s state.old
-        → Reached width s (call.now ∷ calls) state.new calls }
+        → MadeBut width s (call.now ∷ calls) state.new calls }
 {
     match call {
         StateCall::Send {

@@ -3,7 +3,8 @@
 ghost use Rattle.std.specs.Prelude.{◌≤◌, ◌+◌, length};
 ghost use Rattle.arrayvec.specs.ArrayVec.{array_vec_len};
 ghost use Rattle.geocom_c.specs.Rooms.{KeepsLength};
-ghost use Rattle.geocom_c.specs.Settled.{IsListingOf, ListsItems, StandIn};
+ghost use Rattle.geocom_c.specs.FirstAre.{FirstAre};
+ghost use Rattle.geocom_c.specs.Settled.{IsListingOf, ListsItems, StandsAt};
 ghost use Rattle.gc_station.specs.Records.{Grew};
 ghost use Rattle.gc_values.specs.Params.{total_length};
 ghost use Rattle.geocom_c.specs.declared.header.TheConstants.{TEXT_ROOM};
@@ -41,7 +42,7 @@ fn put_items(text: &mut ArrayVec<u8, TEXT_ROOM>, places: &mut [GeocomItem], item
     requires few { length items.now ≤ length places.old }
     requires room { array_vec_len text.old + total_length items.now ≤ TEXT_ROOM }
     ensures front { Grew text.old.items text.new.items }
-    ensures places { StandIn text.new.items places.new items.now }
+    ensures places { FirstAre (StandsAt text.new.items) places.new items.now }
     ensures length { KeepsLength places.old places.new }
 {
     for k in 0..items.len() {

@@ -6,7 +6,7 @@ ghost use Rattle.gc_catalogue.specs.declared.asked.Asked.{Asked};
 ghost use Rattle.gc_catalogue.specs.Asked.{asked_line};
 ghost use Rattle.geocom_c.specs.State.{KeepsAnswered};
 ghost use Rattle.geocom_c.specs.Rooms.{FaultLeavesAll, WritesText, WritesWithin};
-ghost use Rattle.geocom_c.specs.Sending.{IsOfRequest, AsksOrRefuses, IsSend, SendsAsked, SendsRead, send_effect, table_rule};
+ghost use Rattle.geocom_c.specs.Sending.{IsOfRequest, AsksOrRefuses, IsSend, SendsAsked, read_rule, send_effect, table_rule};
 ghost use Rattle.geocom_c.specs.declared.header.TheConstants.{LINE_ROOM, WINDOW_FULL};
 
 use crate::answers::{GeocomCount, counted, refused};
@@ -57,7 +57,7 @@ pub(crate) fn send_read(
     line: &mut [u8],
 ) -> GeocomCount
     requires { (fault : ℕ) → read ≡ Err fault → IsOfRequest fault }
-    ensures sends { SendsRead read target deadline (send_effect state.old state.new line.old line.new result) }
+    ensures sends { IsSend (read_rule read) target deadline (send_effect state.old state.new line.old line.new result) }
     ensures given { (asked : Asked) → read ≡ Ok asked
         → WritesText result line.new (with_end (asked_line (Some state.old.next) asked)) }
 {

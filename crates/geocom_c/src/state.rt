@@ -8,7 +8,7 @@ ghost use Rattle.gc_client.specs.declared.pending.Pending.{Pending};
 ghost use Rattle.gc_client.specs.Rule.{IsWidth, Windowed};
 ghost use Rattle.gc_client.specs.Rule;
 ghost use Rattle.geocom_c.specs.Rest.{kept_bytes};
-ghost use Rattle.geocom_c.specs.State.{StoresClient, HasClientNumbers, HoldRequests, IsAstray, IsLineOf, IsOnlyReading, HoldsRequest, KeepsAnswered, StandsForClient, left_of};
+ghost use Rattle.geocom_c.specs.State.{StoresClient, HasClientNumbers, HoldRequests, IsOfNoClient, IsLineOf, IsOnlyReading, HoldsRequest, KeepsAnswered, StandsForClient, left_of};
 ghost use Rattle.geocom_c.specs.Rooms.{KeepsLength};
 
 use crate::rest::GeocomRest;
@@ -203,7 +203,7 @@ fn has_client_numbers(state: &GeocomClient) -> bool
 pub(crate) fn load(state: &GeocomClient) -> Option<Client<SlotsOf<Asked>>>
     ensures found { IfSome result (λ c. StandsForClient state.now c (kept_bytes state.now.rest)) }
     ensures only { (c : Windowed Asked) (rest : List ℕ) → StandsForClient state.now c rest → result ≡ Some c }
-    ensures none { result ≡ None → IsAstray state.now }
+    ensures none { result ≡ None → IsOfNoClient state.now }
 {
     if !has_client_numbers(state) || !state.rest.is_valid() {
         return None;

@@ -1,6 +1,6 @@
-//! Runs of the engines. A case has the engine and its input, and after how many calls each port fails, if it does; it expects how the
-//! run ends, what it writes, what is sent over a link, and the sizes of its writes if the case has them. If it names no sizes of the
-//! input's pieces, the input comes whole and in single bytes; and if it says `cuts each`, also cut in two at every place.
+//! Runs of the engines. A case has the engine and its input, and after how many calls each port fails, if it does; it expects how
+//! the run ends, what it writes, what is sent over a link, and the sizes of its writes if the case has them. If it names no sizes
+//! of the input's pieces, the input comes whole and in single bytes; and if it says `cuts each`, also cut in two at every place.
 
 use crate::cases::outcome::{Recut, RunOutcome};
 use crate::cases::setup::Setup;
@@ -38,8 +38,8 @@ fn play_setup(case: &Case<'_>, setup: &Setup, wrong: &mut Told) {
 }
 
 /// The first way of cutting the input in which the run comes to something else than `whole`, to which it came in as few pieces as
-/// the reads allow: single bytes or, if `cuts_in_two` is true, two pieces. `None`: no way does. Memory that runs out for the sizes
-/// of single bytes counts as something else.
+/// the reads allow: single bytes or, if `cuts_in_two` is true, two pieces. `None`: no way does. Memory that runs out for the
+/// sizes of single bytes counts as something else.
 pub fn first_differing_recut(
     setup: &Setup,
     whole: &RunOutcome,
@@ -54,7 +54,8 @@ pub fn first_differing_recut(
     None
 }
 
-/// Appends the size 1 for each byte of an input, so that it comes in single bytes. `Err`: memory ran out, and some of them may be appended.
+/// Appends the size 1 for each byte of an input, so that it comes in single bytes. `Err`: memory ran out, and some of them may be
+/// appended.
 pub fn push_single(sizes: &mut Vec<usize>, input: &[u8]) -> Result<(), AllocError> {
     for _ in input {
         sizes.push(1)?;

@@ -1,5 +1,5 @@
-//! Runs whose port fails at its call k, for each k from 0 until a run ends well. A case has the engine, its input and the port. It
-//! expects groups of runs in a row that came to the same: how many they are, how they ended, and what was written. In its text
+//! Runs whose port fails at its call k, for each k from 0 until a run ends well. A case has the engine, its input and the port.
+//! It expects groups of runs in a row that came to the same: how many they are, how they ended, and what was written. In its text
 //! `a part` stands for the first k bytes of what a run without a fault writes, and `byte +` for a number of bytes that is 0 in
 //! the first run of a group and one more in each further one.
 
@@ -24,7 +24,7 @@ impl Player for Failing {
     // If memory runs out for the set-up, `wrong` notes that it lacks a part.
     fn play(&self, rt: &HostRuntime, case: &Case<'_>, wrong: &mut Told) -> io::Result<()> {
         let mut setup = Setup::unset(rt.alloc());
-        match take_single(case, &mut setup) {
+        match take_in_single_bytes(case, &mut setup) {
             Ok(()) => play_port(case, &mut setup, wrong),
             Err(_) => wrong.lack(),
         }
@@ -33,7 +33,7 @@ impl Player for Failing {
 }
 
 // Takes the set-up that a case says, with the input in single bytes after the sizes that the case names. `Err`: memory ran out.
-fn take_single(case: &Case<'_>, setup: &mut Setup) -> Result<(), AllocError> {
+fn take_in_single_bytes(case: &Case<'_>, setup: &mut Setup) -> Result<(), AllocError> {
     setup.take(case)?;
     push_single(&mut setup.sizes, setup.input.as_slice())
 }
@@ -60,8 +60,8 @@ fn play_calls(case: &Case<'_>, port: Port, setup: &mut Setup, wrong: &mut Told) 
     groups.finish(wrong);
 }
 
-// Appends how a run with a failing call ended, and what it wrote (`output`). `place` is the run's place in its group, counted from 0: a
-// number of bytes that equals it is appended as `byte +`, so that the text is the same for each run of the group.
+// Appends how a run with a failing call ended, and what it wrote (`output`). `place` is the run's place in its group, counted
+// from 0: a number of bytes that equals it is appended as `byte +`, so that the text is the same for each run of the group.
 fn append_run(end: &End, output: &Told, place: u64, text: &mut Told) {
     text.append(&end.text);
     match end.bytes {

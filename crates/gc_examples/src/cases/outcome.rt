@@ -9,8 +9,8 @@ use std::alloc::Global;
 /// How a run ended.
 #[derive(Drop)]
 pub struct End {
-    /// `done`, or the fault as it is printed, but for the bytes of a failed write; and then, where the engine counted the lines
-    /// that it wrote, how many they are. Or `no such engine`. Empty before the end is stored.
+    /// `done`, or the fault as it is printed, but for the bytes of a failed write; and then, of an engine that counts the lines
+    /// that it writes, their number. Without an engine `no such engine`. Empty before the end is stored.
     pub text: Told,
     /// With the fault `Write`: how many bytes of the next line went out, which the text leaves out. `None` for any other end,
     /// also for `Output`.
@@ -66,8 +66,8 @@ impl RunOutcome {
         }
     }
 
-    /// Whether another run ended in the same way, and wrote and sent the same bytes, in however many writes. `false`, too, if memory ran
-    /// out for the text of how this one ended.
+    /// Whether another run ended in the same way, and wrote and sent the same bytes, in however many writes. `false`, too, if
+    /// memory ran out for the text of how this one ended.
     pub fn is_same_as(&self, other: &RunOutcome) -> bool {
         self.end.is_same_as(&other.end)
             && self.output.taken() == other.output.taken()
@@ -85,8 +85,8 @@ impl RunOutcome {
     }
 
     /// Compares how the run ended, what it wrote and what it sent with what the case has under `end`, `output` and `sent`, and,
-    /// if the case has a value under `writes`, the sizes of its writes with this one. `differs` is the way of cutting the input in which
-    /// it came to something else; its words are appended to how it ended.
+    /// if the case has a value under `writes`, the sizes of its writes with this one. `differs` is the way of cutting the input
+    /// in which it came to something else; its words are appended to how it ended.
     pub fn compare(&self, case: &Case<'_>, differs: Option<Recut>, wrong: &mut Told) {
         self.end.compare(case, differs, wrong);
         case.compare("output", self.output.taken(), wrong);
@@ -125,8 +125,8 @@ impl End {
             && self.bytes == other.bytes
     }
 
-    // Compares the text, with ` byte ` and `bytes` after it unless they are `None`, and the words of `differs` at the end, with the
-    // case's `end`.
+    // Compares the text, with ` byte ` and `bytes` after it unless they are `None`, and the words of `differs` at the end, with
+    // the case's `end`.
     fn compare(&self, case: &Case<'_>, differs: Option<Recut>, wrong: &mut Told) {
         let mut told = Told::new(wrong.alloc);
         told.append(&self.text);

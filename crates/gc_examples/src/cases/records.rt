@@ -80,8 +80,8 @@ fn front_of(name: &[u8]) -> &[u8]
     &name[..name.len().min(64)]
 }
 
-// The moments of a record, in milliseconds since 1970: when its run began, when its request was sent (none if the case's `sent` is no
-// number), and when its command ended; and its cycle and its turn.
+// The moments of a record, in milliseconds since 1970: when its run began, when its request was sent (none if the case's `sent`
+// is no number), and when its command ended; and its cycle and its turn.
 fn when_of(case: &Case<'_>) -> When {
     When {
         run: RUN_BEGIN,
@@ -96,8 +96,8 @@ fn when_of(case: &Case<'_>) -> When {
     }
 }
 
-// Which command of a station's text a record is of, and in which attempt: place 3, counted from 0, and the first attempt, where the case
-// doesn't say.
+// Which command of a station's text a record is of, and in which attempt: place 3, counted from 0, and the first attempt, where
+// the case doesn't say.
 fn turn_of(case: &Case<'_>) -> Turn {
     Turn {
         place: case.number("place", 3),

@@ -26,8 +26,8 @@ pub fn reading_alone<T: Drop>(read: Result<T, RunFault>) -> Returned {
 }
 
 impl Setup {
-    // Has the instrument of the scene, which has no rules, answer the requests of `source`. Returns the fault of the scene if it can't be
-    // read.
+    // Has the instrument of the scene, which has no rules, answer the requests of `source`. Returns the fault of the scene if it
+    // can't be read.
     pub(crate) fn serve(&self, source: &mut PieceSource<'_>, output: &mut Taking) -> Returned {
         match read_scene(self.alloc, self.scene.as_slice()) {
             Ok(mut instrument) => {
@@ -37,8 +37,8 @@ impl Setup {
         }
     }
 
-    // Has the instrument of the scene, which has rules, answer the requests of `source`; if the case has moments, the lines of the input
-    // instead, each at its moment. Returns the fault of the scene if it can't be read.
+    // Has the instrument of the scene, which has rules, answer the requests of `source`; if the case has moments, the lines of
+    // the input instead, each at its moment. Returns the fault of the scene if it can't be read.
     pub(crate) fn serve_rules(
         &self,
         source: &mut PieceSource<'_>,
@@ -69,8 +69,8 @@ impl Setup {
         Returned::Served(Ok(Served { replies }))
     }
 
-    // Gives the lines of the input to the scene's instrument, whose replies take time, as `serve_row` does. The run ends well, also where
-    // the output fails, or with the fault of the scene if it can't be read.
+    // Gives the lines of the input to the scene's instrument, whose replies take time, as `serve_row` does. The run ends well,
+    // also where the output fails, or with the fault of the scene if it can't be read.
     pub(crate) fn serve_slow(&self, output: &mut Taking) -> Returned {
         match read_timed_scene(self.alloc, self.scene.as_slice()) {
             Ok(mut slow) => {

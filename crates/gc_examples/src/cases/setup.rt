@@ -114,7 +114,8 @@ pub struct Setup {
     pub link_sizes: Vec<usize>,
     /// The text of the scene whose instrument answers.
     pub scene: Vec<u8>,
-    /// At which moments the scene's instrument gets the lines of the input, in milliseconds. If there are none, it gets no moment.
+    /// At which moments the scene's instrument gets the lines of the input, in milliseconds. If there are none, it gets no
+    /// moment.
     pub moments: Vec<usize>,
     /// How many reads are allowed.
     pub allowed: u32,
@@ -129,7 +130,8 @@ pub struct Setup {
     pub width: u8,
 }
 
-// The engine that a word names; `Engine::None` if it names none. `totals` is a drill that prints its totals, which `take_numbers` sees.
+// The engine that a word names; `Engine::None` if it names none. `totals` is a drill that prints its totals, which `take_numbers`
+// sees.
 fn engine_of(word: &str) -> Engine {
     match word {
         "exec" => Engine::Exec,
@@ -227,8 +229,8 @@ impl Setup {
         self.take_lists(case)
     }
 
-    // Takes from a case the sizes of the input's pieces, what the link gives and in which pieces, the moments, and the scene. `Err`: memory
-    // ran out.
+    // Takes from a case the sizes of the input's pieces, what the link gives and in which pieces, the moments, and the scene.
+    // `Err`: memory ran out.
     fn take_lists(&mut self, case: &Case<'_>) -> Result<(), AllocError> {
         push_sizes(&mut self.sizes, case.value("sizes"))?;
         push_bytes_of(&mut self.link, case.value("link"))?;
@@ -288,8 +290,8 @@ impl Setup {
         self.run(sizes).is_same_as(whole)
     }
 
-    /// Runs the engine over the input in pieces of these sizes, with what is behind the last one in as few pieces as the reads allow, and
-    /// returns how it ended, what it wrote and what it sent over the link.
+    /// Runs the engine over the input in pieces of these sizes, with what is behind the last one in as few pieces as the reads
+    /// allow, and returns how it ended, what it wrote and what it sent over the link.
     pub fn run(&self, sizes: &[usize]) -> RunOutcome {
         let output = Taking::new(self.alloc, self.most, self.answers.output);
         let link = Taking::new(self.alloc, self.link_most, self.answers.link_out);
@@ -300,8 +302,8 @@ impl Setup {
         came
     }
 
-    // Runs the engine over this source, the link and the output of `came`, and returns what it returned. `Slow`, `Rules` with moments,
-    // and each engine that only reads a scene take the input as a whole, and nothing from the source.
+    // Runs the engine over this source, the link and the output of `came`, and returns what it returned. `Slow`, `Rules` with
+    // moments, and each engine that only reads a scene take the input as a whole, and nothing from the source.
     fn run_on(&self, source: &mut PieceSource<'_>, came: &mut RunOutcome) -> Returned {
         let text = self.input.as_slice();
         let output = &mut came.output;
@@ -389,9 +391,9 @@ impl Setup {
         self.loop_over(&up, &down, source, output)
     }
 
-    // Asks the commands of `source` over two pipes: the client writes to `up` and reads from `down`, and the scene's instrument does
-    // the reverse. A write takes as many bytes as the case says at most, or 1 if it says 0. `Err`: the fault of the scene, or as
-    // `run_loop_on` says.
+    // Asks the commands of `source` over two pipes: the client writes to `up` and reads from `down`, and the scene's instrument
+    // does the reverse. A write takes as many bytes as the case says at most, or 1 if it says 0. `Err`: the fault of the scene,
+    // or as `run_loop_on` says.
     fn loop_over(
         &self,
         up: &Pipe,

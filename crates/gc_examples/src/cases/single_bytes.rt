@@ -8,8 +8,9 @@ use std::alloc::AllocError;
 /// The most bytes of a line in flight, with CR LF.
 const MOST_BYTES: usize = 514;
 
-/// These events, with deliveries of one byte in place of each delivery of a line: one for each byte of the line that isn't delivered
-/// yet, or one delivery if no line is in flight. `world` plays the events, to see how far a line is delivered. `Err`: memory ran out.
+/// These events, with deliveries of one byte in place of each delivery of a line: one for each byte of the line that isn't
+/// delivered yet, or one delivery if no line is in flight. `world` plays the events, to see how far a line is delivered. `Err`:
+/// memory ran out.
 pub fn in_single_bytes(world: &WorldRows, events: &[Event]) -> Result<Vec<Event>, AllocError> {
     let mut pieces = Pieces {
         world,

@@ -1,6 +1,6 @@
-//! Cases of texts. A text is read as the case's `as` says: as commands, a schedule, a station's tasks, a line of a log, a place and
-//! so on; or it names a fault, which is printed. The case expects under `is` what comes of it, as the functions here append it to
-//! `came`.
+//! Cases of texts. A text is read as the case's `as` says: as commands, a schedule, a station's tasks, a line of a log, a place
+//! and so on; or it names a fault, which is printed. The case expects under `is` what comes of it, as the functions here append
+//! it to `came`.
 
 use gc_cases::{Case, Player, Told, bytes_of, text_of};
 use gc_catalogue::Asked;
@@ -126,8 +126,8 @@ fn append_events(events: &[Event], came: &mut Told) {
     }
 }
 
-// Appends each task in a line, and then how many targets have names. If the case says `turns told`, each line has the task's turn, too, and
-// at the end is how many tasks the setup has.
+// Appends each task in a line, and then how many targets have names. If the case says `turns told`, each line has the task's
+// turn, too, and at the end is how many tasks the setup has.
 fn append_tasks(case: &Case<'_>, all: &Tasks, came: &mut Told) {
     let turns = case.is("turns", "told");
     for task in all.tasks.as_slice() {
@@ -175,8 +175,8 @@ fn append_call(tasks: &[Task], utc: u64, came: &mut Told) {
     }
 }
 
-// Appends the target of a task, the number of its procedure, with the parameters if it isn't in the table, its deadline in milliseconds,
-// and whether it is chained.
+// Appends the target of a task, the number of its procedure, with the parameters if it isn't in the table, its deadline in
+// milliseconds, and whether it is chained.
 fn append_task(task: &Task, came: &mut Told) {
     came.display(&task.command.target);
     came.titled(" ", &task.command.call.number());
@@ -194,8 +194,8 @@ fn append_raw(asked: &Asked, came: &mut Told) {
     }
 }
 
-// Appends where the target of a task is, its horizontal and its vertical angle, and the tolerance, all in radians; nothing if the text
-// doesn't say them.
+// Appends where the target of a task is, its horizontal and its vertical angle, and the tolerance, all in radians; nothing if the
+// text doesn't say them.
 fn append_near(task: &Task, came: &mut Told) {
     if let Some(near) = task.near {
         came.titled(" near ", &near.place.hz);
@@ -267,8 +267,8 @@ fn append_fault(fault: RunFault, came: &mut Told) {
     let _ = fault.tell(came);
 }
 
-// The fault that a case names under `text`, with the numbers under `replies` and `bytes`, or under `line`; each is 0 if the case has none.
-// `None`: there is no such fault.
+// The fault that a case names under `text`, with the numbers under `replies` and `bytes`, or under `line`; each is 0 if the case
+// has none. `None`: there is no such fault.
 fn fault_of(case: &Case<'_>) -> Option<RunFault> {
     Some(match case.value("text") {
         "Write" => RunFault::Write {

@@ -85,7 +85,8 @@ impl WorldRows {
         instrument
     }
 
-    /// The report and the client to which these events lead over this window, with the case's width and precision. `Err`: memory ran out.
+    /// The report and the client to which these events lead over this window, with the case's width and precision. `Err`: memory
+    /// ran out.
     pub fn play_events<W: Window<Asked = Call>>(
         &self,
         window: W,
@@ -150,21 +151,19 @@ impl WorldRows {
         if self.text.is_lacking() {
             came.lack();
         }
-        match read_schedule(self.alloc, self.text.as_bytes()) {
-            Ok(events) => {
-                if self
-                    .append_wanted_of(wanted, events.as_slice(), came)
-                    .is_err()
-                {
-                    came.lack();
-                }
-            }
-            Err(_) => came.text("no schedule"),
+        let Ok(events) = read_schedule(self.alloc, self.text.as_bytes()) else {
+            return came.text("no schedule");
+        };
+        if self
+            .append_wanted_of(wanted, events.as_slice(), came)
+            .is_err()
+        {
+            came.lack();
         }
     }
 }
 
-// Appends the words `way` and the text `other`, if it isn't `told`, or memory ran out for it.
+// Appends the words `way`, and after them `other`, if `other` isn't the same text as `told`, or lacks a part.
 fn append_difference(told: &Told, way: &str, other: &Told, came: &mut Told) {
     if other.is_lacking() || other.as_bytes() != told.as_bytes() {
         came.text(way);
@@ -205,7 +204,8 @@ impl Rows for WorldRows {
     }
 }
 
-// Appends the settlements, each with its number, the counts of the report, how many requests the client has outstanding, and its next id.
+// Appends the settlements, each with its number, the counts of the report, how many requests the client has outstanding, and its
+// next id.
 fn append_report<W: Window<Asked = Call>>(report: &Report, client: &Client<W>, came: &mut Told) {
     append_settled(report.settled.as_slice(), came);
     append_made(report, came);
@@ -263,8 +263,8 @@ impl Player for World {
     }
 }
 
-// Adds the lines of the schedule in the file of this name to `text`, as `read_events` does; nothing if the name is empty, as it is where
-// a case names no schedule.
+// Adds the lines of the schedule in the file of this name to `text`, as `read_events` does; nothing if the name is empty, as it
+// is where a case names no schedule.
 fn add_events(rt: &HostRuntime, name: &str, text: &mut Told) {
     if !name.is_empty() {
         read_events(rt, name, text);

@@ -3,6 +3,7 @@
 ghost use Rattle.std.specs.Prelude.{◌≡◌, ◌≤◌, None, IfSome, length};
 ghost use Rattle.std.specs.Option.{option_map};
 ghost use Rattle.gc_instrument.specs.Replying.{kept_line, kept_after};
+ghost use Rattle.gc_instrument.specs.State.{kept_id};
 
 use std::marker::Model;
 
@@ -42,7 +43,7 @@ impl Kept {
     /// The stored id. `None`: nothing is stored.
     #[tactic(auto, using(crate::proofs::Keeping::id_kept))]
     pub fn id(&self) -> Option<u8>
-        ensures { result ≡ option_map (λ k. k.id) self.now }
+        ensures { result ≡ kept_id self.now }
     {
         self.id
     }

@@ -10,7 +10,7 @@ use crate::book::Book;
 use crate::cause::Cause;
 use crate::plan::Plan;
 use crate::progress::Until;
-use crate::progressing::is_reply;
+use crate::progressing::heard_reply;
 use crate::writing::ends_with_table;
 use gc_lines::{Lent, Line, PortFailed};
 use gc_links::{Came, Link, Moment};
@@ -42,7 +42,7 @@ impl Station {
         }
         let of_table = ends_with_table(self.settled.as_slice());
         self.progress.note_behind(of_table, self.client.waiting());
-        self.progress.note_line(is_reply(hearing));
+        self.progress.note_line(heard_reply(hearing));
         Ok(())
     }
 

@@ -3,7 +3,7 @@
 
 ghost use Rattle.std.specs.Prelude.{◌≡◌, ◌<◌, ◌≤◌, [], ◌∷◌, false, length, Option};
 ghost use Rattle.gc_lines.specs.Lines.{with_end};
-ghost use Rattle.gc_links.specs.Acts.{AddsActs, put_act, IsPart};
+ghost use Rattle.gc_links.specs.Acts.{AddsActs, put_act, IsPartIfErr};
 ghost use Rattle.gc_station.specs.Deciding.{has_begun};
 ghost use Rattle.gc_station.specs.Model.{next_request_text, null_text, request_for, null_request, request_of_setup};
 ghost use Rattle.gc_station.specs.Stations.{CanSend, DoesAlone, cut_progress, station_asking};
@@ -58,7 +58,7 @@ fn null_request(plan: &Plan) -> Outgoing
 // Writes a line and then CR LF, as one call of the link. `Err`: the write was cut, with the number of bytes that were sent.
 fn put_line<L: Link>(link: &mut L, line: &Line) -> Result<(), usize>
     ensures tells { AddsActs (L.acts link.old) (L.acts link.new) (put_act result (with_end line.now.items) ∷ []) }
-    ensures part { IsPart result (with_end line.now.items) }
+    ensures part { IsPartIfErr result (with_end line.now.items) }
 {
     link.put(&with_end(line))
 }
@@ -88,7 +88,7 @@ impl Station {
     fn ask<L: Link>(&mut self, link: &mut L, asking: &Outgoing) -> Result<(), usize>
         requires { CanSend self.old }
         ensures tells { AddsActs (L.acts link.old) (L.acts link.new) (put_act result (next_request_text self.old.client.ids asking.now.command.call) ∷ []) }
-        ensures part { IsPart result (next_request_text self.old.client.ids asking.now.command.call) }
+        ensures part { IsPartIfErr result (next_request_text self.old.client.ids asking.now.command.call) }
         ensures asks { self.new ≡ station_asking asking.now self.old }
     {
         let command = &asking.command;
@@ -109,7 +109,7 @@ impl Station {
     fn put_null<L: Link>(&self, link: &mut L) -> Result<(), usize>
         requires { has_begun self.now.progress ≡ false }
         ensures tells { AddsActs (L.acts link.old) (L.acts link.new) (put_act result (null_text self.now.progress.word) ∷ []) }
-        ensures part { IsPart result (null_text self.now.progress.word) }
+        ensures part { IsPartIfErr result (null_text self.now.progress.word) }
     {
         let Some(line) = self.progress.word.ask() else {
             unreachable!()

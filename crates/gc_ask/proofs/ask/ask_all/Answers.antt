@@ -1,15 +1,15 @@
 use Rattle.std.proofs.Common.{◌≡◌, ℕ, ◌+◌, ◌<◌, List, [], ◌++◌, length, take, drop, Ok, Err, ap, ◌∙◌, refl, arith, length-append}
 use Rattle.std.proofs.lemmas.List.{length-take, take_all}
 use Rattle.std.proofs.KnownBytes.{Consumes-trans, Consumes-nil}
-use Rattle.gc_ask.specs.Asking.{LinkResult, idle}
+use Rattle.gc_ask.specs.Asking.{LinkResult, ready_for}
 use Rattle.gc_ask.specs.Links.{SeenStep}
 use Rattle.gc_ask.specs.Listening.{heard_by, reads_of, seen_through}
 use Rattle.gc_ask.specs.Looping.{BothEnd, SeenAtBoth}
 use Rattle.gc_ask.proofs.Asked.{course_start, course_all}
-use Rattle.gc_ask.proofs.Ends.{sound_start, sound_on, both_end, both_well, ends_with_weaker}
+use Rattle.gc_ask.proofs.Ends.{sound_start, both_sound_step, both_end, both_end_well, ends_with_weaker}
 use Rattle.gc_ask.proofs.Exchanging.{course_next, run_fault}
 use Rattle.gc_ask.proofs.ask.ask_all.Goals as goal
-use Rattle.gc_texts.proofs.SettlementLines.{at_place}
+use Rattle.gc_texts.proofs.SettlementLines.{split_at_item}
 use Rattle.gc_texts.specs.declared.fault.RunFault.{RunFault}
 use Rattle.gc_texts.specs.declared.fault.RunFault.TheVariants.{TooManyReads}
 
@@ -30,7 +30,7 @@ pub ask-requires : goal.ask-requires
 ask-requires g c =
     let at = c.loop-place.invariant.course.3 in
     record {
-      idle = at.client_is ∙ ap idle (place_is c.args.commands.now c.loop-place.place c.loop-place-test.true);
+      ready = at.client_is ∙ ap ready_for (place_is c.args.commands.now c.loop-place.place c.loop-place-test.true);
       stands = (at.now, at.stands);
     }
 
@@ -46,7 +46,7 @@ loop-place-preserved g c =
     let asking = c.ask.new.self in
     let next = course_next g.L.AskedLink.is_remote (take place commands) command place _ one.0 (heard_by asking.end at.now (old.ahead ++ one.0) asking.ahead)
     (seen_through g.L.AskedLink c.ask.new.link g.K.Sink c.ask.new.sink) at (place_is commands place c.loop-place-test.true) (one.3 at.now at.stands) in
-    let sound = sound_on
+    let sound = both_sound_step
     (seen_through g.L.AskedLink c.args.link.now g.K.Sink c.args.sink.now) (seen_through g.L.AskedLink c.loop-place.link g.K.Sink c.loop-place.sink)
     (seen_through g.L.AskedLink c.ask.new.link g.K.Sink c.ask.new.sink) c.loop-place.invariant.sound c.in_default.ensures.ends in
     record {
@@ -61,7 +61,7 @@ loop-place-preserved g c =
           c.loop-place.invariant.sound.client.grows,
           c.in_default.ensures.spends.grows,
         ),
-        rw (at_place commands place command c.loop-place-test.true c.index-commands-place.is).0 next,
+        rw (split_at_item commands place command c.loop-place-test.true c.index-commands-place.is).0 next,
       );
       reads = omega (arith, c.loop-place.invariant.reads, c.in_default.ensures.spends.reads);
       sound = sound;
@@ -97,7 +97,7 @@ returns-in-Err-clause-asks g c =
         done = take place commands;
         command = command;
         later = drop (place + 1) commands;
-        order = (at_place commands place command c.loop-place-test.true c.index-commands-place.is).1;
+        order = (split_at_item commands place command c.loop-place-test.true c.index-commands-place.is).1;
         course = at;
       }) one.0 (heard_by asking.end at.now (old.ahead ++ one.0) asking.ahead) new c.in-Err.fault
           c.loop-place.invariant.sound (place_is commands place c.loop-place-test.true)
@@ -126,7 +126,7 @@ returns-clause-asks g c =
       few = so.2;
       asks = course_all _ _ (rw whole at so.3);
       ends = (
-        both_well (seen_through g.L.AskedLink c.args.link.now g.K.Sink c.args.sink.now) (seen_through g.L.AskedLink c.loop-place.link g.K.Sink c.loop-place.sink)
+        both_end_well (seen_through g.L.AskedLink c.args.link.now g.K.Sink c.args.sink.now) (seen_through g.L.AskedLink c.loop-place.link g.K.Sink c.loop-place.sink)
             c.loop-place.invariant.sound,
         c.loop-place.invariant.sink,
       );

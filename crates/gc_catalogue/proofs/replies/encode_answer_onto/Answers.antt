@@ -6,7 +6,7 @@ use Rattle.gc_values.specs.declared.value.Value.{Value}
 use Rattle.gc_catalogue.specs.Answers.{answer_fields, rounded_answer}
 use Rattle.gc_catalogue.specs.Lists.{before_commas, behind_commas, params_of, shown_values}
 use Rattle.gc_catalogue.specs.Texts.{reply_of}
-use Rattle.gc_catalogue.proofs.Joining.{comma_list, params_text-params_of, reply_text-params}
+use Rattle.gc_catalogue.proofs.Joining.{list_behind_comma, params_text-params_of, reply_text-params}
 use Rattle.gc_catalogue.proofs.Lengths.{behind_short}
 use Rattle.gc_catalogue.proofs.LineLaws.{answer_again, refusal_again}
 use Rattle.gc_catalogue.proofs.Plain.{plain_params}
@@ -23,7 +23,7 @@ handed g c = c.write_row.ensures c.write_row.new.to (sym (append-nil _), tt)
 listed : (g : _) (c : goal.After-pop g) → c.pop.new.self.items ≡ c.push_reply.new.to.items ++ behind_commas (answer_fields (rounded_answer c.args.places c.args.answer.now)).values
 listed g c =
     let vs : List Value = shown_values c.args.places (answer_fields c.args.answer.now).values in
-    comma_list c.push_reply.new.to.items vs c.write_row.new.to.items c.pop.new.self.items
+    list_behind_comma c.push_reply.new.to.items vs c.write_row.new.to.items c.pop.new.self.items
     ((handed g c).0 ∙ ap (λ bytes. bytes ++ before_commas vs) c.push.ensures.items) c.pop.ensures.rest
     ∙ ap (λ vs. c.push_reply.new.to.items ++ behind_commas vs) (sym (values-rounded c.args.places c.args.answer.now))
 

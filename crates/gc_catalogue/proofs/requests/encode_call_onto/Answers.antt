@@ -5,7 +5,7 @@ use Rattle.gc_values.specs.Lists.{AreValues}
 use Rattle.gc_catalogue.specs.Calls.{call_fields}
 use Rattle.gc_catalogue.specs.Lists.{before_commas}
 use Rattle.gc_catalogue.specs.Texts.{request_of}
-use Rattle.gc_catalogue.proofs.Joining.{request_ends}
+use Rattle.gc_catalogue.proofs.Joining.{request_with_list}
 use Rattle.gc_catalogue.proofs.LineLaws.{call_again, id_in_range}
 use Rattle.gc_catalogue.proofs.Plain.{plain_params}
 use Rattle.gc_catalogue.proofs.Table.{number_fits}
@@ -19,7 +19,7 @@ begun g c = c.write_row.ensures.takes c.write_row.new.to (sym (append-nil _), tt
 
 pub returns-clause-line : goal.returns-clause-line
 returns-clause-line g c =
-    request_ends c.args.out.now.items (call_fields c.args.call.now).number c.args.id
+    request_with_list c.args.out.now.items (call_fields c.args.call.now).number c.args.id
     (call_fields c.args.call.now).values c.write_row.new.to.items c.end_list.new.out.items (begun g c).0
     c.end_list.ensures
 

@@ -1,5 +1,5 @@
 use Rattle.std.proofs.Common.{refl, arith}
-use Rattle.gc_engines.proofs.Checked.{checked, few_reads}
+use Rattle.gc_engines.proofs.Checked.{frames_are_checked, few_reads}
 use Rattle.gc_engines.proofs.check.run_check.Goals as goal
 
 pub returns : goal.returns
@@ -30,6 +30,6 @@ returns g c =
     })
     c.args.max_reads c.answer_frames.result ended.ends in
     record {
-      did = (h.0, h.1, h.2, checked _ given.0 h.0 _ _ _ refl (omega (arith, h.2, few)) h.3);
+      did = (h.0, h.1, h.2, frames_are_checked _ given.0 h.0 _ _ _ refl (omega (arith, h.2, few)) h.3);
       ended = ended;
     }

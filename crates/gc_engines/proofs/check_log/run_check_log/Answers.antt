@@ -1,7 +1,7 @@
 use Rattle.std.proofs.Common.{◌≤◌, [], length, take, arith, sym, ◌∙◌, rules}
 use Rattle.std.proofs.lemmas.Bool.{ne_eqb}
 use Rattle.std.proofs.lemmas.List.{length-take}
-use Rattle.gc_lines.proofs.Exactly.{ended_exactly}
+use Rattle.gc_lines.proofs.Exactly.{has_ended}
 use Rattle.gc_lines.proofs.Given.{gave_more}
 use Rattle.gc_engines.proofs.LogVerdicts.{checked_more, checked_part}
 use Rattle.gc_engines.proofs.check_log.run_check_log.Goals as goal
@@ -28,6 +28,6 @@ returns-in-Err-check_piece g c =
     record {
       did = gave_more _ _ _ c.loop.counter _ _ _ _ it c.in-Ok.ensures.bytes.1 short (omega (arith, c.loop.invariant.reads, c.in-Ok.ensures.counts.0))
           (checked_part c.loop.check c.check_piece.new.check [] it.0 _ _ _ _ _ it.3 c.in-Err-check_piece.bytes c.in-Err-check_piece.ensures.err);
-      ended = ended_exactly _ _ _ _ tt
+      ended = has_ended _ _ _ _ tt
           (omega (arith, c.loop.invariant.reads, c.in-Ok.ensures.counts.0), omega (arith, c.loop.invariant.reads, c.in-Ok.ensures.counts.0), search rules, search rules, search rules);
     }

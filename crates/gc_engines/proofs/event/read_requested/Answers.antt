@@ -3,7 +3,7 @@ use Rattle.std.specs.Option.{option_copied}
 use Rattle.gc_texts.specs.Procedures.{IsNumber, IsTarget}
 use Rattle.gc_texts.proofs.Procedures.{with_rest}
 use Rattle.gc_engines.proofs.Forms.{has_target, has_deadline, has_procedure}
-use Rattle.gc_engines.proofs.InThree.{in_three, has_space, has_second_space}
+use Rattle.gc_engines.proofs.InThree.{parts_at_two_spaces, has_space, has_second_space}
 use Rattle.gc_engines.proofs.event.read_requested.Goals as goal
 
 pub returns-in_default-clause-none : goal.returns-in_default-clause-none
@@ -42,9 +42,10 @@ returns-clause-found c = λ found.
     let target : c.in-Some-target_of.target ≡ c.in-Send.field-0 = cc in
     let deadline : c.in-Some-number_of.deadline ≡ c.in-Send.field-2 = cc in
     record {
-      parts = in_three c.args.text.now c.cut_at.result.0.now c.in-Some.rest.now c.cut_at-2.result.0.now c.in-Some-procedure.procedure.now
+      parts = parts_at_two_spaces c.args.text.now c.cut_at.result.0.now c.in-Some.rest.now c.cut_at-2.result.0.now c.in-Some-procedure.procedure.now
           (with_rest 32 c.args.text.now c.cut_at.result.0.now (option_copied c.cut_at.result.1) (Some c.in-Some.rest.now) c.cut_at.ensures (ap option_copied c.in-Some.is))
-          (with_rest 32 c.in-Some.rest.now c.cut_at-2.result.0.now (option_copied c.cut_at-2.result.1) (Some c.in-Some-procedure.procedure.now) c.cut_at-2.ensures (ap option_copied c.in-Some-procedure.is));
+          (with_rest 32 c.in-Some.rest.now c.cut_at-2.result.0.now (option_copied c.cut_at-2.result.1) (Some c.in-Some-procedure.procedure.now) c.cut_at-2.ensures
+          (ap option_copied c.in-Some-procedure.is));
       target_is = subst (λ (n : ℕ). IsTarget c.cut_at.result.0.now n) target c.in-Some-target_of.ensures;
       deadline_is = subst (λ (n : ℕ). IsNumber c.cut_at-2.result.0.now n 18446744073709551615) deadline c.in-Some-number_of.ensures;
       procedure_is = c.read_procedure_into.ensures.found found;

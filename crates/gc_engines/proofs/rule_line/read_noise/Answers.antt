@@ -3,7 +3,7 @@ use Rattle.gc_scenes.specs.declared.rules.Noise.{Noise}
 use Rattle.gc_texts.specs.Cuts.{before, behind}
 use Rattle.gc_values.specs.Decimals.{SpellsDecimal}
 use Rattle.gc_texts.specs.Procedures.{IsNumber}
-use Rattle.gc_engines.specs.RuleScenes.{IsNoise}
+use Rattle.gc_engines.specs.RuleScenes.{IsNoiseLine}
 use Rattle.gc_engines.proofs.rule_line.read_noise.Goals as goal
 
 pub returns-in_err-most : goal.returns-in_err-most
@@ -11,7 +11,7 @@ returns-in_err-most c =
     let first = c.in_ok-from_hz.ensures.1 in
     let second = c.behind-from_v.ensures.is ∙ ap (behind 32) first in
     let third = c.behind-from_distance.ensures.is ∙ ap (behind 32) second in
-    let none : (n : Noise) → IsNoise c.args.line.now n → ⊥ =
+    let none : (n : Noise) → IsNoiseLine c.args.line.now n → ⊥ =
     λ n h. c.in_err-most.ensures (record { hz = n.hz; v = n.v; distance = n.distance }) (record {
       hz = subst (λ (t : List ℕ). SpellsDecimal t n.hz) (sym (c.before-2.ensures.is ∙ ap (before 32) first)) h.most.hz;
       v = subst (λ (t : List ℕ). SpellsDecimal t n.v) (sym (c.before-3.ensures.is ∙ ap (before 32) second)) h.most.v;
@@ -22,7 +22,7 @@ returns-in_err-most c =
 pub returns-in_err-seed : goal.returns-in_err-seed
 returns-in_err-seed c =
     let third = c.behind-from_distance.ensures.is ∙ ap (behind 32) (c.behind-from_v.ensures.is ∙ ap (behind 32) c.in_ok-from_hz.ensures.1) in
-    let none : (n : Noise) → IsNoise c.args.line.now n → ⊥ =
+    let none : (n : Noise) → IsNoiseLine c.args.line.now n → ⊥ =
     λ n h. c.in_err-seed.ensures n.seed (subst (λ (t : List ℕ). IsNumber t n.seed 4294967295) (sym (c.behind.ensures.is ∙ ap (behind 32) third)) h.seed) in
     search rules
 

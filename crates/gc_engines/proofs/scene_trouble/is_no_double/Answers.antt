@@ -6,11 +6,11 @@ use Rattle.gc_texts.specs.LineForms.{IsReadAs}
 use Rattle.gc_engines.specs.SceneTroubles.{NoDecimal}
 use Rattle.gc_engines.proofs.scene_trouble.is_no_double.Goals as goal
 
--- a text that isn't read as a decimal is none
-not_read : (text : List ℕ) (r : Option Decimal) (b : Bool) → IsReadAs (SpellsDecimal text) r → is_some r ≡ not b → IsTrue b → NoDecimal text
+-- a text of which no decimal is read is the text of no decimal (`NoDecimal`)
+unread_is_no_decimal : (text : List ℕ) (r : Option Decimal) (b : Bool) → IsReadAs (SpellsDecimal text) r → is_some r ≡ not b → IsTrue b → NoDecimal text
 unfolding NoDecimal
-not_read text None b read e is = read
-not_read text (Some d) b read e is = let bad : true ≡ false = e ∙ ap not is in cc
+unread_is_no_decimal text None b read e is = read
+unread_is_no_decimal text (Some d) b read e is = let bad : true ≡ false = e ∙ ap not is in cc
 
 pub returns : goal.returns
-returns c = not_read c.args.text.now c.read_double.result c.is_none.result c.read_double.ensures c.is_none.ensures
+returns c = unread_is_no_decimal c.args.text.now c.read_double.result c.is_none.result c.read_double.ensures c.is_none.ensures

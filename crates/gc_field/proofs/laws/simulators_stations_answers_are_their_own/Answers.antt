@@ -6,9 +6,10 @@ use Rattle.gc_field.specs.Simulator.{simulator_ends}
 use Rattle.gc_field.specs.Laws.{kept_of}
 use Rattle.gc_field.specs.Field.{seen}
 use Rattle.gc_field.proofs.InTime.{clean_faithful}
-use Rattle.gc_field.proofs.Instruments.{simulator}
+use Rattle.gc_field.proofs.Instruments.{simulator_is_an_instrument}
 use Rattle.gc_field.proofs.laws.simulators_stations_answers_are_their_own.Goals as goal
 
 pub returns : goal.returns
 returns c = λ u rest acts ms carried.
-    let f = clean_faithful simulator_ends IsFittingState kept_of simulator.instrument u carried.clean ms carried.possible in record { faithful = f; client = sym (course_client (seen ms) begun) ∙ f.stands }
+    let f = clean_faithful simulator_ends IsFittingState kept_of simulator_is_an_instrument.instrument u carried.clean ms carried.possible in
+    record { faithful = f; client = sym (course_client (seen ms) begun) ∙ f.stands }

@@ -1,12 +1,12 @@
 use Rattle.std.proofs.Common.{rules, ◌≤◌, ◌+◌, ◌∙◌, take, drop, ap, arith}
 use Rattle.gc_files.specs.Files.{content}
 use Rattle.gc_files.proofs.Feeds.{puts_block, counts_block, puts_all}
-use Rattle.gc_files.proofs.Looking.{size_of}
+use Rattle.gc_files.proofs.Looking.{full_block_size}
 use Rattle.gc_files.proofs.copying.copy_lines.Goals as goal
 
 pub loop-at-preserved : goal.loop-at-preserved
 loop-at-preserved g c =
-    let size = size_of c.min-size.result c.loop-at.buf c.read_all.new.buf (search rules) c.read_all.auto.buf in
+    let size = full_block_size c.min-size.result c.loop-at.buf c.read_all.new.buf (search rules) c.read_all.auto.buf in
     let room : c.loop-at.at + c.min-size.result ≤ c.in_ok-len.len = search rules in
     record {
       within = room;

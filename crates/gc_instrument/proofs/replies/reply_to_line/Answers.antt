@@ -1,7 +1,7 @@
 use Rattle.std.proofs.Common.{refl}
 use Rattle.gc_lines.specs.Requests.{request_seen}
 use Rattle.gc_lines.specs.AnsweringLines.{silent, answers}
-use Rattle.gc_lines.proofs.AnsweringLines.{no_request}
+use Rattle.gc_lines.proofs.AnsweringLines.{faulty_is_no_request}
 use Rattle.gc_instrument.proofs.replies.reply_to_line.Goals as goal
 
 pub returns-in-Ok-clause-replied : goal.returns-in-Ok-clause-replied
@@ -10,4 +10,4 @@ returns-in-Ok-clause-replied g c =
     (made.text, answers _ c.in-Ok.ensures.found made.text made.is refl, made.appended)
 
 pub returns-in-Err-clause-replied : goal.returns-in-Err-clause-replied
-returns-in-Err-clause-replied g c = (silent (no_request _ c.in-Err.field-0 request_seen c.in-Err.ensures.only) refl refl, refl)
+returns-in-Err-clause-replied g c = (silent (faulty_is_no_request _ c.in-Err.field-0 request_seen c.in-Err.ensures.only) refl refl, refl)

@@ -1,8 +1,8 @@
 use Rattle.std.proofs.Common.{◌≤◌, length, take, arith, sym, ◌∙◌, rules}
 use Rattle.std.proofs.lemmas.Bool.{ne_eqb}
 use Rattle.std.proofs.lemmas.List.{length-take}
-use Rattle.gc_lines.proofs.Exactly.{ended_exactly}
-use Rattle.gc_lines.proofs.Given.{answered_more, answered_part, gave_more, given_end}
+use Rattle.gc_lines.proofs.Exactly.{has_ended}
+use Rattle.gc_lines.proofs.Given.{answered_with_piece, part_with_piece, gave_more, given_end}
 use Rattle.gc_lines.proofs.answering.answer_frames.Goals as goal
 
 pub loop-preserved : goal.loop-preserved
@@ -10,7 +10,7 @@ loop-preserved g c =
     let it = c.loop.invariant.so in
     let short : length (take c.in-Ok.n c.read.new.buf) ≤ 256 = omega (arith, c.loop.invariant.room, c.read.auto.buf, length-take c.in-Ok.n c.read.new.buf) in
     record {
-      so = gave_more _ _ _ c.loop.counter _ _ _ _ it c.in-Ok.ensures.bytes.1 short (omega arith) (answered_more _ _ _ _ _ it.0 _ it.3 _ c.in_default.ensures.answered);
+      so = gave_more _ _ _ c.loop.counter _ _ _ _ it c.in-Ok.ensures.bytes.1 short (omega arith) (answered_with_piece _ _ _ _ _ it.0 _ it.3 _ c.in_default.ensures.answered);
       reads = omega (arith, c.loop.invariant.reads, c.in-Ok.ensures.counts.0);
       going = λ _. c.in-Ok.ensures.counts.1 ∙ ne_eqb c.in-Ok.n 0 c.in-Ok.n-test.1;
       source = c.in-Ok.ensures.fails.1 ∙ sym c.in-Ok.ensures.fails.0 ∙ c.loop.invariant.source;
@@ -25,7 +25,7 @@ pub returns-in-Err-answer_piece-clause-answers : goal.returns-in-Err-answer_piec
 returns-in-Err-answer_piece-clause-answers g c =
     let it = c.loop.invariant.so in
     let short : length (take c.in-Ok.n c.read.new.buf) ≤ 256 = omega (arith, c.loop.invariant.room, c.read.auto.buf, length-take c.in-Ok.n c.read.new.buf) in
-    let part = answered_part _ _ _ _ _ it.0 _ it.3 _ _ c.in-Err-answer_piece.ensures.answered in (
+    let part = part_with_piece _ _ _ _ _ it.0 _ it.3 _ _ c.in-Err-answer_piece.ensures.answered in (
       part.reached,
       gave_more _ _ _ c.loop.counter _ _ _ _ it c.in-Ok.ensures.bytes.1 short (omega (arith, c.loop.invariant.reads, c.in-Ok.ensures.counts.0)) part.part,
       λ e. part.alone (c.loop.invariant.gathers ∙ e),
@@ -33,17 +33,17 @@ returns-in-Err-answer_piece-clause-answers g c =
 
 pub returns-in-Err-answer_piece-clause-ended : goal.returns-in-Err-answer_piece-clause-ended
 returns-in-Err-answer_piece-clause-ended g c =
-    ended_exactly _ _ _ _ tt
+    has_ended _ _ _ _ tt
     (omega (arith, c.loop.invariant.reads, c.in-Ok.ensures.counts.0), omega (arith, c.loop.invariant.reads, c.in-Ok.ensures.counts.0), search rules, search rules, search rules)
 
 pub returns-in-Err-clause-ended : goal.returns-in-Err-clause-ended
-returns-in-Err-clause-ended g c = ended_exactly _ _ _ _ tt (search rules)
+returns-in-Err-clause-ended g c = has_ended _ _ _ _ tt (search rules)
 
 pub returns-in-Ok-eq0-clause-ended : goal.returns-in-Ok-eq0-clause-ended
-returns-in-Ok-eq0-clause-ended g c = ended_exactly _ _ _ _ (search rules) (search rules)
+returns-in-Ok-eq0-clause-ended g c = has_ended _ _ _ _ (search rules) (search rules)
 
 pub returns-in-Ok-eq0-clause-answers : goal.returns-in-Ok-eq0-clause-answers
 returns-in-Ok-eq0-clause-answers g c = search (given_end, rules)
 
 pub returns-clause-ended : goal.returns-clause-ended
-returns-clause-ended g c = ended_exactly _ _ _ _ tt (search rules)
+returns-clause-ended g c = has_ended _ _ _ _ tt (search rules)

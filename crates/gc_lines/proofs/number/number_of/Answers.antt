@@ -1,7 +1,7 @@
 use Rattle.std.proofs.Common.{◌+◌, ◌*◌, ◌<◌, ◌^◌, get_or, drop, arith, rules, inl, inr, sym, ◌∙◌, refl}
 use Rattle.std.proofs.lemmas.List.{take_rest}
 use Rattle.gc_lines.specs.Numbers.{NoDigitFirst}
-use Rattle.gc_lines.proofs.Digits.{run_more, value_next, value_small, digit_range, run_long, number_long, number_read, number_refused, stops_at, stops_end}
+use Rattle.gc_lines.proofs.Digits.{run_more, value_next, value_small, digit_range, run_at_least, number_too_long, number_read, number_refused, stops_at, stops_at_end}
 use Rattle.gc_lines.proofs.number.number_of.Goals as goal
 use Rattle.gc_lines.proofs.number.number_of.Goals.{then-loop-len-test+else-is_ascii_digit, else-loop-len-test}
 
@@ -9,7 +9,7 @@ pub returns-then-len-eq5 : goal.returns-then-len-eq5
 returns-then-len-eq5 c =
     let i = c.loop-len.invariant in
     let more = run_more c.args.bytes.now c.loop-len.len c.loop-len-test.true i.digits (search rules) in
-    number_long c.args.fault c.args.bytes.now (omega (arith, run_long c.args.bytes.now (c.loop-len.len + 1) (omega arith) more))
+    number_too_long c.args.fault c.args.bytes.now (omega (arith, run_at_least c.args.bytes.now (c.loop-len.len + 1) (omega arith) more))
 
 pub overflow_mul-value : goal.overflow_mul-value
 overflow_mul-value c =
@@ -45,7 +45,7 @@ returns-then-len-eq0 c =
     let bytes = c.args.bytes.now in
     let stops : NoDigitFirst (drop c.loop-len.len bytes) = elim c.loop-len-test.branch [
       | then-loop-len-test+else-is_ascii_digit w ↦ stops_at bytes c.loop-len.len w.loop-len-test.true (search rules)
-      | else-loop-len-test w ↦ stops_end bytes c.loop-len.len w.loop-len-test.false
+      | else-loop-len-test w ↦ stops_at_end bytes c.loop-len.len w.loop-len-test.false
     ] in
     number_refused c.args.fault bytes c.loop-len.len (record { within = i.within; digits = i.digits; stops = stops }) (elim c.then-len-eq0.either [
       | inl none ↦ inl none
@@ -59,7 +59,7 @@ returns c =
     let bytes = c.args.bytes.now in
     let stops : NoDigitFirst (drop c.loop-len.len bytes) = elim c.loop-len-test.branch [
       | then-loop-len-test+else-is_ascii_digit w ↦ stops_at bytes c.loop-len.len w.loop-len-test.true (search rules)
-      | else-loop-len-test w ↦ stops_end bytes c.loop-len.len w.loop-len-test.false
+      | else-loop-len-test w ↦ stops_at_end bytes c.loop-len.len w.loop-len-test.false
     ] in
     number_read c.args.fault bytes c.loop-len.len (record { within = i.within; digits = i.digits; stops = stops }) (omega arith) i.few (omega (arith, i.value))
     ∙ rw (sym i.value, take_rest bytes c.loop-len.len) refl

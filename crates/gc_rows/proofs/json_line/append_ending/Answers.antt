@@ -5,8 +5,8 @@ use Rattle.gc_texts.specs.Endings.{ending_seen, word_of, fault_of, line_of}
 use Rattle.gc_rows.specs.JsonLines.{text_member, member_text, members_text, fault_members, reply_members}
 use Rattle.gc_rows.proofs.json_line.append_ending.Goals as goal
 
-pub returns-clause-text : goal.returns-clause-text
-returns-clause-text g c =
+pub returns : goal.returns
+returns g c =
     let end = ending_seen c.args.ending in
     let old = c.args.line.now.items in
     let word = text_member (codes "outcome") (word_of end) in
@@ -15,6 +15,9 @@ returns-clause-text g c =
     let first : c.append_text.new.line.items ≡ old ++ word = search rules in
     let second : c.append_fault.new.line.items ≡ c.append_text.new.line.items ++ members_text fault = search rules in
     let third : c.append_reply.new.line.items ≡ c.append_fault.new.line.items ++ members_text reply = search rules in
-    third ∙ ap (λ l. l ++ members_text reply) (second ∙ ap (λ l. l ++ members_text fault) first)
-    ∙ append_assoc (old ++ word) (members_text fault) (members_text reply) ∙ append_assoc old word (members_text fault ++ members_text reply)
-    ∙ ap (λ l. old ++ (word ++ l)) (sym (flat_map-append member_text fault reply))
+    record {
+      text = third ∙ ap (λ l. l ++ members_text reply) (second ∙ ap (λ l. l ++ members_text fault) first)
+          ∙ append_assoc (old ++ word) (members_text fault) (members_text reply) ∙ append_assoc old word (members_text fault ++ members_text reply)
+          ∙ ap (λ l. old ++ (word ++ l)) (sym (flat_map-append member_text fault reply));
+      room = search rules;
+    }

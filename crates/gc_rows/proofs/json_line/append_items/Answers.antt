@@ -2,7 +2,7 @@ use Rattle.std.proofs.Common.{rules, Err, ap, sym, arith, append-nil, ◌++◌, 
 use Rattle.std.specs.Prelude.{codes}
 use Rattle.gc_rows.specs.JsonLines.{texts_member, item_members, members_text}
 use Rattle.gc_values.proofs.ItemBytes.{items_within_params}
-use Rattle.gc_rows.proofs.Items.{refused_is_none, splits}
+use Rattle.gc_rows.proofs.Items.{refused_is_none, few_are_split}
 use Rattle.gc_rows.proofs.json_line.append_items.Goals as goal
 
 pub append_list-requires : goal.append_list-requires
@@ -11,12 +11,18 @@ append_list-requires g c =
     let short = c.requires.short in
     (search rules, (omega (arith, fit, short), (c.in-Ok.ensures.found.1, c.requires.room)))
 
-pub returns-in-Ok-clause-text : goal.returns-in-Ok-clause-text
-returns-in-Ok-clause-text g c =
-    c.append_list.ensures.text ∙ ap (λ l. c.args.line.now.items ++ l) (sym (append-nil (texts_member (codes "items") c.in-Ok.items)))
-    ∙ ap (λ o. c.args.line.now.items ++ members_text (item_members o)) (sym (splits c.args.values.now c.in-Ok.items c.in-Ok.ensures.found.0 c.in-Ok.ensures.found.1))
+pub returns-in-Ok : goal.returns-in-Ok
+returns-in-Ok g c =
+    record {
+      text = c.append_list.ensures.text ∙ ap (λ l. c.args.line.now.items ++ l) (sym (append-nil (texts_member (codes "items") c.in-Ok.items)))
+          ∙ ap (λ o. c.args.line.now.items ++ members_text (item_members o)) (sym (few_are_split c.args.values.now c.in-Ok.items c.in-Ok.ensures.found.0 c.in-Ok.ensures.found.1));
+      room = c.append_list.ensures.room;
+    }
 
-pub returns-in-Err-clause-text : goal.returns-in-Err-clause-text
-returns-in-Err-clause-text g c =
+pub returns-in-Err : goal.returns-in-Err
+returns-in-Err g c =
     let none = refused_is_none c.args.values.now c.in-Err.field-0 c.in-Err.ensures.faults (λ e. c.in-Err.ensures.open_quote.0 (ap Err e)) (λ e. c.in-Err.ensures.too_many.0 (ap Err e)) in
-    sym (append-nil c.args.line.now.items) ∙ ap (λ o. c.args.line.now.items ++ members_text (item_members o)) (sym none)
+    record {
+      text = sym (append-nil c.args.line.now.items) ∙ ap (λ o. c.args.line.now.items ++ members_text (item_members o)) (sym none);
+      room = omega arith;
+    }

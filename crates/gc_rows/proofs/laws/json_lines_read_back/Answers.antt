@@ -1,5 +1,5 @@
-use Rattle.gc_rows.proofs.JsonLines.{read_back}
+use Rattle.gc_rows.proofs.JsonLines.{json_lines_read_back}
 use Rattle.gc_rows.proofs.laws.json_lines_read_back.Goals as goal
 
 pub returns : goal.returns
-returns c = read_back
+returns c = json_lines_read_back

@@ -1,5 +1,5 @@
-use Rattle.gc_rows.proofs.Rows.{read_back}
+use Rattle.gc_rows.proofs.Rows.{rows_read_back}
 use Rattle.gc_rows.proofs.laws.rows_read_back.Goals as goal
 
 pub returns : goal.returns
-returns c = read_back
+returns c = rows_read_back

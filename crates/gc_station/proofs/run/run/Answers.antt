@@ -1,14 +1,12 @@
-use Rattle.std.proofs.Common.{◌≡◌, ℕ, List, inl, inr, refl, ap, sym, ◌∙◌, arith}
-use Rattle.gc_catalogue.specs.declared.answer.Reading.{Reading}
+use Rattle.std.proofs.Common.{◌≡◌, inl, inr, refl, ap, sym, ◌∙◌, arith}
 use Rattle.gc_catalogue.specs.declared.answer.Reading.TheVariants.{Refused}
-use Rattle.gc_catalogue.specs.declared.asked.Asked.{Asked}
 use Rattle.gc_station.specs.Tallies.{total}
 use Rattle.gc_station.specs.declared.progress.Progress.{Progress}
 use Rattle.gc_station.specs.Runs.{state_after}
-use Rattle.gc_station.specs.Scopes.{Scope}
+use Rattle.gc_station.specs.Scopes.{Scope, Reads}
 use Rattle.gc_station.specs.Model.{opening}
 use Rattle.gc_station.proofs.Readings.{reads_as_in_scope, same_readings}
-use Rattle.gc_station.proofs.Going.{on_call, went_nothing, kept_same, went_kept, went_left, went_on, went_wrong, went_nearer, has_model_on}
+use Rattle.gc_station.proofs.Going.{on_call, went_nothing, kept_same, went_kept, fails_at_sync, went_on, fails_at_record, went_nearer, has_model_on}
 use Rattle.gc_station.proofs.Noting.{noted_nothing, noted_kept, noted_on, noted_end, noted_closed, noted_refused}
 use Rattle.gc_station.proofs.run.run.Goals as goal
 
@@ -24,7 +22,7 @@ returns-in-Err g c =
           let scope : Scope = record { turns = c.args.max_turns; reads = reads } in
           let w = went_kept plan commands scope text told (g.L.Link.acts c.loop-unsynced.link) taken (g.B.Book.taken c.loop-unsynced.book)
           (g.B.Book.taken c.sync.new.self) c.loop-unsynced.station c.sync.ensures.same (c.loop-unsynced.invariant.went reads are) in
-          inr (went_left plan commands scope text told (g.L.Link.acts c.loop-unsynced.link) (g.L.Link.acts c.close.new.self) taken
+          inr (fails_at_sync plan commands scope text told (g.L.Link.acts c.loop-unsynced.link) (g.L.Link.acts c.close.new.self) taken
           (g.B.Book.taken c.sync.new.self) c.loop-unsynced.station w c.close.ensures);
       keeps = λ reads are.
           let scope : Scope = record { turns = c.args.max_turns; reads = reads } in
@@ -53,7 +51,7 @@ returns-in-Err-step g c =
           (kept_same (g.B.Book.taken c.sync.new.self) (g.B.Book.taken c.report_to-reported.new.book) c.report_to-reported.ensures.taken) kept in
           let s = state_after plan commands scope w.acts in
           let same = same_readings s.reads reads (reads_as_in_scope plan commands scope w.acts) are in
-          inl (went_wrong plan commands scope (g.B.Book.text c.args.book.now) told (g.L.Link.acts c.loop-unsynced.link) (g.L.Link.acts c.step.new.link)
+          inl (fails_at_record plan commands scope (g.B.Book.text c.args.book.now) told (g.L.Link.acts c.loop-unsynced.link) (g.L.Link.acts c.step.new.link)
           (g.L.Link.acts c.close-in-Err-step.new.self) taken (g.B.Book.taken c.report_to-reported.new.book)
           (g.B.Book.taken c.step.new.book) c.loop-unsynced.station c.action-action.result w
           (c.action-action.ensures.action s w.stands same)
@@ -152,7 +150,7 @@ pub loop-unsynced-init : goal.loop-unsynced-init
 loop-unsynced-init g c =
     let plan = c.args.plan.now in
     let commands = c.args.commands.now in
-    let any : Asked → List ℕ → Reading = λ call line. Refused 0 in
+    let any : Reads = λ call line. Refused 0 in
     let start : Scope = record { turns = c.args.max_turns; reads = any } in
     let stands = c.new-station.ensures any in
     let none : c.new-station.result.progress.unsent ≡ 0 = ap (λ (p : Progress). p.unsent) stands.progress in

@@ -1,7 +1,5 @@
-use Rattle.std.proofs.Common.{◌≡◌, ◌≤◌, ◌-◌, ℕ, List, length}
-use Rattle.gc_catalogue.specs.declared.answer.Reading.{Reading}
-use Rattle.gc_catalogue.specs.declared.asked.Asked.{Asked}
-use Rattle.gc_station.specs.Scopes.{AreReadings}
+use Rattle.std.proofs.Common.{◌≡◌, ◌≤◌, ◌-◌, length}
+use Rattle.gc_station.specs.Scopes.{AreReadings, Reads}
 use Rattle.gc_station.proofs.Going.{Went, HasModel}
 use Rattle.gc_station.proofs.Noting.{Noted}
 use Rattle.gc_station.proofs.Turns.{left_to_do}
@@ -15,10 +13,10 @@ invariant-loop-unsynced g l = record {
   within : l.station.progress.unsent ≤ length l.commands;
   below : l.station.progress.unsent ≤ length l.commands - l.plan.setup;
   some : HasModel l.station;
-  went : (reads : Asked → List ℕ → Reading) → AreReadings reads
+  went : (reads : Reads) → AreReadings reads
       → Went l.plan l.commands (record { turns = l.max_turns; reads = reads }) (g.B.Book.text l.initial.book) (g.L.Link.acts l.initial.link)
       (g.L.Link.acts l.link) (g.B.Book.taken l.initial.book) (g.B.Book.taken l.book) l.station;
-  noted : (reads : Asked → List ℕ → Reading) → AreReadings reads
+  noted : (reads : Reads) → AreReadings reads
       → Noted l.plan l.commands (record { turns = l.max_turns; reads = reads }) (g.B.Book.text l.initial.book) (g.L.Link.acts l.initial.link) (g.B.Book.taken l.initial.book)
       (g.L.Link.acts l.link) (g.B.Book.taken l.book) l.station l.initial.kept.turns l.kept.turns;
   form : g.B.Book.text l.book ≡ g.B.Book.text l.initial.book;

@@ -1,5 +1,5 @@
 use Rattle.std.proofs.Common.{sym, ◌∙◌}
-use Rattle.gc_station.proofs.Faulty.{faulty}
+use Rattle.gc_station.proofs.Faulty.{failed_with_its_fault}
 use Rattle.gc_station.proofs.Noting.{faulty_keeps}
 use Rattle.gc_station.proofs.Readings.{for_readings}
 use Rattle.gc_station.proofs.run.run_station.Goals as goal
@@ -11,7 +11,7 @@ returns-in-None-clause-ran g c =
 
 pub returns-in-Some-clause-ran : goal.returns-in-Some-clause-ran
 returns-in-Some-clause-ran g c =
-    for_readings _ (λ reads are. faulty _ _ _ _ _ _ _ _ _ c.in-Ok.cause c.in-Some.fault (sym c.fault.ensures ∙ c.in-Some.is) (c.in-Ok.ensures.ran reads are))
+    for_readings _ (λ reads are. failed_with_its_fault _ _ _ _ _ _ _ _ _ c.in-Ok.cause c.in-Some.fault (sym c.fault.ensures ∙ c.in-Some.is) (c.in-Ok.ensures.ran reads are))
 
 pub returns-in-Err-clause-ran : goal.returns-in-Err-clause-ran
 returns-in-Err-clause-ran g c = for_readings _ (λ reads are. c.in-Err.ensures.ran reads are)

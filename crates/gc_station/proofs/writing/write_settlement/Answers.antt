@@ -1,11 +1,11 @@
-use Rattle.std.proofs.Common.{◌≡◌, ◌++◌, ap, ◌∙◌, subst, [], ◌∷◌}
+use Rattle.std.proofs.Common.{◌≡◌, ◌++◌, Some, ap, ◌∙◌, subst, [], ◌∷◌}
 use Rattle.gc_texts.specs.Endings.{ending_seen}
 use Rattle.gc_client.specs.Settlements.{settlement_seen}
 use Rattle.gc_station.specs.Attempts.{code_of}
-use Rattle.gc_station.specs.Marks.{end_of, record_as}
+use Rattle.gc_station.specs.Marks.{end_of, command_of, record_with}
 use Rattle.gc_station.specs.Records.{Record, WritesPart}
 use Rattle.gc_station.specs.Writing.{noted}
-use Rattle.gc_station.proofs.Records.{part_one, record_same}
+use Rattle.gc_station.proofs.Records.{part_one, record_of_ending}
 use Rattle.gc_station.proofs.writing.write_settlement.Goals as goal
 
 pub returns-in-Err-clause-wrote : goal.returns-in-Err-clause-wrote
@@ -13,9 +13,10 @@ returns-in-Err-clause-wrote g c reads are start before so =
     let w = c.in-Err.ensures.writes in
     let x = settlement_seen c.args.settlement.now in
     let end = ending_seen c.ending_of-ending.result in
-    let same = record_same reads c.args.now.utc c.in-Some.mark x end (c.ending_of-ending.ensures reads x.call are c.requires c.zero_of-zero.ensures) in
+    let r = record_with c.args.now.utc c.in-Some.mark (Some c.in-Some.mark.sent) (command_of x) end in
+    let same = record_of_ending reads c.args.now.utc c.in-Some.mark x end (c.ending_of-ending.ensures reads x.call are c.requires c.zero_of-zero.ensures) in
     rw c.in-Some.is (subst (λ (r : Record). WritesPart (g.B.Book.text c.args.book.now) before (before ++ r ∷ []) start (g.B.Book.taken c.write.new.self)) same
-    (part_one (g.B.Book.text c.args.book.now) before (record_as c.args.now.utc c.in-Some.mark x end) start (g.B.Book.taken c.args.book.now) (g.B.Book.taken c.write.new.self) w.0 so w.1))
+    (part_one (g.B.Book.text c.args.book.now) before r start (g.B.Book.taken c.args.book.now) (g.B.Book.taken c.write.new.self) w.0 so w.1))
 
 pub returns-clause-notes : goal.returns-clause-notes
 returns-clause-notes g c reads are =

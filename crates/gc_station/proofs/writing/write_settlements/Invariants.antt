@@ -1,11 +1,9 @@
 use Rattle.std.proofs.Common.{◌≡◌, ℕ, ◌++◌, List, Option, take, drop, map}
 use Rattle.std.specs.Io.KnownBytes.{Appends}
-use Rattle.gc_catalogue.specs.declared.answer.Reading.{Reading}
-use Rattle.gc_catalogue.specs.declared.asked.Asked.{Asked}
 use Rattle.gc_client.specs.Settlements.{settlement_seen}
 use Rattle.gc_station.specs.Marks.{records_of}
 use Rattle.gc_station.specs.Records.{Record, texts_of}
-use Rattle.gc_station.specs.Scopes.{AreReadings}
+use Rattle.gc_station.specs.Scopes.{AreReadings, Reads}
 use Rattle.gc_station.specs.Writing.{recorded_after}
 use Rattle.gc_station.proofs.writing.write_settlements.Given as goal
 
@@ -13,11 +11,11 @@ use Rattle.gc_station.proofs.writing.write_settlements.Given as goal
 -- had at first; what is kept of the records is as these settlements make it; and the marks of these settlements are taken out
 abbrev pub invariant-loop-settlement : goal.invariant-loop-settlement
 invariant-loop-settlement g l = record {
-  wrote : (reads : Asked → List ℕ → Reading) → AreReadings reads → (start : Option (List ℕ)) (before : List Record)
+  wrote : (reads : Reads) → AreReadings reads → (start : Option (List ℕ)) (before : List Record)
       → Appends start (g.B.Book.taken l.initial.book) (texts_of (g.B.Book.text l.initial.book) before)
       → Appends start (g.B.Book.taken l.book) (texts_of (g.B.Book.text l.initial.book)
       (before ++ records_of reads l.now.utc l.initial.marks.items (map settlement_seen (take l.settlement-index l.settlements))));
-  recorded : (reads : Asked → List ℕ → Reading) → AreReadings reads
+  recorded : (reads : Reads) → AreReadings reads
       → l.recorded ≡ recorded_after l.now l.initial.marks.items (map settlement_seen (take l.settlement-index l.settlements)) reads l.initial.recorded;
   marks : l.marks.items ≡ drop l.settlement-index l.initial.marks.items;
   form : g.B.Book.text l.book ≡ g.B.Book.text l.initial.book;

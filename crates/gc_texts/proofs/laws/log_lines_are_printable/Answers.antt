@@ -1,5 +1,5 @@
-use Rattle.gc_texts.proofs.LogStamps.{printable}
+use Rattle.gc_texts.proofs.LogStamps.{log_lines_are_printable}
 use Rattle.gc_texts.proofs.laws.log_lines_are_printable.Goals as goal
 
 pub returns : goal.returns
-returns c = printable
+returns c = log_lines_are_printable

@@ -1,5 +1,5 @@
-use Rattle.gc_texts.proofs.LogStamps.{read_back}
+use Rattle.gc_texts.proofs.LogStamps.{log_lines_read_back}
 use Rattle.gc_texts.proofs.laws.log_lines_read_back.Goals as goal
 
 pub returns : goal.returns
-returns c = read_back
+returns c = log_lines_read_back

@@ -1,6 +1,6 @@
 use Rattle.std.proofs.Common.{rules, ◌≡◌, ◌≤◌, ◌++◌, ◌∷◌, [], ap, sym, ◌∙◌, arith, IsTrue, IsFalse}
 use Rattle.std.specs.Option.{option_copied}
-use Rattle.gc_texts.proofs.TextLines.{reads_few, comes_to, line_skips, line_reads, line_fails, line_wants}
+use Rattle.gc_texts.proofs.TextLines.{reads_few, next_line_is_unread, line_skips, line_reads, line_fails, line_wants}
 use Rattle.gc_texts.proofs.line_forms.read_lines.Goals as goal
 
 pub overflow_add-number : goal.overflow_add-number
@@ -10,13 +10,13 @@ overflow_add-number g c =
 
 pub loop-left-preserved-then-is_skipped : goal.loop-left-preserved-then-is_skipped
 loop-left-preserved-then-is_skipped g c =
-    let at = comes_to g.F.LineForm.form c.args.text.now (option_copied c.loop-left.left) c.in-Some.text.now c.cut_line.result.0.now (option_copied c.cut_line.result.1)
+    let at = next_line_is_unread g.F.LineForm.form c.args.text.now (option_copied c.loop-left.left) c.in-Some.text.now c.cut_line.result.0.now (option_copied c.cut_line.result.1)
     c.loop-left.number c.loop-left.items.items c.loop-left.invariant (ap option_copied c.in-Some.is) c.cut_line.ensures in
     line_skips _ _ c.cut_line.result.0.now (option_copied c.cut_line.result.1) _ _ at (sym c.is_skipped.ensures ∙ c.if-is_skipped.true)
 
 pub loop-left-preserved : goal.loop-left-preserved
 loop-left-preserved g c =
-    let at = comes_to g.F.LineForm.form c.args.text.now (option_copied c.loop-left.left) c.in-Some.text.now c.cut_line.result.0.now (option_copied c.cut_line.result.1)
+    let at = next_line_is_unread g.F.LineForm.form c.args.text.now (option_copied c.loop-left.left) c.in-Some.text.now c.cut_line.result.0.now (option_copied c.cut_line.result.1)
     c.loop-left.number c.loop-left.items.items c.loop-left.invariant (ap option_copied c.in-Some.is) c.cut_line.ensures in
     let is : IsTrue c.read.result = search rules in
     let grown : c.push_reserved.new.self.items ≡ c.loop-left.items.items ++ c.read.new.item ∷ [] = search rules in
@@ -25,14 +25,14 @@ loop-left-preserved g c =
 
 pub returns-then-not-read-clause-fault : goal.returns-then-not-read-clause-fault
 returns-then-not-read-clause-fault g c =
-    let at = comes_to g.F.LineForm.form c.args.text.now (option_copied c.loop-left.left) c.in-Some.text.now c.cut_line.result.0.now (option_copied c.cut_line.result.1)
+    let at = next_line_is_unread g.F.LineForm.form c.args.text.now (option_copied c.loop-left.left) c.in-Some.text.now c.cut_line.result.0.now (option_copied c.cut_line.result.1)
     c.loop-left.number c.loop-left.items.items c.loop-left.invariant (ap option_copied c.in-Some.is) c.cut_line.ensures in
     let isnt : IsFalse c.read.result = search rules in
     (c.requires, line_fails _ _ c.cut_line.result.0.now (option_copied c.cut_line.result.1) _ _ at (sym c.is_skipped.ensures ∙ c.if-is_skipped.false) (c.read.ensures.none isnt))
 
 pub returns-then-is_err-clause-fault : goal.returns-then-is_err-clause-fault
 returns-then-is_err-clause-fault g c =
-    let at = comes_to g.F.LineForm.form c.args.text.now (option_copied c.loop-left.left) c.in-Some.text.now c.cut_line.result.0.now (option_copied c.cut_line.result.1)
+    let at = next_line_is_unread g.F.LineForm.form c.args.text.now (option_copied c.loop-left.left) c.in-Some.text.now c.cut_line.result.0.now (option_copied c.cut_line.result.1)
     c.loop-left.number c.loop-left.items.items c.loop-left.invariant (ap option_copied c.in-Some.is) c.cut_line.ensures in
     let is : IsTrue c.read.result = search rules in
     (c.requires, line_wants _ _ c.cut_line.result.0.now (option_copied c.cut_line.result.1) _ _ at c.read.new.item (sym c.is_skipped.ensures ∙ c.if-is_skipped.false) (c.read.ensures.found is))

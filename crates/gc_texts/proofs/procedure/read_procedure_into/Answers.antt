@@ -1,6 +1,6 @@
 use Rattle.std.proofs.Common.{◌≡◌, ap, refl, Some, None, rules, [], length, ◌<◌}
 use Rattle.std.specs.Option.{option_copied}
-use Rattle.gc_texts.proofs.Procedures.{no_procedure, procedure_read, with_rest, with_parameters, without_parameters}
+use Rattle.gc_texts.proofs.Procedures.{no_procedure, procedure_read, with_rest, read_with_parameters, no_parameters_no_procedure}
 use Rattle.gc_texts.proofs.procedure.read_procedure_into.Goals as goal
 
 pub returns-in_default-clause-none : goal.returns-in_default-clause-none
@@ -9,19 +9,19 @@ returns-in_default-clause-none c isnt = no_procedure c.args.text.now c.cut_at.re
 pub returns-then-is_empty-clause-none : goal.returns-then-is_empty-clause-none
 returns-then-is_empty-clause-none c isnt =
     let none : length c.in-Some-params.params.now ≡ 0 = search rules in
-    without_parameters c.args.text.now c.cut_at.result.0.now c.in-Some-params.params.now (option_copied c.cut_at.result.1) c.cut_at.ensures (ap option_copied c.in-Some-params.is) none
+    no_parameters_no_procedure c.args.text.now c.cut_at.result.0.now c.in-Some-params.params.now (option_copied c.cut_at.result.1) c.cut_at.ensures (ap option_copied c.in-Some-params.is) none
 
 pub returns-clause-found : goal.returns-clause-found
 returns-clause-found c is =
     let some : 0 < length c.in-Some-params.params.now = search rules in
-    with_parameters c.args.text.now c.cut_at.result.0.now c.in-Some-params.params.now
+    read_with_parameters c.args.text.now c.cut_at.result.0.now c.in-Some-params.params.now
     (option_copied c.cut_at.result.1) c.in-Some.rpc (Some c.read_call-2.new.call) c.cut_at.ensures
     (ap option_copied c.in-Some-params.is) some c.in-Some.ensures (c.read_call-2.ensures.found is)
 
 pub returns-clause-none : goal.returns-clause-none
 returns-clause-none c isnt =
     let some : 0 < length c.in-Some-params.params.now = search rules in
-    with_parameters c.args.text.now c.cut_at.result.0.now c.in-Some-params.params.now
+    read_with_parameters c.args.text.now c.cut_at.result.0.now c.in-Some-params.params.now
     (option_copied c.cut_at.result.1) c.in-Some.rpc None c.cut_at.ensures
     (ap option_copied c.in-Some-params.is) some c.in-Some.ensures (c.read_call-2.ensures.none isnt)
 

@@ -1,12 +1,12 @@
 use Rattle.std.proofs.Common.{◌≡◌, take, map}
 use Rattle.std.specs.Io.KnownBytes.{Appends}
 use Rattle.gc_client.specs.Settlements.{settlement_seen}
-use Rattle.gc_texts.specs.Settlements.{lines_from}
+use Rattle.gc_texts.specs.Settlements.{settlement_lines_from}
 use Rattle.gc_texts.proofs.settled.write_settlements.Given as goal
 
 -- the sink took the lines of the settlements so far, and has failed only if it had before
 abbrev pub invariant-loop-i : goal.invariant-loop-i
 invariant-loop-i g l = record {
-  took : Appends (g.K.Sink.taken l.initial.sink) (g.K.Sink.taken l.sink) (lines_from l.place (map settlement_seen (take l.i l.settlements)));
+  took : Appends (g.K.Sink.taken l.initial.sink) (g.K.Sink.taken l.sink) (settlement_lines_from l.place (map settlement_seen (take l.i l.settlements)));
   failed : g.K.Sink.failed l.sink ≡ g.K.Sink.failed l.initial.sink;
 }

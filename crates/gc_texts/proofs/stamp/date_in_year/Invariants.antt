@@ -1,12 +1,12 @@
 use Rattle.std.proofs.Common.{◌≡◌, ◌+◌, ◌<◌, ◌≤◌, ◌-◌}
-use Rattle.gc_texts.specs.Stamps.{year_days, days_of_months, days_after}
-use Rattle.gc_texts.proofs.Dates.{on}
+use Rattle.gc_texts.specs.Stamps.{year_days, days_after}
+use Rattle.gc_texts.proofs.Dates.{days_of_months, calendar_date}
 use Rattle.gc_texts.proofs.stamp.date_in_year.Given as goal
 
 -- the date is `left` days after the first day of this month, and within the year
 abbrev pub invariant-loop-left : goal.invariant-loop-left
 invariant-loop-left l = record {
-  passed : days_after l.fn.days (on l.year 1 1) ≡ days_after l.left (on l.year l.month 1);
+  passed : days_after l.fn.days (calendar_date l.year 1 1) ≡ days_after l.left (calendar_date l.year l.month 1);
   low : 1 ≤ l.month;
   high : l.month ≤ 12;
   part : days_of_months l.year (l.month - 1) + l.left < year_days l.year;

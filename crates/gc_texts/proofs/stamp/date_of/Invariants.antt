@@ -1,12 +1,12 @@
 use Rattle.std.proofs.Common.{◌≡◌, ◌+◌, ◌≤◌}
 use Rattle.gc_texts.specs.Stamps.{days_after}
-use Rattle.gc_texts.proofs.Dates.{on}
+use Rattle.gc_texts.proofs.Dates.{calendar_date}
 use Rattle.gc_texts.proofs.stamp.date_of.Given as goal
 
 -- the date is `left` days after the first day of this year
 abbrev pub invariant-loop-left : goal.invariant-loop-left
 invariant-loop-left l = record {
-  passed : days_after l.fn.days (on 1970 1 1) ≡ days_after l.left (on l.year 1 1);
+  passed : days_after l.fn.days (calendar_date 1970 1 1) ≡ days_after l.left (calendar_date l.year 1 1);
   year : l.year + l.left ≤ 1970 + l.fn.days;
 }
 

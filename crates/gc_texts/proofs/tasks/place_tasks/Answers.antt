@@ -1,7 +1,7 @@
 use Rattle.std.proofs.Common.{rules}
-use Rattle.gc_texts.proofs.Placing.{placed_next}
+use Rattle.gc_texts.proofs.Placing.{next_is_placed}
 use Rattle.gc_texts.proofs.tasks.place_tasks.Goals as goal
 
 pub loop-task-preserved : goal.loop-task-preserved
 loop-task-preserved c =
-    placed_next c.args.nears.now _ c.loop-task.task-items c.loop-task.task-index c.task-item.result _ c.loop-task.invariant c.loop-task-test.true (search rules)
+    next_is_placed c.args.nears.now _ c.loop-task.task-items c.loop-task.task-index c.task-item.result _ c.loop-task.invariant c.loop-task-test.true (search rules)

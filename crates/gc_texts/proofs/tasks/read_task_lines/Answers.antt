@@ -2,13 +2,13 @@ use Rattle.std.proofs.Common.{rules, length, ◌≤◌, [], Some, inl, refl, ap,
 use Rattle.std.specs.Option.{option_copied}
 use Rattle.gc_texts.specs.TaskLines.{IsTaskLine}
 use Rattle.gc_texts.specs.Tasks.{first_mode, Grows}
-use Rattle.gc_texts.proofs.TextLines.{Reads, comes_to}
+use Rattle.gc_texts.proofs.TextLines.{ReadsSoFar, next_line_is_unread}
 use Rattle.gc_texts.proofs.TaskReading.{counted, cycle_few, tasks_few, task_skips, task_reads, task_fails, task_refused, task_wants}
 use Rattle.gc_texts.proofs.tasks.read_task_lines.Goals as goal
 
 pub loop-left-init : goal.loop-left-init
 loop-left-init c =
-    let reads : Reads IsTaskLine c.args.text.now (Some c.args.text.now) 0 [] = search rules in
+    let reads : ReadsSoFar IsTaskLine c.args.text.now (Some c.args.text.now) 0 [] = search rules in
     record {
       said = [];
       reads = reads;
@@ -26,19 +26,22 @@ overflow_add-number c =
 
 pub loop-left-preserved-then-is_skipped : goal.loop-left-preserved-then-is_skipped
 loop-left-preserved-then-is_skipped c =
-    let at = comes_to IsTaskLine c.args.text.now (option_copied c.loop-left.left) c.in-Some.text.now c.cut_line.result.0.now (option_copied c.cut_line.result.1)
+    let at = next_line_is_unread IsTaskLine c.args.text.now (option_copied c.loop-left.left) c.in-Some.text.now c.cut_line.result.0.now (option_copied c.cut_line.result.1)
     c.loop-left.number _ c.loop-left.invariant.reads (ap option_copied c.in-Some.is) c.cut_line.ensures in
     task_skips _ _ _ _ _ _ c.loop-left.invariant c.cut_line.result.0.now (option_copied c.cut_line.result.1) at (sym c.is_skipped.ensures ∙ c.if-is_skipped.true)
 
 pub returns-in_default-read_task_line-clause-fault : goal.returns-in_default-read_task_line-clause-fault
 returns-in_default-read_task_line-clause-fault c =
-    let at = comes_to IsTaskLine c.args.text.now (option_copied c.loop-left.left) c.in-Some.text.now c.cut_line.result.0.now (option_copied c.cut_line.result.1)
-    c.loop-left.number _ c.loop-left.invariant.reads (ap option_copied c.in-Some.is) c.cut_line.ensures in
-    (c.requires, task_fails _ _ _ _ _ _ c.loop-left.invariant c.cut_line.result.0.now (option_copied c.cut_line.result.1) at (sym c.is_skipped.ensures ∙ c.if-is_skipped.false) c.in_default-read_task_line.ensures)
+    let at = next_line_is_unread IsTaskLine c.args.text.now (option_copied c.loop-left.left) c.in-Some.text.now c.cut_line.result.0.now (option_copied c.cut_line.result.1)
+    c.loop-left.number _ c.loop-left.invariant.reads (ap option_copied c.in-Some.is) c.cut_line.ensures in (
+      c.requires,
+      task_fails _ _ _ _ _ _ c.loop-left.invariant c.cut_line.result.0.now
+          (option_copied c.cut_line.result.1) at (sym c.is_skipped.ensures ∙ c.if-is_skipped.false) c.in_default-read_task_line.ensures,
+    )
 
 pub returns-then-not-allows-clause-fault : goal.returns-then-not-allows-clause-fault
 returns-then-not-allows-clause-fault c =
-    let at = comes_to IsTaskLine c.args.text.now (option_copied c.loop-left.left) c.in-Some.text.now c.cut_line.result.0.now (option_copied c.cut_line.result.1)
+    let at = next_line_is_unread IsTaskLine c.args.text.now (option_copied c.loop-left.left) c.in-Some.text.now c.cut_line.result.0.now (option_copied c.cut_line.result.1)
     c.loop-left.number _ c.loop-left.invariant.reads (ap option_copied c.in-Some.is) c.cut_line.ensures in (
       c.requires,
       task_refused _ _ _ _ _ _ c.loop-left.invariant c.cut_line.result.0.now (option_copied c.cut_line.result.1) at c.in-Some-read_task_line.said c.allows.result
@@ -47,7 +50,7 @@ returns-then-not-allows-clause-fault c =
 
 pub returns-then-is_err-clause-fault : goal.returns-then-is_err-clause-fault
 returns-then-is_err-clause-fault c =
-    let at = comes_to IsTaskLine c.args.text.now (option_copied c.loop-left.left) c.in-Some.text.now c.cut_line.result.0.now (option_copied c.cut_line.result.1)
+    let at = next_line_is_unread IsTaskLine c.args.text.now (option_copied c.loop-left.left) c.in-Some.text.now c.cut_line.result.0.now (option_copied c.cut_line.result.1)
     c.loop-left.number _ c.loop-left.invariant.reads (ap option_copied c.in-Some.is) c.cut_line.ensures in (
       c.requires,
       task_wants _ _ _ _ _ _ c.loop-left.invariant c.cut_line.result.0.now (option_copied c.cut_line.result.1) at c.in-Some-read_task_line.said c.allows.result
@@ -56,7 +59,7 @@ returns-then-is_err-clause-fault c =
 
 pub loop-left-preserved : goal.loop-left-preserved
 loop-left-preserved c =
-    let at = comes_to IsTaskLine c.args.text.now (option_copied c.loop-left.left) c.in-Some.text.now c.cut_line.result.0.now (option_copied c.cut_line.result.1)
+    let at = next_line_is_unread IsTaskLine c.args.text.now (option_copied c.loop-left.left) c.in-Some.text.now c.cut_line.result.0.now (option_copied c.cut_line.result.1)
     c.loop-left.number _ c.loop-left.invariant.reads (ap option_copied c.in-Some.is) c.cut_line.ensures in
     let grows : Grows c.loop-left.mode c.in-Some-read_task_line.said c.loop-left.given c.append.new.self = search rules in
     task_reads _ _ _ _ _ _ c.loop-left.invariant c.cut_line.result.0.now (option_copied c.cut_line.result.1) at c.in-Some-read_task_line.said c.append.new.self c.mode_after-next.result c.allows.result

@@ -2,19 +2,19 @@ use Rattle.std.proofs.Common.{◌≡◌, ◌+◌, false, arith, rules, subst, sy
 use Rattle.std.proofs.lemmas.List.{take_rest}
 use Rattle.std.proofs.lemmas.Option.{IfSome_then}
 use Rattle.std.specs.Option.{option_copied}
-use Rattle.gc_values.specs.Nearest.{MadeOf}
+use Rattle.gc_values.specs.Nearest.{SignedWithoutZeros}
 use Rattle.gc_values.specs.Plainly.{CutsDecimal}
-use Rattle.gc_values.proofs.FrontDecimals.{counts_room, front_found, front_range}
+use Rattle.gc_values.proofs.FrontDecimals.{counted_leave_room, front_decimal_found, front_decimal_in_range}
 use Rattle.gc_values.proofs.front.front_decimal.Goals as goal
 
 pub front_digits-value-requires : goal.front_digits-value-requires
 front_digits-value-requires c =
     let few = c.front_digits-whole.ensures.few in
-    counts_room c.args.text.now 13 c.front_digits-whole.result.0 c.front_digits-whole.result.1 c.front_digits-whole.ensures (omega (arith, few))
+    counted_leave_room c.args.text.now 13 c.front_digits-whole.result.0 c.front_digits-whole.result.1 c.front_digits-whole.ensures (omega (arith, few))
 
 pub from_parts-decimal-requires-clause-range : goal.from_parts-decimal-requires-clause-range
 from_parts-decimal-requires-clause-range c =
-    omega (arith, c.from.ensures, front_range c.args.text.now _ c.front_digits-whole.result.1 c.front_digits-value.result.1 _ _ c.front_digits-whole.ensures c.front_digits-value.ensures)
+    omega (arith, c.from.ensures, front_decimal_in_range c.args.text.now _ c.front_digits-whole.result.1 c.front_digits-value.result.1 _ _ c.front_digits-whole.ensures c.front_digits-value.ensures)
 
 pub returns : goal.returns
 returns c =
@@ -22,10 +22,10 @@ returns c =
     let at = c.front_digits-whole.result.1 in
     let places = c.front_digits-value.result.1 in
     let point : get_or text at 0 ≡ 46 = search rules in
-    let made = subst (λ v. MadeOf false v places c.from_parts-decimal.result.digits c.from_parts-decimal.result.scale) c.from.ensures c.from_parts-decimal.ensures in
+    let made = subst (λ v. SignedWithoutZeros false v places c.from_parts-decimal.result.digits c.from_parts-decimal.result.scale) c.from.ensures c.from_parts-decimal.ensures in
     IfSome_then c.with_rest.result c.with_rest.ensures
     (λ r h. subst (λ d. CutsDecimal text d (option_copied r.1)) (sym h.0)
-    (front_found text _ _ places _ c.from_parts-decimal.result
+    (front_decimal_found text _ _ places _ c.from_parts-decimal.result
     (record {
       at = at;
       whole = _;

@@ -3,7 +3,7 @@ use Rattle.gc_catalogue.specs.declared.call.Call.{Call}
 use Rattle.gc_client.specs.Rule.{ById}
 use Rattle.gc_instrument.specs.State.{State, restarted}
 use Rattle.gc_world.specs.Clients.{ends}
-use Rattle.gc_world.specs.Record.{IsExecution}
+use Rattle.gc_world.specs.Record.{HasExecutions}
 use Rattle.gc_world.specs.World.{World}
 use Rattle.gc_world.proofs.Flow.{level_at}
 use Rattle.gc_world.proofs.Handing.{KeptFits, kept_exchange, kept_of, keeper}
@@ -13,4 +13,4 @@ use Rattle.gc_world.proofs.laws.executions_are_recorded.Goals as goal
 pub returns : goal.returns
 returns c = λ width narrow opening events.
     let at = level_at width narrow ends KeptFits kept_exchange (restarted opening) tt events in
-    subst (λ (w : World (ById Call) State). IsExecution ends opening w.wire) (sym at.ids) (execution_at width narrow ends KeptFits kept_exchange kept_of keeper refl at.steps opening tt)
+    subst (λ (w : World (ById Call) State). HasExecutions ends opening w.wire) (sym at.ids) (execution_at width narrow ends KeptFits kept_exchange kept_of keeper refl at.steps opening tt)

@@ -1,12 +1,12 @@
-use Rattle.gc_world.proofs.FirstReply.{books, is_late, no_second}
+use Rattle.gc_world.proofs.FirstReply.{in_time_is_answered, too_late_is_late, no_second}
 use Rattle.gc_world.proofs.Sends.{never_both, one_or_other}
 use Rattle.gc_world.proofs.laws.first_reply_is_booked.Goals as goal
 
 pub returns-clause-in_time : goal.returns-clause-in_time
-returns-clause-in_time c = λ width narrow opening events n line t. books width narrow opening events n line t
+returns-clause-in_time c = λ width narrow opening events n line t. in_time_is_answered width narrow opening events n line t
 
 pub returns-clause-late : goal.returns-clause-late
-returns-clause-late c = λ width narrow opening events n line t. is_late width narrow opening events n line t
+returns-clause-late c = λ width narrow opening events n line t. too_late_is_late width narrow opening events n line t
 
 pub returns-clause-one_or_other : goal.returns-clause-one_or_other
 returns-clause-one_or_other c = one_or_other

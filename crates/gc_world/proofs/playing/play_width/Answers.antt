@@ -10,7 +10,7 @@ use Rattle.gc_world.specs.Staging.{streams_at_start}
 use Rattle.gc_world.specs.Streams.{Streams}
 use Rattle.gc_world.proofs.Faithfulness.{faithful, once, no_longer_than}
 use Rattle.gc_world.proofs.Flow.{flow_more}
-use Rattle.gc_world.proofs.Turns.{all_shown, at_end, stand_at_end, counts_at}
+use Rattle.gc_world.proofs.Turns.{all_shown, report_at_end, stand_at_end, counts_at}
 use Rattle.gc_world.proofs.playing.play_width.Goals as goal
 
 pub loop-event-preserved : goal.loop-event-preserved
@@ -46,7 +46,7 @@ returns-clause-played g c =
     let i = c.loop-event.event-index in
     let r = c.ended.result.0 in
     let shows = all_shown width opening events s i c.loop-event-test.false c.loop-event.invariant.shows in
-    let ends_so = at_end width opening events s r shows c.ended.ensures.report in
+    let ends_so = report_at_end width opening events s r shows c.ended.ensures.report in
     let stand = stand_at_end width opening events s r shows c.ended.ensures.report in
     record {
       report = ends_so.reports;

@@ -6,7 +6,7 @@ use Rattle.gc_lines.specs.Frames.{is_line_feed, frame_of}
 use Rattle.geocom_c.specs.Beginning.{left_past}
 use Rattle.geocom_c.specs.Rest.{kept_bytes}
 use Rattle.geocom_c.proofs.Answering.{synchronizes_in_turn, HasLeft}
-use Rattle.geocom_c.proofs.Hearings.{either, heard_all, heard_none, heard_on, heard_some, nothing_left}
+use Rattle.geocom_c.proofs.Hearings.{by_place, heard_all, heard_none, heard_on, heard_some, nothing_left}
 use Rattle.geocom_c.proofs.beginning.hear_all.Goals as goal
 
 pub loop-left-init : goal.loop-left-init
@@ -24,7 +24,7 @@ loop-left-preserved c = λ r is.
     let Old : List ℕ → List ℕ → Type 0 = HasLeft c.loop-left.rest c.loop-left.beginning in
     let New : List ℕ → List ℕ → Type 0 = HasLeft line.new.rest line.new.beginning in
     heard_on unanswered_after Old New c.args.beginning.now r c.args.bytes.now bytes c.bytes_from-left.result.now f
-    (either (position is_line_feed bytes)
+    (by_place (position is_line_feed bytes)
     (λ e. let told = line.ensures.more f.now f.stands.0 e in
     heard_none unanswered_after left_past synchronizes_in_turn New f.reached f.now bytes c.bytes_from-left.result.now e
     (left ∙ nothing_left bytes line.result told.0) (told.1.0, told.1.1 ∙ f.stands.1))

@@ -7,7 +7,7 @@ use Rattle.gc_client.specs.Settlements.{settlement_seen}
 use Rattle.geocom_c.specs.FirstAre.{FirstAre}
 use Rattle.geocom_c.specs.Settled.{IsRecord, AnswersHaveLine}
 use Rattle.geocom_c.specs.declared.answers.GeocomHeard.{GeocomHeard}
-use Rattle.geocom_c.proofs.Places.{first_map}
+use Rattle.geocom_c.proofs.Places.{first_are_weaker}
 use Rattle.geocom_c.proofs.Records.{heard_have_line, more_record, settles_kind}
 use Rattle.geocom_c.proofs.feeding.hear.Goals as goal
 
@@ -33,7 +33,7 @@ returns-in-Settled-clause-fed c =
     let n = 0 + length c.as_slice.result.now in
     let front : take n new ≡ t = c.put_text.ensures.text ∙ c.as_slice.ensures.value in
     let whole : new ≡ t ++ drop n new = sym (take-append-drop n new) ∙ ap (λ (x : List ℕ). x ++ drop n new) front in
-    let behind = first_map (IsRecord t) (IsRecord (t ++ drop n new)) (more_record t (drop n new)) c.put_records.new.records _ c.put_records.ensures.records in
+    let behind = first_are_weaker (IsRecord t) (IsRecord (t ++ drop n new)) (more_record t (drop n new)) c.put_records.new.records _ c.put_records.ensures.records in
     record {
       fault = ap (λ (x : GeocomHeard). x.fault) h;
       kind = ap (λ (x : GeocomHeard). x.kind) h ∙ kinds.0;

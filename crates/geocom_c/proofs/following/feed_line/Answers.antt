@@ -7,13 +7,13 @@ use Rattle.gc_client.specs.Rule.{Windowed}
 use Rattle.geocom_c.specs.Following.{hearing_lines, StandsForCourse}
 use Rattle.geocom_c.specs.State.{StandsForClient}
 use Rattle.geocom_c.specs.declared.answers.GeocomHeard.{GeocomHeard}
-use Rattle.geocom_c.proofs.Hearings.{client_of_course, course_past, courses_in_turn, either, heard_none, heard_some, nothing_left}
+use Rattle.geocom_c.proofs.Hearings.{client_of_course, course_past, courses_in_turn, by_place, heard_none, heard_some, nothing_left}
 use Rattle.geocom_c.proofs.following.feed_line.Goals as goal
 
 pub returns-then-heard-ne0-clause-fed : goal.returns-then-heard-ne0-clause-fed
 returns-then-heard-ne0-clause-fed c = λ width x rest s.
     let client : Windowed Asked = record { width = width; ids = x.client } in
-    absurd (either (position is_line_feed c.args.bytes.now)
+    absurd (by_place (position is_line_feed c.args.bytes.now)
     (λ e. c.if-heard-ne0.true (ap (λ (h : GeocomHeard). h.fault) (c.geocom_client_feed-heard.ensures.more (record { for_records = search rules; for_text = search rules }) client rest s e).0))
     (λ at e. c.if-heard-ne0.true (c.geocom_client_feed-heard.ensures.frame (record { for_records = search rules; for_text = search rules }) client rest at s e).fed.fault))
 
@@ -23,7 +23,7 @@ returns-clause-fed c = λ width x rest s.
     let bytes = c.args.bytes.now in
     let heard = c.geocom_client_feed-heard in
     let New : Course Asked → List ℕ → Type 0 = StandsForCourse width heard.new.state in
-    either (position is_line_feed bytes)
+    by_place (position is_line_feed bytes)
     (λ e. let told = heard.ensures.more (record { for_records = search rules; for_text = search rules }) client rest s e in
     heard_none (hearing_lines width) (course_past width) (courses_in_turn width) New x rest bytes _ e
     (nothing_left bytes heard.result.used (ap (λ (h : GeocomHeard). h.used) told.0)) told.1)

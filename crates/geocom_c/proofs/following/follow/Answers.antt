@@ -1,9 +1,9 @@
 use Rattle.std.proofs.Common.{◌≡◌, ◌+◌, ◌∙◌, ◌∷◌, List, suc, drop, refl, sym, ap, subst, arith}
 use Rattle.std.proofs.lemmas.List.{drop_all}
-use Rattle.gc_client.proofs.Lists.{drop_turn}
+use Rattle.gc_client.proofs.Lists.{drop_next}
 use Rattle.geocom_c.specs.Following.{CallsReach, first_stage}
 use Rattle.geocom_c.specs.declared.following.StateCall.{StateCall}
-use Rattle.geocom_c.proofs.Courses.{follow_accounts}
+use Rattle.geocom_c.proofs.Courses.{calls_account_for_sends}
 use Rattle.geocom_c.proofs.following.follow.Goals as goal
 
 pub loop-k-init : goal.loop-k-init
@@ -15,7 +15,7 @@ loop-k-preserved c = λ iw.
     let calls = c.args.calls.now in
     let k = c.loop-k.k in
     let next : suc k ≡ k + 1 = omega arith in
-    let turn = drop_turn calls k c.call_at.result c.call_at.ensures ∙ ap (λ m. c.call_at.result ∷ drop m calls) next in
+    let turn = drop_next calls k c.call_at.result c.call_at.ensures ∙ ap (λ m. c.call_at.result ∷ drop m calls) next in
     let g = c.make_call.ensures c.args.width f.stage (drop (k + 1) calls) f.at in
     record { stage = g.stage; at = g.at; on = λ t h. f.on t (subst (λ (cs : List StateCall). CallsReach c.args.width f.stage cs t) (sym turn) (g.on t h)) }
 
@@ -24,4 +24,4 @@ returns c = λ iw.
     let f = c.loop-k.invariant iw in
     let none = drop_all c.loop-k.k c.args.calls.now c.loop-k-test.false in
     let follows = f.on f.stage (subst (λ (cs : List StateCall). CallsReach c.args.width f.stage cs f.stage) (sym none) refl) in
-    (f.stage, follows, f.at, follow_accounts c.args.width c.args.calls.now f.stage follows)
+    (f.stage, follows, f.at, calls_account_for_sends c.args.width c.args.calls.now f.stage follows)

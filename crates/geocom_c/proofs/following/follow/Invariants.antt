@@ -1,8 +1,8 @@
 use Rattle.std.proofs.Common.{drop}
 use Rattle.gc_client.specs.Rule.{IsWidth}
-use Rattle.geocom_c.specs.Following.{Reached, first_stage}
+use Rattle.geocom_c.specs.Following.{MadeBut, first_stage}
 use Rattle.geocom_c.proofs.following.follow.Given as goal
 
--- the calls before place k were made (`Reached`): what those from k on come to now, all calls come to from a new client
+-- the calls before place k were made (`MadeBut`): what those from k on come to now, all calls come to from a new client
 abbrev pub invariant-loop-k : goal.invariant-loop-k
-invariant-loop-k l = IsWidth l.width → Reached l.width first_stage l.calls l.state (drop l.k l.calls)
+invariant-loop-k l = IsWidth l.width → MadeBut l.width first_stage l.calls l.state (drop l.k l.calls)

@@ -13,7 +13,7 @@ use Rattle.gc_client.specs.OneForOne.{course_after}
 use Rattle.gc_client.specs.OneForOne as one
 use Rattle.geocom_c.specs.Beginning.{left_by_restart, left_by_bytes}
 use Rattle.geocom_c.specs.State.{StandsForClient, left_of}
-use Rattle.geocom_c.specs.Following.{hearing, CallsReach, Reached}
+use Rattle.geocom_c.specs.Following.{hearing, CallsReach, MadeBut}
 use Rattle.geocom_c.specs.declared.following.StateCall.{StateCall}
 use Rattle.geocom_c.specs.declared.header.TheConstants.{WINDOW_FULL, NOT_BEGUN}
 use Rattle.geocom_c.specs.declared.state.GeocomClient.{GeocomClient}
@@ -64,7 +64,7 @@ returns-in-Send c = λ width s calls at.
     let n = sent.result.fault in
     let answered = ap (λ n. drop n the_word) did.answered in
     let by : (call : Call) → left_of c.args.state.now ≡ [] → IsCall c.in-Send.procedure c.in-Send.params.now call
-    → Reached width s (c.args.call.now ∷ calls) sent.new.state calls = λ call begun is. record {
+    → MadeBut width s (c.args.call.now ∷ calls) sent.new.state calls = λ call begun is. record {
       stage = record s { reached = course_after width s.reached (one.Send c.in-Send.target (Table call) c.in-Send.deadline) };
       at = record {
         stands = sent_course width s.reached s.rest (Table call) c.in-Send.target (sends width s.reached.client c.in-Send.target (Table call) c.in-Send.deadline)
@@ -75,7 +75,7 @@ returns-in-Send c = λ width s calls at.
       on = λ t f. subst (λ (e : StateCall). CallsReach width s (e ∷ calls) t) (sym c.in-Send.is) (inl (call, sym at.left ∙ begun, is, f));
     } in
     let none : n ≢ 0 → (s.left ≡ [] → (call : Call) → IsCall c.in-Send.procedure c.in-Send.params.now call → ⊥)
-    → Reached width s (c.args.call.now ∷ calls) sent.new.state calls = λ no never. record {
+    → MadeBut width s (c.args.call.now ∷ calls) sent.new.state calls = λ no never. record {
       stage = s;
       at = record { stands = subst (λ (t : GeocomClient). StandsForClient t client s.rest) (sym (did.refused no).1) at.stands; left = answered ∙ at.left };
       on = λ t f. subst (λ (e : StateCall). CallsReach width s (e ∷ calls) t) (sym c.in-Send.is) (inr (never, f));
@@ -94,7 +94,7 @@ returns-in-SendRaw c = λ width s calls at.
     let n = sent.result.fault in
     let answered = ap (λ n. drop n the_word) did.answered in
     let by : (raw : RawCall) → left_of c.args.state.now ≡ [] → IsAsked c.in-SendRaw.procedure c.in-SendRaw.params.now (Raw raw)
-    → Reached width s (c.args.call.now ∷ calls) sent.new.state calls = λ raw begun is. record {
+    → MadeBut width s (c.args.call.now ∷ calls) sent.new.state calls = λ raw begun is. record {
       stage = record s { reached = course_after width s.reached (one.Send c.in-SendRaw.target (Raw raw) c.in-SendRaw.deadline) };
       at = record {
         stands = sent_course width s.reached s.rest (Raw raw) c.in-SendRaw.target (sends width s.reached.client c.in-SendRaw.target (Raw raw) c.in-SendRaw.deadline)
@@ -105,7 +105,7 @@ returns-in-SendRaw c = λ width s calls at.
       on = λ t f. subst (λ (e : StateCall). CallsReach width s (e ∷ calls) t) (sym c.in-SendRaw.is) (inl (raw, sym at.left ∙ begun, is, f));
     } in
     let none : n ≢ 0 → (s.left ≡ [] → (raw : RawCall) → IsAsked c.in-SendRaw.procedure c.in-SendRaw.params.now (Raw raw) → ⊥)
-    → Reached width s (c.args.call.now ∷ calls) sent.new.state calls = λ no never. record {
+    → MadeBut width s (c.args.call.now ∷ calls) sent.new.state calls = λ no never. record {
       stage = s;
       at = record { stands = subst (λ (t : GeocomClient). StandsForClient t client s.rest) (sym (did.refused no).1) at.stands; left = answered ∙ at.left };
       on = λ t f. subst (λ (e : StateCall). CallsReach width s (e ∷ calls) t) (sym c.in-SendRaw.is) (inr (never, f));

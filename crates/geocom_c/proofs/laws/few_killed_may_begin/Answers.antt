@@ -1,6 +1,6 @@
 use Rattle.gc_field.specs.Instrument.{AnyState}
-use Rattle.geocom_c.proofs.Killed.{may_begin}
+use Rattle.geocom_c.proofs.Killed.{next_may_begin}
 use Rattle.geocom_c.proofs.laws.few_killed_may_begin.Goals as goal
 
 pub returns : goal.returns
-returns g c = λ ends kept is. may_begin ends AnyState kept is
+returns g c = λ ends kept is. next_may_begin ends AnyState kept is

@@ -1,9 +1,9 @@
 use Rattle.gc_instrument.specs.State.{IsFittingState}
 use Rattle.gc_field.specs.Simulator.{simulator_ends}
 use Rattle.gc_field.specs.Laws.{kept_of}
-use Rattle.gc_field.proofs.Instruments.{simulator}
-use Rattle.geocom_c.proofs.Parting.{owned}
+use Rattle.gc_field.proofs.Instruments.{simulator_is_an_instrument}
+use Rattle.geocom_c.proofs.Parting.{each_answer_is_own}
 use Rattle.geocom_c.proofs.laws.simulators_answers_are_their_own.Goals as goal
 
 pub returns : goal.returns
-returns c = owned simulator_ends IsFittingState kept_of simulator.instrument
+returns c = each_answer_is_own simulator_ends IsFittingState kept_of simulator_is_an_instrument.instrument

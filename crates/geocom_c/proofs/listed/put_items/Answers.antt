@@ -7,7 +7,7 @@ use Rattle.gc_values.specs.Params.{total_length}
 use Rattle.gc_values.proofs.ItemBytes.{total_length_next, total_length_front}
 use Rattle.geocom_c.specs.Settled.{StandsAt}
 use Rattle.geocom_c.specs.declared.listed.GeocomItem.{GeocomItem}
-use Rattle.geocom_c.proofs.Places.{first_map, first_written}
+use Rattle.geocom_c.proofs.Places.{first_are_weaker, first_written}
 use Rattle.geocom_c.proofs.Items.{stands_here, stands_more}
 use Rattle.geocom_c.proofs.listed.put_items.Goals as goal
 
@@ -46,7 +46,7 @@ loop-k-preserved c =
     let place : GeocomItem = record { offset = c.len.result; length = length item } in
     let here : slice_get items k ≡ Some item = slice_get-get_or items k [] lt ∙ ap Some (sym c.get-item.ensures) in
     let stands = stands_here t item place c.len.ensures.value refl in
-    let earlier = first_map (StandsAt t) (StandsAt (t ++ item)) (stands_more t item) c.loop-k.places (take k items) before.places in
+    let earlier = first_are_weaker (StandsAt t) (StandsAt (t ++ item)) (stands_more t item) c.loop-k.places (take k items) before.places in
     let all = first_written (StandsAt (t ++ item)) c.loop-k.places items k place item earlier (omega (arith, lt, c.requires.few, before.size)) here stands in
     record {
       front = (before.front.0 ++ item, e ∙ ap (λ x. x ++ item) before.front.1 ∙ append_assoc c.args.text.now.items before.front.0 item);

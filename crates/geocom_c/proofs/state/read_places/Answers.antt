@@ -3,7 +3,7 @@ use Rattle.std.specs.Prelude.{slice_get}
 use Rattle.std.proofs.lemmas.Option.{none-some, slice_get-get_or}
 use Rattle.std.proofs.lemmas.List.{take_all}
 use Rattle.gc_catalogue.specs.declared.asked.Asked.{Asked}
-use Rattle.gc_client.proofs.Lists.{take_turn}
+use Rattle.gc_client.proofs.Lists.{take_next}
 use Rattle.gc_client.specs.declared.pending.Pending.{Pending}
 use Rattle.gc_world.proofs.Places.{element_at}
 use Rattle.geocom_c.specs.FirstAre.{FirstAre}
@@ -38,7 +38,7 @@ loop-k-preserved c =
           let same : c.in_ok-p.p ≡ it.0 = cc in
           let next : suc k ≡ k + 1 = omega arith in
           e ∙ ap (λ (w : List (Pending Asked)). w ++ c.in_ok-p.p ∷ []) (before.only ps n are) ∙ ap (λ q. take k ps ++ q ∷ []) same
-          ∙ sym (take_turn ps k it.0 it.1) ∙ ap (λ m. take m ps) next;
+          ∙ sym (take_next ps k it.0 it.1) ∙ ap (λ m. take m ps) next;
     }
 
 pub returns-in_err-p-clause-only : goal.returns-in_err-p-clause-only

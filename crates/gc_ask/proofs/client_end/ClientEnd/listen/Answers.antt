@@ -1,7 +1,7 @@
 use Rattle.std.proofs.Common.{◌≡◌, [], drop, arith, length-drop, drop-drop}
 use Rattle.std.proofs.lemmas.List.{take_rest, drop_all}
 use Rattle.gc_lines.specs.Lent.{lent_seen}
-use Rattle.gc_lines.proofs.Passing.{Takes, takes}
+use Rattle.gc_lines.proofs.Passing.{Takes, assembler_takes}
 use Rattle.gc_ask.specs.Listening.{ClientHeard, heard_by}
 use Rattle.gc_ask.proofs.FirstReplies.{passed_on, passed_settles, passed_end}
 use Rattle.gc_ask.proofs.client_end.ClientEnd.listen.Goals as goal
@@ -20,7 +20,7 @@ loop-at-preserved c =
       passed = λ rest s.
           let p = c.loop-at.invariant.passed rest s in
           let next : ClientHeard = record (heard_by c.take_frame.new.self rest piece left) { kept = c.next-used.new.self } in
-          let t : Takes p.now left used (lent_seen c.next-used.result.1) c.next-used.new.self = takes p.now left used (lent_seen c.next-used.result.1) _
+          let t : Takes p.now left used (lent_seen c.next-used.result.1) c.next-used.new.self = assembler_takes p.now left used (lent_seen c.next-used.result.1) _
           (λ e. let m = more e in (m.0, m.1, m.2 p.now p.stands)) (λ i e. let m = whole i e in (m.0, m.1 p.now p.stands, m.2)) in
           rw (c.if-take_frame.ensures.same, ← drop-drop used at piece) (passed_on _ (heard_by c.loop-at.self rest piece left) next used _ p t c.if-take_frame.ensures.takes);
     }

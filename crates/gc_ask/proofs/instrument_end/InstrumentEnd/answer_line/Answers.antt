@@ -1,7 +1,7 @@
 use Rattle.std.proofs.Common.{Ok, Err, refl, arith}
 use Rattle.gc_lines.specs.Answering.{ports_of}
 use Rattle.gc_ask.specs.Links.{ReadEnds}
-use Rattle.gc_ask.proofs.Ends.{ends_then, ends_too_many, ends_uncut, step_hears}
+use Rattle.gc_ask.proofs.Ends.{ends_then, ends_too_many, fault_counts_replies, step_hears}
 use Rattle.gc_ask.proofs.instrument_end.InstrumentEnd.answer_line.Goals as goal
 use Rattle.gc_texts.specs.WholeTexts.{input_of}
 
@@ -33,6 +33,6 @@ returns-in-Err g c =
       ends = step_hears
           (ports_of g.I.Source c.args.link_in.now g.O.Sink c.args.link_out.now) (ports_of g.I.Source c.read_more.new.source g.O.Sink c.args.link_out.now)
           left (Err c.in-Err.fault) ends (omega (arith, before.grows, read.grows)) refl;
-      count = ends_uncut c.args.place first now left c.in-Err.fault ends;
+      count = fault_counts_replies c.args.place first now left c.in-Err.fault ends;
       too_many = ends_too_many first now left (Err c.in-Err.fault) ends;
     }

@@ -1,12 +1,12 @@
 use Rattle.std.proofs.Transfers.{drop-appended}
-use Rattle.gc_catalogue.proofs.RawLines.{filled_front, filled_long}
+use Rattle.gc_catalogue.proofs.RawLines.{filled_front, filled_length}
 use Rattle.gc_catalogue.proofs.raw_text.RawText.new.Goals as goal
 
 pub invariant_of-result : goal.invariant_of-result
 invariant_of-result c =
     record {
       few = c.requires;
-      long = filled_long c.args.bytes.now c.filled_up.result c.filled_up.ensures c.requires;
+      long = filled_length c.args.bytes.now c.filled_up.result c.filled_up.ensures c.requires;
       zeros = drop-appended c.args.bytes.now c.filled_up.result _ c.filled_up.ensures;
     }
 

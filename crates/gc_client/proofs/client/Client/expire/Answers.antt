@@ -1,6 +1,6 @@
 use Rattle.std.proofs.Common.{◌≡◌, true, false, not, length, ap, ◌∙◌, arith}
 use Rattle.gc_client.specs.Rule.{is_expiring}
-use Rattle.gc_client.proofs.Expiry.{due_done, due_listed, not_due_done, not_due_listed, is_due, is_not_due, is_given_up}
+use Rattle.gc_client.proofs.Expiry.{due_done, due_listed, not_due_done, not_due_listed, expires_when_due, not_expiring_early, not_expiring_again}
 use Rattle.gc_client.proofs.client.Client.expire.Goals as goal
 use Rattle.gc_client.proofs.client.Client.expire.Goals.{then-p-now+then-not-p, else-p-now, else-p-now-via-then-p-now+else-not-p, else-p-now-via-else-p-now}
 
@@ -14,7 +14,7 @@ loop-k-preserved g c =
     let before = c.loop-k.invariant in
     elim c.if-p-now.branch [
       | then-p-now+then-not-p w ↦
-          let due : is_expiring now p ≡ true = is_due now p w.if-p-now.true (ap not w.if-not-p.true) in
+          let due : is_expiring now p ≡ true = expires_when_due now p w.if-p-now.true (ap not w.if-not-p.true) in
           record {
             done = ap (λ s. pendings s.window) w.self-inside-is ∙ due_done now k ws _ p before.done c.get-p.ensures _ due w.give_up.ensures;
             listed = ap (λ t. t.items) w.targets-is ∙ w.push.ensures.items ∙ due_listed now k ws _ p before.done c.get-p.ensures _ before.listed due;
@@ -24,8 +24,8 @@ loop-k-preserved g c =
           }
       | else-p-now w ↦
           let kept : is_expiring now p ≡ false = elim w.else-p-now.branch [
-            | else-p-now-via-then-p-now+else-not-p w' ↦ is_given_up now p (ap not w'.if-not-p.false)
-            | else-p-now-via-else-p-now w' ↦ is_not_due now p w'.if-p-now.false
+            | else-p-now-via-then-p-now+else-not-p w' ↦ not_expiring_again now p (ap not w'.if-not-p.false)
+            | else-p-now-via-else-p-now w' ↦ not_expiring_early now p w'.if-p-now.false
           ] in
           record {
             done = ap (λ s. pendings s.window) w.self-inside-is ∙ not_due_done now k ws _ p before.done c.get-p.ensures kept;

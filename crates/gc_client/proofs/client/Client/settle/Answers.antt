@@ -5,8 +5,8 @@ use Rattle.gc_client.specs.declared.settlement.Settlement.{Settlement}
 use Rattle.gc_client.specs.Rule.{Windowed, lost, settled_by_line, settle, settles_at}
 use Rattle.gc_client.specs.Settlements.{AreSettledBy}
 use Rattle.gc_client.proofs.Ends.{settle_is, fewer_left}
-use Rattle.gc_client.proofs.Lists.{left_turn, none_is_no_some}
-use Rattle.gc_client.proofs.Settling.{one_written}
+use Rattle.gc_client.proofs.Lists.{rest_after_first, none_is_no_some}
+use Rattle.gc_client.proofs.Settling.{settled_one_written}
 use Rattle.gc_client.proofs.client.Client.settle.Goals as goal
 use Rattle.gc_client.proofs.client.Client.settle.Goals.{in-Some, in_default}
 
@@ -31,7 +31,7 @@ returns-clause-settled g c =
       | in-Some w ↦
           let s = w.set_replied.new.settlement in
           let all = take_all (k + 1) (set old k s) (omega (arith, places, length-set old k s)) in
-          let are = subst (λ ss. AreSettledBy says ss ruled) all (one_written says old k (map lost (take k ws)) s (settled_by_line p line) lt c.lose.ensures.settled w.set_replied.ensures) in
+          let are = subst (λ ss. AreSettledBy says ss ruled) all (settled_one_written says old k (map lost (take k ws)) s (settled_by_line p line) lt c.lose.ensures.settled w.set_replied.ensures) in
           let by_rule = subst (λ rs. AreSettledBy says (set old k s) rs)
           (sym (settle_is k line ws p _ (sym c.lose.ensures.left ∙ c.take_first-p.ensures))
           ∙ ap (λ (d : Windowed _). settle k line d.ids.waiting) c.self.view_is) are in
@@ -43,6 +43,6 @@ returns-clause-settled g c =
 pub returns-clause-client : goal.returns-clause-client
 returns-clause-client g c =
     let ws = g.W.Window.pendings c.self.inside.window in
-    let left = left_turn ws c.args.k c.take_first-p.result (g.W.Window.pendings c.lose.new.window) (g.W.Window.pendings c.take_first-p.new.self) c.lose.ensures.left c.take_first-p.ensures in
+    let left = rest_after_first ws c.args.k c.take_first-p.result (g.W.Window.pendings c.lose.new.window) (g.W.Window.pendings c.take_first-p.new.self) c.lose.ensures.left c.take_first-p.ensures in
     ap (λ ps. let d : Windowed _ = record { width = c.self.inside.width; ids = record { next = c.self.inside.next; waiting = ps } } in d) left
     ∙ ap (λ (d : Windowed _). record d { ids = (settles_at d.ids c.args.line.now c.args.k true).client }) c.self.view_is

@@ -6,5 +6,5 @@ pub returns-clause-answered : goal.returns-clause-answered
 returns-clause-answered c = (
   verdict_line c.saturating_add-self.result c.in-Some.verdict,
   judged_frame _ _ _ c.in-Some.verdict c.in-Some.ensures c.saturating_add-self.ensures,
-  line_of_parts c.args.text.now.items _ _ _ _ _ _ c.push_digits.ensures.items c.push.ensures.items c.push_verdict.ensures.items c.push-2.ensures.items,
+  line_of_parts c.saturating_add-self.result c.in-Some.verdict c.args.text.now.items _ _ _ _ c.push_digits.ensures.items c.push.ensures.items c.push_verdict.ensures.items c.push-2.ensures.items,
 )

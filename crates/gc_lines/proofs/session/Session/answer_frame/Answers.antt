@@ -13,7 +13,7 @@ completed_unless_more Cleared not = refl
 completed_unless_more Overlong not = refl
 completed_unless_more More not = absurd (not refl)
 
--- where `more` was appended to the text `old`, and the text's length from before was subtracted from its length now and pushed to
+-- if `more` was appended to the text `old`, and the text's length from before was subtracted from its length now and pushed to
 -- `lengths`, `more` joined the texts that wait
 text_joined : (old new more lengths lengths' : List ℕ) (before now : ℕ) → before ≡ length old → now ≡ length new → new ≡ old ++ more
     → lengths' ≡ lengths ++ (now - before) ∷ [] → Joins old lengths more new lengths'

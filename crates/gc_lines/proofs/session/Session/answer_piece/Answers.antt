@@ -1,8 +1,8 @@
 use Rattle.std.proofs.Common.{◌≡◌, ◌<◌, [], sym, ap, ◌∙◌, arith, length-drop, rules, length}
 use Rattle.std.proofs.lemmas.List.{take_rest, nil_from_length}
 use Rattle.std.proofs.lemmas.Bool.{eqb-true}
-use Rattle.gc_lines.proofs.Gathering.{gathering_written, rest_part}
-use Rattle.gc_lines.proofs.Passing.{Takes, takes, not_empty, piece_start, piece_goes_on, piece_cut, piece_end}
+use Rattle.gc_lines.proofs.Gathering.{gathering_written, waiting_part}
+use Rattle.gc_lines.proofs.Passing.{Takes, assembler_takes, not_empty, piece_start, piece_goes_on, piece_cut, piece_end}
 use Rattle.gc_lines.specs.Lent.{lent_seen}
 use Rattle.gc_lines.proofs.session.Session.answer_piece.Goals as goal
 
@@ -32,7 +32,7 @@ loop-left-preserved g c =
       failed = c.in_default.ensures.failed ∙ c.loop-left.invariant.failed;
       going = λ rest s.
           let h = c.loop-left.invariant.going rest s in
-          let taken : Takes h.now left used (lent_seen c.next-taken.result.1) c.next-taken.new.self = takes h.now left used (lent_seen c.next-taken.result.1) _
+          let taken : Takes h.now left used (lent_seen c.next-taken.result.1) c.next-taken.new.self = assembler_takes h.now left used (lent_seen c.next-taken.result.1) _
           (λ e. let m = more e in (m.0, m.1, m.2 h.now h.stands)) (λ at e. let m = whole at e in (m.0, m.1 h.now h.stands, m.2)) in
           rw (take_rest left used) (piece_goes_on _ rest _ left _ _ _ h used _ _ taken _ _ c.answer_frame.ensures.same.0 (c.in_default.ensures.answered _ h.answered h.gathered));
     }
@@ -44,7 +44,7 @@ returns-in-Err-clause-answered g c rest s =
     let more = c.next-taken.ensures.more in
     let whole = c.next-taken.ensures.frame in
     let h = c.loop-left.invariant.going rest s in
-    let taken : Takes h.now left used (lent_seen c.next-taken.result.1) c.next-taken.new.self = takes h.now left used (lent_seen c.next-taken.result.1) _
+    let taken : Takes h.now left used (lent_seen c.next-taken.result.1) c.next-taken.new.self = assembler_takes h.now left used (lent_seen c.next-taken.result.1) _
     (λ e. let m = more e in (m.0, m.1, m.2 h.now h.stands)) (λ at e. let m = whole at e in (m.0, m.1 h.now h.stands, m.2)) in
     let part = piece_cut _ rest _ left _ _ _ h used _ _ taken _ _ _ (c.in-Err.ensures.answered _ h.answered h.gathered) in
     record { reached = part.reached; part = part.part; alone = λ e. part.alone (c.loop-left.invariant.gathers ∙ e) }
@@ -59,5 +59,5 @@ pub returns-in-Err-write_texts-clause-answered : goal.returns-in-Err-write_texts
 returns-in-Err-write_texts-clause-answered g c rest s =
     let empty : c.loop-left.left.now ≡ [] = nil_from_length _ (eqb-true _ 0 (sym c.is_empty.ensures ∙ c.loop-left-test.false)) in
     let it = piece_end _ rest _ _ _ _ (rw empty at (c.loop-left.invariant.going rest s)) in
-    let part = rest_part _ _ _ _ _ _ it.1 _ _ _ c.loop-left.self.gathers c.loop-left.invariant.room.alone c.in-Err-write_texts.ensures.written in
+    let part = waiting_part _ _ _ _ _ _ it.1 _ _ _ c.loop-left.self.gathers c.loop-left.invariant.room.alone c.in-Err-write_texts.ensures.written in
     record { reached = part.reached; part = part.part; alone = λ e. part.alone (c.loop-left.invariant.gathers ∙ e) }

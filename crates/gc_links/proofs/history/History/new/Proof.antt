@@ -23,7 +23,7 @@ use denote.Triple.Entry.{alive}
 use denote.Triple.Spec.{Meets, triple_of}
 use denote.Triple.Table.{entered}
 use denote.Triple.Walked.{says, Stays, walk_of, ends_at, walk_Meets}
-use Rattle.gc_lines.proofs.Walks.{none, none_made}
+use Rattle.gc_lines.proofs.Walks.{no_fields, no_fields_made}
 use Rattle.gc_links.specs.contracts.history.History as History
 use Rattle.gc_links.specs.contracts.history.History.new as F
 use Rattle.gc_links.specs.contracts.history.History.new.Key.{name as #self}
@@ -61,9 +61,9 @@ module _ {M : Type 1} {𝓤 : Ura M} (𝓛 : Logic 𝓤) (at_mem : Memory → SP
         keep ! (0 ∷ []) $ split ! $ move ! (1 ∷ []) $ drop ! $
         enter ! C Λ function [] Post $ alloc_all ! (λ l. pass_all ! refl tt $
         sets ! (agg ! (no_more !)) refl (tt, tt) $
-        nothing ! $ none_made ! $ fjoin ! $
+        nothing ! $ no_fields_made ! $ fjoin ! $
         returns ! (look_at ! 0 refl) $ free_all ! refl $
-        suffices ! _ (ends_at 𝓛 ended stayed held z none history tt tt) $ says ! refl $
+        suffices ! _ (ends_at 𝓛 ended stayed held z no_fields history tt tt) $ says ! refl $
         nothing ! $ move ! (2 ∷ 0 ∷ 1 ∷ []) $ done !)
 
   -- the body meets the contract

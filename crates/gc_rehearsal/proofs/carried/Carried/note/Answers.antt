@@ -2,10 +2,10 @@ use Rattle.std.proofs.Common.{sym, subst}
 use Rattle.gc_links.specs.Noted.{act_of}
 use Rattle.gc_rehearsal.specs.Carrying.{HasComeTo}
 use Rattle.gc_rehearsal.specs.Inside.{lines_in}
-use Rattle.gc_rehearsal.proofs.Happened.{noted}
+use Rattle.gc_rehearsal.proofs.Happened.{quiet_act_noted}
 use Rattle.gc_rehearsal.proofs.carried.Carried.note.Goals as goal
 
 pub invariant_of-self : goal.invariant_of-self
 invariant_of-self c =
     let i = c.self.inside in
-    subst (λ acts. HasComeTo acts (lines_in i)) (sym c.then-self-inside.ensures) (noted i.history.acts (act_of c.args.note.now) (lines_in i) c.requires c.self.invariant)
+    subst (λ acts. HasComeTo acts (lines_in i)) (sym c.then-self-inside.ensures) (quiet_act_noted i.history.acts (act_of c.args.note.now) (lines_in i) c.requires c.self.invariant)

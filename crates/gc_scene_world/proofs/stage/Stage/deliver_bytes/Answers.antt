@@ -6,8 +6,8 @@ use Rattle.gc_scene_world.specs.SceneRuns.{scene_ends}
 use Rattle.gc_scene_world.specs.SceneStages.{stage_parts, AreStreamsOf}
 use Rattle.gc_world.specs.Clients.{by_ids}
 use Rattle.gc_world.specs.Streams.{Streams}
-use Rattle.gc_scene_world.proofs.Handed.{reached, reaches_next, reaches_end, runs_dry}
-use Rattle.gc_world.proofs.Handed.{bytes_handed, runs_out}
+use Rattle.gc_scene_world.proofs.Handed.{reached_at_start, reaches_next, reaches_end, runs_dry}
+use Rattle.gc_world.proofs.Handed.{bytes_handed, none_left_if_incomplete}
 use Rattle.gc_scene_world.proofs.Shown.{streams_idle_bytes, up_length}
 use Rattle.gc_scene_world.proofs.stage.Stage.deliver_bytes.Goals as goal
 use Rattle.gc_scene_world.proofs.stage.Stage.deliver_bytes.Goals.{then-n-eq0-via-then-n-eq0, then-n-eq0-via-else-n-eq0+then-remaining-eq0}
@@ -25,7 +25,7 @@ returns-then-n-eq0 c =
 pub loop-left-init : goal.loop-left-init
 loop-left-init c =
     record {
-      follows = λ width v h. reached width c.args.direction (stage_parts c.args.self.now) v c.args.n h;
+      follows = λ width v h. reached_at_start width c.args.direction (stage_parts c.args.self.now) v c.args.n h;
       remaining = c.remaining-remaining.ensures;
     }
 
@@ -115,4 +115,4 @@ returns-else-left-remaining c =
     subst (λ (x : Streams (ById Call) SceneState). AreStreamsOf width t x)
     (sym (bytes_handed scene_ends (by_ids width scene_ends) c.args.direction v c.args.n first.result (first.ensures width v h).left c.if-n-eq0.false c.if-remaining-eq0.false))
     (runs_dry width c.args.direction t v c.args.n c.loop-left.left at c.loop-left.remaining (c.loop-left.invariant.remaining width at.now at.shows)
-    (runs_out c.completes.result c.loop-left.remaining c.loop-left.left c.completes.ensures c.loop-left-test.false (λ lt. omega (arith, lt, c.if-left-remaining.false))))
+    (none_left_if_incomplete c.completes.result c.loop-left.remaining c.loop-left.left c.completes.ensures c.loop-left-test.false (λ lt. omega (arith, lt, c.if-left-remaining.false))))

@@ -1,10 +1,10 @@
-use Rattle.gc_scenes.proofs.Playing.{executed}
+use Rattle.gc_scenes.proofs.Playing.{executing_plays}
 use Rattle.gc_scenes.proofs.instrument.SceneInstrument.execute_onto.Goals as goal
 
 pub returns-clause-played : goal.returns-clause-played
 returns-clause-played g c =
     let line = rw c.answer_or_values-replied.ensures at c.answer_onto.ensures.line in
-    executed c.args.self.now c.args.call.now c.args.id c.disturb.new.self c.args.out.now.items c.answer_onto.new.out.items (record {
+    executing_plays c.args.self.now c.args.call.now c.args.id c.disturb.new.self c.args.out.now.items c.answer_onto.new.out.items (record {
       t = c.execute-rc.new.self;
       code = c.execute-rc.result;
       said = c.execute-rc.new.answer;

@@ -27,7 +27,7 @@ use denote.Triple.Entry.{alive}
 use denote.Triple.Spec.{Meets, triple_of}
 use denote.Triple.Table.{entered}
 use denote.Triple.Walked.{says, Stays, stay_dropped, walk_of, ends_at, walk_Meets, Goes-dropped}
-use Rattle.gc_lines.proofs.Walks.{none, none_made}
+use Rattle.gc_lines.proofs.Walks.{no_fields, no_fields_made}
 use Rattle.gc_station.specs.contracts.kept.Kept as Kept
 use Rattle.gc_station.specs.contracts.kept.Kept.with_turn as F
 use Rattle.gc_station.specs.contracts.kept.Kept.with_turn.Key.{name as #self}
@@ -87,9 +87,9 @@ module _ (A B : RattleType) where
           regoal ! (λ (us : List Val). prop (WpFn 𝓤 H C Λ function ((p ∷ []) ++ ((q ∷ []) ++ (us ++ []))) Post)) is₂ refl $
           enter ! C Λ function (p ∷ q ∷ r ∷ []) Post $ alloc_all ! (λ l. pass_all ! refl ((tt, tt), ((tt, tt), ((tt, tt), tt))) $
           sets ! (agg ! (no_more !)) refl (tt, tt) $
-          nothing ! $ none_made ! $ fjoin ! $
+          nothing ! $ no_fields_made ! $ fjoin ! $
           returns ! (look_at ! 0 refl) $ free_all ! refl $
-          suffices ! _ (ends_at 𝓛 ended stayed held z none made (tt, (tt, (tt, tt))) (tt, (tt, (tt, tt)))) $ says ! refl $
+          suffices ! _ (ends_at 𝓛 ended stayed held z no_fields made (tt, (tt, (tt, tt))) (tt, (tt, (tt, tt)))) $ says ! refl $
           nothing ! $ nothing ! $ fjoin ! $ nothing ! $ fjoin ! $ nothing ! $ fjoin ! $ move ! (2 ∷ 0 ∷ 1 ∷ []) $ done !))))
 
     -- the body meets the contract

@@ -9,7 +9,7 @@ use Rattle.gc_station.specs.Progressing.{line_synchronizing}
 use Rattle.gc_station.specs.Stations.{Refines, Took}
 use Rattle.gc_station.specs.declared.station.Station.{Station}
 use Rattle.std.specs.Option.{option_to_list}
-use Rattle.gc_station.proofs.Hearing.{hears_paired, settles_ok, settles_part, with_behind_noted, with_noted, no_line, taken_none}
+use Rattle.gc_station.proofs.Hearing.{hears_paired, settles_ok, settles_part, refines_settled, refines_noted, no_line, taken_none}
 use Rattle.gc_station.proofs.Making.{refines_with}
 use Rattle.gc_station.proofs.station.Station.hear.Goals as goal
 
@@ -22,7 +22,7 @@ returns-clause-hears g c s start stands so =
     let client = c.hear-hearing.ensures.client short in
     let items = c.hear-hearing.new.settled.items in
     let same = (c.hear-hearing.ensures.settled short).seen ∙ ap (λ y. y.settlements) seen in
-    let reply = c.is_reply.ensures _ _ line _ (c.hear-hearing.ensures.heard short) in
+    let reply = c.heard_reply.ensures _ _ line _ (c.hear-hearing.ensures.heard short) in
     let t = settles_ok (g.B.Book.text c.args.book.now) c.args.self.now _ s x (map settlement_seen items) stands
     (record {
       ids_are = ap (λ w. w.ids) client ∙ ap (λ y. y.client) seen;
@@ -42,10 +42,10 @@ returns-clause-hears g c s start stands so =
     let table = c.ends_with_table-of_table.ensures ∙ ap (λ l. ends_with_table (map settlement_seen l)) c.as_slice.ensures.value ∙ ap
     (λ (st : Station). ends_with_table (map settlement_seen st.settled.items)) after ∙ ap ends_with_table same in
     let waits = c.waiting.ensures.waiting ∙ ap (λ (st : Station). length st.client.ids.waiting) after ∙ ap (λ w. length w.ids.waiting) client ∙ ap (λ y. length y.client.waiting) seen in
-    let caught = with_behind_noted c.write.new.self c.note_behind.new.self c.ends_with_table-of_table.result (ends_with_table x.settlements) c.waiting.result (length x.client.waiting) (settles x s) t.0
+    let caught = refines_settled c.write.new.self c.note_behind.new.self c.ends_with_table-of_table.result (ends_with_table x.settlements) c.waiting.result (length x.client.waiting) (settles x s) t.0
     table waits c.note_behind.ensures in
     rw c.if-not-begun.false (rw c.in-Line.is (
-      with_noted (record c.write.new.self { progress = c.note_behind.new.self }) c.note_line.new.self c.is_reply.result
+      refines_noted (record c.write.new.self { progress = c.note_behind.new.self }) c.note_line.new.self c.heard_reply.result
           (is_reply line) (line_settles x s) caught reply c.note_line.ensures,
       t.1,
     ))

@@ -1,12 +1,12 @@
-use Rattle.std.proofs.Common.{◌≡◌, ◌+◌, ◌-◌, ◌<◌, List, ◌∷◌, ◌++◌, length, drop, ap, sym, ◌∙◌, arith, subst}
+use Rattle.std.proofs.Common.{◌≡◌, ◌+◌, ◌-◌, ◌<◌, List, ◌∷◌, ◌++◌, length, drop, None, ap, sym, ◌∙◌, arith, subst}
 use Rattle.std.proofs.lemmas.List.{drop_more}
 use Rattle.gc_texts.specs.declared.tasks.Task.{Task}
 use Rattle.gc_texts.specs.Endings.{ending_seen}
-use Rattle.gc_station.specs.Marks.{unsent_as}
+use Rattle.gc_station.specs.Marks.{record_with}
 use Rattle.gc_station.specs.Records.{Record, WritesPart}
 use Rattle.gc_station.specs.NextCommand.{mark_next}
 use Rattle.gc_station.specs.declared.recorded.Recorded.{Recorded}
-use Rattle.gc_station.proofs.Making.{noted_unsent, skips_as}
+use Rattle.gc_station.proofs.Making.{noted_unsent, skip_record_same}
 use Rattle.gc_station.proofs.Records.{part_one}
 use Rattle.gc_station.proofs.station.Station.write_unsent.Goals as goal
 
@@ -24,8 +24,8 @@ returns-in-Err-clause-wrote g c start before so =
     let here : drop place commands ≡ task ∷ others =
     drop_more commands place task below ∙ ap (λ x. x ∷ others) (sym c.index-commands-place.is) in
     let is = sym (ap (λ n. drop n commands) at) ∙ here in
-    let r = unsent_as c.unsent_at.result c.mark-mark.result task.command (ending_seen c.ending_unsent-ending.result) in
-    let same = skips_as p c.args.moment c.mark-mark.result (mark_next c.args.plan.now commands p) c.unsent_at.result (ending_seen c.ending_unsent-ending.result)
+    let r = record_with c.unsent_at.result c.mark-mark.result None task.command (ending_seen c.ending_unsent-ending.result) in
+    let same = skip_record_same p c.args.moment c.mark-mark.result (mark_next c.args.plan.now commands p) c.unsent_at.result (ending_seen c.ending_unsent-ending.result)
     (drop (length commands - p.unsent) commands) task others is c.mark-mark.ensures c.unsent_at.ensures c.ending_unsent-ending.ensures in
     subst (λ (rs : List Record). WritesPart (g.B.Book.text c.args.book.now) before (before ++ rs) start (g.B.Book.taken c.write.new.self)) same
     (part_one (g.B.Book.text c.args.book.now) before r start (g.B.Book.taken c.args.book.now) (g.B.Book.taken c.write.new.self) w.0 so w.1)

@@ -8,7 +8,7 @@ use Rattle.gc_values.proofs.Rounded.{units_in_range}
 use Rattle.gc_values.proofs.Signs.{abs_from}
 use Rattle.gc_values.proofs.decimal.Decimal.units.Goals as goal
 
--- where z is m with a sign, and z / 10^s is in range and has at most 24 places, m * 10^(24 - s) is at most 10^37
+-- if z is m with a sign, and z / 10^s is in range and has at most 24 places, m * 10^(24 - s) is at most 10^37
 units_are_bounded : (z : ℤ) (b : Bool) (m s k : ℕ) → z ≡ signed b m → s ≤ 24 → unsigned_abs z ≤ 10 ^ 13 * 10 ^ s → k ≡ 24 - s → m * 10 ^ k ≤ 10 ^ 37
 units_are_bounded z b m s k e places h same = omega (arith, units_in_range m s places (let a = abs_from z b m e in omega (arith, a, h)), ap (λ j. m * 10 ^ j) same)
 

@@ -6,7 +6,7 @@ use Rattle.gc_values.proofs.NearLemmas.{as_i128_same}
 use Rattle.gc_values.proofs.WithinLemmas.{comparison_is_within, compared_exact, apart_fits}
 use Rattle.gc_values.proofs.decimal.Decimal.within.Goals as goal
 
--- where the units of both decimals are at most 10^37, either way from 0, their distance, computed in 128 bits, is exact
+-- if the units of both decimals are at most 10^37, either way from 0, their distance, computed in 128 bits, is exact
 difference_is : (u v x : ℤ) (a b : Decimal) → u ≡ units a → v ≡ units b → unsigned_abs u ≤ 10 ^ 37 → unsigned_abs v ≤ 10 ^ 37 →
     x ≡ pos (unsigned_abs (to_z w128 (of_z w128 (to_z w128 (of_z w128 u) -ℤ to_z w128 (of_z w128 v))))) → to_z w128 (of_z w128 x) ≡ pos (unsigned_abs (units a -ℤ units b))
 difference_is u v x a b e f hu hv is =

@@ -1,6 +1,6 @@
 use Rattle.std.proofs.Common.{◌+◌, ◌*◌, ◌^◌, ◌≤◌, length, subst, sym, ap, ◌∙◌, arith}
 use Rattle.gc_values.specs.Digits.{number}
-use Rattle.gc_values.proofs.Kept.{number-append, room_behind}
+use Rattle.gc_values.proofs.Kept.{number-append, digits_leave_room}
 use Rattle.gc_values.proofs.Powers.{ten_pow_le}
 use Rattle.gc_values.proofs.numeral.Numeral.short_number.Goals as goal
 
@@ -11,7 +11,7 @@ pub followed_by-requires-2-clause-small : goal.followed_by-requires-2-clause-sma
 followed_by-requires-2-clause-small c =
     let n = c.args.self.now in
     subst (λ front. (front + 1) * 10 ^ length n.fraction.now ≤ 10 ^ 18) (sym (omega (arith, c.followed_by.ensures)))
-    (room_behind n.whole.now n.fraction.now n.whole_are_digits c.requires)
+    (digits_leave_room n.whole.now n.fraction.now n.whole_are_digits c.requires)
 
 pub returns : goal.returns
 returns c =

@@ -1,7 +1,7 @@
 use Rattle.std.proofs.Common.{◌≡◌, ◌∷◌, Some, rules, sym, subst}
 use Rattle.std.specs.Option.{option_copied}
 use Rattle.gc_values.specs.Plainly.{LeftPlain}
-use Rattle.gc_values.proofs.PlainLists.{plain_next}
+use Rattle.gc_values.proofs.PlainLists.{plain_of_cut_item}
 use Rattle.gc_values.proofs.quick.Quick.number.Goals as goal
 
 pub returns-clause-reads : goal.returns-clause-reads
@@ -11,5 +11,5 @@ returns-clause-reads c = λ v reads vs left.
     record {
       well = left.well;
       left = subst (λ r. LeftPlain (option_copied r) (v ∷ vs)) (sym is)
-          (plain_next c.in_ok-text.text.now made.item (option_copied c.in_ok-number.rest) v vs made.cut (reads made.item made.is) left.left);
+          (plain_of_cut_item c.in_ok-text.text.now made.item (option_copied c.in_ok-number.rest) v vs made.cut (reads made.item made.is) left.left);
     }

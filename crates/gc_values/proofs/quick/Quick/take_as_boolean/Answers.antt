@@ -1,6 +1,6 @@
 use Rattle.gc_values.specs.declared.value.Value.TheVariants as value
-use Rattle.gc_values.proofs.PlainLists.{taken}
+use Rattle.gc_values.proofs.PlainLists.{takes_read_value}
 use Rattle.gc_values.proofs.quick.Quick.take_as_boolean.Goals as goal
 
 pub returns : goal.returns
-returns c = taken value.Bool c.item.result.now c.read_bool-read.result c.read_or.result _ _ _ c.item.ensures c.read_bool-read.ensures.value c.read_or.ensures
+returns c = takes_read_value value.Bool c.item.result.now c.read_bool-read.result c.read_or.result _ _ _ c.item.ensures c.read_bool-read.ensures.value c.read_or.ensures

@@ -2,7 +2,7 @@ use Rattle.std.proofs.Common.{◌∷◌, sym, subst}
 use Rattle.std.specs.Option.{option_copied}
 use Rattle.gc_values.specs.Plainly.{LeftPlain}
 use Rattle.gc_values.specs.declared.value.Value.TheVariants as value
-use Rattle.gc_values.proofs.PlainLists.{plain_next}
+use Rattle.gc_values.proofs.PlainLists.{plain_of_cut_item}
 use Rattle.gc_values.proofs.quick.QuickParameters.double.Goals as goal
 
 pub returns-in-Some-front_decimal-clause-reads : goal.returns-in-Some-front_decimal-clause-reads
@@ -12,5 +12,5 @@ returns-in-Some-front_decimal-clause-reads c = λ vs left.
     record {
       well = left.well;
       left = subst (λ r. LeftPlain (option_copied r) (v ∷ vs)) (sym c.in-Some.is)
-          (plain_next c.in-Some.text.now made.item (option_copied c.in-Some-front_decimal.rest) v vs made.cut made.is left.left);
+          (plain_of_cut_item c.in-Some.text.now made.item (option_copied c.in-Some-front_decimal.rest) v vs made.cut made.is left.left);
     }

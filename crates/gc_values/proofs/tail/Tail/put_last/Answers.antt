@@ -1,6 +1,6 @@
 use Rattle.std.proofs.Common.{arith, ap, ◌∙◌, length, length-append, ◌/◌}
 use Rattle.gc_values.specs.Written.{last_digits}
-use Rattle.gc_values.proofs.WrittenLemmas.{put_more, div_more, length-last_digits}
+use Rattle.gc_values.proofs.WrittenLemmas.{last_digits_put_step, div_pow_ten, length-last_digits}
 use Rattle.gc_values.proofs.tail.Tail.put_last.Goals as goal
 
 pub put-requires : goal.put-requires
@@ -12,7 +12,7 @@ pub loop-done-preserved : goal.loop-done-preserved
 loop-done-preserved c =
     let l = c.loop-done in
     record {
-      digits = put_more c.args.self.now l.self c.put.new.self c.args.n l.done l.rest l.invariant.digits l.invariant.rest c.put.ensures;
-      rest = ap (λ x. x / 10) l.invariant.rest ∙ div_more c.args.n l.done;
+      digits = last_digits_put_step c.args.self.now l.self c.put.new.self c.args.n l.done l.rest l.invariant.digits l.invariant.rest c.put.ensures;
+      rest = ap (λ x. x / 10) l.invariant.rest ∙ div_pow_ten c.args.n l.done;
       few = omega arith;
     }

@@ -1,7 +1,7 @@
 use Rattle.std.proofs.Common.{◌≡◌, ℕ, List, [], ◌∷◌, ◌++◌, length, ◌∙◌, ap, rules}
 use Rattle.arrayvec.specs.ArrayVec.{ArrayVec}
 use Rattle.gc_world.specs.declared.report.Sent.{Sent}
-use Rattle.gc_world.proofs.Appending.{at_last, set_last, line_put}
+use Rattle.gc_world.proofs.Appending.{last_is_blank, set_last, line_appended}
 use Rattle.gc_world.proofs.entries.«Entries+Sent».push_sent.Goals as goal
 
 pub returns : goal.returns
@@ -10,8 +10,8 @@ returns c =
     let blank : Sent = record { target = c.args.target; call = c.args.call.now; line = c.new.result } in
     let items : c.push_reserved.new.self.items ≡ xs ++ blank ∷ [] = search rules in
     let place : c.len-place.result ≡ length xs = search rules in
-    let was : c.index_mut.result.now ≡ blank = at_last xs c.push_reserved.new.self.items c.len-place.result blank c.index_mut.result.now items place c.index_mut.ensures.value in
-    let line : c.append.new.to ≡ c.args.line.now = line_put c.index_mut.result.now.line c.append.new.to c.args.line.now c.deref.result.now
+    let was : c.index_mut.result.now ≡ blank = last_is_blank xs c.push_reserved.new.self.items c.len-place.result blank c.index_mut.result.now items place c.index_mut.ensures.value in
+    let line : c.append.new.to ≡ c.args.line.now = line_appended c.index_mut.result.now.line c.append.new.to c.args.line.now c.deref.result.now
     (ap (λ (m : Sent). m.line.items) was ∙ c.new.ensures) c.append.ensures (search rules) in
     set_last xs c.push_reserved.new.self.items c.len-place.result blank _ _ items place
     (ap {A = Sent} {B = Sent} (λ m. record { target = m.target; call = m.call; line = c.append.new.to }) was

@@ -1,4 +1,4 @@
-use Rattle.gc_world.proofs.Pieces.{came_out, none_else}
+use Rattle.gc_world.proofs.Pieces.{lent_line_items, no_other_lent}
 use Rattle.gc_world.proofs.Streaming.{front_of}
 use Rattle.gc_world.proofs.side.Side.finish.Goals as goal
 
@@ -16,7 +16,7 @@ feed_rest-frame-requires-clause-stands c =
 
 -- the line came out
 pub unreachable-requires : goal.unreachable-requires
-unreachable-requires c = none_else c.feed_rest-frame.result c.args.line.now c.feed_rest-frame.ensures.line c.in_default.not-Line
+unreachable-requires c = no_other_lent c.feed_rest-frame.result c.args.line.now c.feed_rest-frame.ensures.line c.in_default.not-Line
 
 pub returns-clause-line : goal.returns-clause-line
-returns-clause-line c = came_out c.feed_rest-frame.result c.in-Line.whole c.args.line.now c.in-Line.is c.feed_rest-frame.ensures.line
+returns-clause-line c = lent_line_items c.feed_rest-frame.result c.in-Line.whole c.args.line.now c.in-Line.is c.feed_rest-frame.ensures.line

@@ -8,7 +8,7 @@ use Rattle.gc_world.specs.Directions.{delivery}
 use Rattle.gc_world.specs.Stages.{stage_parts, AreStreamsOf}
 use Rattle.gc_world.specs.Staging.{after_event}
 use Rattle.gc_world.specs.Streams.{Streams}
-use Rattle.gc_world.proofs.Handed.{reached, reaches_next, next_spares, reaches_end, runs_dry, bytes_handed, runs_out}
+use Rattle.gc_world.proofs.Handed.{reached_at_first, reaches_next, next_spares, reaches_end, runs_dry, bytes_handed, none_left_if_incomplete}
 use Rattle.gc_world.proofs.Shown.{streams_idle_bytes}
 use Rattle.gc_world.proofs.stage.Stage.deliver_bytes.Goals as goal
 use Rattle.gc_world.proofs.stage.Stage.deliver_bytes.Goals.{then-n-eq0-via-then-n-eq0, then-n-eq0-via-else-n-eq0+then-remaining-eq0}
@@ -25,7 +25,7 @@ returns-then-n-eq0-clause-follows g c =
 pub loop-left-init : goal.loop-left-init
 loop-left-init g c =
     record {
-      follows = λ width v h. reached width c.args.direction (stage_parts c.args.self.now) v c.args.n h;
+      follows = λ width v h. reached_at_first width c.args.direction (stage_parts c.args.self.now) v c.args.n h;
       remaining = c.remaining-remaining.ensures;
     }
 
@@ -99,5 +99,5 @@ returns-else-left-remaining-clause-follows g c =
     subst (λ (x : Streams (ById Call) State). AreStreamsOf width t x) (sym (bytes_handed ends (by_ids width ends) c.args.direction v c.args.n first.result (first.ensures width v h) c.if-n-eq0.false
     c.if-remaining-eq0.false))
     (runs_dry width c.args.direction t v c.args.n c.loop-left.left at
-    (sym (c.loop-left.invariant.remaining width at.now at.shows) ∙ runs_out c.completes.result c.loop-left.remaining c.loop-left.left c.completes.ensures
+    (sym (c.loop-left.invariant.remaining width at.now at.shows) ∙ none_left_if_incomplete c.completes.result c.loop-left.remaining c.loop-left.left c.completes.ensures
     c.loop-left-test.false (λ lt. omega (arith, lt, c.if-left-remaining.false))))

@@ -8,7 +8,7 @@ use Rattle.gc_world.specs.declared.report.Sent.{Sent}
 use Rattle.gc_world.specs.Stages.{stage_parts}
 use Rattle.gc_world.specs.Streams.{up_texts}
 use Rattle.gc_world.proofs.Contracts.{Notes}
-use Rattle.gc_world.proofs.Showing.{exchanges_any, up_answered}
+use Rattle.gc_world.proofs.Showing.{exchanges_its_call, up_answered}
 use Rattle.gc_world.proofs.Shown.{carries, front_request, streams_up_deliver}
 use Rattle.gc_world.proofs.Sides.{front_flow}
 use Rattle.gc_world.proofs.stage.Stage.up_deliver.Goals as goal
@@ -38,7 +38,7 @@ returns-in_ok-push_made-clause-follows g c =
     let request = c.finish-request.result.now in
     let out : request ≡ line = c.finish-request.ensures.line ∙ c.as_slice-line.ensures.value in
     let entry : Made = record { number = c.in-Some.number; line = made } in
-    let exchanged = exchanges_any s.report.instrument request line c.reply_onto.new.self c.new-reply.result.items made.items c.reply_onto.result out
+    let exchanged = exchanges_its_call s.report.instrument request line c.reply_onto.new.self c.new-reply.result.items made.items c.reply_onto.result out
     c.new-reply.ensures c.reply_onto.ensures.exchanged in
     let before = c.kept_id-kept.ensures in
     let after = c.kept_id-id.ensures in
@@ -72,7 +72,7 @@ returns-else-reply_onto-clause-follows g c =
     let line = c.at.result.now.line.items in
     let request = c.finish-request.result.now in
     let out : request ≡ line = c.finish-request.ensures.line ∙ c.as_slice-line.ensures.value in
-    let exchanged = exchanges_any s.report.instrument request line c.reply_onto.new.self c.new-reply.result.items made.items c.reply_onto.result out
+    let exchanged = exchanges_its_call s.report.instrument request line c.reply_onto.new.self c.new-reply.result.items made.items c.reply_onto.result out
     c.new-reply.ensures c.reply_onto.ensures.exchanged in
     λ width v h. absurd (up_answered width s.report s.up.queue s.down.queue s.client v.world h.lines c.in-Some.number c.take_front.new.self c.at.result.now
     c.reply_onto.new.self (cond c.reply_onto.result (Some made.items) None) c.in-Some.ensures c.at.ensures exchanged

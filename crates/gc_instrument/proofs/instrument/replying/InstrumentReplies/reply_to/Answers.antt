@@ -1,7 +1,7 @@
 use Rattle.std.proofs.Common.{refl}
 use Rattle.gc_lines.specs.Requests.{request_seen}
 use Rattle.gc_catalogue.proofs.CallLaws.{no_refusal}
-use Rattle.gc_instrument.proofs.Answering.{refused_reply, request_call}
+use Rattle.gc_instrument.proofs.Answering.{refused_reply, reply_to_call_is_to_request}
 use Rattle.gc_instrument.proofs.instrument.replying.InstrumentReplies.reply_to.Goals as goal
 
 pub returns-in-Ok-clause-replies : goal.returns-in-Ok-clause-replies
@@ -10,7 +10,7 @@ returns-in-Ok-clause-replies g c =
     record {
       text = h.text;
       appended = h.appended;
-      is = request_call c.args.self.now c.answer_call.new.self (request_seen c.args.request.now) c.decode_call_into.new.call h.text c.in-Ok.ensures.found h.is;
+      is = reply_to_call_is_to_request c.args.self.now c.answer_call.new.self (request_seen c.args.request.now) c.decode_call_into.new.call h.text c.in-Ok.ensures.found h.is;
     }
 
 pub returns-in-Err-clause-replies : goal.returns-in-Err-clause-replies
