@@ -6,7 +6,7 @@ use Rattle.std.proofs.lemmas.Bool.{cases_lt}
 use Rattle.std.proofs.KnownBytes.{Consumes-nil}
 use Rattle.gc_lines.specs.Answering.{Ports, Taken}
 use Rattle.gc_ask.specs.AskRuns.{SeenAtClient}
-use Rattle.gc_ask.specs.Asking.{EndsWith, LinkResult, NoneEnded, UseEnds}
+use Rattle.gc_ask.specs.Asking.{AskingEnds, LinkResult, NoneEnded, UseEnds}
 use Rattle.gc_ask.specs.Links.{BothStep, CountsReplies, ReadEnds, SeenStep, Sends, StaysOpen, StepEnds, no_ports}
 use Rattle.gc_ask.specs.Looping.{BothEnd, SeenAtBoth, seen_at_both}
 use Rattle.gc_texts.specs.declared.fault.RunFault.{RunFault}
@@ -148,7 +148,7 @@ pub record BothSound (first latest : SeenAtBoth) : Type 0 where
   pub instrument : Sound first.instrument latest.instrument
 
 -- two ends that were sound before a step that went well are sound after it
-pub both_sound_step : (first old new : SeenAtBoth) → BothSound first old → EndsWith (SeenStep old new) old.sink.failed new.sink.failed (Ok tt) → BothSound first new
+pub both_sound_step : (first old new : SeenAtBoth) → BothSound first old → AskingEnds (SeenStep old new) old.sink.failed new.sink.failed (Ok tt) → BothSound first new
 both_sound_step first old new sound ends =
     let both = both_went_well old.client new.client old.instrument new.instrument ends.0 in
     record {
@@ -188,11 +188,11 @@ remote_end old new (Err TooManyReads) (inr s) = s.0
 remote_end old new (Err LinkClosed) (inr s) = absurd (omega (arith, s.1.0))
 remote_end old new (Err other) (inr s) = absurd s.1
 
--- `EndsWith over` implies `EndsWith other`, if `over` implies `other`, and the sink had failed at the beginnings of both or of
+-- `AskingEnds over` implies `AskingEnds other`, if `over` implies `other`, and the sink had failed at the beginnings of both or of
 -- neither. `mid` says whether it had at the beginning of what `over` speaks of, `first` whether at that of `other`, and `now`
 -- whether it has at their common end
-pub ends_with_weaker : (over other : LinkResult → Type 0) → ((r : LinkResult) → over r → other r) → (first mid now : Bool) → mid ≡ first → (r : LinkResult)
-    → EndsWith over mid now r → EndsWith other first now r
-ends_with_weaker over other so first mid now same (Ok u) ends = (so (Ok u) ends.0, ends.1 ∙ same)
-ends_with_weaker over other so first mid now same (Err Output) ends = (ends.0, (ends.1.0, so ends.1.0 ends.1.1))
-ends_with_weaker over other so first mid now same (Err e) ends = (so (Err e) ends.0, ends.1 ∙ same)
+pub asking_ends_weaker : (over other : LinkResult → Type 0) → ((r : LinkResult) → over r → other r) → (first mid now : Bool) → mid ≡ first → (r : LinkResult)
+    → AskingEnds over mid now r → AskingEnds other first now r
+asking_ends_weaker over other so first mid now same (Ok u) ends = (so (Ok u) ends.0, ends.1 ∙ same)
+asking_ends_weaker over other so first mid now same (Err Output) ends = (ends.0, (ends.1.0, so ends.1.0 ends.1.1))
+asking_ends_weaker over other so first mid now same (Err e) ends = (so (Err e) ends.0, ends.1 ∙ same)

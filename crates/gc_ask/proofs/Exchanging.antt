@@ -14,7 +14,7 @@ use Rattle.gc_client.specs.Rule.{ById, settled_by_line, restarts}
 use Rattle.gc_client.specs.Rule
 use Rattle.gc_client.specs.Settlements.{AreSettlements, settlement_seen}
 use Rattle.gc_lines.specs.Answering.{Taken}
-use Rattle.gc_ask.specs.Asking.{Asks, awaited, waiting_for, written_request, lost_of, EndsWith, LinkResult, UseEnds}
+use Rattle.gc_ask.specs.Asking.{Asks, awaited, waiting_for, written_request, lost_of, AskingEnds, LinkResult, UseEnds}
 use Rattle.gc_ask.specs.Links.{CountsReplies, ReadEnds, SeenStep, Sends, TakesRequest}
 use Rattle.gc_ask.specs.Listening.{AsksOne, Exchanges, ClientHeard, HearsReply, Settles}
 use Rattle.gc_ask.specs.Looping.{BothEnd, SeenAtBoth, written_at_both}
@@ -135,25 +135,25 @@ asks_written is_remote place command h now old new (Err Output) link sent s is w
     inl (link, sent, s, subst (λ (zs : List (Settlement Call)). WrotePartOfSettlements place (map settlement_seen zs) old.sink.bytes new.sink.bytes) is wrote.0)
 asks_written is_remote place command h now old new (Err other) link sent s is wrote = absurd wrote.0
 
--- where the use of the link ended well, and settlements were written with the result r, the ports are as `EndsWith` says of r
+-- where the use of the link ended well, and settlements were written with the result r, the ports are as `AskingEnds` says of r
 pub ends_written : (old new : SeenAtBoth) (place : ℕ) (settled : List (Rule.Settlement Call)) (r : LinkResult) → SeenStep old new (Ok tt)
-    → WroteInto place settled old.sink new.sink r → EndsWith (SeenStep old new) old.sink.failed new.sink.failed r
+    → WroteInto place settled old.sink new.sink r → AskingEnds (SeenStep old new) old.sink.failed new.sink.failed r
 ends_written old new place settled (Ok u) ends wrote = (ends, wrote.1)
 ends_written old new place settled (Err Output) ends wrote = (wrote.1, (Ok tt, ends))
 ends_written old new place settled (Err other) ends wrote = absurd wrote.0
 
--- where the use of the link ended with the fault e, and whether the sink has failed is as before, the ports are as `EndsWith`
+-- where the use of the link ended with the fault e, and whether the sink has failed is as before, the ports are as `AskingEnds`
 -- says of e
 pub ends_lost : (old new : SeenAtBoth) (e : RunFault) → SeenStep old new (Err e) → new.sink.failed ≡ old.sink.failed
-    → EndsWith (SeenStep old new) old.sink.failed new.sink.failed (Err e)
+    → AskingEnds (SeenStep old new) old.sink.failed new.sink.failed (Err e)
 ends_lost old new Output ends same = absurd (seen_step_not_output old new ends)
 ends_lost old new other ends same = (ends, same)
 
 -- where the use of the link ended with the fault e, and then the writing of settlements with the fault f, the ports are as
--- `EndsWith` says of f
+-- `AskingEnds` says of f
 pub ends_sink_failed : (old new : SeenAtBoth) (place : ℕ) (settled : List (Rule.Settlement Call)) (e f : RunFault) → SeenStep old new (Err e)
     → WroteInto place settled old.sink new.sink (Err f)
-    → EndsWith (SeenStep old new) old.sink.failed new.sink.failed (Err f)
+    → AskingEnds (SeenStep old new) old.sink.failed new.sink.failed (Err f)
 ends_sink_failed old new place settled e Output ends wrote = (wrote.1, (Err e, ends))
 ends_sink_failed old new place settled e other ends wrote = absurd wrote.0
 
@@ -165,7 +165,7 @@ ends_sink_failed old new place settled e other ends wrote = absurd wrote.0
 pub run_fault : (is_remote : Bool) (commands : List Command) (place : ℕ) (s : RunState) (n : AtNext commands s) (more : List ℕ) (h : ClientHeard)
     (new : SeenAtBoth) (e : RunFault) → BothSound s.first s.latest → length n.done ≡ place
     → AsksOne is_remote place n.command (heard_after n.course more h) (written_at_both s.latest new) (SeenStep s.latest new) (Err e)
-    → EndsWith (SeenStep s.latest new) s.latest.sink.failed new.sink.failed (Err e)
+    → AskingEnds (SeenStep s.latest new) s.latest.sink.failed new.sink.failed (Err e)
     → Asks is_remote commands (s.given ++ more) (written_at_both s.first new) (BothEnd s.first new) (Err e)
 run_fault is_remote commands place s n more h new e sound is one ends =
     by_fault e (subst (λ k. AsksOne is_remote k n.command (heard_after n.course more h) (written_at_both s.latest new) (SeenStep s.latest new) (Err e)) (sym is) one) ends where
@@ -185,7 +185,7 @@ run_fault is_remote commands place s n more h new e sound is one ends =
 
       -- by the fault: how the run ended
       by_fault : (e : RunFault) → AsksOne is_remote (length n.done) n.command (heard_after n.course more h) (written_at_both s.latest new) (SeenStep s.latest new) (Err e)
-          → EndsWith (SeenStep s.latest new) s.latest.sink.failed new.sink.failed (Err e)
+          → AskingEnds (SeenStep s.latest new) s.latest.sink.failed new.sink.failed (Err e)
           → Asks is_remote commands (s.given ++ more) (written_at_both s.first new) over (Err e)
       by_fault Read one ends = course_stops is_remote commands s n more new one.0.1 one.0.0 one.1
       by_fault (Write count part) one ends =

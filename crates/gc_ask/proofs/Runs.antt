@@ -3,7 +3,7 @@ use Rattle.std.proofs.Common.{◌≡◌, ℕ, Bool, true, List, Ok, Err, inl, in
 use Rattle.gc_ask.specs.AskRuns.{AskRuns, AsksAtClient, SeenAtClient, written_at_client}
 use Rattle.gc_ask.specs.Asking.{Asks, LinkResult, UseEnds, WritesPart, Written}
 use Rattle.gc_ask.specs.Looping.{AsksAtBoth, BothEnd, RunsAtBoth, SeenAtBoth, at_client, written_at_both}
-use Rattle.gc_ask.proofs.Ends.{at_remote, remote_end, ends_with_weaker}
+use Rattle.gc_ask.proofs.Ends.{at_remote, remote_end, asking_ends_weaker}
 use Rattle.gc_texts.specs.declared.commands.Command.{Command}
 use Rattle.gc_texts.specs.declared.fault.RunFault.TheVariants.{Read, Write, TooManyReads, LinkClosed, Output, Memory}
 use Rattle.gc_texts.specs.WholeTexts.{Input}
@@ -39,13 +39,15 @@ asks_weaker is_remote commands given w over other so (Err e) x = absurd x
 pub over_remote : (commands : List Command) (most : ℕ) (old new : SeenAtClient) (r : LinkResult)
     → AsksAtBoth true commands most (at_remote old) (at_remote new) r → AsksAtClient commands most old new r
 over_remote commands most old new r x = record {
-  given = x.given;
-  gave = x.gave;
-  few = x.few;
-  asks = asks_weaker true commands x.given (written_at_client old new) (BothEnd (at_remote old) (at_remote new)) (UseEnds old.link new.link) (remote_end old new) r x.asks;
-  bound = omega (arith, x.bound);
-  too_many = λ is. omega (arith, x.too_many is);
-  ends = ends_with_weaker (BothEnd (at_remote old) (at_remote new)) (UseEnds old.link new.link) (remote_end old new) old.sink.failed old.sink.failed new.sink.failed refl r x.ends;
+  within = record {
+    given = x.within.given;
+    gave = x.within.gave;
+    few = x.within.few;
+    asks = asks_weaker true commands x.within.given (written_at_client old new) (BothEnd (at_remote old) (at_remote new)) (UseEnds old.link new.link) (remote_end old new) r x.within.asks;
+    bound = omega (arith, x.within.bound);
+    too_many = λ is. omega (arith, x.within.too_many is);
+    ends = asking_ends_weaker (BothEnd (at_remote old) (at_remote new)) (UseEnds old.link new.link) (remote_end old new) old.sink.failed old.sink.failed new.sink.failed refl r x.within.ends;
+  };
 }
 
 -- a run of a text over a remote link is what `AskRuns` says
@@ -58,4 +60,4 @@ runs_remote text_old text_new most old new r (given, gave, few, inr x) = (given,
 pub no_memory : (is_remote : Bool) (commands : List Command) (most : ℕ) (old new : SeenAtBoth) (r : LinkResult)
     → AsksAtBoth is_remote commands most old new r → r ≡ Err Memory → ⊥
 no_memory is_remote commands most old new r x is =
-    subst (λ (e : LinkResult). Asks is_remote commands x.given (written_at_both old new) (BothEnd old new) e) is x.asks
+    subst (λ (e : LinkResult). Asks is_remote commands x.within.given (written_at_both old new) (BothEnd old new) e) is x.within.asks

@@ -1,10 +1,10 @@
 -- A command text that is read whole and asked: this project's own.
-use Rattle.std.specs.Prelude.{◌≡◌, true, ℕ, ◌+◌, ◌*◌, ◌-◌, ◌≤◌, List, length, Err}
+use Rattle.std.specs.Prelude.{◌≡◌, Bool, true, ℕ, ◌+◌, ◌*◌, ◌-◌, ◌≤◌, List, length, Err}
 use Rattle.std.specs.Io.KnownBytes.{Consumes}
 use Rattle.gc_lines.specs.Answering.{Ports, ports_of, Taken, taken_by}
 use Rattle.gc_lines.specs.declared.ports.Source.{Ghosts as Source}
 use Rattle.gc_lines.specs.declared.ports.Sink.{Ghosts as Sink}
-use Rattle.gc_ask.specs.Asking.{AreFresh, Written, Asks, LinkResult, UseEnds, EndsWith, RunsConnected, RunsText}
+use Rattle.gc_ask.specs.Asking.{AreFresh, Written, Asks, LinkResult, UseEnds, AskingEnds, RunsConnected, RunsText}
 use Rattle.gc_ask.specs.declared.unused.TheConstants.{ROOM}
 use Rattle.gc_texts.specs.WholeTexts.{Input}
 use Rattle.gc_texts.specs.declared.commands.Command.{Command}
@@ -24,16 +24,23 @@ seen_of_link of_source source of_sink sink of_told told = record { link = ports_
 abbrev pub written_at_client : (old new : SeenAtClient) → Written
 written_at_client old new = record { link_old = old.link.taken; link_new = new.link.taken; sink_old = old.sink.bytes; sink_new = new.sink.bytes }
 
--- commands were asked over a remote link, in at most `most` reads of it, with this result, which is `TooManyReads` only once these are used up;
--- `given` is what the link gave meanwhile, at most `ROOM` bytes at each read. Which ports have failed then is as `EndsWith` has it
-pub record AsksAtClient (commands : List Command) (most : ℕ) (old new : SeenAtClient) (result : LinkResult) : Type 0 where
+-- commands were asked over a link, in at most `most` reads and with this result, which is `TooManyReads` only once these are used
+-- up; the reads count from `before` on, and are `after` at the end. `given` is what the client's end gave, at most `ROOM` bytes
+-- at each read, and `over e` says what the link's ports are after the end e
+pub record AsksWithin (is_remote : Bool) (commands : List Command) (most : ℕ) (old new : SeenAtClient) (before after : ℕ) (over : LinkResult → Type 0)
+    (result : LinkResult) : Type 0 where
   pub given : List ℕ
   pub gave : Consumes old.link.remaining new.link.remaining given
   pub few : length given ≤ ROOM * (new.link.reads - old.link.reads)
-  pub asks : Asks true commands given (written_at_client old new) (UseEnds old.link new.link) result
-  pub bound : new.link.reads ≤ old.link.reads + most
-  pub too_many : result ≡ Err TooManyReads → new.link.reads ≡ old.link.reads + most
-  pub ends : EndsWith (UseEnds old.link new.link) old.sink.failed new.sink.failed result
+  pub asks : Asks is_remote commands given (written_at_client old new) over result
+  -- which ports have failed then
+  pub ends : AskingEnds over old.sink.failed new.sink.failed result
+  pub bound : after ≤ before + most
+  pub too_many : result ≡ Err TooManyReads → after ≡ before + most
+
+-- commands were asked over a remote link, in at most `most` reads of it, with this result
+pub record AsksAtClient (commands : List Command) (most : ℕ) (old new : SeenAtClient) (result : LinkResult) : Type 0 where
+  pub within : AsksWithin true commands most old new old.link.reads new.link.reads (UseEnds old.link new.link) result
 
 -- commands were asked, in at most `most` reads and with this result, over some remote link that was fresh (`AreFresh`)
 pub record AsksOverFresh (commands : List Command) (most : ℕ) (old new : Taken) (result : LinkResult) : Type 0 where

@@ -1,5 +1,7 @@
 -- Requests that are asked one at a time, each once the one before it is settled: this project's own. Request lines are the
 -- manual's. Below, `given` are all bytes that the link gave, and `w` is what the link and the sink of the settlements took.
+-- `is_remote` says that somebody other than this program answers at the link's other end, and `over e` what its ports are after
+-- the end e.
 use Rattle.std.specs.Prelude.{◌≡◌, ℕ, ◌+◌, ◌%◌, ◌<◌, ◌⊎◌, Bool, true, false, List, [], ◌∷◌, ◌++◌, length, take, Option, Some, None, Result, Ok, Err, if◌then◌else◌}
 use Rattle.std.specs.Io.KnownBytes.{Appends}
 use Rattle.gc_lines.specs.Answering.{Ports, Taken, all_of}
@@ -120,23 +122,24 @@ abbrev pub IsNext : (earlier : List Command) → (command : Command) → (given 
 IsNext earlier command given next (Ok _) = asked (earlier ++ command ∷ []) given ≡ asked earlier given ++ next ∷ []
 IsNext earlier command given next (Err _) = next ≡ lost_of command
 
--- asking reached a command (`ReachesCommand`), and the sink failed as it took the line of `next`, the settlement of that command: it took the
--- lines of the commands before it, and of this line the first `part` bytes. Of the command's request the first `bytes` bytes were sent, or
--- all, and none of a later one. `link` is how the use of the link had ended before; `over e` says what the link's ports are after the end e
+-- asking reached a command (`ReachesCommand`), and the sink failed as it took the line of that command's settlement: it took the
+-- lines of the commands before it, and a part of this one. Of the command's request the first `bytes` bytes were sent, or all,
+-- and none of a later one
 pub record WritesPart (commands : List Command) (given : List ℕ) (w : Written) (over : LinkResult → Type 0) : Type 0 where
   pub at : ReachesCommand commands given
   pub bytes : ℕ
   pub sent : Appends w.link_old w.link_new (all_of (written_requests 0 at.earlier) ++ take bytes (written_request (length at.earlier) at.command))
+  -- how the use of the link had ended before
   pub link : LinkResult
   pub ends : over link
+  -- the settlement of the command, and how many bytes of its line went out
   pub next : Settlement Call
   pub next_is : IsNext at.earlier at.command given next link
   pub part : ℕ
   pub not_all : part < length (settlement_line (length at.earlier) next)
   pub sink_took : Appends w.sink_old w.sink_new (settlement_lines (asked at.earlier given) ++ take part (settlement_line (length at.earlier) next))
 
--- what was asked over a link that gave these bytes, by how asking ended. `is_remote` says that somebody other than this program answers at
--- the other end, and `over e` what the link's ports are after the end e
+-- what was asked over a link that gave these bytes, by how asking ended
 abbrev pub Asks : (is_remote : Bool) → List Command → (given : List ℕ) → Written → (over : LinkResult → Type 0) → LinkResult → Type 0
 Asks is_remote commands given w over (Ok _) = AsksAll commands given w
 Asks is_remote commands given w over (Err Read) = StopsAt is_remote commands given w
@@ -150,13 +153,18 @@ Asks is_remote commands given w over (Err _) = ⊥
 abbrev pub NoneEnded : (old new : Input) → Type 0
 NoneEnded old new = old.reads < new.reads → new.ended ≡ false
 
+-- the last read of an end's source wasn't the end of its input, and whether its source and its sink have failed is as given
+abbrev pub NoneEndedAnd : (old new : Ports) → (source_failed sink_failed : Bool) → Type 0
+NoneEndedAnd old new source_failed sink_failed =
+    NoneEnded (source_of old) (source_of new) × (new.source_failed ≡ source_failed) × (new.sink_failed ≡ sink_failed)
+
 -- the two ports of a link's end after a use that ended with this result. Only with `LinkClosed` was the last read the end of
 -- the input; with `Read` the source has failed, with `Write` the sink; else whether they have failed is as before
 abbrev pub UseEnds : (old new : Ports) → LinkResult → Type 0
-UseEnds old new (Ok _) = NoneEnded (source_of old) (source_of new) × (new.source_failed ≡ old.source_failed) × (new.sink_failed ≡ old.sink_failed)
-UseEnds old new (Err Read) = NoneEnded (source_of old) (source_of new) × (new.source_failed ≡ true) × (new.sink_failed ≡ old.sink_failed)
-UseEnds old new (Err (Write _ _)) = NoneEnded (source_of old) (source_of new) × (new.source_failed ≡ old.source_failed) × (new.sink_failed ≡ true)
-UseEnds old new (Err TooManyReads) = NoneEnded (source_of old) (source_of new) × (new.source_failed ≡ old.source_failed) × (new.sink_failed ≡ old.sink_failed)
+UseEnds old new (Ok _) = NoneEndedAnd old new old.source_failed old.sink_failed
+UseEnds old new (Err Read) = NoneEndedAnd old new true old.sink_failed
+UseEnds old new (Err (Write _ _)) = NoneEndedAnd old new old.source_failed true
+UseEnds old new (Err TooManyReads) = NoneEndedAnd old new old.source_failed old.sink_failed
 UseEnds old new (Err LinkClosed) = (old.reads < new.reads) × (new.ended ≡ true) × (new.source_failed ≡ old.source_failed) × (new.sink_failed ≡ old.sink_failed)
 UseEnds old new (Err _) = ⊥
 
@@ -165,11 +173,11 @@ abbrev pub AreFresh : Ports → Type 0
 AreFresh ports = (ports.reads ≡ 0) × (ports.source_failed ≡ false) × (ports.sink_failed ≡ false)
 
 -- which ports have failed, by how asking ended. With `Output` the sink has failed, and `over` holds of some end of the link. With any other
--- end `over` holds of that end, and whether the sink has failed is as before. `over e` says what the link's ports are after the end e
-abbrev pub EndsWith : (over : LinkResult → Type 0) → (sink_old sink_new : Bool) → LinkResult → Type 0
-EndsWith over sink_old sink_new (Err Output) = (sink_new ≡ true) × ((link : LinkResult) × over link)
-EndsWith over sink_old sink_new (Ok x) = over (Ok x) × (sink_new ≡ sink_old)
-EndsWith over sink_old sink_new (Err e) = over (Err e) × (sink_new ≡ sink_old)
+-- end `over` holds of that end, and whether the sink has failed is as before
+abbrev pub AskingEnds : (over : LinkResult → Type 0) → (sink_old sink_new : Bool) → LinkResult → Type 0
+AskingEnds over sink_old sink_new (Err Output) = (sink_new ≡ true) × ((link : LinkResult) × over link)
+AskingEnds over sink_old sink_new (Ok x) = over (Ok x) × (sink_new ≡ sink_old)
+AskingEnds over sink_old sink_new (Err e) = over (Err e) × (sink_new ≡ sink_old)
 
 -- a run over a source of commands, with this result: the text was refused, and `unused` holds; or it gave commands, of which
 -- `claim` holds

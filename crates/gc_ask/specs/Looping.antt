@@ -1,17 +1,15 @@
 -- The two ends of a link, and commands that are asked over it, also with an instrument of this program at its other end: this project's own.
 -- `is_remote` says that somebody other than this program answers there.
-use Rattle.std.specs.Prelude.{◌≡◌, Bool, false, ℕ, ◌+◌, ◌*◌, ◌-◌, ◌≤◌, ◌⊎◌, List, length, Ok, Err}
-use Rattle.std.specs.Io.KnownBytes.{Consumes}
+use Rattle.std.specs.Prelude.{◌≡◌, Bool, false, ℕ, ◌+◌, ◌⊎◌, List, Ok, Err}
 use Rattle.gc_lines.specs.Answering.{Ports, ports_of, taken_by, Taken}
 use Rattle.gc_lines.specs.declared.ports.Source.{Ghosts as Source}
 use Rattle.gc_lines.specs.declared.ports.Sink.{Ghosts as Sink}
 use Rattle.gc_texts.specs.declared.commands.Command.{Command}
-use Rattle.gc_texts.specs.declared.fault.RunFault.TheVariants.{TooManyReads, Memory, Socket}
+use Rattle.gc_texts.specs.declared.fault.RunFault.TheVariants.{Memory, Socket}
 use Rattle.gc_texts.specs.WholeTexts.{Input}
 use Rattle.gc_ask.specs.declared.looped.Duplex.{Duplex}
-use Rattle.gc_ask.specs.AskRuns.{SeenAtClient, written_at_client}
-use Rattle.gc_ask.specs.Asking.{Written, LinkResult, AreFresh, Asks, UseEnds, EndsWith, RunsConnected, RunsText}
-use Rattle.gc_ask.specs.declared.unused.TheConstants.{ROOM}
+use Rattle.gc_ask.specs.AskRuns.{AsksWithin, SeenAtClient, written_at_client}
+use Rattle.gc_ask.specs.Asking.{Written, LinkResult, AreFresh, UseEnds, RunsConnected, RunsText}
 
 -- one end of a link has this result, and the other ended well: `Client` and `Instrument` say what a result means at each end
 abbrev pub IsOfOneEnd : (Client Instrument : LinkResult → Type 0) → LinkResult → Type 0
@@ -49,16 +47,13 @@ at_client seen = record { link = seen.client; sink = seen.sink }
 abbrev pub written_at_both : (old new : SeenAtBoth) → Written
 written_at_both old new = written_at_client (at_client old) (at_client new)
 
--- commands were asked over a link, in at most `most` reads of both its ends, with this result, which is `TooManyReads` only once these are
--- used up; `given` is what the client's end gave, at most `ROOM` bytes at each read. Which ports have failed then is as `EndsWith` has it
+-- how many reads of both ends were answered
+abbrev pub reads_at_both : SeenAtBoth → ℕ
+reads_at_both seen = seen.client.reads + seen.instrument.reads
+
+-- commands were asked over a link, in at most `most` reads of both its ends, with this result
 pub record AsksAtBoth (is_remote : Bool) (commands : List Command) (most : ℕ) (old new : SeenAtBoth) (result : LinkResult) : Type 0 where
-  pub given : List ℕ
-  pub gave : Consumes old.client.remaining new.client.remaining given
-  pub few : length given ≤ ROOM * (new.client.reads - old.client.reads)
-  pub asks : Asks is_remote commands given (written_at_both old new) (BothEnd old new) result
-  pub ends : EndsWith (BothEnd old new) old.sink.failed new.sink.failed result
-  pub bound : new.client.reads + new.instrument.reads ≤ old.client.reads + old.instrument.reads + most
-  pub too_many : result ≡ Err TooManyReads → new.client.reads + new.instrument.reads ≡ old.client.reads + old.instrument.reads + most
+  pub within : AsksWithin is_remote commands most (at_client old) (at_client new) (reads_at_both old) (reads_at_both new) (BothEnd old new) result
 
 -- a run over a source of commands, the two ends of a link and a sink: the text was refused, and then nothing was read of the link, sent or
 -- written; or its commands were asked

@@ -5,7 +5,7 @@ ghost use Rattle.std.specs.Prelude.{◌≡◌, ◌+◌, ◌≤◌, [], ℕ, List
 ghost use Rattle.gc_lines.specs.Assembler.{StandsFor};
 ghost use Rattle.gc_lines.specs.Lines.{with_end};
 ghost use Rattle.gc_ask.specs.AskRuns.{AskRuns, seen_of_link};
-ghost use Rattle.gc_ask.specs.Asking.{EndsWith, ready_for, written_request, waiting_for};
+ghost use Rattle.gc_ask.specs.Asking.{AskingEnds, ready_for, written_request, waiting_for};
 ghost use Rattle.gc_ask.specs.Listening.{AsksOneOver, ExchangesOver, HasReadNothing, LinkSteps, SpendsReads};
 ghost use Rattle.gc_ask.specs.Listening.{seen_through};
 ghost use Rattle.gc_ask.specs.Looping.{AsksAtBoth, RunsAtBoth};
@@ -101,7 +101,7 @@ impl AskState {
             (seen_through L.AskedLink link.old K.Sink sink.old)
             (seen_through L.AskedLink link.new K.Sink sink.new)
             result }
-        ensures ends { EndsWith (LinkSteps L.AskedLink link.old link.new) (K.failed sink.old) (K.failed sink.new) result }
+        ensures ends { AskingEnds (LinkSteps L.AskedLink link.old link.new) (K.failed sink.old) (K.failed sink.new) result }
         ensures spends { SpendsReads L.AskedLink link.old link.new self.old.reads self.new.reads }
         ensures too_many { result ≡ Err RunFault.TooManyReads → self.new.reads ≡ 0 }
     {

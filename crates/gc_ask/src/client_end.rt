@@ -3,7 +3,7 @@
 ghost use Rattle.std.specs.Prelude.{◌≡◌, ◌+◌, ◌≤◌, ℕ, [], List, length, IfSome};
 ghost use Rattle.gc_lines.specs.Assembler.{StandsFor};
 ghost use Rattle.gc_lines.specs.Frames.{line_in};
-ghost use Rattle.gc_lines.specs.Lent.{lent_seen, IsLineWithin};
+ghost use Rattle.gc_lines.specs.Lent.{lent_seen, IsLineWithinLimit};
 ghost use Rattle.gc_ask.specs.Asking.{ready_for};
 ghost use Rattle.gc_ask.specs.Links.{ReadEnds};
 ghost use Rattle.gc_ask.specs.Listening.{TakesFrame, Listens, left_of_piece, HearsMore, HearsReply, LinkOnlyReads, heard_by};
@@ -42,7 +42,7 @@ impl ClientEnd {
     // Hands the client the line of a frame, if the frame has one. Returns whether that line settled a request; the settlements
     // are then in `settled`.
     fn take_frame(&mut self, frame: Lent<'_>) -> bool
-        requires { IsLineWithin frame }
+        requires { IsLineWithinLimit frame }
         ensures same { self.new.assembler ≡ self.old.assembler }
         ensures takes { TakesFrame self.old.client.ids self.new.client.ids (line_in (lent_seen frame.entry)) self.new.settled.items result }
     {

@@ -46,7 +46,7 @@ answer_fields (MeasuredMode hz v distance mode) = record {
 abbrev pub IsAnswerOf : Call → Answer → Type 0
 IsAnswerOf call answer = (answer_fields answer).shape ≡ (call_fields call).answer
 
--- the parameters read as the answer's values, and the answer has the shape of the call's answers
+-- the parameters read as the values of this answer, which is one of the call (`IsAnswerOf`)
 pub record IsAnswer (call : Call) (params : List ℕ) (answer : Answer) : Type 0 where
   pub of_call : IsAnswerOf call answer
   pub values : AreParams params (answer_fields answer).values

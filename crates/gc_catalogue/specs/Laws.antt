@@ -37,8 +37,7 @@ abbrev pub IsShown : (places : ℕ) → (v shown : Value) → Type 0
 IsShown places (value.Double d) (value.Double shown) = IsRounded (fraction d) places shown.digits shown.scale
 IsShown places v shown = v ≡ shown
 
--- `shown` are the values as they are written, one for one (`IsShown`): each double rounded to the places, and any other value
--- unchanged
+-- `shown` are the values as they are written, one for one (`IsShown`)
 abbrev pub AreShown : (places : ℕ) → (values shown : List Value) → Type 0
 AreShown places values shown = AllZip (IsShown places) values shown
 

@@ -24,7 +24,7 @@ abbrev pub shown : (places : ℕ) → Value → Value
 shown places (value.Double d) = value.Double (rounded d places)
 shown places v = v
 
--- the values as they are written: each double rounded to the places, and any other value unchanged
+-- the values as they are written, one for one (`shown`)
 abbrev pub shown_values : (places : ℕ) → List Value → List Value
 shown_values places vs = map (λ v. shown places v) vs
 
@@ -33,11 +33,11 @@ pub record IsWithoutComma (old new : List ℕ) : Type 0 where
   pub comma : (front : List ℕ) → old ≡ front ++ 44 ∷ [] → new ≡ front
   pub other : ((front : List ℕ) → old ≢ front ++ 44 ∷ []) → new ≡ old
 
--- no part of a promise: this value was taken between the states `old` and `new`: whatever `new` takes up to a state t, `old` takes up
--- to t with this value in front. `takes` says which values are taken from one state to another
+-- no part of a promise: this value was taken between the states `old` and `new`. `takes` says which values are taken from one
+-- state to another: if it takes `vs` from `new` to a state t, it takes this value and then `vs` from `old` to t
 abbrev pub TakesValue : {T : Type 0} → (takes : T → List Value → T → Type 0) → (old new : T) → Value → Type 0
 TakesValue {T = T} takes old new value = (vs : List Value) (t : T) → takes new vs t → takes old (value ∷ vs) t
 
--- no part of a promise: these values were taken between the states `old` and `new`, in their order (`TakesValue`)
+-- no part of a promise: `TakesValue`, for these values in their order
 abbrev pub TakesValues : {T : Type 0} → (takes : T → List Value → T → Type 0) → (old new : T) → List Value → Type 0
 TakesValues {T = T} takes old new values = (vs : List Value) (t : T) → takes new vs t → takes old (values ++ vs) t

@@ -22,12 +22,13 @@ settlements_in (Settled settlements) = settlements.items
 settlements_in Stray = []
 settlements_in (Unread fault) = []
 
--- what a client reports of a line is right: `old` is the client before the line, and `new` after it. `Settled`: a request waits
--- with the line's id; what is then settled is in `AreSettledByLine`, and the client after it in `IsAfterLine`. `Stray`: the line
--- is a reply that no request waits for. `Unread`: it is no reply, and has the fault. Both settle nothing and change nothing
+-- what a client reports of a line is right: `old` is the client before the line, and `new` after it
 abbrev pub HearsInto : {Q : Type 0} → (old : ById Q) → (line : List ℕ) → Hearing → List (Settlement Q) → (new : ById Q) → Type 0
+-- a request waits with the line's id. What is settled is in `AreSettledByLine`, and the client after it in `IsAfterLine`
 HearsInto old line kind.Settled settlements new = fits old (heard line) ≡ true
+-- the line is a reply that no request waits for, and nothing changes
 HearsInto old line kind.Stray settlements new = IsOk (reply_at line) × (fits old (heard line) ≡ false) × (settlements ≡ []) × (new ≡ old)
+-- the line is no reply, for this fault, and nothing changes
 HearsInto old line (kind.Unread fault) settlements new = (reply_at line ≡ Err fault) × (settlements ≡ []) × (new ≡ old)
 
 -- what a client reports of a line, without the settlements
@@ -68,7 +69,7 @@ pub record ChangesNothing {Q : Type 0} (c : ById Q) (line : List ℕ) (hearing :
 abbrev pub ReportsTooLong : {Q : Type 0} → Hearing → List (Settlement Q) → (old new : Windowed Q) → Type 0
 ReportsTooLong hearing settlements old new = (hearing ≡ kind.Unread TooLong) × (settlements ≡ []) × (new ≡ old)
 
--- where a request of the client waits at place k: these settlements are those of the requests before it, as lost, and then that
+-- if a request of the client waits at place k, these settlements are those of the requests before it, as lost, and then that
 -- of this request, by the line. By the relation `says` an answer's reading is that of its line
 abbrev pub AreSettledAt : {Q : Type 0} → ReadingRule Q → ById Q → (line : List ℕ) → (k : ℕ) → List (Settlement Q) → Type 0
 AreSettledAt says old line k settlements = AreSettledBy says settlements (settles_at old line k true).settlements

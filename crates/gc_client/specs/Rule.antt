@@ -138,8 +138,7 @@ send_unless_full c target call deadline false =
       client = record { next = (c.next + 1) % IDS; waiting = c.waiting ++ pending_of target call deadline ∷ [] };
     })
 
--- what a send gives: none, which is a refusal, where as many requests wait as the window is wide, and else the request's id and
--- the client after the send
+-- what a send gives (`send_unless_full`): the window is full if as many requests wait as it is wide
 abbrev pub sends : {Q : Type 0} → (width : ℕ) → ById Q → (target : ℕ) → Q → (deadline : ℕ) → Option (Sending (ById Q))
 sends width c target call deadline = send_unless_full c target call deadline (nat_eq (length c.waiting) width)
 
@@ -160,10 +159,14 @@ IsRefusedSend old target call deadline = sends old.width old.ids target call dea
 abbrev pub IsFull : {Q : Type 0} → Windowed Q → Type 0
 IsFull c = length c.ids.waiting ≡ c.width
 
+-- nothing is settled, and the client is `c`
+abbrev pub nothing_settled : {Q : Type 0} → ById Q → Settled Q (ById Q)
+nothing_settled c = record { settlements = []; client = c }
+
 -- what a reply line does, by the place k of its id. If a request waits at that place (true), it is settled by the line, and those
 -- before it as lost. If none does (false), nothing changes
 abbrev pub settles_at : {Q : Type 0} → ById Q → (line : List ℕ) → (k : ℕ) → (waits : Bool) → Settled Q (ById Q)
-settles_at c line k false = record { settlements = []; client = c }
+settles_at c line k false = nothing_settled c
 settles_at c line k true = record {
   settlements = settle k line c.waiting;
   client = record { next = c.next; waiting = drop (k + 1) c.waiting };
@@ -171,8 +174,8 @@ settles_at c line k true = record {
 
 -- what a line with this id settles, and the client after it; a line without an id settles nothing
 abbrev pub hears : {Q : Type 0} → ById Q → (line : List ℕ) → (id : Option ℕ) → Settled Q (ById Q)
-hears c line None = record { settlements = []; client = c }
-hears c line (Some id) = settles_at c line (place_in c id) (nat_lt (place_in c id) (length c.waiting))
+hears c line None = nothing_settled c
+hears c line (Some id) = settles_at c line (place_in c id) (fits c (Some id))
 
 -- what a line settles, by the id that is heard in it, and the client after it
 abbrev pub hears_line : {Q : Type 0} → ById Q → (line : List ℕ) → Settled Q (ById Q)

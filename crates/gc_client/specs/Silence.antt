@@ -2,7 +2,7 @@
 use Rattle.std.specs.Prelude.{◌≡◌, ℕ, Bool, List, [], ◌∷◌, ◌++◌, filter, Some}
 use Rattle.std.specs.Option.{is_some}
 use Rattle.gc_lines.specs.Replies.{ReplyFields, IsReply}
-use Rattle.gc_client.specs.Rule.{Settlement, Settled, ById, heard, hears_line}
+use Rattle.gc_client.specs.Rule.{Settlement, Settled, ById, heard, nothing_settled, hears_line}
 
 -- a line is a reply with an id, by the grammar
 pub record IsReplyWithId (line : List ℕ) : Type 0 where
@@ -22,7 +22,7 @@ preceded_by settlements x = record { settlements = settlements ++ x.settlements;
 
 -- what all these lines settle, in order, and the client after them
 abbrev pub hears_all : {Q : Type 0} → ById Q → List (List ℕ) → Settled Q (ById Q)
-hears_all c [] = record { settlements = []; client = c }
+hears_all c [] = nothing_settled c
 hears_all c (line ∷ lines) = preceded_by (hears_line c line).settlements (hears_all (hears_line c line).client lines)
 
 -- from this client on, a list of lines and that list without its foreign lines give the same settlements and the same client

@@ -1,15 +1,14 @@
 -- What a check writes, and how it ends: this project's own. `given` are the bytes that the source gave, and `old` and `new` are
 -- what the sink had taken before and has taken after, where that is known. A check writes a text for each piece of its input: of a
 -- stream for each frame, of a log for each line; `Written` says which texts are written of pieces.
-use Rattle.std.specs.Prelude.{◌≡◌, ℕ, ◌+◌, ◌-◌, ◌<◌, min, ◌^◌, List, [], ◌∷◌, ◌++◌, length, take, Option, Some, None, Result, Ok, Err}
+use Rattle.std.specs.Prelude.{◌≡◌, ℕ, ◌+◌, ◌-◌, ◌<◌, min, ◌^◌, List, [], ◌∷◌, ◌++◌, length, take, Option, Some, None, Result}
 use Rattle.std.specs.Io.KnownBytes.{Appends}
-use Rattle.gc_lines.specs.Answering.{IsRunOverPorts, Ports, all_of}
+use Rattle.gc_lines.specs.Answering.{IsRunOverPorts, Ports, WholeOrCut, all_of}
 use Rattle.gc_lines.specs.Frames.{frames}
 use Rattle.gc_lines.specs.declared.frame.Frame.{Frame}
 use Rattle.gc_lines.specs.declared.frame.Frame.TheVariants.{More}
 use Rattle.gc_lines.specs.declared.served.Served.{Served}
 use Rattle.gc_lines.specs.declared.served.ServeFault.{ServeFault}
-use Rattle.gc_lines.specs.declared.served.ServeFault.TheVariants.{Read, Write, TooManyReads}
 use Rattle.gc_engines.specs.Verdicts.{IsVerdict, verdict_line, AreFrameVerdicts}
 use Rattle.gc_engines.specs.declared.check.Judge.{Judge}
 use Rattle.gc_engines.specs.declared.verdict.Verdict.{Verdict}
@@ -39,10 +38,8 @@ pub record WritesPart {Piece : Type 0} (Written : List Piece → List (List ℕ)
 -- how much of the texts of these pieces went out, by the result: all of them, or at a failed write the front of them
 abbrev pub WritesBy : {Piece : Type 0} → (Written : List Piece → List (List ℕ) → Type 0) → List Piece → (old new : Option (List ℕ))
     → Result Served ServeFault → Type 0
-WritesBy Written pieces old new (Ok served) = WritesAll Written pieces old new 0 served.replies
-WritesBy Written pieces old new (Err (Read count)) = WritesAll Written pieces old new 0 count
-WritesBy Written pieces old new (Err (Write count bytes)) = WritesPart Written pieces old new 0 count bytes
-WritesBy Written pieces old new (Err (TooManyReads count)) = WritesAll Written pieces old new 0 count
+WritesBy Written pieces old new result =
+    WholeOrCut (λ count. WritesAll Written pieces old new 0 count) (λ count bytes. WritesPart Written pieces old new 0 count bytes) result
 
 -- how much of the lines of the verdicts on the frames of these bytes went out, by the result
 abbrev pub Checks : List ℕ → (old new : Option (List ℕ)) → Result Served ServeFault → Type 0

@@ -41,17 +41,18 @@ drill_text_on opening width events totals = wire_text (played width opening even
 abbrev pub PlaysAll : (text_of : List Event → (totals : Bool) → List ℕ) → (text : List ℕ) → (totals : Bool) → (old new : Option (List ℕ)) → Type 0
 PlaysAll text_of text totals old new = (events : List Event) × IsSchedule text events × Appends old new (text_of events totals)
 
--- the bytes `given` were read as a schedule, to be played, and by the result a sink took this. `Ok`: they are a schedule, and
--- the sink took all that is written of its events. `Output`: they are a schedule, and the sink took a part of that. `Schedule`
--- with the number of their first faulty line, and a fault that reading has (`IsReadFault`; memory may run out after it, too): the
--- sink took nothing. `text_of` gives what is written of events that are played, with the line of totals if its second argument is
--- true; `totals` says whether that line is asked for; `old` and `new` are what the sink had taken before and has taken after
+-- the text is a schedule, and a sink took only a part of what is written of its events, as for `PlaysAll`
+abbrev pub PlaysPart : (text_of : List Event → (totals : Bool) → List ℕ) → (text : List ℕ) → (totals : Bool) → (old new : Option (List ℕ)) → Type 0
+PlaysPart text_of text totals old new = (events : List Event) × IsSchedule text events × TakesPart old new (text_of events totals)
+
+-- what a sink took by the result of a drill whose source gave these bytes: all that is written of the events of their schedule,
+-- or, with `Output`, a part of it. With any other fault it took nothing: `Schedule` has the number of the schedule's first faulty
+-- line, and else reading had the fault (`IsReadFault`). The bytes aren't too long, unless that is the fault
 abbrev pub DrillsAs : (text_of : List Event → (totals : Bool) → List ℕ) → (given : List ℕ) → (totals : Bool) → (old new : Option (List ℕ))
     → Result (Unit {0}) RunFault → Type 0
 DrillsAs text_of given totals old new (Ok _) = (length given ≤ TEXT_LIMIT) × PlaysAll text_of given totals old new
 DrillsAs text_of given totals old new (Err (Schedule n)) = (length given ≤ TEXT_LIMIT) × FirstFaulty IsEvent given n × (new ≡ old)
-DrillsAs text_of given totals old new (Err Output) = (length given ≤ TEXT_LIMIT)
-    × ((events : List Event) × IsSchedule given events × TakesPart old new (text_of events totals))
+DrillsAs text_of given totals old new (Err Output) = (length given ≤ TEXT_LIMIT) × PlaysPart text_of given totals old new
 DrillsAs text_of given totals old new (Err fault) = IsReadFault given fault × (new ≡ old)
 
 -- whether this result shows that a drill has read its source to the end: it has where the schedule was played, or has a faulty line. With

@@ -67,18 +67,19 @@ pub record KeepsLine (kept : PartialLine) (rest : List ℕ) : Type 0 where
   pub whole : kept.is_long ≡ false → rest ≡ kept.bytes.items
   pub long : kept.is_long ≡ true → log_line_most < length rest
 
--- a piece came after the bytes `rest`, which no line feed had ended, and the verdict on each line that ends in the piece went out
+-- Of a piece of the log. It came after the bytes `rest`, which no line feed had ended.
+
+-- the verdict on each line that ends in the piece went out
 abbrev pub WritesVerdicts : (rest piece : List ℕ) → (old new : Option (List ℕ)) → (before count : ℕ) → Type 0
 WritesVerdicts rest piece old new before count = WritesAll AreLogVerdicts (pieces_behind rest piece) old new before count
 
--- a piece came after the bytes `rest`, which no line feed had ended, and of the verdicts on the lines that end in the piece only a front
--- went out
+-- of the verdicts on the lines that end in the piece only a front went out
 abbrev pub WritesVerdictsInPart : (rest piece : List ℕ) → (old new : Option (List ℕ)) → (before count bytes : ℕ) → Type 0
 WritesVerdictsInPart rest piece old new before count bytes =
     WritesPart AreLogVerdicts (pieces_behind rest piece) old new before count bytes
 
--- the check is done with a piece that came after the bytes `rest`, which no line feed had ended: it keeps what follows the last line
--- feed, and the verdicts on the lines that end in the piece went out. `count` is how many had gone out before
+-- the check is done with the piece: it keeps what follows the last line feed, and the verdicts on the lines that end in the piece
+-- went out. `count` is how many had gone out before
 abbrev pub HasChecked : LogCheck → (rest piece : List ℕ) → (old new : Option (List ℕ)) → (count : ℕ) → Type 0
 HasChecked check rest piece old new count =
     KeepsLine check.kept (rest_behind rest piece) × WritesVerdicts rest piece old new count check.replies
@@ -93,6 +94,8 @@ TakesPiece before after piece old new =
 abbrev pub TakesPieceInPart : (before after : LogCheck) → (piece : List ℕ) → (old new : Option (List ℕ)) → (bytes : ℕ) → Type 0
 TakesPieceInPart before after piece old new bytes =
     (rest : List ℕ) → KeepsLine before.kept rest → WritesVerdictsInPart rest piece old new before.replies after.replies bytes
+
+-- Of a whole log.
 
 -- how much of the verdicts on the lines of a log went out, by the result. Bytes after the last line feed are no line
 abbrev pub ChecksLog : List ℕ → (old new : Option (List ℕ)) → Result Served ServeFault → Type 0

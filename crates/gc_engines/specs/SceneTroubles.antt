@@ -64,9 +64,9 @@ NoNumber text max = (n : ℕ) → IsNumber text n max → ⊥
 unfoldable pub NoDecimal : List ℕ → Type 0
 NoDecimal text = (d : Decimal) → SpellsDecimal text d → ⊥
 
--- what may be at fault in a reply to the procedure with this number, with these parameters. `InTable`: the procedure is in the table.
--- `Params`: a request for this procedure with these parameters is refused for some reason (`IsRawRefusal`; `InTable` is one,
--- too), and so is the reply. `Form`: nothing is said of the parameters
+-- what may be at fault in a reply to the procedure with this number, with these parameters. `InTable`: the procedure is in the
+-- table. `Params`: a request for it with these parameters is refused for some reason (`IsRawRefusal`; `InTable` is one, too), and
+-- so is the reply. `Form` names the word `answer`, and says nothing of the parameters
 abbrev pub IsReplyTrouble : (rpc : ℕ) → (params : List ℕ) → SceneTrouble → Type 0
 IsReplyTrouble rpc params (trouble.InTable n) = (n ≡ rpc) × IsRawRefusal rpc params InTable
 IsReplyTrouble rpc params trouble.Params = (fault : RawFault) × IsRawRefusal rpc params fault
@@ -79,8 +79,8 @@ IsAnswerTrouble line t =
     BeginsWith word.Answer line
     × ((rpc : ℕ) × IsRpc (second_word line) rpc × IsReplyTrouble rpc (params_in_answer line) t)
 
--- in a line that is known to be faulty, this may be at fault; more than one trouble may fit a line. `Form`: the line begins with
--- that word, and none of its fields is named
+-- in a line that is known to be faulty, this may be at fault; more than one trouble may fit a line. `Form` says only
+-- that the line begins with that word
 abbrev pub IsSceneTrouble : List ℕ → SceneTrouble → Type 0
 IsSceneTrouble line trouble.NoWord = (w : SceneWord) → BeginsWith w line → ⊥
 IsSceneTrouble line trouble.Clock = NeedsClock line

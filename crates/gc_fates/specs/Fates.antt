@@ -73,8 +73,7 @@ module _ (rules : Rules) (start line : ℕ) where
   ends = not loses && hits_line Close close_draw
 
   -- what happens to the line: each word has its own draw. A line that is lost, or in whose place the connection ends, isn't
-  -- repeated, and only after such an end are connections refused. The end is a reset if the lower 32 bits of its draw are in the
-  -- upper half of their range
+  -- repeated, and only after such an end are connections refused
   abbrev pub fate_of : LineFate
   fate_of = record {
     wait = drawn (chance_of rules Delay) (draw_at start line delay_draw);

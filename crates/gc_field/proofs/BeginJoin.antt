@@ -18,7 +18,7 @@ use Rattle.gc_field.specs.World.{Ends, Request, without, doubled}
 use Rattle.std.proofs.lemmas.Option.{same_Some, none-some}
 use Rattle.gc_world.proofs.Rows.{each_without, each_doubled}
 use Rattle.gc_field.specs.Begin.{InFlight, IsWellFormed, LacksTheWord, AreTurns, SyncModel, SyncTurn, Asks, Comes, Foreign, Reaches, Up_lose, Up_repeat, Down_lose, Down_repeat, Anew, Changes, UnderWay, begins, leaves, ids_under_way, asks, comes, reaches, turns, turned, left_by_turns}
-use Rattle.gc_field.specs.Begun.{HasSynchronizedCleanly, NoneIsOld, eighth}
+use Rattle.gc_field.specs.Begun.{HasSynchronizedCleanly, NoneIsOld, eighth_null}
 use Rattle.gc_field.specs.Instrument.{IsAnInstrument, IsOwnOrNone, MayForget, own_reply}
 use Rattle.gc_field.proofs.BeginIds as ids
 use Rattle.gc_field.proofs.BeginIds.{IdSent, IsCleanByIds, aged, begun_anew, ids_in_flight, ids_of, moved}
@@ -362,13 +362,13 @@ module _ {State : Type 0} (ends : Ends State) (Good : State → Type 0) (kept : 
   heard_seven (Some id) e = ap Some e
 
   -- a null procedure with id 7 is the eighth
-  null_seven_is_eighth : (x : Request) → x.id ≡ 7 → x.call ≡ (Table NullProc) → x ≡ eighth
+  null_seven_is_eighth : (x : Request) → x.id ≡ 7 → x.call ≡ (Table NullProc) → x ≡ eighth_null
   null_seven_is_eighth x e f = ap₂ (λ (i : ℕ) (c : Asked). record { id = i; call = c }) e f
 
   -- requests in flight that are `IsNullIfOwn`, and by their marks not old and of id 7, are not old, and copies of the eighth null
   -- procedure
   up_is_clean : (xs : List (InFlight Request)) → AllByRecursion IsNullIfOwn xs → AllByRecursion (λ x. (x.old ≡ false) × (x.id ≡ 7)) (map request_mark xs)
-      → NoneIsOld xs × AllByRecursion (λ x. x ≡ eighth) (map (λ (x : InFlight Request). x.line) xs)
+      → NoneIsOld xs × AllByRecursion (λ x. x ≡ eighth_null) (map (λ (x : InFlight Request). x.line) xs)
   up_is_clean [] k h = (tt, tt)
   up_is_clean (x ∷ xs) k h = let others = up_is_clean xs k.1 h.1 in ((h.0.0, others.0), (null_seven_is_eighth x.line h.0.1 (k.0.1 h.0.0), others.1))
 

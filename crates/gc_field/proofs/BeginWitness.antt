@@ -11,7 +11,7 @@ use Rattle.gc_instrument.specs.Replying.{handed}
 use Rattle.gc_field.specs.Simulator.{simulator_ends}
 use Rattle.gc_field.specs.World.{Numbered}
 use Rattle.gc_field.specs.Begun.{WasMadeOn}
-use Rattle.gc_field.specs.BeginWitness.{AreSomeRuns, IsBookedFromBefore, from, next_run}
+use Rattle.gc_field.specs.BeginWitness.{AreSomeRuns, IsBookedFromBefore, from, next_moves}
 use Rattle.gc_field.proofs.Witness.{opening_fits, units}
 
 -- the reply to the first command
@@ -23,12 +23,12 @@ abbrev second_reply : Numbered (List ℕ)
 second_reply = record { number = 9; line = codes "%R1P,0,1:0,123456" }
 
 -- the first command's answer was made on executing its request
-was_made : WasMadeOn WINDOW simulator_ends from next_run.moves 8 (Table InstrumentNo) (codes "%R1P,0,0:0,123456")
+was_made : WasMadeOn WINDOW simulator_ends from next_moves 8 (Table InstrumentNo) (codes "%R1P,0,0:0,123456")
 unfolding header_at reply_at handed exec digits
 was_made =
     record {
-      front = take 3 next_run.moves;
-      later = drop 4 next_run.moves;
+      front = take 3 next_moves;
+      later = drop 4 next_moves;
       split = refl;
       id = 0;
       rest = record { number = 9; line = record { id = 1; call = Table InstrumentNo } } ∷ [];

@@ -7,7 +7,7 @@ use Rattle.gc_catalogue.specs.declared.asked.Asked.TheVariants.{Table}
 use Rattle.gc_catalogue.specs.declared.call.Call.TheVariants.{InstrumentNo}
 use Rattle.gc_client.specs.declared.window.TheConstants.{WINDOW}
 use Rattle.gc_texts.specs.Nears.{is_elsewhere}
-use Rattle.gc_station.specs.Beginnings.{IsResynchronizing}
+use Rattle.gc_station.specs.Beginnings.{SynchronizesAnew}
 use Rattle.gc_station.specs.Parts as part
 use Rattle.gc_station.specs.Parts.{Part}
 use Rattle.gc_station.proofs.Going.{runs-append}
@@ -63,7 +63,7 @@ runs_anew =
     (refl, (tt, (tt, (refl, (tt, (tt, (refl, (tt, (tt, (refl, (tt, (tt, (refl, (tt, (tt, (refl, (tt, (tt, (refl, (tt, (tt, (refl, tt))))))))))))))))))))))
 
 -- after the acts `acts_until_anew`, by the end of which seven requests have timed out, the station resynchronizes at the next act
-resynchronizes_next : IsResynchronizing plan commands scope acts_until_anew (Told (at 115))
+resynchronizes_next : SynchronizesAnew plan commands scope acts_until_anew (Told (at 115))
 unfolding is_elsewhere header_at reply_at digits
 resynchronizes_next = record { resynchronizes = record { renews = refl; moment = at 115; told = refl; seven = refl; given_up = refl }; word = refl; client = refl }
 

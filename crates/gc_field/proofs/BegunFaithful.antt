@@ -24,7 +24,7 @@ use Rattle.gc_world.proofs.Settled as settled
 use Rattle.gc_world.proofs.Sound.{IsGoing, IsComing, Sound}
 use Rattle.gc_field.specs.Begin.{UnderWay}
 use Rattle.gc_field.specs.Begun.{ArePossibleOnceBegun, IsBehindTheTable, IsClean, IsFaithful, IsSafe, WasMadeOn, WentOutBehindTheTable}
-use Rattle.gc_field.specs.Begun.{eighth, ids_begun, numbers_begun, nulls, nulls_settled, world_once_begun}
+use Rattle.gc_field.specs.Begun.{eighth_null, of_eighth, ids_begun, numbers_begun, nulls, nulls_settled, world_once_begun}
 use Rattle.gc_field.specs.Field.{Move, Sends, AsksOnly, moved, seen}
 use Rattle.gc_field.specs.Instrument.{IsAnInstrument, IsAnInstrumentFor, all_known}
 use Rattle.gc_field.specs.Once.{ExecutesOnce, IsInOrder}
@@ -89,10 +89,6 @@ begun_prefixed = record { sent = refl; settled = refl; client = refl }
 -- Numbers.
 
 module _ {Line : Type 0} where
-  -- these lines, each with the number of the eighth null procedure, 7
-  abbrev pub of_eighth : List Line → List (Numbered Line)
-  of_eighth xs = map (λ x. record { number = 7; line = x }) xs
-
   -- the numbers of lines that all have number 7 never fall, from 7 on
   rising_up : (xs : List Line) → Rising 8 (numbers (of_eighth xs))
   rising_up [] = tt
@@ -135,7 +131,7 @@ module _ {State : Type 0} (ends : Ends State) (Good : State → Type 0) (kept : 
           within = within;
           few = few;
           order = rising_both u.down u.up;
-          going = each_of_eighth (IsGoing 0 8) (λ x. x ≡ eighth) (λ x e. record { recent = omega arith; sent = omega arith; id = ap (λ (r : Request). r.id) e }) u.up clean.up;
+          going = each_of_eighth (IsGoing 0 8) (λ x. x ≡ eighth_null) (λ x e. record { recent = omega arith; sent = omega arith; id = ap (λ (r : Request). r.id) e }) u.up clean.up;
           coming = each_of_eighth (IsComing width ends Good 0 8) (λ line. heard line ≡ Some 7) (λ x e. record { recent = omega arith; sent = omega arith; id = keeper.hears x ∙ e }) u.down clean.down;
         }
 
@@ -144,7 +140,7 @@ module _ {State : Type 0} (ends : Ends State) (Good : State → Type 0) (kept : 
     both_begun = record { agree = record { wire = refl; client = record { window = refl; next = refl } }; sound = sound_begun }
 
     -- the eighth null procedure is among the requests of a synchronization, with the number 7
-    line_is : (x : Request) → x ≡ eighth → IsAsSent written nulls (record { number = 7; line = x })
+    line_is : (x : Request) → x ≡ eighth_null → IsAsSent written nulls (record { number = 7; line = x })
     line_is x e = record {
       request = record { target = 0; call = Table NullProc; line = asked_line (Some 7) (Table NullProc) };
       found = refl;
@@ -174,15 +170,15 @@ module _ {State : Type 0} (ends : Ends State) (Good : State → Type 0) (kept : 
           let within : 8 ≤ 8 = omega arith in
           record {
             top = 8;
-            table = 7;
+            last = 7;
             counted = within;
             within = within;
             lower = omega arith;
             least = within;
-            above = each_of_eighth (λ x. 8 ≤ x.number + 1) (λ x. x ≡ eighth) (λ x e. omega arith) u.up clean.up;
+            above = each_of_eighth (λ x. 8 ≤ x.number + 1) (λ x. x ≡ eighth_null) (λ x e. omega arith) u.up clean.up;
             below = each_of_eighth (λ x. x.number < 8) (λ line. heard line ≡ Some 7) (λ x e. omega arith) u.down clean.down;
             holds = kept_begun (kept u.state) refl;
-            lines = each_of_eighth (IsAsSent written nulls) (λ x. x ≡ eighth) line_is u.up clean.up;
+            lines = each_of_eighth (IsAsSent written nulls) (λ x. x ≡ eighth_null) line_is u.up clean.up;
             near = near;
             coming = each_of_eighth (λ x. IsVouchedAtStart x.number x.line) (λ line. heard line ≡ Some 7) (λ x e. last_null_vouched x) u.down clean.down;
             answers = (tt, (tt, (tt, (tt, (tt, (tt, (tt, (tt, tt))))))));

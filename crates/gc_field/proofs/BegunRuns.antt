@@ -5,7 +5,7 @@ use Rattle.gc_client.specs.Beginning.{IsSubsequence, the_word}
 use Rattle.gc_instrument.specs.State.{KeptReply}
 use Rattle.gc_field.specs.World.{Ends}
 use Rattle.gc_field.specs.Begin.{IsWellFormed, LacksTheWord, AreTurns, UnderWay, begins, ids_under_way, leaves}
-use Rattle.gc_field.specs.Beginnings.{AreFewKilled, AreOwn, AreRuns, ArePossibleIf, IsOwnIf, HasRisingIds, Run, killed_if, left_by_run, left_if, under_way_on, after_turns}
+use Rattle.gc_field.specs.Beginnings.{AreFewKilled, AreOwn, AreRuns, ArePossibleIfBegun, IsOwnIfBegun, HasRisingIds, Run, killed_unless_begun, left_by_run, left_if_begun, under_way_on, after_turns}
 use Rattle.gc_field.specs.Begun.{world_once_begun}
 use Rattle.gc_field.specs.Instrument.{IsAnInstrument}
 use Rattle.gc_field.proofs.BeginJoin.{begins_cleanly, upto_absent_in_left, left_well_formed}
@@ -52,13 +52,13 @@ module _ {State : Type 0} (ends : Ends State) (Good : State → Type 0) (kept : 
   -- the count n of runs killed in a row starts again at 0. If ids are left, it was killed while it synchronized, and n is one
   -- more. What it leaves in flight is `IsShortOfTheWord` for the new count
   pub record RunResult (n : ℕ) (u : UnderWay State) (r : Run State) (left : List ℕ) : Type 0 where
-    pub own : IsOwnIf width ends Good kept left (after_turns ends u r) r.moves
-    pub short : IsShortOfTheWord Good (killed_if left n) (left_if width ends left (after_turns ends u r) r.moves)
+    pub own : IsOwnIfBegun width ends Good kept left (after_turns ends u r) r.moves
+    pub short : IsShortOfTheWord Good (killed_unless_begun left n) (left_if_begun width ends left (after_turns ends u r) r.moves)
 
   -- each possible run over what is `IsShortOfTheWord` for the `n` runs killed in a row before has its `RunResult`, as long as at
   -- most five in a row are killed
   pub run_result : (n : ℕ) (u : UnderWay State) (r : Run State) (left : List ℕ) → (after_turns ends u r).left ≡ left → IsShortOfTheWord Good n u → AreTurns ends Good kept r.turns (begins u)
-      → ArePossibleIf width ends Good kept left (after_turns ends u r) r.moves → killed_if left n ≤ 5 → RunResult n u r left
+      → ArePossibleIfBegun width ends Good kept left (after_turns ends u r) r.moves → killed_unless_begun left n ≤ 5 → RunResult n u r left
   run_result n u r [] e short turns p few =
       let s = after_turns ends u r in
       let ended = begins_cleanly ends Good kept is u r.turns short.lines turns (short_lacks_the_word Good n u short) e in
@@ -77,7 +77,7 @@ module _ {State : Type 0} (ends : Ends State) (Good : State → Type 0) (kept : 
   all_own [] n u short runs few = tt
   all_own (r ∷ rs) n u short runs few =
       let one = run_result n u r (after_turns ends u r).left refl short runs.0.0 runs.0.1 few.0 in
-      (one.own, all_own rs (killed_if (after_turns ends u r).left n) (left_by_run width ends u r) one.short runs.1 few.1)
+      (one.own, all_own rs (killed_unless_begun (after_turns ends u r).left n) (left_by_run width ends u r) one.short runs.1 few.1)
 
   -- where what is in flight before the first of these possible runs is `IsWellFormed`, `HasRisingIds` holds of it, and few runs
   -- in a row are killed while they synchronize (`AreFewKilled`): the runs are their own (`AreOwn`)

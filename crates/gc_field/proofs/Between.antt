@@ -20,7 +20,7 @@ use Rattle.gc_field.specs.World.{Ends, Request, Sent, Numbered, Step, Send, Up_d
 use Rattle.gc_world.proofs.Places.{get_more, get_push}
 use Rattle.gc_world.proofs.Rows.{each_without, each_doubled}
 use Rattle.gc_field.specs.Begin.{UnderWay}
-use Rattle.gc_field.specs.Begun.{IsClean, eighth, ids_begun, nulls, ArePossibleOnceBegun}
+use Rattle.gc_field.specs.Begun.{IsClean, eighth_null, ids_begun, nulls, ArePossibleOnceBegun}
 use Rattle.gc_field.specs.Field.{Move, Sends, Tells, Comes, Foreign, OnLine, Anew, Changes, Joins, IsLineStep, moves, moved, ArePossible}
 use Rattle.gc_field.specs.Chains.{HasNoStartAmong, IsUndisturbed, HasEffect, AreCalls}
 use Rattle.gc_field.proofs.BegunFaithful.{each_of_eighth}
@@ -308,12 +308,12 @@ module _ {State : Type 0} (ends : Ends State) where
     goes_all (Joins line ∷ ms) w p k = absurd p.0
 
     -- a copy of the eighth null procedure was sent
-    last_was_sent : (x : Request) → x ≡ eighth → WasSent nulls (record { number = 7; line = x })
+    last_was_sent : (x : Request) → x ≡ eighth_null → WasSent nulls (record { number = 7; line = x })
     last_was_sent x e = (record { target = 0; call = Table NullProc; line = asked_line (Some 7) (Table NullProc) }, refl, sym (ap (λ (r : Request). r.call) e))
 
     -- after a clean synchronization the wire is `IsConsistent`
     consistent_begun : (u : UnderWay State) → IsClean Good kept u → IsConsistent (ids_begun u).wire
-    consistent_begun u clean = record { known = each_of_eighth (WasSent nulls) (λ x. x ≡ eighth) last_was_sent u.up clean.up; begun = tt }
+    consistent_begun u clean = record { known = each_of_eighth (WasSent nulls) (λ x. x ≡ eighth_null) last_was_sent u.up clean.up; begun = tt }
 
     -- after a clean synchronization, and possible moves, the wire is `IsConsistent`
     pub consistent_all : (ms : List (Move State)) (u : UnderWay State) → IsClean Good kept u → ArePossibleOnceBegun 7 ends u Good kept ms

@@ -29,7 +29,7 @@ use Rattle.gc_field.specs.World.{Ends, Up_deliver}
 use Rattle.std.proofs.lemmas.Option.{same_Some, slice_get_within}
 use Rattle.gc_field.specs.Begin.{AreTurns, UnderWay, begins, leaves, left_by_turns}
 use Rattle.gc_field.specs.Begin.{SyncModel}
-use Rattle.gc_field.specs.Beginnings.{ArePossibleIf, AreRuns, Run, after_turns, left_by_run}
+use Rattle.gc_field.specs.Beginnings.{ArePossibleIfBegun, AreRuns, Run, after_turns, left_by_run}
 use Rattle.gc_field.specs.Begun.{IsSafe, WasMadeOn, world_once_begun, ids_begun}
 use Rattle.gc_field.specs.Chains.{AreExecutedInChain, IsChainedTo, IsExecutedInChain}
 use Rattle.gc_field.specs.Field.{Move, Sends, Tells, Comes, Foreign, OnLine, Anew, Changes, Joins, seen}
@@ -93,8 +93,8 @@ record IsCutOf {State : Type 0} (t s : Stretch State) : Type 0 where
 
 module _ {State : Type 0} (ends : Ends State) (Good : State → Type 0) (kept : State → Option KeptReply) where
   -- the front of possible moves is possible
-  possible_cut : (left : List ℕ) (s : SyncModel State) (ms front later : List (Move State)) → ms ≡ front ++ later → ArePossibleIf 7 ends Good kept left s ms
-      → ArePossibleIf 7 ends Good kept left s front
+  possible_cut : (left : List ℕ) (s : SyncModel State) (ms front later : List (Move State)) → ms ≡ front ++ later → ArePossibleIfBegun 7 ends Good kept left s ms
+      → ArePossibleIfBegun 7 ends Good kept left s front
   possible_cut [] s ms front later e p = front_possible 7 ends Good kept ms front later (ids_begun (leaves s)) e p
   possible_cut (asked ∷ rest) s ms front later e p = front_nil front later (sym p ∙ e)
 
@@ -109,7 +109,7 @@ module _ {State : Type 0} (ends : Ends State) (Good : State → Type 0) (kept : 
   -- `CutRuns` of one part, p: its run is the first of possible runs, r, whose turns show those of p, cut after the moves that
   -- show the steps of p (`SplitSeen`)
   cut_one : (p : Part) (u : UnderWay State) (r : Run State) (rs : List (Run State)) → shown ends r.turns (begins u) ≡ p.sync_steps → SplitSeen r.moves p.steps
-      → AreTurns ends Good kept r.turns (begins u) → ArePossibleIf 7 ends Good kept (after_turns ends u r).left (after_turns ends u r) r.moves → CutRuns (p ∷ []) u (r ∷ rs)
+      → AreTurns ends Good kept r.turns (begins u) → ArePossibleIfBegun 7 ends Good kept (after_turns ends u r).left (after_turns ends u r) r.moves → CutRuns (p ∷ []) u (r ∷ rs)
   cut_one p u r rs e x turns possible = record {
     runs = record { turns = r.turns; moves = x.front } ∷ [];
     shown = (e, x.steps, tt);
@@ -156,7 +156,7 @@ module _ {State : Type 0} (ends : Ends State) (Good : State → Type 0) (kept : 
 
   -- `CutRuns` is preserved if a part and the possible run that shows it are put before the parts and the runs
   cut_more : (p next : Part) (ps : List Part) (u : UnderWay State) (r : Run State) (rs : List (Run State)) → shown ends r.turns (begins u) ≡ p.sync_steps → seen r.moves ≡ p.steps
-      → AreTurns ends Good kept r.turns (begins u) × ArePossibleIf 7 ends Good kept (after_turns ends u r).left (after_turns ends u r) r.moves
+      → AreTurns ends Good kept r.turns (begins u) × ArePossibleIfBegun 7 ends Good kept (after_turns ends u r).left (after_turns ends u r) r.moves
       → CutRuns (next ∷ ps) (left_by_run 7 ends u r) rs → CutRuns (p ∷ next ∷ ps) u (r ∷ rs)
   cut_more p next ps u r rs e f good c = record {
     runs = r ∷ c.runs;

@@ -14,7 +14,7 @@ use Rattle.gc_field.specs.Chains.{HasEffect}
 use Rattle.gc_field.specs.CountingChain.{Counter, IsCountedInField, acts, bare, at_start, null_replies, counter_handed, counting, counts, first_reply, kept_by, moves, once_counted, program, stretch, third_reply}
 use Rattle.gc_field.specs.Instrument.{IsAnInstrument, KeepsItsReply, AnyState, all_known, own_reply}
 use Rattle.gc_field.specs.Begun.{WasMadeOn}
-use Rattle.gc_field.specs.Needed.{Keeper, held, keeper_kept, giving}
+use Rattle.gc_field.specs.Needed.{KeptNumber, held, keeper_kept, giving}
 use Rattle.gc_field.proofs.ChainWitness.{all_chained}
 use Rattle.gc_field.proofs.Needed.{repeats_or_executes_keeps, repeats_or_executes_reads, repeats_or_executes_repeats}
 use Rattle.gc_station.proofs.Going.{runs-append}
@@ -35,7 +35,7 @@ kept_is_held : (x : ℕ × ℕ) (id : ℕ) → x.0 ≡ id → held (Some x) id �
 kept_is_held x id same e = let e' : Some x.1 ≡ None = sym (ap (λ b. cond b (Some x.1) None) (eq-eqb x.0 id same)) ∙ e in cc
 
 -- a request with the id of the kept reply isn't executed
-held_not_executed : (k : Keeper) (id : ℕ) (o : Option ℕ) (line : List ℕ) → held k id ≡ o → keeper_kept k ≡ Some (record { id = id; line = line }) → (s : Counter)
+held_not_executed : (k : KeptNumber) (id : ℕ) (o : Option ℕ) (line : List ℕ) → held k id ≡ o → keeper_kept k ≡ Some (record { id = id; line = line }) → (s : Counter)
     → (counter_handed s id o).executed ≡ false
 held_not_executed k id (Some n) line h e s = refl
 held_not_executed None id None line h e s = let never : ⊥ = cc in absurd never

@@ -53,23 +53,23 @@ module _ {State : Type 0} (width : ℕ) (narrow : width ≤ 7) (ends : Ends Stat
 
   -- if `AllExcepted` holds of a sound world in which m requests were sent, request m isn't sent yet; so if m is at most seven
   -- after the last call of the table that the instrument was handed, `AllExceptedBut` holds of the world with m
-  pub renewed : (M : ℕ → Asked → List ℕ → Type 0) (m : ℕ) (w : World (ByNumber Asked) State) → Sound width ends Good w → (t : AllExcepted w) → length w.wire.sent ≡ m → m ≤ t.table + 7
+  pub renewed : (M : ℕ → Asked → List ℕ → Type 0) (m : ℕ) (w : World (ByNumber Asked) State) → Sound width ends Good w → (t : AllExcepted w) → length w.wire.sent ≡ m → m ≤ t.last + 7
       → AllExceptedBut M m w
   renewed M m w s t size near =
       let v = w.wire in
-      let P : ℕ → List ℕ → Type 0 = λ n line. Vouched width narrow is_of_table ends Good kept keeper low AnyRequest ⊥ AnyLine v.sent v.executed v.made t.table n line in
-      let Q : ℕ → List ℕ → Type 0 = λ n line. Vouched width narrow is_of_table ends Good kept keeper low (AllBut m) ⊥ M v.sent v.executed v.made t.table n line in
+      let P : ℕ → List ℕ → Type 0 = λ n line. Vouched width narrow is_of_table ends Good kept keeper low AnyRequest ⊥ AnyLine v.sent v.executed v.made t.last n line in
+      let Q : ℕ → List ℕ → Type 0 = λ n line. Vouched width narrow is_of_table ends Good kept keeper low (AllBut m) ⊥ M v.sent v.executed v.made t.last n line in
       let f : (n : ℕ) (line : List ℕ) → n < t.top → P n line → Q n line = λ n line l p. (p.0, inl (λ e. omega (arith, e, l, t.within, size))) in
       record {
         top = t.top;
-        table = t.table;
+        last = t.last;
         counted = t.counted;
         within = t.within;
         lower = t.lower;
         least = t.least;
         above = t.above;
         below = t.below;
-        holds = kept_below P Q w.client.since t.top t.table f (kept v.state) t.holds;
+        holds = kept_below P Q w.client.since t.top t.last f (kept v.state) t.holds;
         lines = t.lines;
         near = inr (λ n. is_near n near);
         coming =
@@ -81,10 +81,10 @@ module _ {State : Type 0} (width : ℕ) (narrow : width ≤ 7) (ends : Ends Stat
     where
       -- where m is at most seven after the last call of the table that the instrument was handed, each request is another one
       -- than m, or is at most seven after that call, too
-      is_near : (n : ℕ) → m ≤ t.table + 7 → AllBut m n ⊎ (n ≤ t.table + 7)
+      is_near : (n : ℕ) → m ≤ t.last + 7 → AllBut m n ⊎ (n ≤ t.last + 7)
       is_near n near = by_case (ltb n m) (ltb m n) refl refl where
         -- the lemma above, by whether n is below m (`a`), and m below n (`b`)
-        by_case : (a b : Bool) → ltb n m ≡ a → ltb m n ≡ b → AllBut m n ⊎ (n ≤ t.table + 7)
+        by_case : (a b : Bool) → ltb n m ≡ a → ltb m n ≡ b → AllBut m n ⊎ (n ≤ t.last + 7)
         by_case true b e f = let l : n < m = ltb-true n m e in inl (λ same. omega (arith, same, l))
         by_case false true e f = let l : m < n = ltb-true m n f in inl (λ same. omega (arith, same, l))
         by_case false false e f = let l : n ≤ m = ltb-false m n f in inr (omega (arith, l, near))
@@ -97,15 +97,15 @@ module _ {State : Type 0} (width : ℕ) (narrow : width ≤ 7) (ends : Ends Stat
 
   -- where `low` is at least 8, and `AllExcepted` holds: if request m is sent next, and after the table (`IsBehindTheTable`), m is
   -- at most seven after the last call of the table that the instrument was handed
-  pub near_the_table : (m : ℕ) (w : World (ByNumber Asked) State) → (t : AllExcepted w) → 8 ≤ low → length w.wire.sent ≡ m → IsBehindTheTable w.wire → m ≤ t.table + 7
+  pub near_the_table : (m : ℕ) (w : World (ByNumber Asked) State) → (t : AllExcepted w) → 8 ≤ low → length w.wire.sent ≡ m → IsBehindTheTable w.wire → m ≤ t.last + 7
   near_the_table m w t eight size is =
       elim is.3 [
         | inl seven ↦ omega (arith, seven, size, is.2, t.least, eight)
         | inr e ↦ (
-            let P : ℕ → List ℕ → Type 0 = λ n line. Vouched width narrow is_of_table ends Good kept keeper low AnyRequest ⊥ AnyLine w.wire.sent w.wire.executed w.wire.made t.table n line in
+            let P : ℕ → List ℕ → Type 0 = λ n line. Vouched width narrow is_of_table ends Good kept keeper low AnyRequest ⊥ AnyLine w.wire.sent w.wire.executed w.wire.made t.last n line in
             let i : 0 + is.0 ≡ is.0 = omega arith in
             let so : HoldsOfOutcome P is.0 e.1.outcome = subst (λ k. HoldsOfOutcome P k e.1.outcome) i (holds_get P 0 w.wire.settled is.0 e.1 t.answers e.4) in
-            let no_newer : IsNoNewerKnown is_of_table w.wire.sent t.table is.0 = given_by_reply P (IsNoNewerKnown is_of_table w.wire.sent t.table is.0) is.0 e.1.outcome (λ line p. p.0) e.5 so in
+            let no_newer : IsNoNewerKnown is_of_table w.wire.sent t.last is.0 = given_by_reply P (IsNoNewerKnown is_of_table w.wire.sent t.last is.0) is.0 e.1.outcome (λ line p. p.0) e.5 so in
             elim no_newer [
               | inl le ↦ omega (arith, le, size, is.2)
               | inr u ↦ absurd (known_not_unknown is_of_table w.wire.sent is.0 e.0 e.2 e.3 u)

@@ -21,7 +21,7 @@ use Rattle.gc_values.specs.Digits.{AreDigits}
 use Rattle.gc_values.specs.Item.{IsValue, text}
 use Rattle.gc_values.specs.Lists.{AreValues}
 use Rattle.gc_values.specs.Whole.{signed_text}
-use Rattle.gc_values.specs.Written.{minus_text, whole_text, behind_text, written}
+use Rattle.gc_values.specs.Written.{minus_text, whole_text, places_text, written}
 use Rattle.gc_values.specs.declared.value.Value.{Value}
 use Rattle.gc_values.specs.declared.value.Value.TheVariants as value
 use Rattle.gc_values.proofs.Every.{every_drop, every_take, every_weaker as all_on}
@@ -77,8 +77,8 @@ above_signed z = all_append (λ b. 37 < b) (minus_text z) (whole_text (unsigned_
 above_written : (m : ℤ) (s : ℕ) → AreAbove (written m s)
 above_written m s =
     let n = unsigned_abs m in
-    all_append (λ b. 37 < b) (minus_text m) (whole_text (n / 10 ^ s) ++ (46 ∷ behind_text s (n % 10 ^ s))) (above_minus m)
-    (all_append (λ b. 37 < b) (whole_text (n / 10 ^ s)) (46 ∷ behind_text s (n % 10 ^ s)) (above_whole (n / 10 ^ s)) (lit< tt, above_digits (behind_text s (n % 10 ^ s)) (is_fraction_text n s).digits))
+    all_append (λ b. 37 < b) (minus_text m) (whole_text (n / 10 ^ s) ++ (46 ∷ places_text s (n % 10 ^ s))) (above_minus m)
+    (all_append (λ b. 37 < b) (whole_text (n / 10 ^ s)) (46 ∷ places_text s (n % 10 ^ s)) (above_whole (n / 10 ^ s)) (lit< tt, above_digits (places_text s (n % 10 ^ s)) (is_fraction_text n s).digits))
 
 -- a hexadecimal digit is above the sign
 above_digit : (d : ℕ) → d < 16 → 37 < slice_index lower_digits d

@@ -10,7 +10,7 @@ use Rattle.gc_client.specs.declared.window.TheConstants.{WINDOW}
 use Rattle.gc_instrument.specs.State.{KeptReply}
 use Rattle.gc_field.specs.World.{Ends, Request}
 use Rattle.gc_field.specs.Begin.{InFlight, AreTurns, SyncTurn, UnderWay, begins, ids_under_way, leaves}
-use Rattle.gc_field.specs.Beginnings.{ArePossibleIf, AreRuns, Run, left_by_run, left_by_runs, after_turns}
+use Rattle.gc_field.specs.Beginnings.{ArePossibleIfBegun, AreRuns, Run, left_by_run, left_by_runs, after_turns}
 use Rattle.gc_field.specs.Field.{Move}
 use Rattle.gc_field.specs.Runs.{Program}
 use Rattle.gc_field.specs.InARow.{AreFaithful, AreFewKilledWithTurns, AreInARow, ProgramsInARowAreFaithful, killed_by, killed_over}
@@ -35,7 +35,7 @@ module _ {State : Type 0} (ends : Ends State) (Good : State → Type 0) (kept : 
   -- if what is in flight is `IsShortOfTheWord` for the runs in a row that were killed while they synchronized, so is what one
   -- possible run of a station leaves, as long as these runs are at most five
   after_run : (ts : List (SyncTurn State)) (ms : List (Move State)) (n : ℕ) (u : UnderWay State) → IsShortOfTheWord Good n u → AreTurns ends Good kept ts (begins u)
-      → ArePossibleIf WINDOW ends Good kept (after_turns ends u (run ts ms)).left (after_turns ends u (run ts ms)) ms → killed_by ends n u (run ts ms) ts ≤ 5
+      → ArePossibleIfBegun WINDOW ends Good kept (after_turns ends u (run ts ms)).left (after_turns ends u (run ts ms)) ms → killed_by ends n u (run ts ms) ts ≤ 5
       → IsShortOfTheWord Good (killed_by ends n u (run ts ms) ts) (left_by_run WINDOW ends u (run ts ms))
   after_run [] ms n u short turns p few = record {
     lines = left_well_formed ends Good kept is u [] short.lines tt;

@@ -21,7 +21,7 @@ use Rattle.gc_field.specs.Begun.{IsClean, IsFaithful, world_once_begun, ids_begu
 use Rattle.gc_field.specs.Field.{Move, Sends, Tells, Comes, Foreign, OnLine, Anew, Changes, Joins, moves, moved, seen}
 use Rattle.gc_field.specs.Instrument.{IsAnInstrument}
 use Rattle.gc_field.specs.Laws.{asked}
-use Rattle.gc_field.specs.Runs.{IsFaithfulThroughout, IsInTime, times_out, world}
+use Rattle.gc_field.specs.Runs.{IsFaithfulThroughout, SettlesByFirstReply, times_out, world}
 use Rattle.gc_field.specs.Shown.{Stretch}
 use Rattle.gc_field.proofs.Instruments.{exchange_of}
 use Rattle.gc_field.proofs.Possible.{front_possible, later_possible, moved_append}
@@ -178,7 +178,7 @@ module _ {State : Type 0} (ends : Ends State) (Good : State → Type 0) (kept : 
       sent_by_test w target call deadline (nat_eq (length w.client.waiting) 7) (ne_eqb (length w.client.waiting) 7 (λ e. omega (arith, e, room))) (sent_counts w f.accounted)
 
   -- after a clean synchronization a stretch with possible moves is in time
-  in_time_clean : (s : Stretch State) → IsClean Good kept s.from → ArePossibleOnceBegun 7 ends s.from Good kept s.moves → IsInTime ends s
+  in_time_clean : (s : Stretch State) → IsClean Good kept s.from → ArePossibleOnceBegun 7 ends s.from Good kept s.moves → SettlesByFirstReply ends s
   in_time_clean s clean all_possible = λ before between later target call deadline line rest e room down le.
       let front = before ++ Sends target call deadline ∷ between in
       let w = world_once_begun 7 ends s.from before in
@@ -197,6 +197,6 @@ module _ {State : Type 0} (ends : Ends State) (Good : State → Type 0) (kept : 
       m.2 ∙ ap (λ q. Some (settled_by_line q line)) same
 
   -- a sound stretch is in time
-  pub in_time : (s : Stretch State) → IsSoundStretch s → IsInTime ends s
+  pub in_time : (s : Stretch State) → IsSoundStretch s → SettlesByFirstReply ends s
   in_time s sound = λ before between later target call deadline line rest e.
       in_time_clean s (clean_of s sound (before ++ Sends target call deadline ∷ between) later (Comes line) e) sound.possible before between later target call deadline line rest e

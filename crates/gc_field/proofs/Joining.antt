@@ -33,12 +33,12 @@ use Rattle.gc_world.specs.Record.{IsReplyTo}
 use Rattle.std.proofs.lemmas.Option.{slice_get_within}
 use Rattle.gc_field.specs.World.{Ends}
 use Rattle.gc_field.specs.Begin.{IsWellFormed, LacksTheWord, AreTurns, UnderWay, begins, leaves, left_by_turns}
-use Rattle.gc_field.specs.Beginnings.{AreOwn, ArePossibleIf, AreRuns, IsOwnIf, Run, after_turns, left_by_run, left_if, under_way_on}
+use Rattle.gc_field.specs.Beginnings.{AreOwn, ArePossibleIfBegun, AreRuns, IsOwnIfBegun, Run, after_turns, left_by_run, left_if_begun, under_way_on}
 use Rattle.gc_field.specs.Begun.{IsFaithful, IsSafe, WasMadeOn, world_once_begun, ArePossibleOnceBegun}
 use Rattle.gc_field.specs.Field.{seen}
 use Rattle.gc_field.specs.Instrument.{IsAnInstrument}
 use Rattle.gc_field.specs.Laws.{asked}
-use Rattle.gc_field.specs.Runs.{IsInField, IsOwnAnswer, Program, program_parts, LateHasExecution, RunsInFieldAreFaithful, IsFaithfulThroughout, IsInTime, AreSentAs, own_sent, own_settled, world, written_over}
+use Rattle.gc_field.specs.Runs.{IsInField, IsOwnAnswer, Program, program_parts, LateHasExecution, RunsInFieldAreFaithful, IsFaithfulThroughout, SettlesByFirstReply, AreSentAs, own_sent, own_settled, world, written_over}
 use Rattle.gc_field.specs.Shown.{AreShownAs, Stretch, shown, stretches}
 use Rattle.gc_field.proofs.BeginJoin.{begins_cleanly}
 use Rattle.gc_field.proofs.BegunFaithful.{sent_is}
@@ -66,13 +66,13 @@ module _ {State : Type 0} (ends : Ends State) (Good : State → Type 0) (kept : 
   -- what holds of a run, by the ids that are left of its word: if none is, it has synchronized cleanly; and its stretch is sound
   -- and faithful
   record IsSoundRun (u : UnderWay State) (r : Run State) (left : List ℕ) : Type 0 where
-    own : IsOwnIf 7 ends Good kept left (after_turns ends u r) r.moves
+    own : IsOwnIfBegun 7 ends Good kept left (after_turns ends u r) r.moves
     sound : IsSoundStretch ends Good kept is (record { from = left_by_turns ends r.turns u; moves = r.moves })
     faithful : IsFaithful 7 ends (left_by_turns ends r.turns u) r.moves Good kept
 
   -- each possible run that may begin is `IsSoundRun`
   sound_run : (u : UnderWay State) (r : Run State) (left : List ℕ) → (after_turns ends u r).left ≡ left → MayBegin u → AreTurns ends Good kept r.turns (begins u)
-      → ArePossibleIf 7 ends Good kept left (after_turns ends u r) r.moves → IsSoundRun u r left
+      → ArePossibleIfBegun 7 ends Good kept left (after_turns ends u r) r.moves → IsSoundRun u r left
   sound_run u r [] e may turns p =
       let from = leaves (after_turns ends u r) in
       let ended = begins_cleanly ends Good kept is u r.turns may.lines turns may.none e in
@@ -88,15 +88,15 @@ module _ {State : Type 0} (ends : Ends State) (Good : State → Type 0) (kept : 
 
   -- where a possible run that may begin has synchronized, the next one may begin over what it leaves in flight
   leaves_next : (u : UnderWay State) (r : Run State) → MayBegin u
-      → AreTurns ends Good kept r.turns (begins u) → ArePossibleIf 7 ends Good kept (after_turns ends u r).left (after_turns ends u r) r.moves
+      → AreTurns ends Good kept r.turns (begins u) → ArePossibleIfBegun 7 ends Good kept (after_turns ends u r).left (after_turns ends u r) r.moves
       → (after_turns ends u r).left ≡ [] → MayBegin (left_by_run 7 ends u r)
   leaves_next u r may turns p e =
       let s = after_turns ends u r in
       let clean = (begins_cleanly ends Good kept is u r.turns may.lines turns may.none e).clean in
-      let possible = subst (λ w. ArePossibleIf 7 ends Good kept w s r.moves) e p in
+      let possible = subst (λ w. ArePossibleIfBegun 7 ends Good kept w s r.moves) e p in
       let good = runs_leave_good ends Good kept is 7 (omega arith) (leaves s) clean r.moves possible in
       let row = runs_leave_rising_ids ends Good kept is 7 (omega arith) (leaves s) clean r.moves possible in
-      subst (λ w. MayBegin (left_if 7 ends w s r.moves)) (sym e)
+      subst (λ w. MayBegin (left_if_begun 7 ends w s r.moves)) (sym e)
       (record { lines = record { ids = good.1; good = good.0 }; none = rising_lack_the_word (under_way_on (world_once_begun 7 ends (leaves s) r.moves).wire) row })
 
   -- A stretch with its part.
@@ -409,6 +409,6 @@ module _ {State : Type 0} (ends : Ends State) (Good : State → Type 0) (kept : 
         sent = sent;
         written = written;
         meant = are_meant x.plan x.commands start x.acts fine h.runs;
-        in_time = each_fits (IsInTime ends) (λ p s f. in_time ends Good kept is s f.sound) ps ss fit.0;
+        in_time = each_fits (SettlesByFirstReply ends) (λ p s f. in_time ends Good kept is s f.sound) ps ss fit.0;
         each = each_fits (IsFaithfulThroughout ends Good kept) (λ p s f. faithful_throughout ends Good kept is s f.sound) ps ss fit.0;
       }

@@ -1,4 +1,4 @@
--- The request to which an instrument's kept reply is: the last one that it was handed and knows (`table`), or a later one.
+-- The request to which an instrument's kept reply is: the last one that it was handed and knows (`last`), or a later one.
 -- And what it means that a line is vouched for: it was made for its request, as that request's call was executed. The id of
 -- request n is the difference of n and `since`, modulo 8.
 use Rattle.std.proofs.Common.{◌≡◌, ℕ, ◌+◌, ◌-◌, ◌%◌, ◌<◌, ◌≤◌, ◌⊎◌, inl, inr, Bool, true, false, List, Option, Some, None, refl, sym, ◌∙◌, ap, subst, arith}
@@ -17,89 +17,89 @@ use Rattle.gc_field.proofs.Once.{IsUnknown, IsUnknownOrRetained, Log}
 
 -- The newest known request.
 
--- the number of the newest known request, once request n was handed, where `table` was it before; `known` says whether request n
--- is known
-abbrev pub newest : (known : Bool) (n table : ℕ) → ℕ
-newest true n table = n
-newest false n table = table
+-- the number of the newest known request once request n was handed, where it was `last` before; `known` says whether request n is
+-- known
+abbrev pub newest : (known : Bool) (n last : ℕ) → ℕ
+newest true n last = n
+newest false n last = last
 
--- if request n isn't before the newest known one, `table`, the newest known one once n was handed isn't before `table` either
-pub newest_not_before : (known : Bool) (n table : ℕ) → table ≤ n → table ≤ newest known n table
-newest_not_before true n table le = le
-newest_not_before false n table le = omega arith
+-- if n isn't before `last`, the newest known request once n was handed isn't before `last` either
+pub newest_not_before : (known : Bool) (n last : ℕ) → last ≤ n → last ≤ newest known n last
+newest_not_before true n last le = le
+newest_not_before false n last le = omega arith
 
--- if request n isn't before the newest known one, `table`, the newest known one once n was handed isn't later than n
-pub newest_not_later : (known : Bool) (n table : ℕ) → table ≤ n → newest known n table ≤ n
-newest_not_later true n table le = omega arith
-newest_not_later false n table le = le
+-- if n isn't before `last`, the newest known request once n was handed is n or an earlier one
+pub newest_not_later : (known : Bool) (n last : ℕ) → last ≤ n → newest known n last ≤ n
+newest_not_later true n last le = omega arith
+newest_not_later false n last le = le
 
--- request n isn't a known one that is later than `table`, the newest known one: it isn't later, or it isn't known
-abbrev pub IsNoNewerKnown : (knows : Asked → Bool) (sent : List Sent) (table n : ℕ) → Type 0
-IsNoNewerKnown knows sent table n = (n ≤ table) ⊎ IsUnknown knows sent n
+-- request n isn't a known one that is later than `last`: it isn't later, or it isn't known
+abbrev pub IsNoNewerKnown : (knows : Asked → Bool) (sent : List Sent) (last n : ℕ) → Type 0
+IsNoNewerKnown knows sent last n = (n ≤ last) ⊎ IsUnknown knows sent n
 
 -- once request n was handed, it is `IsNoNewerKnown`, if it is `IsUnknown` where `known` is false
-pub newest_no_newer : (knows : Asked → Bool) (sent : List Sent) (known : Bool) (n table : ℕ) → ((known ≡ false) → IsUnknown knows sent n) → IsNoNewerKnown knows sent (newest known n table) n
-newest_no_newer knows sent true n table f = inl (omega arith)
-newest_no_newer knows sent false n table f = inr (f refl)
+pub newest_no_newer : (knows : Asked → Bool) (sent : List Sent) (known : Bool) (n last : ℕ) → ((known ≡ false) → IsUnknown knows sent n) → IsNoNewerKnown knows sent (newest known n last) n
+newest_no_newer knows sent true n last f = inl (omega arith)
+newest_no_newer knows sent false n last f = inr (f refl)
 
 -- What is kept.
 
 module _ (P : ℕ → List ℕ → Type 0) (since : ℕ) where
-  -- the kept reply `k` is to request `number`, which is `table` or a later one, from `since` on and before `top`: it has that
+  -- the kept reply `k` is to request `number`, which is `last` or a later one, from `since` on and before `top`: it has that
   -- request's id, and the property P
-  pub record IsKept (top table : ℕ) (k : KeptReply) : Type 0 where
+  pub record IsKept (top last : ℕ) (k : KeptReply) : Type 0 where
     pub number : ℕ
     pub recent : since ≤ number
     pub before : number < top
-    pub behind : table ≤ number
+    pub behind : last ≤ number
     pub id : k.id ≡ (number - since) % 8
     pub line : P number k.line
 
   -- if anything is kept, `IsKept` holds of it
-  abbrev pub KeptIs : (top table : ℕ) → Option KeptReply → Type 0
-  KeptIs top table None = Unit {0}
-  KeptIs top table (Some k) = IsKept top table k
+  abbrev pub KeptIs : (top last : ℕ) → Option KeptReply → Type 0
+  KeptIs top last None = Unit {0}
+  KeptIs top last (Some k) = IsKept top last k
 
   -- if nothing is kept, `KeptIs` holds
-  pub kept_none : (top table : ℕ) (k : Option KeptReply) → k ≡ None → KeptIs top table k
-  kept_none top table k e = subst (λ k. KeptIs top table k) (sym e) tt
+  pub kept_none : (top last : ℕ) (k : Option KeptReply) → k ≡ None → KeptIs top last k
+  kept_none top last k e = subst (λ k. KeptIs top last k) (sym e) tt
 
   -- if `IsKept` holds of a reply, and what is kept is that reply, or nothing, `KeptIs` holds
-  pub kept_one : (top table : ℕ) (own : KeptReply) (k : Option KeptReply) → IsKept top table own → IsOwnOrNone own k → KeptIs top table k
-  kept_one top table own k is (inl none) = kept_none top table k none
-  kept_one top table own k is (inr e) = subst (λ k. KeptIs top table k) (sym e) is
+  pub kept_one : (top last : ℕ) (own : KeptReply) (k : Option KeptReply) → IsKept top last own → IsOwnOrNone own k → KeptIs top last k
+  kept_one top last own k is (inl none) = kept_none top last k none
+  kept_one top last own k is (inr e) = subst (λ k. KeptIs top last k) (sym e) is
 
   -- `KeptIs` is preserved if what is kept stays, or nothing is kept any more
-  pub kept_still : (top table : ℕ) (k after : Option KeptReply) → MayForget k after → KeptIs top table k → KeptIs top table after
-  kept_still top table k after (inl none) h = kept_none top table after none
-  kept_still top table k after (inr same) h = subst (λ k. KeptIs top table k) (sym same) h
+  pub kept_still : (top last : ℕ) (k after : Option KeptReply) → MayForget k after → KeptIs top last k → KeptIs top last after
+  kept_still top last k after (inl none) h = kept_none top last after none
+  kept_still top last k after (inr same) h = subst (λ k. KeptIs top last k) (sym same) h
 
   -- where `KeptIs` holds with `top`, it holds with `next` in its place, if `top` is at most `next`
-  kept_longer : (top next table : ℕ) (k : Option KeptReply) → top ≤ next → KeptIs top table k → KeptIs next table k
-  kept_longer top next table None le h = tt
-  kept_longer top next table (Some k) le h = record { number = h.number; recent = h.recent; before = omega (arith, h.before, le); behind = h.behind; id = h.id; line = h.line }
+  kept_longer : (top next last : ℕ) (k : Option KeptReply) → top ≤ next → KeptIs top last k → KeptIs next last k
+  kept_longer top next last None le h = tt
+  kept_longer top next last (Some k) le h = record { number = h.number; recent = h.recent; before = omega (arith, h.before, le); behind = h.behind; id = h.id; line = h.line }
 
   -- where request n is handed to the instrument, and no later one was handed before (`top`), `KeptIs` is preserved, with n + 1
-  -- for `top`, and the newest known request for `table`: by what is kept afterwards (`MayBeKept`), if `IsKept` holds of the
+  -- for `top`, and the newest known request for `last`: by what is kept afterwards (`MayBeKept`), if `IsKept` holds of the
   -- reply to n (`own`)
-  pub kept_handed : (top table n : ℕ) (own : KeptReply) (known : Bool) (k after : Option KeptReply) → top ≤ n + 1
-      → IsKept (n + 1) (newest known n table) own → MayBeKept known own k after → KeptIs top table k → KeptIs (n + 1) (newest known n table) after
-  kept_handed top table n own known k after le is (inl now) h = kept_one (n + 1) (newest known n table) own after is now
-  kept_handed top table n own known k after le is (inr same) h =
-      subst (λ t. KeptIs (n + 1) t after) (sym (ap (λ b. newest b n table) same.0))
-      (kept_longer top (n + 1) table after le (kept_still top table k after (inr same.1) h))
+  pub kept_handed : (top last n : ℕ) (own : KeptReply) (known : Bool) (k after : Option KeptReply) → top ≤ n + 1
+      → IsKept (n + 1) (newest known n last) own → MayBeKept known own k after → KeptIs top last k → KeptIs (n + 1) (newest known n last) after
+  kept_handed top last n own known k after le is (inl now) h = kept_one (n + 1) (newest known n last) own after is now
+  kept_handed top last n own known k after le is (inr same) h =
+      subst (λ t. KeptIs (n + 1) t after) (sym (ap (λ b. newest b n last) same.0))
+      (kept_longer top (n + 1) last after le (kept_still top last k after (inr same.1) h))
 
 -- where P implies Q of each number below `top`, `KeptIs` of P gives `KeptIs` of Q
-pub kept_below : (P Q : ℕ → List ℕ → Type 0) (since top table : ℕ) → ((n : ℕ) (line : List ℕ) → n < top → P n line → Q n line) → (k : Option KeptReply)
-    → KeptIs P since top table k → KeptIs Q since top table k
-kept_below P Q since top table f None h = tt
-kept_below P Q since top table f (Some k) h =
+pub kept_below : (P Q : ℕ → List ℕ → Type 0) (since top last : ℕ) → ((n : ℕ) (line : List ℕ) → n < top → P n line → Q n line) → (k : Option KeptReply)
+    → KeptIs P since top last k → KeptIs Q since top last k
+kept_below P Q since top last f None h = tt
+kept_below P Q since top last f (Some k) h =
     record { number = h.number; recent = h.recent; before = h.before; behind = h.behind; id = h.id; line = f h.number k.line h.before h.line }
 
 -- where P implies Q, `KeptIs` of P gives `KeptIs` of Q
-pub kept_more : (P Q : ℕ → List ℕ → Type 0) → ((n : ℕ) (line : List ℕ) → P n line → Q n line) → (since top table : ℕ) (k : Option KeptReply)
-    → KeptIs P since top table k → KeptIs Q since top table k
-kept_more P Q f since top table k h = kept_below P Q since top table (λ n line l p. f n line p) k h
+pub kept_more : (P Q : ℕ → List ℕ → Type 0) → ((n : ℕ) (line : List ℕ) → P n line → Q n line) → (since top last : ℕ) (k : Option KeptReply)
+    → KeptIs P since top last k → KeptIs Q since top last k
+kept_more P Q f since top last k h = kept_below P Q since top last (λ n line l p. f n line p) k h
 
 -- What is vouched for.
 

@@ -170,7 +170,7 @@ module _ {State : Type 0} (width : ℕ) (narrow : width ≤ 7) (knows : Asked �
 
   -- `Vouched` in a `Trusted` world: request n is `IsNoNewerKnown`; and it is excepted, or the line is vouched for as its reply
   abbrev Vouches : (w : World (ByNumber Asked) State) → Trusted w → ℕ → List ℕ → Type 0
-  Vouches w t n line = Vouched width narrow knows ends Good kept keeper low E MustKnow M w.wire.sent w.wire.executed w.wire.made t.table n line
+  Vouches w t n line = Vouched width narrow knows ends Good kept keeper low E MustKnow M w.wire.sent w.wire.executed w.wire.made t.last n line
 
   -- where `Vouches` holds of request m, which isn't excepted, and a line, the line is vouched for as its reply (`IsVouched`)
   own_line : (w : World (ByNumber Asked) State) (t : Trusted w) (m : ℕ) (line : List ℕ) → (E m → ⊥) → Vouches w t m line → IsVouched ends Good M w.wire.sent w.wire.executed w.wire.made m line
@@ -273,7 +273,7 @@ module _ {State : Type 0} (width : ℕ) (narrow : width ≤ 7) (knows : Asked �
         let known : knows x.line.call ≡ true = sym (ap knows o.0.call) ∙ all_at (λ (r : Sent). knows r.call ≡ true) v.sent x.number o.0.request f.known o.0.found in
         record {
           top = 1;
-          table = 0;
+          last = 0;
           counted = omega (arith, f.count);
           within = omega (arith, g.0.sent, s.counted);
           lower = omega arith;

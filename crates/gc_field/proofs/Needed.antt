@@ -17,13 +17,13 @@ use Rattle.gc_field.specs.Begin.{none_under_way}
 use Rattle.gc_field.specs.Begun.{IsClean, wire_over_empty_line}
 use Rattle.gc_field.specs.Instrument.{IsAnInstrument, MayBeKept, AnyState, never_kept, own_reply}
 use Rattle.gc_field.specs.Laws.{WasExecuted}
-use Rattle.gc_field.specs.Needed.{Keeper, IsAllNeeded, IsUnbroken, giving, refusal, keeper_kept, keeper, held, repeats_or_executes, keeper_handed, handed_if_known, breakable_handed, executes_again, refuses_raws, sound, forgets, repeated_request}
+use Rattle.gc_field.specs.Needed.{KeptNumber, IsAllNeeded, IsUnbroken, giving, refusal, keeper_kept, keeper, held, repeats_or_executes, keeper_handed, handed_if_known, breakable_handed, executes_again, refuses_raws, sound, forgets, repeated_request}
 use Rattle.gc_field.specs.Once.{ExecutesOnce}
 use Rattle.gc_field.specs.World.{Sent}
 use Rattle.gc_field.proofs.Instruments.{keeps_none}
 
 -- where n is held for an id, the reply with that id and n is kept
-held_is_kept : (k : Keeper) (id n : ℕ) → held k id ≡ Some n → keeper_kept k ≡ Some (record { id = id; line = giving id n })
+held_is_kept : (k : KeptNumber) (id n : ℕ) → held k id ≡ Some n → keeper_kept k ≡ Some (record { id = id; line = giving id n })
 held_is_kept None id n e = let never : ⊥ = cc in absurd never
 held_is_kept (Some x) id n e = chosen (nat_eq x.0 id) refl e where
   -- the lemma above, by whether the number is kept with this id (`b`)
@@ -45,7 +45,7 @@ module _ {State : Type 0} (next : State) (new id : ℕ) where
   repeats_or_executes_reads s (Some n) small = reads_giving id n small
   repeats_or_executes_reads s None small = reads_giving id new small
 
-  module _ (keeps : State → Keeper) where
+  module _ (keeps : State → KeptNumber) where
     -- a line that `repeats_or_executes` sends without executing the request is the one that it keeps, for this id
     pub repeats_or_executes_repeats : (s : State) (o : Option ℕ) → held (keeps s) id ≡ o → (repeats_or_executes next new id s o).executed ≡ false
         → keeper_kept (keeps s) ≡ Some (own_reply id (repeats_or_executes next new id s o))
@@ -60,24 +60,24 @@ module _ {State : Type 0} (next : State) (new id : ℕ) where
     repeats_or_executes_keeps s None e own = ap keeper_kept own
 
 -- the reply of `keeper_handed` to a request with an id below 8 reads as one with that id
-keeper_reads : (k : Keeper) (id : ℕ) (o : Option ℕ) → id < 8 → heard (keeper_handed id k o).reply ≡ Some id
-keeper_reads k id o small = repeats_or_executes_reads {State = Keeper} (Some (id, 0)) 0 id k o small
+keeper_reads : (k : KeptNumber) (id : ℕ) (o : Option ℕ) → id < 8 → heard (keeper_handed id k o).reply ≡ Some id
+keeper_reads k id o small = repeats_or_executes_reads {State = KeptNumber} (Some (id, 0)) 0 id k o small
 
 -- a line that `keeper_handed` sends without executing the request is the one that it keeps, for this id
-keeper_repeats : (k : Keeper) (id : ℕ) (o : Option ℕ) → held k id ≡ o → (keeper_handed id k o).executed ≡ false → keeper_kept k ≡ Some (own_reply id (keeper_handed id k o))
-keeper_repeats k id o e not = repeats_or_executes_repeats {State = Keeper} (Some (id, 0)) 0 id (λ (x : Keeper). x) k o e not
+keeper_repeats : (k : KeptNumber) (id : ℕ) (o : Option ℕ) → held k id ≡ o → (keeper_handed id k o).executed ≡ false → keeper_kept k ≡ Some (own_reply id (keeper_handed id k o))
+keeper_repeats k id o e not = repeats_or_executes_repeats {State = KeptNumber} (Some (id, 0)) 0 id (λ (x : KeptNumber). x) k o e not
 
 -- after a request `keeper_handed` keeps its reply to that request
-keeper_keeps : (k : Keeper) (id : ℕ) (o : Option ℕ) → held k id ≡ o → keeper_kept (keeper_handed id k o).state ≡ Some (own_reply id (keeper_handed id k o))
-keeper_keeps k id o e = repeats_or_executes_keeps {State = Keeper} (Some (id, 0)) 0 id (λ (x : Keeper). x) k o e refl
+keeper_keeps : (k : KeptNumber) (id : ℕ) (o : Option ℕ) → held k id ≡ o → keeper_kept (keeper_handed id k o).state ≡ Some (own_reply id (keeper_handed id k o))
+keeper_keeps k id o e = repeats_or_executes_keeps {State = KeptNumber} (Some (id, 0)) 0 id (λ (x : KeptNumber). x) k o e refl
 
 -- the reply of `handed_if_known` to a request with an id below 8 reads as one with that id
-if_known_reads : (b : Bool) (k : Keeper) (id : ℕ) → id < 8 → heard (handed_if_known b k id).reply ≡ Some id
+if_known_reads : (b : Bool) (k : KeptNumber) (id : ℕ) → id < 8 → heard (handed_if_known b k id).reply ≡ Some id
 if_known_reads true k id small = keeper_reads k id (held k id) small
 if_known_reads false k id small = reads_refusal id small
 
 -- a line that `handed_if_known` sends without executing the request is the one that it keeps, for this id
-if_known_repeats : (b : Bool) (k : Keeper) (id : ℕ) → (handed_if_known b k id).executed ≡ false → keeper_kept k ≡ Some (own_reply id (handed_if_known b k id))
+if_known_repeats : (b : Bool) (k : KeptNumber) (id : ℕ) → (handed_if_known b k id).executed ≡ false → keeper_kept k ≡ Some (own_reply id (handed_if_known b k id))
 if_known_repeats true k id not = keeper_repeats k id (held k id) refl not
 if_known_repeats false k id not = absurd (true≢false not)
 
@@ -136,7 +136,7 @@ refuses_raws_is =
     }
   where
     -- what `refuses_raws` keeps after a request is as `MayBeKept` says, whether it knows the request (`b`) or not
-    after : (k : Keeper) (id : ℕ) (b : Bool) → MayBeKept b (own_reply id (handed_if_known b k id)) (keeper_kept k) (keeper_kept (handed_if_known b k id).state)
+    after : (k : KeptNumber) (id : ℕ) (b : Bool) → MayBeKept b (own_reply id (handed_if_known b k id)) (keeper_kept k) (keeper_kept (handed_if_known b k id).state)
     after k id true = inl (inr (keeper_keeps k id (held k id) refl))
     after k id false = inr (refl, refl)
 
@@ -187,7 +187,7 @@ clean_any = clean_none AnyState never_kept false tt refl
 clean_order : IsClean IsUnbroken never_kept (none_under_way false)
 clean_order = clean_none IsUnbroken never_kept false refl refl
 
--- with nothing in flight, and a `Keeper` that has nothing, a synchronization is clean
+-- with nothing in flight, and a `KeptNumber` that has nothing, a synchronization is clean
 clean_kept : IsClean AnyState keeper_kept (none_under_way None)
 clean_kept = clean_none AnyState keeper_kept None tt refl
 
@@ -403,7 +403,7 @@ all_needed =
       keeper_is = keeper_is;
       changes_kept = record {
         beyond = omega arith;
-        clean = clean_none {State = Keeper} AnyState never_kept None tt refl;
+        clean = clean_none {State = KeptNumber} AnyState never_kept None tt refl;
         field = (tt, (tt, ((8, [], refl), ((tt, refl), (tt, (tt, ((9, [], refl), tt)))))));
         settled = refl;
         executed = not_9;

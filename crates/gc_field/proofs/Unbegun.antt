@@ -9,8 +9,7 @@ use Rattle.gc_station.proofs.Lists.{cons_head}
 use Rattle.gc_field.specs.World.{Ends, Numbered}
 use Rattle.gc_world.proofs.Settled as settled
 use Rattle.gc_field.specs.Begin.{UnderWay}
-use Rattle.gc_field.specs.Begun.{IsFaithful, nulls, nulls_settled}
-use Rattle.gc_field.proofs.BegunFaithful.{of_eighth}
+use Rattle.gc_field.specs.Begun.{IsFaithful, nulls, nulls_settled, of_eighth}
 
 -- right after a synchronization no settlement has a number from 8 on
 none_settled_from_8 : (m : ℕ) (s : Settlement Asked) → 8 ≤ m → slice_get nulls_settled m ≡ Some s → ⊥

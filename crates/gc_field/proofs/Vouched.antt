@@ -1,8 +1,8 @@
 -- Each line that comes was made for its request as its call was executed, whatever is repeated or lost, and however often the
 -- instrument starts again; requests that `E` names are excepted. M n call line is any property that the reply to each executed
 -- request has. The client is given the number of each reply's request: `count` of its requests are settled, and request n has the
--- id n - `since` modulo 8. What the instrument keeps is a reply to `table`, the last request that it was handed and that
--- `knows` names, or to a later one; `low` is at most `table` + 1. Where `MustKnow` holds, each request that is sent is known.
+-- id n - `since` modulo 8. What the instrument keeps is a reply to `last`, the last request that it was handed and that
+-- `knows` names, or to a later one; `low` is at most `last` + 1. Where `MustKnow` holds, each request that is sent is known.
 use Rattle.std.proofs.Common.{◌≡◌, ℕ, ◌+◌, ◌-◌, ◌%◌, ◌<◌, ◌≤◌, ◌⊎◌, inl, inr, Bool, true, false, List, [], ◌∷◌, ◌++◌, length, drop, Option, Some, None, refl, sym, ◌∙◌, ap, subst, arith, ltb, eqb}
 use Rattle.std.specs.List.{AllByRecursion}
 use Rattle.std.proofs.lemmas.List.{length_push}
@@ -33,15 +33,15 @@ use Rattle.gc_field.proofs.NearTable.{IsNear, near_kept, near_handed, near_if_be
 module _ {State : Type 0} (width : ℕ) (narrow : width ≤ 7) (knows : Asked → Bool) (ends : Ends State) (Good : State → Type 0)
     (kept : State → Option KeptReply) (keeper : IsAnInstrumentFor ends Good kept knows) (low : ℕ) (E : ℕ → Type 0) (MustKnow : Type 0) (M : ℕ → Asked → List ℕ → Type 0) where
   -- request n is `IsNoNewerKnown`; and it is one of those that are excepted, or the line is vouched for as its reply
-  abbrev pub Vouched : (sent : List Sent) (executed : List ℕ) (made : List (Numbered (List ℕ))) (table n : ℕ) (line : List ℕ) → Type 0
-  Vouched sent executed made table n line = IsNoNewerKnown knows sent table n × (E n ⊎ IsVouched ends Good M sent executed made n line)
+  abbrev pub Vouched : (sent : List Sent) (executed : List ℕ) (made : List (Numbered (List ℕ))) (last n : ℕ) (line : List ℕ) → Type 0
+  Vouched sent executed made last n line = IsNoNewerKnown knows sent last n × (E n ⊎ IsVouched ends Good M sent executed made n line)
 
   -- `Vouched` is preserved where further requests are sent
-  stays_sent : (sent more : List Sent) (executed : List ℕ) (made : List (Numbered (List ℕ))) (table n : ℕ) (line : List ℕ)
-      → Vouched sent executed made table n line → Vouched (sent ++ more) executed made table n line
-  stays_sent sent more executed made table n line h = (no_newer h.0, own h.1) where
+  stays_sent : (sent more : List Sent) (executed : List ℕ) (made : List (Numbered (List ℕ))) (last n : ℕ) (line : List ℕ)
+      → Vouched sent executed made last n line → Vouched (sent ++ more) executed made last n line
+  stays_sent sent more executed made last n line h = (no_newer h.0, own h.1) where
     -- request n stays `IsNoNewerKnown` where more requests are sent
-    no_newer : IsNoNewerKnown knows sent table n → IsNoNewerKnown knows (sent ++ more) table n
+    no_newer : IsNoNewerKnown knows sent last n → IsNoNewerKnown knows (sent ++ more) last n
     no_newer (inl l) = inl l
     no_newer (inr u) = inr (unknown_more knows sent more n u)
 
@@ -51,12 +51,12 @@ module _ {State : Type 0} (width : ℕ) (narrow : width ≤ 7) (knows : Asked �
     own (inr v) = inr (record { among = v.among; acted = v.acted; request = v.request; found = get_more sent more n v.request v.found; reply = v.reply; on = v.on })
 
   -- `Vouched` is preserved where further requests are handed to the instrument, if what was executed before is among what was
-  -- executed then (`after`), and the newest known request then, `next`, isn't before that of before, `table`
-  stays_on : (sent : List Sent) (executed after : List ℕ) (made more : List (Numbered (List ℕ))) (table next n : ℕ) (line : List ℕ) → ((i : ℕ) → Has i executed → Has i after)
-      → table ≤ next → Vouched sent executed made table n line → Vouched sent after (made ++ more) next n line
-  stays_on sent executed after made more table next n line lasts le h = (no_newer h.0, own h.1) where
+  -- executed then (`after`), and the newest known request then, `next`, isn't before that of before, `last`
+  stays_on : (sent : List Sent) (executed after : List ℕ) (made more : List (Numbered (List ℕ))) (last next n : ℕ) (line : List ℕ) → ((i : ℕ) → Has i executed → Has i after)
+      → last ≤ next → Vouched sent executed made last n line → Vouched sent after (made ++ more) next n line
+  stays_on sent executed after made more last next n line lasts le h = (no_newer h.0, own h.1) where
     -- request n stays `IsNoNewerKnown` where a later request is the newest known one
-    no_newer : IsNoNewerKnown knows sent table n → IsNoNewerKnown knows sent next n
+    no_newer : IsNoNewerKnown knows sent last n → IsNoNewerKnown knows sent next n
     no_newer (inl l) = inl (omega (arith, l, le))
     no_newer (inr u) = inr u
 
@@ -72,21 +72,21 @@ module _ {State : Type 0} (width : ℕ) (narrow : width ≤ 7) (knows : Asked �
     -- the number of the last request that the instrument was handed is one less than this
     pub top : ℕ
     -- the number of the newest request that is known
-    pub table : ℕ
+    pub last : ℕ
     -- what is settled was handed to the instrument, and what was handed to it was sent
     pub counted : v.count ≤ top
     pub within : top ≤ length v.sent
     -- the newest known request was handed, too; `low` is at most one above it
-    pub lower : table < top
-    pub least : low ≤ table + 1
+    pub lower : last < top
+    pub least : low ≤ last + 1
     -- no request in flight is before the last one handed, and no reply in flight is to a later one
     pub above : AllByRecursion (λ x. top ≤ x.number + 1) v.up
     pub below : AllByRecursion (λ x. x.number < top) v.down
-    pub holds : KeptIs (Vouched v.sent v.executed v.made table) v.since top table v.retained
+    pub holds : KeptIs (Vouched v.sent v.executed v.made last) v.since top last v.retained
     pub lines : AllByRecursion (IsAsSent written v.sent) v.up
-    pub near : IsNear knows E MustKnow v.sent top table
-    pub coming : AllByRecursion (λ x. Vouched v.sent v.executed v.made table x.number x.line) v.down
-    pub answers : HoldsOfAll (Vouched v.sent v.executed v.made table) 0 v.settled
+    pub near : IsNear knows E MustKnow v.sent top last
+    pub coming : AllByRecursion (λ x. Vouched v.sent v.executed v.made last x.number x.line) v.down
+    pub answers : HoldsOfAll (Vouched v.sent v.executed v.made last) 0 v.settled
     pub order : IsOrdered top v.executed
     pub once : (keeps : Asked → Bool) → KeepsItsReply ends Good kept keeps → IsClimbing keeps v.since top (log_of v)
 
@@ -102,19 +102,19 @@ module _ {State : Type 0} (width : ℕ) (narrow : width ≤ 7) (knows : Asked �
       })
   vouched_sent v target id call digit plain h =
       let r : Sent = record { target = target; call = call; line = asked_line (Some id) call } in
-      let P = Vouched v.sent v.executed v.made h.table in
-      let Q = Vouched (v.sent ++ r ∷ []) v.executed v.made h.table in
-      let f = stays_sent v.sent (r ∷ []) v.executed v.made h.table in
+      let P = Vouched v.sent v.executed v.made h.last in
+      let Q = Vouched (v.sent ++ r ∷ []) v.executed v.made h.last in
+      let f = stays_sent v.sent (r ∷ []) v.executed v.made h.last in
       record {
         top = h.top;
-        table = h.table;
+        last = h.last;
         counted = h.counted;
         within = omega (arith, h.within, length_push v.sent r);
         lower = h.lower;
         least = h.least;
         above = all_append _ v.up _ h.above (omega (arith, h.within), tt);
         below = h.below;
-        holds = kept_more P Q f v.since h.top h.table v.retained h.holds;
+        holds = kept_more P Q f v.since h.top h.last v.retained h.holds;
         lines = all_append _ v.up _ (all_on _ _ v.up (as_sent_more written v.sent (r ∷ [])) h.lines) (record { request = r; found = get_push v.sent r; small = digit; call = refl; text = refl }, tt);
         near = near_sent r plain h.near;
         coming = all_on (λ (x : Numbered (List ℕ)). P x.number x.line) (λ x. Q x.number x.line) v.down (λ x. f x.number x.line) h.coming;
@@ -124,7 +124,7 @@ module _ {State : Type 0} (width : ℕ) (narrow : width ≤ 7) (knows : Asked �
       }
     where
       -- `IsNear` is preserved if the request r is sent, which is known if all have to be
-      near_sent : (r : Sent) → (MustKnow → knows r.call ≡ true) → IsNear knows E MustKnow v.sent h.top h.table → IsNear knows E MustKnow (v.sent ++ r ∷ []) h.top h.table
+      near_sent : (r : Sent) → (MustKnow → knows r.call ≡ true) → IsNear knows E MustKnow v.sent h.top h.last → IsNear knows E MustKnow (v.sent ++ r ∷ []) h.top h.last
       near_sent r plain (inl n) = inl (n.0, n.1, all_append (λ (r : Sent). knows r.call ≡ true) v.sent (r ∷ []) n.2 (plain n.0, tt))
       near_sent r plain (inr n) = inr n
 
@@ -146,8 +146,8 @@ module _ {State : Type 0} (width : ℕ) (narrow : width ≤ 7) (knows : Asked �
     id : x.line.id ≡ (x.number - w.client.since) % 8
     small : x.line.id < 8
     top : h.top ≤ x.number + 1
-    least : h.table ≤ x.number
-    near : E x.number ⊎ (x.number ≤ h.table + 7)
+    least : h.last ≤ x.number
+    near : E x.number ⊎ (x.number ≤ h.last + 7)
     of : IsAsSent written w.wire.sent x
     unknown : (known ≡ false) → IsUnknown knows w.wire.sent x.number
     all : AllByRecursion (λ (r : Sent). knows r.call ≡ true) w.wire.sent → known ≡ true
@@ -167,7 +167,7 @@ module _ {State : Type 0} (width : ℕ) (narrow : width ≤ 7) (knows : Asked �
         small = o.small;
         top = a;
         least = omega (arith, a, h.lower);
-        near = near_if_below knows E MustKnow w.wire.sent h.top h.table x.number (omega (arith, g.sent, s.few, h.counted, narrow)) h.near;
+        near = near_if_below knows E MustKnow w.wire.sent h.top h.last x.number (omega (arith, g.sent, s.few, h.counted, narrow)) h.near;
         of = o;
         unknown = λ not. (o.request, o.found, ap knows o.call ∙ is ∙ not);
         all = λ every. sym is ∙ sym (ap knows o.call) ∙ all_at (λ (r : Sent). knows r.call ≡ true) w.wire.sent x.number o.request every o.found;
@@ -199,18 +199,18 @@ module _ {State : Type 0} (width : ℕ) (narrow : width ≤ 7) (knows : Asked �
       let v = w.wire in
       let n = x.number in
       let m : Numbered (List ℕ) = record { number = n; line = line } in
-      let next = newest known n h.table in
-      let up : h.table ≤ next = newest_not_before known n h.table front.least in
-      let P = Vouched v.sent v.executed v.made h.table in
+      let next = newest known n h.last in
+      let up : h.last ≤ next = newest_not_before known n h.last front.least in
+      let P = Vouched v.sent v.executed v.made h.last in
       let Q = Vouched v.sent executed (v.made ++ m ∷ []) next in
-      let f : (i : ℕ) (line : List ℕ) → P i line → Q i line = λ i line p. stays_on v.sent v.executed executed v.made (m ∷ []) h.table next i line was.lasts up p in
-      let own : Q n line = (newest_no_newer knows v.sent known n h.table front.unknown, was.new) in
+      let f : (i : ℕ) (line : List ℕ) → P i line → Q i line = λ i line p. stays_on v.sent v.executed executed v.made (m ∷ []) h.last next i line was.lasts up p in
+      let own : Q n line = (newest_no_newer knows v.sent known n h.last front.unknown, was.new) in
       let rising = rising_tail c.count n (numbers v.down) (numbers rest) (subst (λ l. Rising c.count (numbers v.down ++ numbers l)) q s.order) in
       let o = subst (λ l. AllByRecursion (IsAsSent written v.sent) l) q h.lines in
-      let low : next ≤ n = newest_not_later known n h.table front.least in
+      let low : next ≤ n = newest_not_later known n h.last front.least in
       record {
         top = n + 1;
-        table = next;
+        last = next;
         counted = omega (arith, h.counted, front.top);
         within = omega (arith, front.sent);
         lower = omega (arith, low);
@@ -220,11 +220,11 @@ module _ {State : Type 0} (width : ℕ) (narrow : width ≤ 7) (knows : Asked �
             all_append _ v.down _ (all_on (λ (y : Numbered (List ℕ)). y.number < h.top) (λ y. y.number < n + 1) v.down (λ y l. omega (arith, l, front.top)) h.below)
             (omega arith, tt);
         holds =
-            kept_handed Q c.since h.top h.table n (record { id = x.line.id; line = line }) known (kept v.state) after front.top
+            kept_handed Q c.since h.top h.last n (record { id = x.line.id; line = line }) known (kept v.state) after front.top
             (record { number = n; recent = front.recent; before = omega arith; behind = low; id = front.id; line = own }) was.now
-            (kept_more P Q f c.since h.top h.table (kept v.state) h.holds);
+            (kept_more P Q f c.since h.top h.last (kept v.state) h.holds);
         lines = o.1;
-        near = near_handed knows E MustKnow v.sent h.top h.table n known front.least front.all h.near;
+        near = near_handed knows E MustKnow v.sent h.top h.last n known front.least front.all h.near;
         coming = all_append _ v.down _ (all_on (λ (y : Numbered (List ℕ)). P y.number y.line) (λ y. Q y.number y.line) v.down (λ y. f y.number y.line) h.coming) (own, tt);
         answers = holds_more P Q f 0 v.settled h.answers;
         order = was.order;
@@ -239,11 +239,11 @@ module _ {State : Type 0} (width : ℕ) (narrow : width ≤ 7) (knows : Asked �
   again_own w x known line (Some k) h front ke e =
       let v = w.wire in
       let m : Numbered (List ℕ) = record { number = x.number; line = line } in
-      let held = subst (λ k. KeptIs (Vouched v.sent v.executed v.made h.table) w.client.since h.top h.table k) (ke ∙ e) h.holds in
-      elim (near_kept knows E MustKnow w.client.since h.top h.table x.number (record { id = x.line.id; line = line })
-      (Vouched v.sent v.executed v.made h.table) held front.recent front.top front.id front.near) [
+      let held = subst (λ k. KeptIs (Vouched v.sent v.executed v.made h.last) w.client.since h.top h.last k) (ke ∙ e) h.holds in
+      elim (near_kept knows E MustKnow w.client.since h.top h.last x.number (record { id = x.line.id; line = line })
+      (Vouched v.sent v.executed v.made h.last) held front.recent front.top front.id front.near) [
         | inl e ↦ inl e
-        | inr p ↦ (stays_on v.sent v.executed v.executed v.made (m ∷ []) h.table h.table x.number line (λ i has. has) (omega arith) p).1
+        | inr p ↦ (stays_on v.sent v.executed v.executed v.made (m ∷ []) h.last h.last x.number line (λ i has. has) (omega arith) p).1
       ]
 
   -- what the instrument keeps after the front request is as `MayBeKept` says
@@ -345,14 +345,14 @@ module _ {State : Type 0} (width : ℕ) (narrow : width ≤ 7) (knows : Asked �
   -- `AllVouchedIn` is preserved if the front reply comes, if the settlements that there are then (`settled`) are vouched for;
   -- `count` says how many requests are settled then
   reply_came : (w : World (ByNumber Asked) State) (x : Numbered (List ℕ)) (rest : List (Numbered (List ℕ))) (count : ℕ) (settled : List (Settlement Asked)) → w.wire.down ≡ x ∷ rest
-      → (h : AllVouched w) → count ≤ h.top → HoldsOfAll (Vouched w.wire.sent w.wire.executed w.wire.made h.table) 0 settled
+      → (h : AllVouched w) → count ≤ h.top → HoldsOfAll (Vouched w.wire.sent w.wire.executed w.wire.made h.last) 0 settled
       → AllVouchedIn (record (fields_of kept w) { count = count; settled = settled; down = rest })
   reply_came w x rest count settled e h few answers =
       let v = w.wire in
-      let P = Vouched v.sent v.executed v.made h.table in
+      let P = Vouched v.sent v.executed v.made h.last in
       record {
         top = h.top;
-        table = h.table;
+        last = h.last;
         counted = few;
         within = h.within;
         lower = h.lower;
@@ -374,11 +374,11 @@ module _ {State : Type 0} (width : ℕ) (narrow : width ≤ 7) (knows : Asked �
       → AllVouched (with_settled (record w.wire { down = rest }) (number_reply w.client x old))
   vouched_reply w x rest true t e s h =
       let v = w.wire in
-      let P = Vouched v.sent v.executed v.made h.table in
+      let P = Vouched v.sent v.executed v.made h.last in
       reply_came w x rest w.client.count (v.settled ++ []) e h h.counted (holds_append P 0 w.client.count v.settled [] (omega (arith, s)) h.answers tt)
   vouched_reply w x rest false t e s h =
       let v = w.wire in
-      let P = Vouched v.sent v.executed v.made h.table in
+      let P = Vouched v.sent v.executed v.made h.last in
       let b = subst (λ q. AllByRecursion (λ y. y.number < h.top) q) e h.below in
       let m = subst (λ q. AllByRecursion (λ y. P y.number y.line) q) e h.coming in
       let ge : w.client.count ≤ x.number = ltb-false _ _ t in
@@ -396,14 +396,14 @@ module _ {State : Type 0} (width : ℕ) (narrow : width ≤ 7) (knows : Asked �
       let v = w.wire in
       record {
         top = h.top;
-        table = h.table;
+        last = h.last;
         counted = h.counted;
         within = h.within;
         lower = h.lower;
         least = h.least;
         above = h.above;
         below = h.below;
-        holds = kept_still (Vouched v.sent v.executed v.made h.table) w.client.since h.top h.table (kept v.state) (kept state) now h.holds;
+        holds = kept_still (Vouched v.sent v.executed v.made h.last) w.client.since h.top h.last (kept v.state) (kept state) now h.holds;
         lines = h.lines;
         near = h.near;
         coming = h.coming;
@@ -431,10 +431,10 @@ module _ {State : Type 0} (width : ℕ) (narrow : width ≤ 7) (knows : Asked �
   -- `AllVouched` is preserved if the lines in flight change to others that meet its clauses on lines in flight
   vouched_queues : (w : World (ByNumber Asked) State) (up : List (Numbered Request)) (down : List (Numbered (List ℕ))) (h : AllVouched w)
       → AllByRecursion (λ x. h.top ≤ x.number + 1) up → AllByRecursion (IsAsSent written w.wire.sent) up → AllByRecursion (λ x. x.number < h.top) down
-      → AllByRecursion (λ x. Vouched w.wire.sent w.wire.executed w.wire.made h.table x.number x.line) down → AllVouched (on_wire w (record w.wire { up = up; down = down }))
+      → AllByRecursion (λ x. Vouched w.wire.sent w.wire.executed w.wire.made h.last x.number x.line) down → AllVouched (on_wire w (record w.wire { up = up; down = down }))
   vouched_queues w up down h a l b c = record {
     top = h.top;
-    table = h.table;
+    last = h.last;
     counted = h.counted;
     within = h.within;
     lower = h.lower;
@@ -471,7 +471,7 @@ module _ {State : Type 0} (width : ℕ) (narrow : width ≤ 7) (knows : Asked �
 
   -- `AllVouched` is preserved if the replies in flight stay (`b` is false), or change to some that meet its clauses
   vouched_with_down : (w : World (ByNumber Asked) State) (down : List (Numbered (List ℕ))) (b : Bool) (h : AllVouched w)
-      → AllByRecursion (λ x. x.number < h.top) down → AllByRecursion (λ x. Vouched w.wire.sent w.wire.executed w.wire.made h.table x.number x.line) down
+      → AllByRecursion (λ x. x.number < h.top) down → AllByRecursion (λ x. Vouched w.wire.sent w.wire.executed w.wire.made h.last x.number x.line) down
       → AllVouched (on_wire w (with_down w.wire down b))
   vouched_with_down w down false h l c = h
   vouched_with_down w down true h l c = vouched_queues w w.wire.up down h h.above h.lines l c

@@ -26,38 +26,43 @@ at_start =
       state = simulator_opening;
     }
 
--- the first run: it begins, hears the old reply as the answer to its first null procedure, and is killed
--- once its second null procedure is sent
+-- the first run: it begins, hears the old reply as the answer to its first null procedure, and is killed once its second null
+-- procedure is sent
 abbrev pub killed_run : Run State
 killed_run = record { turns = Asks ∷ Comes ∷ Asks ∷ []; moves = [] }
 
--- the next run begins. The two old requests are answered, and both replies discarded. Its null procedures 6 and 5 are answered by
--- the replies to those of the run before, and the six others by their own replies. Meanwhile the instrument starts again, the
--- request of null procedure 0 is lost and is sent again, and the line repeats that of null procedure 7. Then two commands are
--- sent at once; and a second reply to null procedure 7 comes, and the replies to both commands
+-- what happens while the second run synchronizes: the two old requests are answered, and both replies discarded; null procedures
+-- 6 and 5 are answered by the replies to those of the first run, and the six others by their own replies. Meanwhile the
+-- instrument starts again, the request of null procedure 0 is lost and is sent again, and the line repeats that of null procedure
+-- 7
+abbrev pub next_turns : List (SyncTurn State)
+next_turns =
+    Asks ∷ Reaches ∷ Reaches ∷ Reaches ∷ Comes ∷ Comes ∷ Comes ∷ Asks ∷ Reaches ∷ Comes
+    ∷ Asks ∷ Reaches ∷ Reaches ∷ Reaches ∷ Comes ∷ Comes ∷ Comes
+    ∷ Asks ∷ Reaches ∷ Comes ∷ Asks ∷ Anew ∷ Reaches ∷ Comes ∷ Asks ∷ Reaches ∷ Comes
+    ∷ Asks ∷ Up_lose 0 ∷ Asks ∷ Reaches ∷ Comes ∷ Asks ∷ Up_repeat 0 ∷ Reaches ∷ Comes ∷ []
+
+-- what happens once it has synchronized: two commands are sent at once; then a second reply to null procedure 7 comes, and the
+-- replies to both commands
+abbrev pub next_moves : List (Move State)
+next_moves =
+    Sends 7 (Table InstrumentNo) 100
+    ∷ Sends 8 (Table InstrumentNo) 100
+    ∷ OnLine Up_deliver
+    ∷ OnLine Up_deliver
+    ∷ OnLine Up_deliver
+    ∷ field.Comes (codes "%R1P,0,7:0")
+    ∷ field.Comes (codes "%R1P,0,0:0,123456")
+    ∷ field.Comes (codes "%R1P,0,1:0,123456")
+    ∷ []
+
+-- the second run, which synchronizes
 abbrev pub next_run : Run State
-next_run =
-    record {
-      turns =
-          Asks ∷ Reaches ∷ Reaches ∷ Reaches ∷ Comes ∷ Comes ∷ Comes ∷ Asks ∷ Reaches ∷ Comes
-          ∷ Asks ∷ Reaches ∷ Reaches ∷ Reaches ∷ Comes ∷ Comes ∷ Comes
-          ∷ Asks ∷ Reaches ∷ Comes ∷ Asks ∷ Anew ∷ Reaches ∷ Comes ∷ Asks ∷ Reaches ∷ Comes
-          ∷ Asks ∷ Up_lose 0 ∷ Asks ∷ Reaches ∷ Comes ∷ Asks ∷ Up_repeat 0 ∷ Reaches ∷ Comes ∷ [];
-      moves =
-          Sends 7 (Table InstrumentNo) 100
-          ∷ Sends 8 (Table InstrumentNo) 100
-          ∷ OnLine Up_deliver
-          ∷ OnLine Up_deliver
-          ∷ OnLine Up_deliver
-          ∷ field.Comes (codes "%R1P,0,7:0")
-          ∷ field.Comes (codes "%R1P,0,0:0,123456")
-          ∷ field.Comes (codes "%R1P,0,1:0,123456")
-          ∷ [];
-    }
+next_run = record { turns = next_turns; moves = next_moves }
 
 -- what is in flight once the second run has synchronized
 abbrev pub from : UnderWay State
-from = left_by_turns simulator_ends next_run.turns (left_by_run WINDOW simulator_ends at_start killed_run)
+from = left_by_turns simulator_ends next_turns (left_by_run WINDOW simulator_ends at_start killed_run)
 
 -- these runs meet the premises of `simulators_runs_are_their_own`; both commands of the second are answered, and the first
 -- answer was made on executing its request
@@ -67,10 +72,10 @@ pub record AreSomeRuns : Type 0 where
   pub runs : AreRuns WINDOW simulator_ends IsFittingState kept_of at_start (killed_run ∷ next_run ∷ [])
   pub few : AreFewKilled WINDOW simulator_ends 0 at_start (killed_run ∷ next_run ∷ [])
   pub settled :
-      (world_once_begun WINDOW simulator_ends from next_run.moves).wire.settled
+      (world_once_begun WINDOW simulator_ends from next_moves).wire.settled
       ≡ nulls_settled ++ record { target = 7; call = Table InstrumentNo; outcome = Answered (codes "%R1P,0,0:0,123456") }
       ∷ record { target = 8; call = Table InstrumentNo; outcome = Answered (codes "%R1P,0,1:0,123456") } ∷ []
-  pub made_on : WasMadeOn WINDOW simulator_ends from next_run.moves 8 (Table InstrumentNo) (codes "%R1P,0,0:0,123456")
+  pub made_on : WasMadeOn WINDOW simulator_ends from next_moves 8 (Table InstrumentNo) (codes "%R1P,0,0:0,123456")
 
 -- The word: the ids of the eight null procedures of a synchronization, in order: 6 down to 0, and then 7.
 

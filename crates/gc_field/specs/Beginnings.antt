@@ -50,22 +50,22 @@ pub record Run (State : Type 0) : Type 0 where
 abbrev pub after_turns : {State : Type 0} → Ends State → UnderWay State → Run State → SyncModel State
 after_turns ends u r = turned ends r.turns (begins u)
 
--- how many runs in a row were killed while they synchronized, counted at the end of a run, by the ids of its word that are left,
--- where `n` runs were killed before it. If no id is left, 0, because the run has synchronized; else one more than `n`
-abbrev pub killed_if : List ℕ → ℕ → ℕ
-killed_if [] n = 0
-killed_if (asked ∷ rest) n = n + 1
+-- how many runs in a row were killed while they synchronized, at the end of a run that leaves these ids of its word unanswered,
+-- where `n` were before it: 0 if none is left, because the run has synchronized; else one more
+abbrev pub killed_unless_begun : List ℕ → ℕ → ℕ
+killed_unless_begun [] n = 0
+killed_unless_begun (asked ∷ rest) n = n + 1
 
 module _ {State : Type 0} (width : ℕ) (ends : Ends State) where
-  -- what is in flight after a run, by the ids of its word that are left. If none is left, the run had synchronized, and its moves
-  -- followed; else it was killed while it synchronized
-  abbrev pub left_if : List ℕ → SyncModel State → List (Move State) → UnderWay State
-  left_if [] s ms = under_way_on (world_once_begun width ends (leaves s) ms).wire
-  left_if (asked ∷ rest) s ms = leaves s
+  -- what is in flight after a run that leaves these ids of its word unanswered, where its synchronization ended in the state `s`:
+  -- if none is left, the run had synchronized, and its moves followed; else it was killed while it synchronized
+  abbrev pub left_if_begun : List ℕ → SyncModel State → List (Move State) → UnderWay State
+  left_if_begun [] s ms = under_way_on (world_once_begun width ends (leaves s) ms).wire
+  left_if_begun (asked ∷ rest) s ms = leaves s
 
   -- what is in flight after a run
   abbrev pub left_by_run : UnderWay State → Run State → UnderWay State
-  left_by_run u r = left_if (after_turns ends u r).left (after_turns ends u r) r.moves
+  left_by_run u r = left_if_begun (after_turns ends u r).left (after_turns ends u r) r.moves
 
   -- what is in flight after these runs, one after the other
   abbrev pub left_by_runs : UnderWay State → List (Run State) → UnderWay State
@@ -81,30 +81,30 @@ module _ {State : Type 0} (width : ℕ) (ends : Ends State) where
   -- at the end of each of these runs, at most five in a row have been killed while they synchronized, counted with the `n`
   -- before the first
   abbrev pub AreFewKilled : ℕ → UnderWay State → List (Run State) → Type 0
-  AreFewKilled n u rs = CountsFew (λ before v r. killed_if (after_turns ends v r).left before) n u rs
+  AreFewKilled n u rs = CountsFew (λ before v r. killed_unless_begun (after_turns ends v r).left before) n u rs
 
   module _ (Good : State → Type 0) (kept : State → Option KeptReply) where
-    -- the moves of a run are possible, by the ids of its word that are left. If none is left, they are possible moves of a client
-    -- that has synchronized; else there are no moves
-    abbrev pub ArePossibleIf : List ℕ → SyncModel State → List (Move State) → Type 0
-    ArePossibleIf [] s ms = ArePossibleOnceBegun width ends (leaves s) Good kept ms
-    ArePossibleIf (asked ∷ rest) s ms = ms ≡ []
+    -- the moves of a run that leaves these ids of its word unanswered are possible: if none is left, they are possible moves of a
+    -- client that has synchronized; else there are no moves
+    abbrev pub ArePossibleIfBegun : List ℕ → SyncModel State → List (Move State) → Type 0
+    ArePossibleIfBegun [] s ms = ArePossibleOnceBegun width ends (leaves s) Good kept ms
+    ArePossibleIfBegun (asked ∷ rest) s ms = ms ≡ []
 
     -- each run is possible, over what the one before it left
     abbrev pub AreRuns : UnderWay State → List (Run State) → Type 0
     AreRuns u [] = Unit {0}
     AreRuns u (r ∷ rs) =
-        (AreTurns ends Good kept r.turns (begins u) × ArePossibleIf (after_turns ends u r).left (after_turns ends u r) r.moves) × AreRuns (left_by_run u r) rs
+        (AreTurns ends Good kept r.turns (begins u) × ArePossibleIfBegun (after_turns ends u r).left (after_turns ends u r) r.moves) × AreRuns (left_by_run u r) rs
 
-    -- if a run has synchronized (no id of its word is left), it has synchronized cleanly, and its moves are faithful
-    abbrev pub IsOwnIf : List ℕ → SyncModel State → List (Move State) → Type 0
-    IsOwnIf [] s ms = HasSynchronizedCleanly Good kept s × IsFaithful width ends (leaves s) ms Good kept
-    IsOwnIf (asked ∷ rest) s ms = Unit {0}
+    -- if a run has synchronized (it leaves no id of its word unanswered), it has done so cleanly, and its moves are faithful
+    abbrev pub IsOwnIfBegun : List ℕ → SyncModel State → List (Move State) → Type 0
+    IsOwnIfBegun [] s ms = HasSynchronizedCleanly Good kept s × IsFaithful width ends (leaves s) ms Good kept
+    IsOwnIfBegun (asked ∷ rest) s ms = Unit {0}
 
     -- each run that has synchronized has synchronized cleanly, and is faithful, over what the one before it left
     abbrev pub AreOwn : UnderWay State → List (Run State) → Type 0
     AreOwn u [] = Unit {0}
-    AreOwn u (r ∷ rs) = IsOwnIf (after_turns ends u r).left (after_turns ends u r) r.moves × AreOwn (left_by_run u r) rs
+    AreOwn u (r ∷ rs) = IsOwnIfBegun (after_turns ends u r).left (after_turns ends u r) r.moves × AreOwn (left_by_run u r) rs
 
 -- `Holds` is true of any possible runs one after the other, as long as fewer than six in a row end while they synchronize, for
 -- clients with a window of at most `WINDOW` requests. What is in flight before the first is as a run that had synchronized leaves

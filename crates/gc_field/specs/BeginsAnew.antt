@@ -12,7 +12,7 @@ use Rattle.gc_texts.specs.Endings as end
 use Rattle.gc_texts.specs.declared.quality.Quality.TheVariants.{Fine}
 use Rattle.gc_station.specs.declared.plan.Plan.{Plan}
 use Rattle.gc_links.specs.Acts.{Act, Told, Put, Gave, Silent, Closed}
-use Rattle.gc_station.specs.Beginnings.{IsResynchronizing}
+use Rattle.gc_station.specs.Beginnings.{SynchronizesAnew}
 use Rattle.gc_station.specs.Records.{Record}
 use Rattle.gc_station.specs.Scopes.{Scope}
 use Rattle.gc_field.specs.Plain.{plain_record, plain_task}
@@ -173,7 +173,7 @@ pub record IsAnsweredAnew : Type 0 where
   pub instrument : IsAnInstrument counting AnyState kept_by
   pub field : IsInField counting AnyState kept_by at_start program
   pub over : NoActFollows program
-  pub begins_anew : IsResynchronizing plan commands scope acts_until_anew (Told (at 115))
+  pub begins_anew : SynchronizesAnew plan commands scope acts_until_anew (Told (at 115))
   pub up : left_by_first.up ≡ record { id = 6; call = Table InstrumentNo } ∷ []
   pub down : left_by_first.down ≡ first_reply ∷ []
   pub written : program_records program ≡ records

@@ -14,7 +14,7 @@ use Rattle.gc_client.specs.Rule.{ById, Outcome, Settlement, Answered, Late, Lost
 use Rattle.gc_instrument.specs.State.{KeptReply, IsFittingState}
 use Rattle.gc_world.specs.Clients.{ByNumber, by_ids}
 use Rattle.gc_field.specs.Simulator.{simulator_ends}
-use Rattle.gc_field.specs.World.{Ends, Request, Sent, Wire, World}
+use Rattle.gc_field.specs.World.{Ends, Numbered, Request, Sent, Wire, World}
 use Rattle.gc_field.specs.Begin.{InFlight, IsWellFormed, LacksTheWord, AreTurns, SyncModel, SyncTurn, UnderWay, begins, leaves, none_under_way, turned}
 use Rattle.gc_field.specs.Field.{Move, Sends, ArePossible, AsksTheTable, moved}
 use Rattle.gc_field.specs.Instrument.{OfAnyInstrument, TreatsRawsAlike}
@@ -25,14 +25,14 @@ use Rattle.gc_catalogue.specs.Asked.{is_of_table}
 -- Clean.
 
 -- the eighth null procedure of a synchronization, as a request
-abbrev pub eighth : Request
-eighth = record { id = 7; call = Table NullProc }
+abbrev pub eighth_null : Request
+eighth_null = record { id = 7; call = Table NullProc }
 
 -- what a synchronization leaves once it has synchronized cleanly: the instrument in a good state, copies of the eighth null
 -- procedure, replies with its id (7), and a kept reply with that id, or none
 pub record IsClean {State : Type 0} (Good : State → Type 0) (kept : State → Option KeptReply) (u : UnderWay State) : Type 0 where
   pub good : Good u.state
-  pub up : AllByRecursion (λ x. x ≡ eighth) u.up
+  pub up : AllByRecursion (λ x. x ≡ eighth_null) u.up
   pub down : AllByRecursion (λ line. heard line ≡ Some 7) u.down
   pub keeps : (k : KeptReply) → kept u.state ≡ Some k → k.id ≡ 7
 
@@ -65,8 +65,12 @@ nulls = map (λ id. record { target = 0; call = Table NullProc; line = asked_lin
 abbrev pub nulls_settled : List (Settlement Asked)
 nulls_settled = map (λ id. record { target = 0; call = Table NullProc; outcome = Lost }) the_word
 
+-- these lines, each with the number of the eighth null procedure, 7
+abbrev pub of_eighth : {Line : Type 0} → List Line → List (Numbered Line)
+of_eighth xs = map (λ x. record { number = 7; line = x }) xs
+
 -- the wire at the end of a synchronization: requests 0 to 7 are the null procedures, which are settled, and a new client sends
--- from request 8 on; what is in flight belongs to request 7
+-- from request 8 on; what is in flight belongs to the eighth of them
 abbrev pub begun_wire : {State : Type 0} → UnderWay State → Wire State
 begun_wire u =
     record {
@@ -75,8 +79,8 @@ begun_wire u =
       made = [];
       settled = nulls_settled;
       starts = [];
-      up = map (λ x. record { number = 7; line = x }) u.up;
-      down = map (λ x. record { number = 7; line = x }) u.down;
+      up = of_eighth u.up;
+      down = of_eighth u.down;
       state = u.state;
       refused = 0;
       idle = 0;

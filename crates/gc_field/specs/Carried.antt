@@ -14,8 +14,8 @@ use Rattle.gc_field.specs.Laws.{kept_of}
 use Rattle.gc_field.specs.Meaning.{AllMean}
 use Rattle.gc_station.specs.Parts.{client_after}
 
--- acts of a station, and the moves of the line and of an instrument that go with them. The synchronization before these acts
--- has synchronized cleanly, and left `u` in flight; `rest` are the bytes of an unfinished line that the last piece of the
+-- acts of a station, and the moves of the line and of an instrument that go with them. Before these acts the station has
+-- synchronized cleanly, which left `u` in flight; `rest` are the bytes of an unfinished line that the last piece of the
 -- synchronization left
 pub record IsCarried {State : Type 0} (ends : Ends State) (Good : State → Type 0) (kept : State → Option KeptReply) (u : UnderWay State) (rest : List ℕ)
     (acts : List Act) (ms : List (Move State)) : Type 0 where

@@ -114,6 +114,14 @@ moves_with a b c =
     ∷ Comes c
     ∷ []
 
+-- the moves of the run before the first request reaches the instrument
+abbrev pub until_first : {S : Type 0} → List (Move S) → List (Move S)
+until_first ms = take 3 ms
+
+-- the moves of the run before the third request reaches the instrument
+abbrev pub until_third : {S : Type 0} → List (Move S) → List (Move S)
+until_third ms = take 13 ms
+
 -- the records of the run, in which the three commands are answered by the lines a, b and c
 abbrev pub records_with : (a b c : List ℕ) → List Record
 records_with a b c =
@@ -138,7 +146,7 @@ at_start = none_under_way simulator_opening
 abbrev pub stretch : Stretch State
 stretch = record { from = left_by_turns simulator_ends eight_answered at_start; moves = moves }
 
--- the run as a program; after its end is one more run on the line, in which nothing happens
+-- the run as a program (`run_and_end`)
 abbrev pub program : Program State
 program = record { plan = plan; commands = commands; scope = scope; acts = acts; runs = run_and_end eight_answered moves }
 
@@ -151,5 +159,5 @@ pub record IsPointedInField : Type 0 where
   pub chained : AreChained commands 0 2
   pub still : AreStill commands 0 2
   pub undisturbed : IsUndisturbed moves
-  pub executed : (stretch_wire simulator_ends stretch (take 13 moves)).executed ≡ 8 ∷ 9 ∷ []
-  pub pointing : (stretch_wire simulator_ends stretch (take 13 moves)).state.pointing ≡ record { hz = hz; v = v }
+  pub executed : (stretch_wire simulator_ends stretch (until_third moves)).executed ≡ 8 ∷ 9 ∷ []
+  pub pointing : (stretch_wire simulator_ends stretch (until_third moves)).state.pointing ≡ record { hz = hz; v = v }

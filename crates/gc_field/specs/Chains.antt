@@ -60,8 +60,8 @@ pub record ExecutedRequest : Type 0 where
 abbrev pub stretch_wire : {State : Type 0} → Ends State → Stretch State → List (Move State) → Wire State
 stretch_wire ends s ms = (world_at ends s ms).wire
 
--- if a reply in time ended the command of record b of this run (`line_of`), which is of a cycle and not of the setup, P holds of
--- its line and of the place of each command of that cycle before it in its chain
+-- if a reply in time ended the command of record b (`line_of`), in a cycle and not in the setup: P holds of that reply's line and
+-- of the place of each command before it in its chain
 abbrev pub OfEachBeforeInChain : {State : Type 0} → Program State → (b : Record) → (P : List ℕ → ℕ → Type 0) → Type 0
 OfEachBeforeInChain x b P =
     (line : List ℕ) (a : ℕ) → line_of b.end ≡ Some line → 0 < b.cycle → x.plan.setup ≤ a → a < b.place → AreChained x.commands a b.place → P line a

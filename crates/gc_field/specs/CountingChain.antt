@@ -1,6 +1,6 @@
 -- A run of a chain over an instrument that isn't the simulator, this project's own: it counts what it executes, answers to each
 -- request with the count, and keeps its reply. Each of its states is a good one, as the law of chains asks.
-use Rattle.std.specs.Prelude.{◌≡◌, ℕ, suc, List, [], ◌∷◌, take, codes, Option, Some, None}
+use Rattle.std.specs.Prelude.{◌≡◌, ℕ, suc, List, [], ◌∷◌, codes, Option, Some, None}
 use Rattle.gc_catalogue.specs.declared.asked.Asked.{Asked}
 use Rattle.gc_client.specs.declared.window.TheConstants.{WINDOW}
 use Rattle.gc_instrument.specs.Replying.{Handed}
@@ -8,13 +8,13 @@ use Rattle.gc_instrument.specs.State.{KeptReply}
 use Rattle.gc_links.specs.Acts.{Act}
 use Rattle.gc_station.specs.Links.{AreChained}
 use Rattle.gc_field.specs.World.{Ends, ends_of}
-use Rattle.gc_field.specs.ChainWitness.{points, reads_all, commands, scope, acts_with, moves_with, records_with}
+use Rattle.gc_field.specs.ChainWitness.{points, reads_all, commands, scope, acts_with, moves_with, until_first, until_third, records_with}
 use Rattle.gc_field.specs.Begin.{UnderWay, left_by_turns, none_under_way}
 use Rattle.gc_field.specs.Begun.{WasMadeOn}
 use Rattle.gc_field.specs.Chains.{HasEffect, IsUndisturbed, stretch_wire}
 use Rattle.gc_field.specs.Field.{Move}
 use Rattle.gc_field.specs.Instrument.{IsAnInstrument, KeepsItsReply, AnyState, all_known}
-use Rattle.gc_field.specs.Needed.{Keeper, repeats_or_executes, held, keeper_kept}
+use Rattle.gc_field.specs.Needed.{KeptNumber, repeats_or_executes, held, keeper_kept}
 use Rattle.gc_field.specs.Runs.{IsInField, Program, program_records}
 use Rattle.gc_field.specs.Shown.{Stretch}
 use Rattle.gc_field.specs.Witness.{plan, eight_answered, run_and_end}
@@ -23,14 +23,14 @@ use Rattle.gc_field.specs.Witness.{plan, eight_answered, run_and_end}
 -- and the count by then
 pub record Counter : Type 0 where
   pub count : ℕ
-  pub keeps : Keeper
+  pub keeps : KeptNumber
 
 -- the state once the instrument has executed a request with this id: it has counted it, and keeps the count as the reply
 abbrev pub once_counted : Counter → ℕ → Counter
 once_counted s id = record { count = suc s.count; keeps = Some (id, suc s.count) }
 
--- what the instrument does with a request, by the count that it keeps for the request's id: it sends that count again; or, if
--- there is none (None), it executes the request, counts it, and keeps that reply
+-- what the instrument does with a request, by the count that it keeps for the request's id (`repeats_or_executes`): if it
+-- executes the request, it counts it, answers the new count, and keeps that reply
 abbrev pub counter_handed : Counter → ℕ → Option ℕ → Handed Counter
 counter_handed s id o = repeats_or_executes (once_counted s id) (suc s.count) id s o
 
@@ -84,7 +84,7 @@ at_start = none_under_way (record { count = 27; keeps = None })
 abbrev pub stretch : Stretch Counter
 stretch = record { from = left_by_turns counting eight_answered at_start; moves = moves }
 
--- the run as a program; after its end is one more run on the line, in which nothing happens
+-- the run as a program (`run_and_end`)
 abbrev pub program : Program Counter
 program = record { plan = plan; commands = commands; scope = scope; acts = acts; runs = run_and_end eight_answered moves }
 
@@ -102,7 +102,7 @@ pub record IsCountedInField : Type 0 where
   pub undisturbed : IsUndisturbed moves
   pub first_made_on : WasMadeOn WINDOW counting stretch.from moves 8 points first_reply
   pub third_made_on : WasMadeOn WINDOW counting stretch.from moves 10 reads_all third_reply
-  pub before_first : (stretch_wire counting stretch (take 3 moves)).executed ≡ []
-  pub before_third : (stretch_wire counting stretch (take 13 moves)).executed ≡ 8 ∷ 9 ∷ []
-  pub count_at_first : (stretch_wire counting stretch (take 3 moves)).state.count ≡ 35
-  pub count_at_third : (stretch_wire counting stretch (take 13 moves)).state.count ≡ 37
+  pub before_first : (stretch_wire counting stretch (until_first moves)).executed ≡ []
+  pub before_third : (stretch_wire counting stretch (until_third moves)).executed ≡ 8 ∷ 9 ∷ []
+  pub count_at_first : (stretch_wire counting stretch (until_first moves)).state.count ≡ 35
+  pub count_at_third : (stretch_wire counting stretch (until_third moves)).state.count ≡ 37

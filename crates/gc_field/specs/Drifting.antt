@@ -130,7 +130,7 @@ moves raw =
     ∷ Comes answer
     ∷ []
 
--- the run as a program; after its end is one more run on the line, in which nothing happens
+-- the run as a program (`run_and_end`)
 abbrev pub program : RawCall → Program ℕ
 program raw = record { plan = plan; commands = commands raw; scope = scope; acts = acts raw; runs = run_and_end turns (moves raw) }
 

@@ -7,7 +7,7 @@ use Rattle.gc_station.specs.Model.{Runs, opening}
 use Rattle.gc_field.specs.Simulator.{simulator_ends}
 use Rattle.gc_field.specs.World.{Ends}
 use Rattle.gc_field.specs.Begin.{IsWellFormed, SyncTurn, UnderWay}
-use Rattle.gc_field.specs.Beginnings.{AreRuns, CountsFew, HasRisingIds, Run, killed_if, left_by_run, left_by_runs, after_turns}
+use Rattle.gc_field.specs.Beginnings.{AreRuns, CountsFew, HasRisingIds, Run, killed_unless_begun, left_by_run, left_by_runs, after_turns}
 use Rattle.gc_field.specs.Instrument.{OfAnyInstrument}
 use Rattle.gc_field.specs.Laws.{kept_of}
 use Rattle.gc_field.specs.Runs.{IsRunFaithful, Program, program_parts}
@@ -19,7 +19,7 @@ module _ {State : Type 0} (ends : Ends State) where
   -- was
   abbrev pub killed_by : ℕ → UnderWay State → Run State → List (SyncTurn State) → ℕ
   killed_by n u r [] = n
-  killed_by n u r (t ∷ ts) = killed_if (after_turns ends u r).left n
+  killed_by n u r (t ∷ ts) = killed_unless_begun (after_turns ends u r).left n
 
   -- how many runs in a row were killed while they synchronized, at the end of these, where `n` were before
   abbrev pub killed_over : ℕ → UnderWay State → List (Run State) → ℕ

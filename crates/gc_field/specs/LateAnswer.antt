@@ -72,7 +72,7 @@ moves =
     ∷ Comes answer
     ∷ []
 
--- the run as a program; after its end is one more run on the line, in which nothing happens
+-- the run as a program (`run_and_end`)
 abbrev pub program : Program State
 program = record { plan = plan; commands = commands; scope = scope; acts = acts; runs = run_and_end eight_answered moves }
 

@@ -82,17 +82,17 @@ two_asked line = Sends 7 (Table NullProc) 9 ∷ Sends 7 (Table InstrumentNo) 9 �
 
 -- Instruments that keep a reply.
 
--- the state of an instrument that keeps a reply: the id of a request and the number in its reply, or nothing
-abbrev pub Keeper : Type 0
-Keeper = Option (ℕ × ℕ)
+-- what an instrument keeps of its last reply: the id of the request, and the number in the reply; or nothing
+abbrev pub KeptNumber : Type 0
+KeptNumber = Option (ℕ × ℕ)
 
 -- the reply that is kept
-abbrev pub keeper_kept : Keeper → Option KeptReply
+abbrev pub keeper_kept : KeptNumber → Option KeptReply
 keeper_kept None = None
 keeper_kept (Some x) = Some (record { id = x.0; line = giving x.0 x.1 })
 
 -- the number that is kept for this id, if one is
-abbrev pub held : Keeper → ℕ → Option ℕ
+abbrev pub held : KeptNumber → ℕ → Option ℕ
 held None id = None
 held (Some x) id = if nat_eq x.0 id then Some x.1 else None
 
@@ -104,43 +104,43 @@ repeats_or_executes next new id s None = record { state = next; reply = giving i
 
 -- what an instrument that keeps a reply does with a request (`repeats_or_executes`): if it executes the request, it answers 0,
 -- and keeps that reply
-abbrev pub keeper_handed : (id : ℕ) → Keeper → Option ℕ → Handed Keeper
+abbrev pub keeper_handed : (id : ℕ) → KeptNumber → Option ℕ → Handed KeptNumber
 keeper_handed id k o = repeats_or_executes (Some (id, 0)) 0 id k o
 
 -- an instrument that meets every clause: it keeps its last reply, for a request with the same id, until it starts again
-abbrev pub keeper : Ends Keeper
-keeper = ends_of {State = Keeper} (λ k id call. keeper_handed id k (held k id)) (λ k. None)
+abbrev pub keeper : Ends KeptNumber
+keeper = ends_of {State = KeptNumber} (λ k id call. keeper_handed id k (held k id)) (λ k. None)
 
 -- what an instrument does with a request that it knows (true), as `keeper_handed` says; or with one that it doesn't know (false):
 -- it refuses that, and still keeps its older reply
-abbrev pub handed_if_known : (known : Bool) → Keeper → (id : ℕ) → Handed Keeper
+abbrev pub handed_if_known : (known : Bool) → KeptNumber → (id : ℕ) → Handed KeptNumber
 handed_if_known true k id = keeper_handed id k (held k id)
 handed_if_known false k id = record { state = k; reply = refusal id; executed = true }
 
 -- an instrument that knows the null procedure alone: it refuses any other request, and still keeps its reply to the last null
 -- procedure
-abbrev pub keeps_older : Ends Keeper
+abbrev pub keeps_older : Ends KeptNumber
 keeps_older = record keeper { handed = λ k id call. handed_if_known (nat_eq (procedure_of call) 0) k id }
 
 -- an instrument that knows the calls of the table alone: it refuses others, and still keeps its reply to the last call of the
 -- table
-abbrev pub refuses_raws : Ends Keeper
+abbrev pub refuses_raws : Ends KeptNumber
 refuses_raws = record keeper { handed = λ k id call. handed_if_known (is_of_table call) k id }
 
 -- the moves of nine requests, each answered before the next one is sent: the first and the last, whose id is the same, are null
 -- procedures, and the seven between are this one, which is refused
-abbrev pub nine_requests : Asked → List (Move Keeper)
+abbrev pub nine_requests : Asked → List (Move KeptNumber)
 nine_requests call =
     null_answered (one_answered call (refusal 1) (one_answered call (refusal 2) (one_answered call (refusal 3) (one_answered call (refusal 4)
     (one_answered call (refusal 5) (one_answered call (refusal 6) (one_answered call (refusal 7) (null_answered []))))))))
 
 -- an instrument that keeps an old reply, with id 1, after each start
-abbrev pub remembers : Ends Keeper
+abbrev pub remembers : Ends KeptNumber
 remembers = record keeper { restarted = λ k. Some (1, 27) }
 
 -- the moves of two requests, each answered before the next one is sent, with this move between them; the answer to the second one
 -- is the reply that `remembers` keeps after a start
-abbrev pub two_answered_around : Move Keeper → List (Move Keeper)
+abbrev pub two_answered_around : Move KeptNumber → List (Move KeptNumber)
 two_answered_around between = null_answered (between ∷ one_answered (Table InstrumentNo) (giving 1 27) [])
 
 -- Instruments that keep no reply: their state says whether they are out of order.
@@ -197,7 +197,7 @@ abbrev pub repeated_request : {State : Type 0} → List (Move State)
 repeated_request = null_answered (Sends 7 (Table InstrumentNo) 9 ∷ OnLine (Up_repeat 0) ∷ OnLine Up_deliver ∷ OnLine Up_deliver ∷ [])
 
 -- an instrument that keeps its reply, but executes also a request that comes again
-abbrev pub executes_again : Ends Keeper
+abbrev pub executes_again : Ends KeptNumber
 executes_again = record keeper { handed = λ k id call. keeper_handed id k None }
 
 -- an instrument that keeps no reply
@@ -241,7 +241,7 @@ pub record IsAllNeeded : Type 0 where
   -- are needed: here are an instrument that lacks the first clause and has the second, and one that lacks the second and has
   -- the first
   pub again : IsExecutedTwice executes_again AnyState keeper_kept None
-  pub again_keeps : (state : Keeper) (id : ℕ) (call : Asked) → keeper_kept (executes_again.handed state id call).state ≡ Some (own_reply id (executes_again.handed state id call))
+  pub again_keeps : (state : KeptNumber) (id : ℕ) (call : Asked) → keeper_kept (executes_again.handed state id call).state ≡ Some (own_reply id (executes_again.handed state id call))
   pub always : IsExecutedTwice forgets AnyState never_kept false
   pub always_again :
       (state : Bool) (id : ℕ) (call : Asked) (line : List ℕ) → never_kept state ≡ Some (record { id = id; line = line }) → (forgets.handed state id call).executed ≡ false

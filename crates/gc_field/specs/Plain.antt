@@ -9,8 +9,8 @@ use Rattle.gc_texts.specs.declared.tasks.Task.{Task}
 use Rattle.gc_station.specs.NextCommand.{no_turn}
 use Rattle.gc_station.specs.Records.{Record}
 
--- a plain command that asks this of this target, with this deadline in milliseconds, chained to the command before it or not. Its
--- turn is as where there is no command: place 0 of its section and of its chain, first attempt
+-- a plain command that asks this of this target, with this deadline in milliseconds, chained to the command before it or not; its
+-- turn is the one where there is no command (`no_turn`)
 abbrev pub plain_task : (target : ℕ) → Asked → (deadline : ℕ) → (chained : Bool) → Task
 plain_task target call deadline chained =
     record {

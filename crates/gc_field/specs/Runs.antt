@@ -91,11 +91,11 @@ module _ {State : Type 0} (ends : Ends State) where
   abbrev pub AreSentAs : List Task → List Part → List (Stretch State) → Type 0
   AreSentAs commands ps ss = AllZip (λ p s. MarksAsk commands p.marks (map asked (own_sent s))) ps ss
 
-  -- in time: if a request is sent while fewer than seven are outstanding, and later a reply to it comes while it isn't settled,
-  -- that reply settles it. The request is answered by that line if no moment at or past its deadline was read in between, and
-  -- else it is late. `before` are the moves before it is sent, and `between` those from then on until the reply comes
-  abbrev pub IsInTime : Stretch State → Type 0
-  IsInTime s =
+  -- if a request is sent while fewer than seven are outstanding, the first reply to it that comes while it isn't settled settles
+  -- it: as answered by that line, or as late if a moment at or past its deadline was read in between. `before` are the moves
+  -- before it is sent, and `between` those from then on until the reply comes
+  abbrev pub SettlesByFirstReply : Stretch State → Type 0
+  SettlesByFirstReply s =
       (before between later : List (Move State)) (target : ℕ) (call : Asked) (deadline : ℕ) (line : List ℕ) (rest : List (Numbered (List ℕ)))
       → s.moves ≡ (before ++ Sends target call deadline ∷ between) ++ Comes line ∷ later
       → length (world_at s before).client.waiting < WINDOW
@@ -213,7 +213,7 @@ module _ {State : Type 0} (ends : Ends State) (Good : State → Type 0) (kept : 
     pub meant : AreMeant x.plan x.commands (opening x.plan x.scope) x.acts
     -- in time: a reply that comes while its request isn't settled settles it, as answered, or as late if a moment at or past its
     -- deadline was read since it was sent
-    pub in_time : AllByRecursion (IsInTime ends) (stretches ends u x.runs)
+    pub in_time : AllByRecursion (SettlesByFirstReply ends) (stretches ends u x.runs)
     -- each stretch is faithful after its first moves, however many. So it acts once: if the instrument keeps its reply to each
     -- request that it knows, between two of its starts each of these is executed at most once
     pub each : AllByRecursion IsFaithfulThroughout (stretches ends u x.runs)

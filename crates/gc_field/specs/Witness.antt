@@ -118,7 +118,7 @@ turns = Asks ∷ turn.Comes ∷ Reaches ∷ turn.Comes ∷ Reaches ∷ turn.Come
 abbrev pub moves : List (Move State)
 moves = Tells 15 ∷ Sends 7 (Table InstrumentNo) 115 ∷ Tells 15 ∷ OnLine Up_deliver ∷ Tells 20 ∷ Comes answer ∷ []
 
--- the run as a program; after its end is one more run on the line, in which nothing happens
+-- the run as a program (`run_and_end`)
 abbrev pub program : Program State
 program = record { plan = plan; commands = commands; scope = scope; acts = acts; runs = run_and_end turns moves }
 

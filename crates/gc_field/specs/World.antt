@@ -10,19 +10,19 @@ pub use Rattle.gc_world.specs.Worlds.{Numbered, Send, Up_deliver, Up_lose, Up_re
 
 -- The line.
 
--- a request that was sent: its target, its call, and the line that its client wrote; its number is its place in the list of these
+-- a request that was sent, for a call of the table or a procedure that isn't in it
 abbrev pub Sent : Type 0
 Sent = Worlds.Sent Asked
 
--- a request in flight: its line is the request line of this id and this call
+-- such a request in flight: its line is the request line of its id and its call
 abbrev pub Request : Type 0
 Request = Worlds.Request Asked
 
--- all of the world but its client: the line, the instrument's state, and the lists and counts of what has happened
+-- all of a world but its client, for such requests
 abbrev pub Wire : Type 0 → Type 0
 Wire State = Worlds.Wire Asked State
 
--- a wire with its client
+-- such a wire with its client
 abbrev pub World : (Client State : Type 0) → Type 0
 World Client State = Worlds.World Asked Client State
 

@@ -6,7 +6,7 @@ use Rattle.std.proofs.lemmas.List.{append-nil}
 use Rattle.gc_files.specs.Files.{Life, content, later_by}
 use Rattle.gc_files.specs.Rows.{has_feed, opened_table}
 use Rattle.gc_files.specs.Runs.{Run, IsHead, IsRun, HasRows}
-use Rattle.gc_files.specs.Failing.{Sides, settled, same_sides, done_by, Loses, Event, Ran, Failed, Copied, Crashed, sides_after, Occur, runs_of, IsTrusted, IsFound, TablesOutlastFailures}
+use Rattle.gc_files.specs.Failing.{Sides, settled, same_sides, done_by, Loses, Stopped, Unsynced, Event, Ran, Copied, Crashed, sides_after, ArePossibleEvents, runs_of, IsTrusted, IsFound, TablesOutlastFailures}
 use Rattle.gc_files.proofs.Whole.{whole_front}
 use Rattle.gc_files.proofs.Moments.{may_stay}
 use Rattle.gc_files.proofs.Lasting.{Lasts, lasts_over_one_more, same_table}
@@ -81,45 +81,45 @@ module _ (head before : List ℕ) (heads : IsHead head) where
   -- where both sides have the rows of the runs `done`, whatever is found after more events, among which runs go on only in a file
   -- that isn't in doubt, has the rows of `done`, and then those of the runs among these events
   lasts_over_events : (done : List Run) (sides : Sides) (doubted : Bool) (events : List Event)
-      → HasRowsOnBothSides head before done sides doubted → Occur IsTrusted head sides doubted events
+      → HasRowsOnBothSides head before done sides doubted → ArePossibleEvents IsTrusted head sides doubted events
       → (left : List ℕ) → IsFound (sides_after sides events) left → HasRows head before (done ++ runs_of events) left
-  lasts_over_events done sides doubted [] good occur left found =
+  lasts_over_events done sides doubted [] good possible left found =
       subst (λ (rs : List Run). HasRows head before rs left) (sym (append-nil done)) (elim found [
         | inl is ↦ subst (HasRows head before done) (sym is) good.read
         | inr may ↦ good.disk left may
       ])
-  lasts_over_events done sides doubted (Ran run ∷ events) good occur left found =
-      let trusted = subst (HasRowsOnBothSides head before done sides) occur.0 good in
-      let next = subst (HasRowsOnBothSides head before (done ++ run ∷ []) (done_by run.steps sides)) (sym occur.0) (after_run done sides run trusted occur.1) in
+  lasts_over_events done sides doubted (Ran run Stopped ∷ events) good possible left found =
+      let trusted = subst (HasRowsOnBothSides head before done sides) possible.0.0 good in
+      let next = subst (HasRowsOnBothSides head before (done ++ run ∷ []) (done_by run.steps sides)) (sym possible.0.0) (after_run done sides run trusted possible.0.1) in
       subst (λ (rs : List Run). HasRows head before rs left) (append_assoc done (run ∷ []) (runs_of events))
-      (lasts_over_events (done ++ run ∷ []) (done_by run.steps sides) doubted events next occur.2 left found)
-  lasts_over_events done sides doubted (Failed run read disk ∷ events) good occur left found =
-      let trusted = subst (HasRowsOnBothSides head before done sides) occur.0 good in
-      let next = after_failed_sync done sides run read disk trusted occur.1 occur.2 occur.3 in
+      (lasts_over_events (done ++ run ∷ []) (done_by run.steps sides) doubted events next possible.1 left found)
+  lasts_over_events done sides doubted (Ran run (Unsynced read disk) ∷ events) good possible left found =
+      let trusted = subst (HasRowsOnBothSides head before done sides) possible.0.0 good in
+      let next = after_failed_sync done sides run read disk trusted possible.0.1 possible.0.2.0 possible.0.2.1 in
       subst (λ (rs : List Run). HasRows head before rs left) (append_assoc done (run ∷ []) (runs_of events))
-      (lasts_over_events (done ++ run ∷ []) (record { read = settled read; disk = settled disk }) true events next occur.4 left found)
-  lasts_over_events done sides doubted (Copied true ∷ events) good occur left found =
+      (lasts_over_events (done ++ run ∷ []) (record { read = settled read; disk = settled disk }) true events next possible.1 left found)
+  lasts_over_events done sides doubted (Copied true ∷ events) good possible left found =
       let next : HasRowsOnBothSides head before done (same_sides (settled (content sides.read))) false = record {
         read = good.read;
         disk = settled_lasts head before done (content sides.read) good.read;
         same = λ _. refl;
       } in
-      lasts_over_events done (same_sides (settled (content sides.read))) false events next occur left found
-  lasts_over_events done sides doubted (Copied false ∷ events) good occur left found =
+      lasts_over_events done (same_sides (settled (content sides.read))) false events next possible.1 left found
+  lasts_over_events done sides doubted (Copied false ∷ events) good possible left found =
       let next : HasRowsOnBothSides head before done (record { read = settled (content sides.read); disk = sides.disk }) true = record {
         read = good.read;
         disk = good.disk;
         same = λ wrong. let clash : true ≡ false = wrong in cc;
       } in
-      lasts_over_events done (record { read = settled (content sides.read); disk = sides.disk }) true events next occur left found
-  lasts_over_events done sides doubted (Crashed there ∷ events) good occur left found =
-      let has = good.disk there occur.0 in
+      lasts_over_events done (record { read = settled (content sides.read); disk = sides.disk }) true events next possible.1 left found
+  lasts_over_events done sides doubted (Crashed there ∷ events) good possible left found =
+      let has = good.disk there possible.0 in
       let next : HasRowsOnBothSides head before done (same_sides (settled there)) false = record { read = has; disk = settled_lasts head before done there has; same = λ _. refl } in
-      lasts_over_events done (same_sides (settled there)) false events next occur.1 left found
+      lasts_over_events done (same_sides (settled there)) false events next possible.1 left found
 
 -- the law: the table lasts over failed syncs, too, where no run goes on in a file in doubt
 pub tables_outlast_failures : TablesOutlastFailures
-tables_outlast_failures head held heads events occur left found =
+tables_outlast_failures head held heads events possible left found =
     let has : HasRows head (opened_table head held) [] held = ([], tt, sym (append-nil (opened_table head held))) in
     lasts_over_events head (opened_table head held) heads [] (same_sides (settled held)) false events
-    (record { read = has; disk = settled_lasts head (opened_table head held) [] held has; same = λ _. refl }) occur left found
+    (record { read = has; disk = settled_lasts head (opened_table head held) [] held has; same = λ _. refl }) possible left found

@@ -2,7 +2,7 @@
 use Rattle.std.proofs.Common.{◌≡◌, inl, inr, ℕ, false, List, [], ◌∷◌, refl, arith, None}
 use Rattle.gc_files.specs.Files.{Append, Sync}
 use Rattle.gc_files.specs.Runs.{Run, IsRun, rows_of}
-use Rattle.gc_files.specs.Failing.{settled, same_sides, Event, Ran, Failed, Occur, runs_of, CopiesAreNeeded}
+use Rattle.gc_files.specs.Failing.{settled, same_sides, Stopped, Unsynced, Event, Ran, ArePossibleEvents, runs_of, CopiesAreNeeded}
 
 -- a head that is a line feed
 abbrev line_feed_head : List ℕ
@@ -19,7 +19,7 @@ second_run = record { rows = (65 ∷ []) ∷ []; steps = Append (65 ∷ 10 ∷ [
 -- the last sync of the first run fails: a read still returns the head, and the disk has a zero in its place. Then the second
 -- run goes on in that file
 abbrev failing_events : List Event
-failing_events = Failed first_run (10 ∷ []) (0 ∷ []) ∷ Ran second_run ∷ []
+failing_events = Ran first_run (Unsynced (10 ∷ []) (0 ∷ [])) ∷ Ran second_run Stopped ∷ []
 
 -- the first run is one over an empty file
 first_is_a_run : IsRun line_feed_head [] first_run
@@ -40,18 +40,22 @@ second_is_a_run = record {
 }
 
 -- these events can happen to an empty file, where runs go on in any file
-events_occur : Occur (λ doubted. Unit {0}) line_feed_head (same_sides (settled [])) false failing_events
-events_occur = (
-  tt,
-  first_is_a_run,
-  record { front = 10 ∷ []; may = inr refl; hole = []; none = refl; is = refl },
-  record { front = []; may = inl (refl, (0, refl)); hole = 0 ∷ []; none = refl; is = refl },
-  (tt, second_is_a_run, tt),
+events_are_possible : ArePossibleEvents (λ doubted. Unit {0}) line_feed_head (same_sides (settled [])) false failing_events
+events_are_possible = (
+  (
+    tt,
+    first_is_a_run,
+    (
+      record { front = 10 ∷ []; may = inr refl; hole = []; none = refl; is = refl },
+      record { front = []; may = inl (refl, (0, refl)); hole = 0 ∷ []; none = refl; is = refl },
+    ),
+  ),
+  ((tt, second_is_a_run, tt), tt),
 )
 
 -- the law: it isn't so that tables last where runs go on in any file, in doubt or not
 pub copies_are_needed : CopiesAreNeeded
 copies_are_needed lasts =
-    let has = lasts line_feed_head [] (inr ([], refl, refl)) failing_events events_occur (0 ∷ 65 ∷ 10 ∷ []) (inr (inr (inr refl))) in
+    let has = lasts line_feed_head [] (inr ([], refl, refl)) failing_events events_are_possible (0 ∷ 65 ∷ 10 ∷ []) (inr (inr (inr refl))) in
     let wrong : 0 ∷ 65 ∷ 10 ∷ [] ≡ 10 ∷ rows_of (runs_of failing_events) has.0 = has.2 in
     cc

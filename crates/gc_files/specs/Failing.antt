@@ -37,12 +37,32 @@ pub record Loses (life : Life) (now : List ℕ) : Type 0 where
   pub none : has_feed hole ≡ false
   pub is : now ≡ front ++ hole
 
+-- how a run ends: by itself or by a kill; or its last call is a sync that fails, after which a read returns `read` and the disk
+-- has `disk`
+pub data RunEnd : Type 0 where
+  Stopped : RunEnd
+  Unsynced : (read disk : List ℕ) → RunEnd
+
+-- a run may end in this way after these steps: a sync that fails makes of each side what `Loses` allows
+abbrev pub MayEnd : Sides → List Step → RunEnd → Type 0
+MayEnd sides steps Stopped = Unit {0}
+MayEnd sides steps (Unsynced read disk) = Loses (later_by steps sides.read) read × Loses (later_by steps sides.disk) disk
+
+-- both sides after these steps of a run and this ending
+abbrev pub sides_ended : Sides → List Step → RunEnd → Sides
+sides_ended sides steps Stopped = done_by steps sides
+sides_ended sides steps (Unsynced read disk) = record { read = settled read; disk = settled disk }
+
+-- whether a file is in doubt, so that its sides may differ, after a run that ended in this way; `doubted` says whether it was
+-- before. A sync that fails puts it in doubt
+abbrev pub doubt_ended : RunEnd → (doubted : Bool) → Bool
+doubt_ended Stopped doubted = doubted
+doubt_ended (Unsynced read disk) doubted = true
+
 -- What becomes of the file at a path.
 pub data Event : Type 0 where
-  -- a run appended rows, as far as it came, and ended by itself or by a kill
-  Ran : (run : Run) → Event
-  -- a run appended rows, and its last call was a sync that failed: what a read returns then, and what the disk has
-  Failed : (run : Run) → (read disk : List ℕ) → Event
+  -- a run appended rows, as far as it came, and ended in this way
+  Ran : (run : Run) (ending : RunEnd) → Event
   -- what a read returns was copied to a new file and synced there, and that file took the old one's place. `named` says whether
   -- the new file's name is on the disk; where it isn't, a crash may bring the old file back
   Copied : (named : Bool) → Event
@@ -51,8 +71,7 @@ pub data Event : Type 0 where
 
 -- both sides, after this event, of a file that had the sides `sides` before it
 abbrev pub sides_by : Event → Sides → Sides
-sides_by (Ran run) sides = done_by run.steps sides
-sides_by (Failed run read disk) sides = record { read = settled read; disk = settled disk }
+sides_by (Ran run ending) sides = sides_ended sides run.steps ending
 sides_by (Copied true) sides = same_sides (settled (content sides.read))
 sides_by (Copied false) sides = record { read = settled (content sides.read); disk = sides.disk }
 sides_by (Crashed left) sides = same_sides (settled left)
@@ -62,28 +81,36 @@ abbrev pub sides_after : Sides → List Event → Sides
 sides_after sides [] = sides
 sides_after sides (event ∷ events) = sides_after (sides_by event sides) events
 
--- these events can happen to a file with these sides; `head` is what a new file gets first. `doubted` is whether the file is in
--- doubt, so that its sides may differ. A run is one over what a read returns (`IsRun`), and goes on only where `goes` allows it
--- for a file that is in doubt (true) or isn't (false). A failed sync makes of each side, after the run's steps, what `Loses`
--- allows, and a crash leaves what `MayBeLeft` allows of the disk's side. A failed sync puts the file in doubt, and so does a
--- copy whose name isn't on the disk; a copy whose name is on the disk, and a crash, end the doubt
-abbrev pub Occur : (goes : Bool → Type 0) (head : List ℕ) → Sides → (doubted : Bool) → List Event → Type 0
-Occur goes head sides doubted [] = Unit {0}
-Occur goes head sides doubted (Ran run ∷ events) =
-    goes doubted × IsRun head (content sides.read) run × Occur goes head (sides_by (Ran run) sides) doubted events
-Occur goes head sides doubted (Failed run read disk ∷ events) =
-    goes doubted × IsRun head (content sides.read) run
-    × Loses (later_by run.steps sides.read) read × Loses (later_by run.steps sides.disk) disk
-    × Occur goes head (sides_by (Failed run read disk) sides) true events
-Occur goes head sides doubted (Copied named ∷ events) = Occur goes head (sides_by (Copied named) sides) (not named) events
-Occur goes head sides doubted (Crashed left ∷ events) =
-    MayBeLeft sides.disk left × Occur goes head (sides_by (Crashed left) sides) false events
+-- whether a file is in doubt after this event; `doubted` says whether it was before. A copy whose name isn't on the disk puts it
+-- in doubt; a copy whose name is there, and a crash, end the doubt
+abbrev pub doubt_by : Event → (doubted : Bool) → Bool
+doubt_by (Ran run ending) doubted = doubt_ended ending doubted
+doubt_by (Copied named) doubted = not named
+doubt_by (Crashed left) doubted = false
+
+-- whether a file is in doubt after these events; `doubted` says whether it was before them
+abbrev pub doubt_after : (doubted : Bool) → List Event → Bool
+doubt_after doubted [] = doubted
+doubt_after doubted (event ∷ events) = doubt_after (doubt_by event doubted) events
+
+-- this event can happen to a file with these sides; `head` is what a new file gets first. A run is one over what a read returns,
+-- and goes on only where `goes` allows it for a file that is in doubt (true) or isn't (false); a crash leaves what it may of the
+-- disk's side
+abbrev pub IsPossibleEvent : (goes : Bool → Type 0) (head : List ℕ) → Sides → (doubted : Bool) → Event → Type 0
+IsPossibleEvent goes head sides doubted (Ran run ending) = goes doubted × IsRun head (content sides.read) run × MayEnd sides run.steps ending
+IsPossibleEvent goes head sides doubted (Copied named) = Unit {0}
+IsPossibleEvent goes head sides doubted (Crashed left) = MayBeLeft sides.disk left
+
+-- these events can happen, one after the other, to a file with these sides that is in doubt, or isn't
+abbrev pub ArePossibleEvents : (goes : Bool → Type 0) (head : List ℕ) → Sides → (doubted : Bool) → List Event → Type 0
+ArePossibleEvents goes head sides doubted [] = Unit {0}
+ArePossibleEvents goes head sides doubted (event ∷ events) =
+    IsPossibleEvent goes head sides doubted event × ArePossibleEvents goes head (sides_by event sides) (doubt_by event doubted) events
 
 -- the runs among these events, in order
 abbrev pub runs_of : List Event → List Run
 runs_of [] = []
-runs_of (Ran run ∷ events) = run ∷ runs_of events
-runs_of (Failed run read disk ∷ events) = run ∷ runs_of events
+runs_of (Ran run ending ∷ events) = run ∷ runs_of events
 runs_of (Copied named ∷ events) = runs_of events
 runs_of (Crashed left ∷ events) = runs_of events
 
@@ -95,7 +122,7 @@ IsFound sides left = (left ≡ content sides.read) ⊎ MayBeLeft sides.disk left
 -- it: whatever is then found of the file, the next opening makes of it the table that was there before the events, and after that
 -- table the first rows of each run, at least the kept ones
 abbrev pub TablesLastWhere : (goes : Bool → Type 0) → Type 0
-TablesLastWhere goes = (head held : List ℕ) → IsHead head → (events : List Event) → Occur goes head (same_sides (settled held)) false events
+TablesLastWhere goes = (head held : List ℕ) → IsHead head → (events : List Event) → ArePossibleEvents goes head (same_sides (settled held)) false events
     → (left : List ℕ) → IsFound (sides_after (same_sides (settled held)) events) left → HasRows head (opened_table head held) (runs_of events) left
 
 -- a file is trusted with further rows: it isn't in doubt

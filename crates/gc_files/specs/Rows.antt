@@ -85,12 +85,16 @@ ComesTo held all steps = Mending held steps ⊎ ((bytes : List ℕ) × MendedAnd
 abbrev pub Did : (old new : Option Life) (claim : (held : List ℕ) → List Step → Type 0) → Type 0
 Did old new claim = (life : Life) → old ≡ Some life → (steps : List Step) × (new ≡ Some (later_by steps life)) × claim (content life) steps
 
+-- the steps of an opening of a file that held `held`: they mended it, and then the head was written where no whole row was there
+abbrev pub OpensFile : (head held : List ℕ) → List Step → Type 0
+OpensFile head held steps = MendedAndPut held steps (head_written head held)
+
 -- an opening mended the file, and wrote the head where no whole row was there
 abbrev pub Opens : (head : List ℕ) (old new : Option Life) → Type 0
-Opens head old new = Did old new (λ held steps. MendedAndPut held steps (head_written head held))
+Opens head old new = Did old new (OpensFile head)
 
--- an opening did a front of what an opening does, as far as it came: it mended the file, whole, in part or not at all, and did
--- nothing else; or it mended the file whole, and then wrote a front of the head, where no whole row was there
+-- an opening did, as far as it came (`ComesTo`), what an opening does: it mends the file, and writes the head where no whole row
+-- is there
 abbrev pub OpensInPart : (head : List ℕ) (old new : Option Life) → Type 0
 OpensInPart head old new = Did old new (λ held. ComesTo held (head_written head held))
 

@@ -2,7 +2,7 @@
 use Rattle.std.specs.Prelude.{◌≡◌, ◌⊎◌, ℕ, ◌≤◌, false, List, [], ◌∷◌, ◌++◌, length, take, Option, Some, None, if◌then◌else◌}
 use Rattle.std.specs.List.{AllByRecursion, flat_map}
 use Rattle.gc_files.specs.Files.{Step, Append, Cut, Sync, Life, settled, has_sync, content, later_by, MayBeLeft}
-use Rattle.gc_files.specs.Rows.{has_feed, row_line, opened_table, head_written, Puts, MendedAndPut, IsFront, ComesTo}
+use Rattle.gc_files.specs.Rows.{has_feed, row_line, opened_table, head_written, Puts, MendedAndPut, IsFront, ComesTo, OpensFile}
 
 -- what these steps appended before their last sync
 abbrev pub synced : List Step → List ℕ
@@ -131,7 +131,7 @@ pub record OpensAndWrites (head held : List ℕ) (run : Run) : Type 0 where
   pub opening : List Step
   pub later : List Step
   pub split : run.steps ≡ opening ++ later
-  pub opened : MendedAndPut held opening (head_written head held)
+  pub opened : OpensFile head held opening
   pub front : List ℕ
   pub puts : Puts later front
   pub is_front : IsFront front (row_lines run.rows)

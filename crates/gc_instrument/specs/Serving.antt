@@ -1,14 +1,13 @@
 -- What serving writes, and how it ends: this project's own.
-use Rattle.std.specs.Prelude.{◌≡◌, ℕ, ◌+◌, ◌<◌, List, ◌∷◌, ◌++◌, length, take, Option, Some, Result, Ok, Err}
+use Rattle.std.specs.Prelude.{◌≡◌, ℕ, ◌+◌, ◌<◌, List, ◌∷◌, ◌++◌, length, take, Option, Some, Result}
 use Rattle.std.specs.Io.KnownBytes.{Appends}
-use Rattle.gc_lines.specs.Answering.{IsRunOverPorts, Ports, Progress, progress}
+use Rattle.gc_lines.specs.Answering.{IsRunOverPorts, Ports, Progress, WholeOrCut, progress}
 use Rattle.gc_lines.specs.AnsweringLines.{AnswersLines}
 use Rattle.gc_lines.specs.Frames.{lines}
 use Rattle.gc_lines.specs.Lines.{with_end}
 use Rattle.gc_lines.specs.declared.frame.Frame.{Frame}
 use Rattle.gc_lines.specs.declared.served.Served.{Served}
 use Rattle.gc_lines.specs.declared.served.ServeFault.{ServeFault}
-use Rattle.gc_lines.specs.declared.served.ServeFault.TheVariants.{Read, Write, TooManyReads}
 use Rattle.gc_instrument.specs.State.{State}
 use Rattle.gc_instrument.specs.Replying.{IsReplied}
 use Rattle.gc_instrument.specs.Hearing.{Hears, replies_text}
@@ -48,10 +47,9 @@ pub record ServesPart (from to : Progress State) (heard : List (List ℕ)) (byte
 -- the one whose reply was cut. That led the instrument from the state `from` to `to`, and the sink had taken `old` before and
 -- `new` after, where that is known
 abbrev pub Serves : (from to : State) → (heard : List (List ℕ)) → (old new : Option (List ℕ)) → Result Served ServeFault → Type 0
-Serves from to heard old new (Ok served) = ServesAll (progress from old 0) (progress to new served.replies) heard
-Serves from to heard old new (Err (Read count)) = ServesAll (progress from old 0) (progress to new count) heard
-Serves from to heard old new (Err (Write count bytes)) = ServesPart (progress from old 0) (progress to new count) heard bytes
-Serves from to heard old new (Err (TooManyReads count)) = ServesAll (progress from old 0) (progress to new count) heard
+Serves from to heard old new result =
+    WholeOrCut (λ count. ServesAll (progress from old 0) (progress to new count) heard)
+    (λ count bytes. ServesPart (progress from old 0) (progress to new count) heard bytes) result
 
 -- serving in at most `most` reads led the instrument from the state `from` to `to` and the ports from `old` to `new`, and had
 -- this result: the instrument got the lines of the bytes that the source gave, and the sink took the replies, as `Serves` says

@@ -88,16 +88,22 @@ pub record AnswersPart {State : Type 0} (rule : AnswerRule State Frame) (from to
   pub not_all : bytes < length text
   pub took : Appends from.taken to.taken (all_of texts ++ take bytes text)
 
+-- by the result of a run: `Whole` of how many texts were written whole or, after a failed write, `Cut` of that number and of how
+-- many bytes were written of the next text
+abbrev pub WholeOrCut : (Whole : ℕ → Type 0) → (Cut : (count bytes : ℕ) → Type 0) → Result Served ServeFault → Type 0
+WholeOrCut Whole Cut (Ok served) = Whole served.replies
+WholeOrCut Whole Cut (Err (Read count)) = Whole count
+WholeOrCut Whole Cut (Err (Write count bytes)) = Cut count bytes
+WholeOrCut Whole Cut (Err (TooManyReads count)) = Whole count
+
 -- which of the frames `seen`, all that were read, were answered, by the result of the run: all of them, or after a failed write
 -- those up to the one whose text was cut. That took the answerer from the state `from` to `to`, and what the sink has taken,
 -- where that is known, grew from `old` to `new`
 abbrev pub AnswersFrames : {State : Type 0} → AnswerRule State Frame → (from to : State) → (seen : List Frame) → (old new : Option (List ℕ))
     → Result Served ServeFault → Type 0
-AnswersFrames rule from to seen old new (Ok served) = AnswersAll rule (progress from old 0) (progress to new served.replies) seen
-AnswersFrames rule from to seen old new (Err (Read count)) = AnswersAll rule (progress from old 0) (progress to new count) seen
-AnswersFrames rule from to seen old new (Err (Write count bytes)) =
-    AnswersPart rule (progress from old 0) (progress to new count) seen bytes
-AnswersFrames rule from to seen old new (Err (TooManyReads count)) = AnswersAll rule (progress from old 0) (progress to new count) seen
+AnswersFrames rule from to seen old new result =
+    WholeOrCut (λ count. AnswersAll rule (progress from old 0) (progress to new count) seen)
+    (λ count bytes. AnswersPart rule (progress from old 0) (progress to new count) seen bytes) result
 
 -- what is seen of a source and a sink: the bytes that are still to come and those that were taken, where they are known, how many
 -- reads were answered and whether the last was the end, and whether each port has failed
@@ -132,11 +138,12 @@ taken_by of_sink sink = record { bytes = of_sink.taken sink; failed = of_sink.fa
 -- what each result of a run of at most `most` reads says of the ports before (`old`) and after it (`new`). Where no read was
 -- answered, `ended` is left from an earlier run, and nothing is claimed of it
 abbrev pub EndsBecause : (old new : Ports) → (most : ℕ) → Result Served ServeFault → Type 0
--- a read was answered, and the last was the end; so the source hasn't failed. The sink didn't fail in the run
+-- a read was answered, and the last was the end; so the source hasn't failed. Whether the sink has failed is as it was before
 EndsBecause old new most (Ok _) =
     (old.reads < new.reads) × (new.reads ≤ old.reads + most) × (new.ended ≡ true)
     × (new.source_failed ≡ false) × (new.sink_failed ≡ old.sink_failed)
--- a read failed at the source, so fewer than `most` were answered, and none was the end. The sink didn't fail in the run
+-- a read failed at the source, so fewer than `most` were answered, and none was the end. Whether the sink has failed is as it
+-- was before
 EndsBecause old new most (Err (Read _)) =
     (new.reads < old.reads + most) × (old.reads < new.reads → new.ended ≡ false)
     × (new.source_failed ≡ true) × (new.sink_failed ≡ old.sink_failed)
@@ -144,7 +151,7 @@ EndsBecause old new most (Err (Read _)) =
 EndsBecause old new most (Err (Write _ _)) =
     (old.reads < new.reads) × (new.reads ≤ old.reads + most) × (new.ended ≡ false)
     × (new.source_failed ≡ false) × (new.sink_failed ≡ true)
--- all `most` reads were answered, and none was the end. No port failed in the run
+-- all `most` reads were answered, and none was the end. Whether each port has failed is as it was before
 EndsBecause old new most (Err (TooManyReads _)) =
     (new.reads ≡ old.reads + most) × (old.reads < new.reads → new.ended ≡ false)
     × (new.source_failed ≡ old.source_failed) × (new.sink_failed ≡ old.sink_failed)
@@ -184,12 +191,17 @@ abbrev pub AnswersGiven : {State : Type 0} → AnswerRule State Frame → (from 
 AnswersGiven rule from to old new result =
     GaveInReads old.remaining new.remaining (new.reads - old.reads) (λ given. AnswersFrames rule from to (frames given) old.taken new.taken result)
 
--- a run answered as `AnswersGiven` says, which took the answerer from the state `from` to one that it reached. Without `gathers`
--- that is its state at the end, `to`; with `gathers` the answerer may have got later frames after it
+-- the state `reached`, to which the answered frames took an answerer, may be followed by the state `end` at the end of the call.
+-- Without `gathers` the two are one; with `gathers` the answerer may have got later frames between them
+abbrev pub MayEndIn : {State : Type 0} → (gathers : Bool) → (reached end : State) → Type 0
+MayEndIn gathers reached end = gathers ≡ false → reached ≡ end
+
+-- a run answered as `AnswersGiven` says, which took the answerer from the state `from` to one from which it may end in `to`
+-- (`MayEndIn`)
 abbrev pub AnswersRun : {State : Type 0} → AnswerRule State Frame → (from to : State) → (old new : Ports) → (gathers : Bool)
     → Result Served ServeFault → Type 0
 AnswersRun {State} rule from to old new gathers result =
-    (reached : State) × AnswersGiven rule from reached old new result × (gathers ≡ false → reached ≡ to)
+    (reached : State) × AnswersGiven rule from reached old new result × MayEndIn gathers reached to
 
 -- what an answerer did with the text that it was handed, `old` before the call and `new` after it: it appended its answer to a
 -- frame (`appended` is true), or it had no answer and left the text as it is (false). `answered` says which answers it may give,

@@ -25,8 +25,8 @@ abbrev pub PlainIsOneLine : Type 0
 PlainIsOneLine = (bytes : List ℕ) → IsPlain bytes → length bytes ≤ 512
     → (frames (with_end bytes) ≡ Line (record { items = bytes }) ∷ []) × (rest_of (with_end bytes) ≡ [])
 
--- a reader gives fields exactly where the line has the grammar with them, as `Is` says, and a fault exactly where its field is the
--- first bad one, as `Bad` says; and a line has the grammar with at most one list of fields
+-- a reader gives fields exactly where the line has the grammar with them, as `Is` says, and a fault exactly where its field is
+-- the first bad one, as `Bad` says; and a line has the grammar with at most one list of fields
 pub record ReadsExactly {F : Type 0} (read : List ℕ → Result F LineFault) (Is : List ℕ → F → Type 0) (Bad : List ℕ → LineFault → Type 0) : Type 0 where
   pub found : (line : List ℕ) (x : F) → (read line ≡ Ok x) ↔ Is line x
   pub fault : (line : List ℕ) (f : LineFault) → (read line ≡ Err f) ↔ Bad line f

@@ -17,6 +17,6 @@ abbrev pub IsLentLine : Lent → List ℕ → Type 0
 IsLentLine lent line = lent_seen lent ≡ frame.Line (record { items = line })
 
 -- where a lent frame is a line, it has at most 512 bytes
-abbrev pub IsLineWithin : Lent → Type 0
-IsLineWithin (Line line) = length line.now ≤ 512
-IsLineWithin _ = Unit {0}
+abbrev pub IsLineWithinLimit : Lent → Type 0
+IsLineWithinLimit (Line line) = length line.now ≤ 512
+IsLineWithinLimit _ = Unit {0}

@@ -1,9 +1,9 @@
 -- No part of a promise: what the functions inside the answering loop say of a piece of the stream. Their parameters `from` and
 -- `to` are the progress before and after the call, `old` and `new` the sessions, and `sink_old` and `sink_new` the sinks.
-use Rattle.std.specs.Prelude.{◌≡◌, ℕ, ◌+◌, ◌-◌, ◌<◌, ◌≤◌, Bool, false, List, [], ◌∷◌, ◌++◌, length, map, nat_lt, if◌then◌else◌, Option, Result, Ok, Err}
+use Rattle.std.specs.Prelude.{◌≡◌, ℕ, ◌+◌, ◌-◌, ◌<◌, Bool, false, List, [], ◌∷◌, ◌++◌, length, map, nat_lt, if◌then◌else◌, Option, Result, Ok, Err}
 use Rattle.std.specs.List.{filter_map}
 use Rattle.std.specs.Io.KnownBytes.{Appends}
-use Rattle.gc_lines.specs.Answering.{AnswerRule, AnswersInOrder, AnswersAll, AnswersPart, Progress, all_of, progress}
+use Rattle.gc_lines.specs.Answering.{AnswerRule, AnswersInOrder, AnswersAll, AnswersPart, HasRoomForAnswer, MayEndIn, Progress, all_of, progress}
 use Rattle.gc_lines.specs.Assembler.{StandsFor}
 use Rattle.gc_lines.specs.Frames.{frame_of, line_in, pieces_behind, rest_behind}
 use Rattle.gc_lines.specs.Ports.{TakesFront}
@@ -47,17 +47,16 @@ pub record Gathering {State : Type 0} (rule : AnswerRule State Frame) (from to :
   pub lengths_are : lengths ≡ map length texts
 
 -- between the progress `from` and `to` the frames `seen` were answered up to one of whose text the sink took only the first
--- `bytes` bytes, as `AnswersPart` has it; `reached` is the answerer's state after that frame. Without `gathers` that is its state
--- at the end; with `gathers` the answerer may have got later frames after it
+-- `bytes` bytes, as `AnswersPart` has it; `reached` is the answerer's state after that frame, and `to` has its state at the end
 pub record GathersPart {State : Type 0} (rule : AnswerRule State Frame) (from to : Progress State) (seen : List Frame) (bytes : ℕ)
     (gathers : Bool) : Type 0 where
   pub reached : State
   pub part : AnswersPart rule from (progress reached to.taken to.whole) seen bytes
-  pub alone : gathers ≡ false → reached ≡ to.state
+  pub alone : MayEndIn gathers reached to.state
 
 -- what became of one more frame (`More`: none), by the result of the call, if `Gathering` was true of the frames `seen` before
 -- it, from whatever `start`. `Ok`: `Gathering` is true of these and the frame. `Err`: these and the frame were answered up to one
--- of whose text the sink took only the first `bytes` bytes, as `GathersPart` has it
+-- whose text was cut, as `GathersPart` has it
 abbrev pub GathersFrame : {State : Type 0} → AnswerRule State Frame → (from to : Progress State) → (old new : Session) → Frame
     → Result (Unit {0}) ℕ → Type 0
 GathersFrame {State} rule from to old new frame (Ok _) =
@@ -69,10 +68,9 @@ GathersFrame {State} rule from to old new frame (Err bytes) =
     → Gathering rule start from seen old.text.items old.lengths
     → GathersPart rule start to (seen ++ completed frame) bytes old.gathers
 
--- what became of a piece, by the result of the call, for whatever bytes `rest` the assembler stood for before it. `Ok`: all frames
--- that the piece completes were answered, and all of their texts went out; and the assembler then stands for what follows the
--- piece's last line feed, or, where the piece has none, for `rest` and then the whole piece. `Err`: these frames were answered up
--- to one of whose text the sink took only the first `bytes` bytes, as `GathersPart` has it
+-- what became of a piece, by the result of the call, for whatever bytes `rest` the assembler stood for before it. `Ok`: all
+-- frames that the piece completes were answered, all of their texts went out, and the assembler stands for what is left
+-- (`rest_behind`). `Err`: the frames were answered up to one whose text was cut, as `GathersPart` has it
 abbrev pub AnswersPiece : {State : Type 0} → AnswerRule State Frame → (from to : Progress State) → (old new : Session) → (piece : List ℕ)
     → Result (Unit {0}) ℕ → Type 0
 AnswersPiece rule from to old new piece (Ok _) =
@@ -91,7 +89,7 @@ ChangesTextsAlone old new = (new.assembler ≡ old.assembler) × (new.gathers �
 
 -- a session has room for one more text of at most 514 bytes, and for its length; and without `gathers` no text waits
 pub record HasRoomForText (session : Session) : Type 0 where
-  pub for_text : length session.text.items + 514 ≤ 8192
+  pub for_text : HasRoomForAnswer session.text
   pub for_length : length session.lengths < 256
   pub alone : session.gathers ≡ false → session.lengths ≡ []
 

@@ -44,7 +44,7 @@ TakesFront old new n text = (n < length text) × Appends old new (take n text)
 abbrev pub TakesPart : (old new : Option (List ℕ)) (text : List ℕ) → Type 0
 TakesPart old new text = (n : ℕ) × TakesFront old new n text
 
--- what a sink took of a text that a call was to write whole: all of it, or where the call failed with n (`Err`) the first n bytes,
--- which aren't all
+-- what a sink took of a text that a call was to write whole: all of it, or where the call failed with n (`Err`) the first n
+-- bytes, which aren't all
 abbrev pub TakesText : {X : Type 0} → (old new : Option (List ℕ)) → Result X ℕ → (text : List ℕ) → Type 0
 TakesText old new result text = OnOk result (Appends old new text) × IfErr result (λ n. TakesFront old new n text)

@@ -4,7 +4,7 @@ ghost use Rattle.std.specs.Prelude.{◌≡◌, ℕ, List, [], ◌++◌, ◌<◌,
 ghost use Rattle.std.specs.List.{position};
 ghost use Rattle.gc_lines.specs.Assembler.{StandsFor};
 ghost use Rattle.gc_lines.specs.Frames.{is_line_feed, frame_of};
-ghost use Rattle.gc_lines.specs.Lent.{lent_seen, IsLineWithin};
+ghost use Rattle.gc_lines.specs.Lent.{lent_seen, IsLineWithinLimit};
 ghost use Rattle.gc_lines.specs.Taking.{IsUsedOf, KeepsPiece, EndsFrame};
 
 use crate::frame::{Frame, Lent};
@@ -70,7 +70,7 @@ impl Assembler {
         ensures used { IsUsedOf piece.now result.0 }
         ensures more { KeepsPiece self.old self.new piece.now result.0 (lent_seen result.1) }
         ensures frame { EndsFrame self.old self.new piece.now result.0 (lent_seen result.1) }
-        ensures within { IsLineWithin result.1 }
+        ensures within { IsLineWithinLimit result.1 }
     {
         let Some(at) = line_feed_at(piece) else {
             self.keep(piece);
@@ -120,7 +120,7 @@ impl Assembler {
     fn finish<'a>(&mut self, cut: &'a mut Line) -> Lent<'a>
         ensures frame { (rest : List ℕ) → StandsFor self.old rest → lent_seen result ≡ frame_of rest }
         ensures start { StandsFor self.new [] }
-        ensures within { IsLineWithin result }
+        ensures within { IsLineWithinLimit result }
     {
         if self.front.is_empty() || self.last != b'\r' {
             self.clear();
@@ -152,7 +152,7 @@ impl Assembler {
 #[inline]
 fn frame_in(bytes: &[u8]) -> Lent<'_>
     ensures frame { lent_seen result ≡ frame_of bytes.now }
-    ensures within { IsLineWithin result }
+    ensures within { IsLineWithinLimit result }
 {
     let [line @ .., b'\r'] = bytes else {
         return Lent::Cleared;

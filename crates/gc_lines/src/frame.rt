@@ -34,12 +34,12 @@ pub enum Lent<'a> {
     More,
 }
 
-ghost use Rattle.gc_lines.specs.Lent.{lent_seen, IsLineWithin};
+ghost use Rattle.gc_lines.specs.Lent.{lent_seen, IsLineWithinLimit};
 
 impl Lent<'_> {
     // The same frame; where it is a line, its bytes are copied.
     pub(crate) fn to_frame(self) -> Frame
-        requires { IsLineWithin self }
+        requires { IsLineWithinLimit self }
         ensures { result ≡ lent_seen self.entry }
     {
         match self {

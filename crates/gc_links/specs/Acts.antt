@@ -29,8 +29,8 @@ pub data Act : Type 0 where
   -- no new connection could be made
   Unopened : Act
 
--- where the acts of a link were known before a call (`old`), they are known after it (`new`), and are those before and then `acts`. Of a
--- link whose acts aren't known (`None`) nothing is claimed
+-- where the acts of a link were known before a call (`old`), they are known after it (`new`), and are those before and then
+-- `acts`. Of a link whose acts aren't known (`None`) nothing is claimed
 abbrev pub AddsActs : (old new : Option (List Act)) (acts : List Act) → Type 0
 AddsActs None new acts = Unit {0}
 AddsActs (Some xs) None acts = ⊥

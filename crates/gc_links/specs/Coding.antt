@@ -5,8 +5,8 @@ use Rattle.std.specs.Coded.{Coded, code_by, coded×, coded_ℕ, coded_bool, code
 use Rattle.gc_links.specs.declared.link.Moment.{Moment}
 use Rattle.gc_links.specs.Acts.{Act, Told, Untold, Put, Cut, Gave, Silent, Ended, Broke, Closed, Opened, Unopened}
 
--- the parts of an act: a number for its kind, its bytes, its count, and its moment, which is a time on each of two clocks and whether the
--- end of the run was asked for by then
+-- the parts of an act: a number for its kind, its bytes, its count, and its moment, which is a time on each of two clocks and
+-- whether the end of the run was asked for by then
 abbrev ActParts : Type 0
 ActParts = ℕ × (List ℕ × (ℕ × (ℕ × (ℕ × Bool))))
 
@@ -33,18 +33,18 @@ to_parts Opened = parts 9 [] 0 no_moment
 to_parts Unopened = parts 10 [] 0 no_moment
 
 -- the moment among the parts of an act
-abbrev moment_in : ActParts → Moment
-moment_in p = record { elapsed = p.1.1.1.0; utc = p.1.1.1.1.0; stops = p.1.1.1.1.1 }
+abbrev moment_of_parts : ActParts → Moment
+moment_of_parts p = record { elapsed = p.1.1.1.0; utc = p.1.1.1.1.0; stops = p.1.1.1.1.1 }
 
 -- the act of these parts; a kind above 10, which no act has, counts as 10
 abbrev from_parts : ActParts → Act
 from_parts p =
-    cond (p.0 == 0) (Told (moment_in p))
+    cond (p.0 == 0) (Told (moment_of_parts p))
     (cond (p.0 == 1) Untold
     (cond (p.0 == 2) (Put p.1.0)
     (cond (p.0 == 3) (Cut p.1.0 p.1.1.0)
-    (cond (p.0 == 4) (Gave p.1.0 (moment_in p))
-    (cond (p.0 == 5) (Silent (moment_in p))
+    (cond (p.0 == 4) (Gave p.1.0 (moment_of_parts p))
+    (cond (p.0 == 5) (Silent (moment_of_parts p))
     (cond (p.0 == 6) Ended
     (cond (p.0 == 7) Broke
     (cond (p.0 == 8) Closed

@@ -12,8 +12,8 @@ IsPort digits port = NamesNumber digits port × (1 ≤ port) × (port ≤ 65535)
 abbrev pub HasSlash : List ℕ → Type 0
 HasSlash word = (at : ℕ) × (at < length word) × (get_or word at 0 ≡ 47)
 
--- the word names this place: digits alone are a port; something, a colon and a port, without a slash, are a host; a word with a slash is
--- the path of a device
+-- the word names this place: digits alone are a port; something, a colon and a port, without a slash, are a host; a word with a
+-- slash is the path of a device
 abbrev pub NamesPlace : List ℕ → Place → Type 0
 NamesPlace word (Port port) = IsPort word port
 NamesPlace word (Host text) = (text.now ≡ word) × (HasSlash word → ⊥)

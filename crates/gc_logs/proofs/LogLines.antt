@@ -12,7 +12,7 @@ use Rattle.gc_lines.specs.Frames.{ends_in_return}
 use Rattle.gc_lines.specs.Lines.{with_end}
 use Rattle.gc_lines.specs.declared.ports.Sink.{Ghosts as Sink}
 use Rattle.gc_texts.specs.Logs.{log_line}
-use Rattle.gc_logs.specs.Logging.{Entry, entry, line_mark, part_mark, entry_of_line, entries_at, pending_at, entries, pending_behind, log_text_of, TakesEntries, TakesUnlessFailed, wire_of, wire, LogKeepsAll}
+use Rattle.gc_logs.specs.Logging.{Entry, entry, line_mark, part_mark, takes_one_more, entry_of_line, entries_at, pending_at, entries, pending_after, log_text_of, TakesEntries, TakesUnlessFailed, wire_of, wire, LogKeepsAll}
 use Rattle.gc_logs.specs.declared.logging.Lines.{Lines}
 use Rattle.gc_logs.specs.declared.logging.Unwritten.{Unwritten}
 use Rattle.gc_logs.specs.declared.logging.Direction.{Direction}
@@ -20,13 +20,13 @@ use Rattle.gc_logs.specs.declared.logging.Direction.TheVariants.{Went, Came}
 
 -- the lines that the bytes `bs` and then b give are those that `bs` give, and after them those that b gives
 entries_more : (way : Direction) (p : Unwritten) (bs : List ℕ) (b : ℕ)
-    → entries way p (bs ++ b ∷ []) ≡ entries way p bs ++ entries_at way (pending_behind p bs) b
+    → entries way p (bs ++ b ∷ []) ≡ entries way p bs ++ entries_at way (pending_after p bs) b
 entries_more way p [] b = append-nil (entries_at way p b)
 entries_more way p (c ∷ cs) b = ap (λ es. entries_at way p c ++ es) (entries_more way (pending_at p c) cs b)
-    ∙ sym (append_assoc (entries_at way p c) (entries way (pending_at p c) cs) (entries_at way (pending_behind (pending_at p c) cs) b))
+    ∙ sym (append_assoc (entries_at way p c) (entries way (pending_at p c) cs) (entries_at way (pending_after (pending_at p c) cs) b))
 
 -- what is pending after the bytes `bs` and then b is what b makes of what is pending after `bs`
-pending_more : (p : Unwritten) (bs : List ℕ) (b : ℕ) → pending_behind p (bs ++ b ∷ []) ≡ pending_at (pending_behind p bs) b
+pending_more : (p : Unwritten) (bs : List ℕ) (b : ℕ) → pending_after p (bs ++ b ∷ []) ≡ pending_at (pending_after p bs) b
 pending_more p [] b = refl
 pending_more p (c ∷ cs) b = pending_more (pending_at p c) cs b
 
@@ -51,21 +51,21 @@ takes_both {K} {of_sink} {a} {b} {c} es fs one next =
     record { took = takes_both_lists a.utc b.utc es fs one.utc one.took next.took; utc = next.utc ∙ one.utc }
 
 -- one turn of the loop over the bytes `bs`, at byte i: `p` is pending before the loop, and `q` before this byte
-module _ (p q : Unwritten) (bs : List ℕ) (i : ℕ) (within : i < length bs) (behind : q ≡ pending_behind p (take i bs)) where
+module _ (p q : Unwritten) (bs : List ℕ) (i : ℕ) (within : i < length bs) (behind : q ≡ pending_after p (take i bs)) where
   -- if a log took the lines of the first i bytes, and then those of byte i, it took the lines of the first i + 1
   pub took_more : {K : Type 0} {of_sink : Sink K} {a b c : Lines K} (way : Direction)
       → TakesEntries of_sink a b (entries way p (take i bs)) → TakesEntries of_sink b c (entries_at way q (get_or bs i 0))
       → TakesEntries of_sink a c (entries way p (take (i + 1) bs))
   took_more {K} {of_sink} {a} {b} {c} way one next =
       let es = entries way p (take i bs) in
-      let fs = entries_at way (pending_behind p (take i bs)) (get_or bs i 0) in
+      let fs = entries_at way (pending_after p (take i bs)) (get_or bs i 0) in
       let whole : es ++ fs ≡ entries way p (take (i + 1) bs) = sym (ap (entries way p) (take_more bs i 0 within) ∙ entries_more way p (take i bs) (get_or bs i 0)) in
       let last : TakesEntries of_sink b c fs = subst (λ z. TakesEntries of_sink b c (entries_at way z (get_or bs i 0))) behind next in
       subst (TakesEntries of_sink a c) whole (takes_both es fs one last)
 
   -- if byte i makes `r` of what is pending before it, `r` is pending after the first i + 1
-  pub pending_at_next : (r : Unwritten) → r ≡ pending_at q (get_or bs i 0) → r ≡ pending_behind p (take (i + 1) bs)
-  pending_at_next r next = next ∙ ap (λ z. pending_at z (get_or bs i 0)) behind ∙ sym (ap (pending_behind p) (take_more bs i 0 within) ∙ pending_more p (take i bs) (get_or bs i 0))
+  pub pending_at_next : (r : Unwritten) → r ≡ pending_at q (get_or bs i 0) → r ≡ pending_after p (take (i + 1) bs)
+  pending_at_next r next = next ∙ ap (λ z. pending_at z (get_or bs i 0)) behind ∙ sym (ap (pending_after p) (take_more bs i 0 within) ∙ pending_more p (take i bs) (get_or bs i 0))
 
 -- bytes that end in a CR are those before it, and then the CR
 last_return : (bytes : List ℕ) → ends_in_return bytes ≡ true → bytes ≡ take (length bytes - 1) bytes ++ 13 ∷ []
@@ -101,7 +101,7 @@ line_wire way p =
 byte_wire : (way : Direction) (p : Unwritten) (b : ℕ) → wire (entries_at way p b) ++ (pending_at p b).bytes.items ≡ p.bytes.items ++ b ∷ []
 byte_wire way p b = elim (cases_Bool (b == 10)) [
   | inl feed ↦ rw feed (append-nil (wire (entry_of_line way p ∷ [])) ∙ line_wire way p ∙ ap (λ c. p.bytes.items ++ c ∷ []) (sym (eqb-true b 10 feed)))
-  | inr other ↦ rw other (elim (cases_Bool (nat_lt (length p.bytes.items) 513)) [
+  | inr other ↦ rw other (elim (cases_Bool (takes_one_more p)) [
     | inl short ↦ rw short refl
     | inr full ↦ rw full (ap (λ w. w ++ b ∷ []) (part_wire way p.bytes.items))
   ])
@@ -114,6 +114,6 @@ log_keeps_all way p (b ∷ bs) =
     let es = entries_at way p b in
     let q = pending_at p b in
     let fs = entries way q bs in
-    let held = (pending_behind q bs).bytes.items in
+    let held = (pending_after q bs).bytes.items in
     sym (append_assoc p.bytes.items (b ∷ []) bs) ∙ ap (λ w. w ++ bs) (sym (byte_wire way p b)) ∙ append_assoc (wire es) q.bytes.items bs ∙ ap (λ w. wire es ++ w) (log_keeps_all way q bs)
     ∙ sym (append_assoc (wire es) (wire fs) held) ∙ ap (λ w. w ++ held) (sym (flat_map-append (λ (e : Entry). wire_of e.mark e.bytes) es fs))

@@ -1,11 +1,10 @@
 -- A log marks each line by the direction of its bytes: `>` if they were sent, `<` if they were received.
 use Rattle.std.proofs.Common.{◌-◌, ◌==◌, ◌&&◌, ℕ, cond, not, List, [], ◌∷◌, ◌++◌, length, take, refl}
-use Rattle.std.specs.Prelude.{nat_lt}
 use Rattle.std.specs.List.{AllByRecursion}
 use Rattle.std.proofs.lemmas.Bool.{cond_both}
 use Rattle.gc_lines.proofs.Lists.{all_append}
 use Rattle.gc_lines.specs.Frames.{ends_in_return}
-use Rattle.gc_logs.specs.Logging.{entry, line_mark, part_mark, entry_of_line, entries_at, pending_at, entries, entries_of_pending}
+use Rattle.gc_logs.specs.Logging.{entry, line_mark, part_mark, takes_one_more, entry_of_line, entries_at, pending_at, entries, entries_of_pending}
 use Rattle.gc_logs.specs.Ways.{sign_of, IsSigned, MarksTellTheWay}
 use Rattle.gc_logs.specs.declared.logging.Unwritten.{Unwritten}
 use Rattle.gc_logs.specs.declared.logging.Direction.{Direction}
@@ -33,7 +32,7 @@ ended_line_signed way p =
 byte_signed : (way : Direction) (p : Unwritten) (b : ℕ) → AllByRecursion (IsSigned (sign_of way)) (entries_at way p b)
 byte_signed way p b =
     let part = entry (part_mark way) p.bytes.items ∷ [] in
-    let is_short = nat_lt (length p.bytes.items) 513 in
+    let is_short = takes_one_more p in
     cond_both (b == 10) (entry_of_line way p ∷ []) (cond is_short [] part) (AllByRecursion (IsSigned (sign_of way))) (λ _. (ended_line_signed way p, tt))
     (λ _. cond_both is_short [] part (AllByRecursion (IsSigned (sign_of way))) (λ _. tt) (λ _. (part_signed way p.bytes.items, tt)))
 

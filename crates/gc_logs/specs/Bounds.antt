@@ -10,8 +10,8 @@ use Rattle.gc_logs.specs.declared.logged.Logged.{Logged}
 abbrev pub moment_of : List ℕ → List ℕ
 moment_of line = take (min (length line) 24) line
 
--- the notice that a log is full, in place of `line`, the first that has no room: a line with the moment of `line`, and words that say
--- that the rest is left out
+-- the notice that a log is full, in place of `line`, the first that has no room: a line with the moment of `line`, and words
+-- that say that the rest is left out
 abbrev pub full_notice : List ℕ → List ℕ
 full_notice line = moment_of line ++ codes " - full: what went or came from here on is left out\n"
 
@@ -29,9 +29,13 @@ pub record BoundSeen : Type 0 where
   pub left : ℕ
   pub ended : Bool
 
+-- whether a sink with a bound has ended, and takes nothing more
+abbrev pub has_ended : {K : Type 0} → Bounded K → Bool
+has_ended bounded = bounded.is_ended
+
 -- what is seen of this sink with a bound, by the ghost members of the sink below
 abbrev pub bound_seen : {K : Type 0} → Sink K → Bounded K → BoundSeen
-bound_seen of_sink bounded = record { taken = of_sink.taken bounded.sink; left = bounded.left; ended = bounded.is_ended }
+bound_seen of_sink bounded = record { taken = of_sink.taken bounded.sink; left = bounded.left; ended = has_ended bounded }
 
 -- a write of bytes that have room goes to the sink below; if it succeeds, the room gets less by as many bytes as that sink took
 pub record TakesInRoom {E : Type 0} (old new : BoundSeen) (result : Result ℕ E) (bytes : List ℕ) : Type 0 where
@@ -44,10 +48,6 @@ pub record KeepsBound {E : Type 0} (old new : BoundSeen) (result : Result ℕ E)
   pub ended : old.ended ≡ true → new.taken ≡ old.taken
   pub fits : old.ended ≡ false → length bytes ≤ old.left → TakesInRoom old new result bytes
   pub full : old.ended ≡ false → old.left < length bytes → TakesNotice old.taken new.taken bytes
-
--- whether a sink with a bound has ended, and takes nothing more
-abbrev pub has_ended : {K : Type 0} → Bounded K → Bool
-has_ended bounded = bounded.is_ended
 
 -- the sink that a link's log is written into
 abbrev pub sink_of : {L K : Type 0} → Logged L K → K

@@ -36,13 +36,17 @@ abbrev pub part_mark : Direction → LogMark
 part_mark Went = mark.WentPart
 part_mark Came = mark.CamePart
 
--- the state of a direction of which nothing is pending
-abbrev pub nothing : Unwritten
-nothing = record { bytes = record { items = [] }; is_long = false }
-
 -- the state of a direction of which these bytes are pending; `long` says whether a front of their line was written already
 abbrev pub pending : (bytes : List ℕ) (long : Bool) → Unwritten
 pending bytes long = record { bytes = record { items = bytes }; is_long = long }
+
+-- the state of a direction of which nothing is pending
+abbrev pub nothing_pending : Unwritten
+nothing_pending = pending [] false
+
+-- whether one more byte can be pending besides those that are: fewer than 513 are
+abbrev pub takes_one_more : Unwritten → Bool
+takes_one_more p = nat_lt (length p.bytes.items) 513
 
 -- the line of a log that a line feed makes of what is pending: a whole line without its CR LF, if a CR comes before the line
 -- feed and no front of the line was written; otherwise a part, with the line feed
@@ -51,28 +55,28 @@ entry_of_line way p =
     if not p.is_long && ends_in_return p.bytes.items then entry (line_mark way) (take (length p.bytes.items - 1) p.bytes.items)
     else entry (part_mark way) (p.bytes.items ++ codes "\n")
 
--- which lines of a log one more byte gives: a line feed gives the line that it ends; any other byte gives none, or, where at
--- least 513 bytes are pending, the part that these are
+-- which lines of a log one more byte gives: a line feed gives the line that it ends; any other byte gives none, or, if it can't
+-- be pending besides those that are (`takes_one_more`), the part that these are
 abbrev pub entries_at : Direction → Unwritten → ℕ → List Entry
 entries_at way p b =
     if b == 10 then entry_of_line way p ∷ []
-    else (if nat_lt (length p.bytes.items) 513 then [] else entry (part_mark way) p.bytes.items ∷ [])
+    else (if takes_one_more p then [] else entry (part_mark way) p.bytes.items ∷ [])
 
 -- what is pending after one more byte
 abbrev pub pending_at : Unwritten → ℕ → Unwritten
 pending_at p b =
-    if b == 10 then nothing
-    else (if nat_lt (length p.bytes.items) 513 then pending (p.bytes.items ++ b ∷ []) p.is_long else pending (b ∷ []) true)
+    if b == 10 then nothing_pending
+    else (if takes_one_more p then pending (p.bytes.items ++ b ∷ []) p.is_long else pending (b ∷ []) true)
 
--- which lines of a log these bytes give, where `p` was pending before them
+-- which lines of a log these bytes give, if `p` was pending before them
 abbrev pub entries : Direction → Unwritten → List ℕ → List Entry
 entries way p [] = []
 entries way p (b ∷ bs) = entries_at way p b ++ entries way (pending_at p b) bs
 
--- what is pending after these bytes, where `p` was pending before them
-abbrev pub pending_behind : Unwritten → List ℕ → Unwritten
-pending_behind p [] = p
-pending_behind p (b ∷ bs) = pending_behind (pending_at p b) bs
+-- what is pending after these bytes, if `p` was pending before them
+abbrev pub pending_after : Unwritten → List ℕ → Unwritten
+pending_after p [] = p
+pending_after p (b ∷ bs) = pending_after (pending_at p b) bs
 
 -- the line of what is pending at a close: none if nothing is
 abbrev pub entries_of_pending : Direction → List ℕ → List Entry
@@ -94,8 +98,8 @@ pub record TakesEntries {K : Type 0} (of_sink : Sink K) (old new : Lines K) (es 
   pub took : TakesUnlessFailed (taken_by of_sink old.sink) (taken_by of_sink new.sink) (log_text_of old.utc es)
   pub utc : new.utc ≡ old.utc
 
--- the bytes on the link that a line of a log with this mark and these bytes stands for: its bytes, with CR LF after a whole line; none for
--- a word on the connection
+-- the bytes on the link that a line of a log with this mark and these bytes stands for: its bytes, with CR LF after a whole
+-- line; none for a word on the connection
 abbrev pub wire_of : LogMark → List ℕ → List ℕ
 wire_of mark.Went bytes = with_end bytes
 wire_of mark.WentPart bytes = bytes
@@ -112,7 +116,7 @@ wire es = flat_map (λ (e : Entry). wire_of e.mark e.bytes) es
 abbrev pub LogKeepsAll : Type 0
 LogKeepsAll =
     (way : Direction) (p : Unwritten) (bytes : List ℕ)
-    → p.bytes.items ++ bytes ≡ wire (entries way p bytes) ++ (pending_behind p bytes).bytes.items
+    → p.bytes.items ++ bytes ≡ wire (entries way p bytes) ++ (pending_after p bytes).bytes.items
 
 -- what is seen of a log: of its sink, what is pending of each direction, and the last moment
 pub record LogSeen : Type 0 where
@@ -152,17 +156,17 @@ entries_of_act went came Unopened = link_entry (codes "not open") ∷ []
 entries_of_act went came _ = []
 
 -- what is pending of the sent bytes after an act, where `went` was pending before it: nothing after a close
-abbrev pub went_behind : Unwritten → Act → Unwritten
-went_behind went (Put bytes) = pending_behind went bytes
-went_behind went (Cut bytes count) = pending_behind went (take count bytes)
-went_behind went Closed = nothing
-went_behind went _ = went
+abbrev pub went_after : Unwritten → Act → Unwritten
+went_after went (Put bytes) = pending_after went bytes
+went_after went (Cut bytes count) = pending_after went (take count bytes)
+went_after went Closed = nothing_pending
+went_after went _ = went
 
 -- what is pending of the received bytes after an act, where `came` was pending before it: nothing after a close
-abbrev pub came_behind : Unwritten → Act → Unwritten
-came_behind came (Gave bytes m) = pending_behind came bytes
-came_behind came Closed = nothing
-came_behind came _ = came
+abbrev pub came_after : Unwritten → Act → Unwritten
+came_after came (Gave bytes m) = pending_after came bytes
+came_after came Closed = nothing_pending
+came_after came _ = came
 
 -- a log took these lines, at the moment that it had and keeps, and these are pending then of the sent and of the received bytes
 pub record LogsEntries (old new : LogSeen) (es : List Entry) (sent received : Unwritten) : Type 0 where
@@ -174,4 +178,4 @@ pub record LogsEntries (old new : LogSeen) (es : List Entry) (sent received : Un
 -- a log took the lines of an act, at its moment (`utc_of`), and keeps what is then pending
 abbrev pub Logs : (old new : LogSeen) → Act → Type 0
 Logs old new act =
-    LogsEntries (record old { utc = utc_of old.utc act }) new (entries_of_act old.went old.came act) (went_behind old.went act) (came_behind old.came act)
+    LogsEntries (record old { utc = utc_of old.utc act }) new (entries_of_act old.went old.came act) (went_after old.went act) (came_after old.came act)

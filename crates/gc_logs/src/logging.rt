@@ -2,7 +2,7 @@
 //! written into the log yet are pending.
 
 ghost use Rattle.std.specs.Prelude.{◌≡◌, ◌++◌, ◌≤◌, [], ◌∷◌, length, codes};
-ghost use Rattle.gc_logs.specs.Logging.{entry, line_mark, part_mark, nothing, entry_of_line, entries_at, pending_at, entries, pending_behind, entries_of_pending, link_entry, log_seen, TakesEntries, LogsEntries};
+ghost use Rattle.gc_logs.specs.Logging.{entry, line_mark, part_mark, nothing_pending, entry_of_line, entries_at, pending_at, entries, pending_after, entries_of_pending, link_entry, log_seen, TakesEntries, LogsEntries};
 ghost use Rattle.gc_texts.specs.Logs.{log_line};
 ghost use Rattle.gc_logs.specs.declared.logging.Direction.TheVariants.{Went, Came};
 
@@ -75,7 +75,7 @@ struct Unwritten {
 impl Unwritten {
     // No pending bytes.
     fn nothing() -> Unwritten
-        ensures { result ≡ nothing }
+        ensures { result ≡ nothing_pending }
     {
         Unwritten {
             bytes: ArrayVec::new(),
@@ -85,7 +85,7 @@ impl Unwritten {
 
     // Leaves nothing pending.
     fn clear(&mut self)
-        ensures { self.new ≡ nothing }
+        ensures { self.new ≡ nothing_pending }
     {
         self.bytes.clear();
         self.is_long = false;
@@ -95,7 +95,7 @@ impl Unwritten {
     // written, and of a longer line each `PENDING_ROOM` bytes as a part. What isn't written is pending then.
     fn add_all<K: Sink>(&mut self, lines: &mut Lines<K>, way: Direction, bytes: &[u8])
         ensures took { TakesEntries K.Sink lines.old lines.new (entries way self.old bytes.now) }
-        ensures pending { self.new ≡ pending_behind self.old bytes.now }
+        ensures pending { self.new ≡ pending_after self.old bytes.now }
     {
         for b in bytes {
             self.add(lines, way, *b);
@@ -126,7 +126,7 @@ impl Unwritten {
     // with the line feed. Nothing is pending after that.
     fn end_line<K: Sink>(&mut self, lines: &mut Lines<K>, way: Direction)
         ensures took { TakesEntries K.Sink lines.old lines.new (entry_of_line way self.old ∷ []) }
-        ensures pending { self.new ≡ nothing }
+        ensures pending { self.new ≡ nothing_pending }
     {
         let is_line = !self.is_long && self.bytes.last() == Some(&b'\r');
         if is_line {
@@ -144,7 +144,7 @@ impl Unwritten {
     // Writes the pending bytes, if there are any, as a part of a line. Nothing is pending after that.
     fn flush<K: Sink>(&mut self, lines: &mut Lines<K>, way: Direction)
         ensures took { TakesEntries K.Sink lines.old lines.new (entries_of_pending way self.old.bytes.items) }
-        ensures pending { self.new ≡ nothing }
+        ensures pending { self.new ≡ nothing_pending }
     {
         if !self.bytes.is_empty() {
             lines.write_entry(way.part_mark(), &self.bytes);
@@ -165,8 +165,8 @@ impl<K: Sink> Log<K> {
     // A log without a line, at the moment `utc`, in milliseconds since 1970.
     pub(crate) fn new(sink: K, utc: u64) -> Log<K>
         ensures sink { result.lines.sink ≡ sink }
-        ensures went { result.went ≡ nothing }
-        ensures came { result.came ≡ nothing }
+        ensures went { result.went ≡ nothing_pending }
+        ensures came { result.came ≡ nothing_pending }
         ensures utc { result.lines.utc ≡ utc }
     {
         Log {
@@ -180,7 +180,7 @@ impl<K: Sink> Log<K> {
     // rest is pending then.
     pub(crate) fn add_sent(&mut self, bytes: &[u8])
         ensures { LogsEntries (log_seen K.Sink self.old) (log_seen K.Sink self.new)
-            (entries Went self.old.went bytes.now) (pending_behind self.old.went bytes.now) self.old.came }
+            (entries Went self.old.went bytes.now) (pending_after self.old.went bytes.now) self.old.came }
     {
         self.went.add_all(&mut self.lines, Direction::Went, bytes);
     }
@@ -189,7 +189,7 @@ impl<K: Sink> Log<K> {
     // rest is pending then.
     pub(crate) fn add_received(&mut self, bytes: &[u8])
         ensures { LogsEntries (log_seen K.Sink self.old) (log_seen K.Sink self.new)
-            (entries Came self.old.came bytes.now) self.old.went (pending_behind self.old.came bytes.now) }
+            (entries Came self.old.came bytes.now) self.old.went (pending_after self.old.came bytes.now) }
     {
         self.came.add_all(&mut self.lines, Direction::Came, bytes);
     }
@@ -198,7 +198,7 @@ impl<K: Sink> Log<K> {
     // bytes it writes nothing. Nothing is pending after that.
     pub(crate) fn flush(&mut self)
         ensures { LogsEntries (log_seen K.Sink self.old) (log_seen K.Sink self.new)
-            (entries_of_pending Went self.old.went.bytes.items ++ entries_of_pending Came self.old.came.bytes.items) nothing nothing }
+            (entries_of_pending Went self.old.went.bytes.items ++ entries_of_pending Came self.old.came.bytes.items) nothing_pending nothing_pending }
     {
         self.went.flush(&mut self.lines, Direction::Went);
         self.came.flush(&mut self.lines, Direction::Came);

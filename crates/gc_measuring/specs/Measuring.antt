@@ -10,13 +10,13 @@ use Rattle.gc_measuring.specs.TaskTexts.{GivesTasks, RefusesTasks}
 use Rattle.gc_words.specs.declared.layout.Layout.{Layout}
 use Rattle.gc_words.specs.declared.settings.Settings.{Settings}
 use Rattle.gc_measuring.specs.declared.stop.Stop.{Stop}
-use Rattle.gc_measuring.specs.declared.stop.Stop.TheVariants.{Text, Empty, Line, Run}
+use Rattle.gc_measuring.specs.declared.stop.Stop.TheVariants.{Run}
 use Rattle.gc_lines.specs.Ports.{TakesFront}
 use Rattle.gc_links.specs.Acts.{Act}
 use Rattle.gc_station.specs.Keeping.{Snapshot, KeepsUpBy, close_at_output}
 use Rattle.gc_station.specs.Records.{Record}
 use Rattle.gc_station.specs.Runs.{RunSeen, RanBy, LastUnlessFailed}
-use Rattle.gc_station.specs.Scopes.{ForReadings}
+use Rattle.gc_station.specs.Scopes.{ForEachAndSomeReadings}
 use Rattle.gc_station.specs.declared.plan.Plan.{Plan}
 use Rattle.gc_station.specs.declared.tally.Tally.{Tally}
 use Rattle.gc_texts.specs.Names.{name_text}
@@ -84,8 +84,8 @@ run_in survey seen = record { acts = seen.acts; text = text_by survey; taken = s
 -- act all that the acts before it settled was recorded, and lasted (`KeepsUpBy`). If the sink failed the connection was closed at
 -- the end (`close_at_output`)
 pub record RunsSurvey (survey : Survey) (old new : PortsSeen) (end : Result Tally RunFault) : Type 0 where
-  pub ran : ForReadings (RanBy survey.plan survey.tasks survey.max_turns (run_in survey old) (run_in survey new) end)
-  pub keeps : ForReadings (KeepsUpBy survey.plan survey.tasks survey.max_turns (run_in survey old) (run_in survey new)
+  pub ran : ForEachAndSomeReadings (RanBy survey.plan survey.tasks survey.max_turns (run_in survey old) (run_in survey new) end)
+  pub keeps : ForEachAndSomeReadings (KeepsUpBy survey.plan survey.tasks survey.max_turns (run_in survey old) (run_in survey new)
       old.turns new.turns (close_at_output end))
 
 -- the sink took what comes before the records, and then what a run over the link records of the tasks (`RunsSurvey`). `between`
@@ -135,12 +135,11 @@ pub record IsMeasured (station : Settings) (old new : PortsSeen) : Type 0 where
   pub tally : Tally
   pub ran : RunsAfterFront (survey_of station most_turns all) old new (Ok tally)
 
--- if the text was refused nothing was done over the link, and nothing written
+-- if the text was refused nothing was done over the link, and nothing written; a stop other than `Run` is such a refusal
 abbrev pub IsUnusedIfRefused : (old new : PortsSeen) → Result Tally Stop → Type 0
-IsUnusedIfRefused old new (Err (Text fault)) = IsUnused old new
-IsUnusedIfRefused old new (Err Empty) = IsUnused old new
-IsUnusedIfRefused old new (Err (Line n trouble)) = IsUnused old new
-IsUnusedIfRefused old new _ = Unit {0}
+IsUnusedIfRefused old new (Ok _) = Unit {0}
+IsUnusedIfRefused old new (Err (Run fault)) = Unit {0}
+IsUnusedIfRefused old new (Err _) = IsUnused old new
 
 -- all records last, as `is_durable` says; nothing is said where the text was refused or the sink failed
 abbrev pub AllLast : (is_durable : Bool) → Result Tally Stop → Type 0

@@ -65,16 +65,19 @@ with_messages at messages = record at { streams = record at.streams { messages =
 abbrev pub seen_at : {S K E : Type 0} → Views S K E → Stage S K E → PortsSeen
 seen_at views at = ports_seen views.source views.sink views.shown at.streams at.acts at.turns
 
+-- the sink has failed if the run, from `old` to `new`, ended with `Output`, else only if it had before
+abbrev pub SinkFailsAtOutput : {S K E : Type 0} → Views S K E → (old new : Stage S K E) → Result Tally Stop → Type 0
+SinkFailsAtOutput views old new end = FailsAtOutput (views.sink.failed old.streams.output) (views.sink.failed new.streams.output) (with_fault end)
+
 -- a text was refused, or its commands were measured, from `old` to `new`; and the status and the messages report how that ended.
--- All records last, as `AllLast` has it, and the sink has failed if the run ended with `Output`, else only if it had before.
--- `between` are the messages before the report
+-- All records last, as `AllLast` has it. `between` are the messages before the report
 pub record ReportsMeasuring {S K E : Type 0} (views : Views S K E) (station : Settings) (old new : Stage S K E) (status : ℕ)
     : Type 0 where
   pub end : Result Tally Stop
   pub between : E
   pub measured : MeasuresGiven station (seen_at views old) (seen_at views (with_messages new between)) end
   pub all_last : AllLast (views.lasts new.streams.output) end
-  pub fails : FailsAtOutput (views.sink.failed old.streams.output) (views.sink.failed new.streams.output) (with_fault end)
+  pub fails : SinkFailsAtOutput views old new end
   pub counts : ReportsEndOfRun end status (views.shown between) (views.shown new.streams.messages)
 
 -- as `ReportsMeasuring` says; and then, if the log isn't complete (`is_lost`), the messages report that (`ReportsLoss`). `behind`
@@ -117,8 +120,8 @@ pub record MeasuresAtLink {S K E : Type 0} (views : Views S K E) (station : Sett
   pub all_last : AllLast (views.lasts new.streams.output) end
 
 -- a run measured over its link, or it didn't begin; and the status and the messages report how it ended, and then whether the
--- log, if one was asked for (`has_log`), isn't complete (`is_lost`). The sink has failed if the run ended with `Output`, else
--- only if it had before. `between` are the messages before the report of the end, and `behind` those after it
+-- log, if one was asked for (`has_log`), isn't complete (`is_lost`). `between` are the messages before the report of the end, and
+-- `behind` those after it
 pub record ReportsAtSite {S K E : Type 0} (views : Views S K E) (has_log : Bool) (station : Settings) (old new : Stage S K E) (status : ℕ)
     : Type 0 where
   pub end : Result Tally Stop
@@ -128,7 +131,7 @@ pub record ReportsAtSite {S K E : Type 0} (views : Views S K E) (has_log : Bool)
   pub logged : is_lost ≡ true → has_log ≡ true
   pub ran : MeasuresAtLink views station old (with_messages new between) end
       ⊎ IsUnbegun has_log old (with_messages new between) end
-  pub fails : FailsAtOutput (views.sink.failed old.streams.output) (views.sink.failed new.streams.output) (with_fault end)
+  pub fails : SinkFailsAtOutput views old new end
   pub counts : ReportsEndOfRun end status (views.shown between) (views.shown behind)
   pub loss : ReportsLoss is_lost (views.shown behind) (views.shown new.streams.messages)
 

@@ -22,14 +22,18 @@ wanted_from (Some since) moment = Some since
 abbrev pub after_cycle : Wanted → Wanted
 after_cycle w = record { since = if w.heard && not w.overdue then None else w.since; heard = false; overdue = w.overdue }
 
+-- the want with an answer wanted from this moment on, unless one was wanted already
+abbrev pub after_want : Moment → Wanted → Wanted
+after_want moment w = record w { since = wanted_from w.since moment }
+
 -- the want after a look at a station: an answer is wanted where a connection is wanted and there is none, while a new one isn't
 -- quiet yet, and while a request has no reply. A station that is idle has ended a cycle, and one that is fine changes nothing
 abbrev pub after_look : LinkHealth → Moment → Wanted → Wanted
 after_look Fine moment w = w
 after_look Idle moment w = after_cycle w
-after_look Unconnected moment w = record w { since = wanted_from w.since moment }
-after_look Unquiet moment w = record w { since = wanted_from w.since moment }
-after_look Unheard moment w = record w { since = wanted_from w.since moment }
+after_look Unconnected moment w = after_want moment w
+after_look Unquiet moment w = after_want moment w
+after_look Unheard moment w = after_want moment w
 
 -- whether at least `least` milliseconds passed from `from` to `now`, both by the clock for deadlines
 abbrev pub has_lasted : (from now least : ℕ) → Bool

@@ -2,7 +2,7 @@
 //! because neither is an answer.
 
 ghost use Rattle.std.specs.Prelude.{◌≡◌};
-ghost use Rattle.gc_measuring.specs.Wanted.{after_answer, after_look, after_cycle, wanted_from, lasting, has_lasted};
+ghost use Rattle.gc_measuring.specs.Wanted.{after_answer, after_want, after_look, after_cycle, lasting, has_lasted};
 
 use gc_links::Moment;
 use gc_station::LinkHealth;
@@ -65,7 +65,7 @@ impl Wanted {
 
     // Notes that an answer is wanted from this moment on, unless one was wanted already.
     fn want(&mut self, moment: Moment)
-        ensures { self.new ≡ record self.old { since = wanted_from self.old.since moment } }
+        ensures { self.new ≡ after_want moment self.old }
     {
         self.since = self.since.or(Some(moment));
     }

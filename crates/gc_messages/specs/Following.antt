@@ -4,6 +4,6 @@ use Rattle.gc_files.specs.Rows.{appended}
 use Rattle.gc_files.specs.Sinks.{taken_in}
 use Rattle.gc_messages.specs.declared.following.Followed.{Followed}
 
--- what was appended to the earlier files, and after it what was appended to the one that takes the rows now
+-- all bytes that were appended: those of the earlier files, and then those of the file that takes the rows now
 abbrev pub bytes_in : {R : Type 0} → Followed R → List ℕ
 bytes_in followed = appended followed.earlier.steps ++ taken_in followed.rows

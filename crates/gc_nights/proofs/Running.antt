@@ -3,7 +3,7 @@ use Rattle.std.proofs.Common.{◌≡◌, ℕ, List, [], ◌∷◌, ◌++◌, Opt
 use Rattle.std.specs.List.{AllByRecursion}
 use Rattle.gc_station.proofs.Lists.{all_append, all_on}
 use Rattle.gc_links.specs.Acts.{Act, Closed}
-use Rattle.gc_rehearsal.specs.Carrying.{IsOfLine, IsQuiet}
+use Rattle.gc_rehearsal.specs.Carrying.{IsOfLine, CarriesNothing}
 use Rattle.gc_rehearsed.specs.Rehearsals.{RehearsedStation, RunsAndStops, AreAskable, RehearsalsInARowAreFaithful, acts_of_all}
 use Rattle.gc_station.specs.Model.{Runs, opening}
 use Rattle.gc_station.specs.Records.{Record}
@@ -39,7 +39,7 @@ runs_then commands old mid new first second = record {
 
 module _ (plan : Plan) (commands : List Task) (scope : Scope) (text : Record → List ℕ) (askable : AreAskable commands) (old new : List Act) (taken taken' : Option (List ℕ)) where
   -- where `new` has, after the acts `old`, the acts of a run and then quiet ones, these are those of one run (`AreRuns`)
-  run_then_quiet : (acts behind : List Act) → Runs plan commands (opening plan scope) acts → AllByRecursion IsQuiet behind
+  run_then_quiet : (acts behind : List Act) → Runs plan commands (opening plan scope) acts → AllByRecursion CarriesNothing behind
       → new ≡ old ++ (acts ++ behind) → AreRuns commands old new
   run_then_quiet acts behind runs quiet told = record {
     stations = record { plan = plan; commands = commands; scope = scope; acts = acts; after_run = behind } ∷ [];

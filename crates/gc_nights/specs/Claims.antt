@@ -15,14 +15,17 @@ use Rattle.gc_texts.specs.declared.fault.RunFault.TheVariants.{Memory}
 abbrev pub IsRequestFor : Asked → (line : List ℕ) → Type 0
 IsRequestFor asked line = (id : ℕ) × (id < 8) × (line ≡ asked_line (Some id) asked)
 
--- the claim speaks of this reply: the reply came at the claim's moment, in time exactly if the claim has a line, which then is
--- the reply's; and its request asked for the claim's command, and was sent when the claim says. A reply is in time if it came
--- before the moment `deadline` after `sent`. `at` may be before `sent`, as the clock may go back
+-- the claim speaks of this reply
 pub record SpeaksOf (claim : Claim) (truth : Truth) : Type 0 where
+  -- the reply came when the claim says, which may be before its request was sent, as the clock may go back
   pub at : claim.at ≡ truth.given
+  -- its request was sent when the claim says
   pub sent : claim.sent ≡ truth.sent
+  -- the claim has a line exactly if the reply came in time: before the moment `deadline` after `sent`
   pub timed : is_some claim.line ≡ true ↔ claim.at < claim.sent + claim.deadline
+  -- the request asked for the claim's command
   pub asked : IsRequestFor claim.call truth.asked.items
+  -- the claim's line, if it has one, is the reply
   pub line : IfSome claim.line (λ l. l.items ≡ truth.reply.items)
 
 -- there is a claim at this place, and it speaks of this reply

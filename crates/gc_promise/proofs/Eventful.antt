@@ -14,7 +14,7 @@ use Rattle.gc_client.specs.Rule.{ById}
 use Rattle.gc_client.specs.declared.window.TheConstants.{WINDOW}
 use Rattle.gc_texts.specs.Nears.{is_elsewhere}
 use Rattle.gc_links.specs.Acts.{Act, Told}
-use Rattle.gc_station.specs.Beginnings.{IsResynchronizing}
+use Rattle.gc_station.specs.Beginnings.{SynchronizesAnew}
 use Rattle.gc_station.specs.Links.{AreChained}
 use Rattle.gc_station.proofs.Going.{runs-append}
 use Rattle.gc_station.specs.Model.{Runs, opening}
@@ -37,8 +37,8 @@ use Rattle.gc_field.specs.Shown.{AreShownAs, shown}
 use Rattle.gc_field.specs.Witness.{at, replies}
 use Rattle.gc_field.proofs.Witness.{asked_each, units, zeros_lack_the_word}
 use Rattle.gc_promise.specs.Eventful.{IsEventful, acts, acts_until_anew, anew_acts, anew_turns, at_start, commands, executed_moves, first_acts, first_moves}
-use Rattle.gc_promise.specs.Eventful.{first_stretch, heard_moves, last_acts, last_moves, last_stretch, left_by_first, plan, pointed_reply, records, reporting}
-use Rattle.gc_promise.specs.Eventful.{runs, scope, sent_moves, sync_acts, sync_turns, tally}
+use Rattle.gc_promise.specs.Eventful.{first_stretch, heard_acts, heard_moves, last_acts, last_moves, last_stretch, left_by_first, plan, pointed_reply, records, reporting}
+use Rattle.gc_promise.specs.Eventful.{runs, scope, sent_acts, sent_moves, sync_acts, sync_turns, tally}
 use Rattle.gc_promise.proofs.TrueReadings.{patched, patched_same}
 use Rattle.gc_field.proofs.Instruments.{keeps_none}
 
@@ -204,18 +204,18 @@ module _ (reads : Asked → List ℕ → Reading) where
   answers_six = (refl, (tt, (tt, (refl, (tt, (tt, (refl, (tt, (tt, (refl, (tt, (tt, (refl, (tt, (tt, (refl, (tt, (tt, tt))))))))))))))))))
 
   -- after the new synchronization, the acts by which the second cycle is missed and the third begins are a run
-  misses_runs : RunsAfter (acts_until_anew ++ anew_acts) (take 9 last_acts)
+  misses_runs : RunsAfter (acts_until_anew ++ anew_acts) (take 9 sent_acts)
   unfolding is_elsewhere is_near header_at reply_at digits rounded
   misses_runs = (tt, (tt, (tt, (tt, (tt, (tt, (tt, (tt, (tt, tt)))))))))
 
   -- after the acts with which the third cycle begins, those until its last request is cut are a run
-  answers_runs : RunsAfter (acts_until_anew ++ (anew_acts ++ take 9 last_acts)) (take 14 (drop 9 last_acts))
+  answers_runs : RunsAfter (acts_until_anew ++ (anew_acts ++ take 9 sent_acts)) (drop 9 sent_acts)
   unfolding is_elsewhere is_near header_at reply_at digits rounded
   answers_runs =
       (refl, (tt, (tt, (refl, (tt, (refl, (tt, (refl, (tt, (refl, (tt, (refl, (tt, ((refl, lit< tt), tt))))))))))))))
 
   -- after the acts until the last request is cut, those until the end are a run
-  late_runs : RunsAfter (acts_until_anew ++ (anew_acts ++ take 23 last_acts)) (drop 23 last_acts)
+  late_runs : RunsAfter (acts_until_anew ++ (anew_acts ++ sent_acts)) heard_acts
   unfolding is_elsewhere is_near header_at reply_at digits rounded
   late_runs = (refl, (tt, (tt, (tt, (refl, (tt, (tt, (tt, (tt, (refl, (tt, (tt, (refl, tt)))))))))))))
 
@@ -229,9 +229,9 @@ module _ (reads : Asked → List ℕ → Reading) where
       (runs-append plan commands (state_after plan commands patched_scope sync_acts) (take 8 first_acts) (drop 8 first_acts) first_runs gives_up_runs))
       (runs-append plan commands (state_after plan commands patched_scope acts_until_anew) anew_acts last_acts
       (runs-append plan commands (state_after plan commands patched_scope acts_until_anew) (take 16 anew_acts) (drop 16 anew_acts) anew_runs answers_six)
-      (runs-append plan commands (state_after plan commands patched_scope (acts_until_anew ++ anew_acts)) (take 9 last_acts) (drop 9 last_acts) misses_runs
-      (runs-append plan commands (state_after plan commands patched_scope (acts_until_anew ++ (anew_acts ++ take 9 last_acts))) (take 14 (drop 9 last_acts))
-      (drop 23 last_acts) answers_runs late_runs)))
+      (runs-append plan commands (state_after plan commands patched_scope (acts_until_anew ++ anew_acts)) sent_acts heard_acts
+      (runs-append plan commands (state_after plan commands patched_scope (acts_until_anew ++ anew_acts)) (take 9 sent_acts) (drop 9 sent_acts) misses_runs answers_runs)
+      late_runs))
 
   -- the parts of the run are `all_parts`
   parts_are : parts_of plan commands (opening plan patched_scope) acts ≡ all_parts
@@ -245,7 +245,7 @@ module _ (reads : Asked → List ℕ → Reading) where
 
   -- after the acts `acts_until_anew`, by which seven requests have timed out, the next act, which reads the moment 345, makes the
   -- station resynchronize
-  begins_anew : IsResynchronizing plan commands patched_scope acts_until_anew (Told (at 345))
+  begins_anew : SynchronizesAnew plan commands patched_scope acts_until_anew (Told (at 345))
   unfolding is_elsewhere is_near header_at reply_at digits rounded
   begins_anew = record { resynchronizes = record { renews = refl; moment = at 345; told = refl; seven = refl; given_up = refl }; word = refl; client = refl }
 

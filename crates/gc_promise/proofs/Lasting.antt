@@ -6,9 +6,9 @@ use Rattle.std.specs.Prelude.{not, if◌then◌else◌}
 use Rattle.std.specs.Io.KnownBytes.{Appends}
 use Rattle.gc_catalogue.specs.declared.answer.Reading.{Reading}
 use Rattle.gc_catalogue.specs.declared.asked.Asked.{Asked}
-use Rattle.gc_files.specs.Failing.{Sides, Event, Ran, Failed, feeds, settled, same_sides, sides_after, runs_of, Occur, IsFound, IsTrusted}
+use Rattle.gc_files.specs.Failing.{Sides, RunEnd, MayEnd, sides_ended, doubt_ended, Event, Ran, feeds, settled, same_sides, doubt_after, ArePossibleEvents, runs_of, IsFound, IsTrusted}
 use Rattle.gc_files.specs.Files.{Step, Life, content, MayBeLeft}
-use Rattle.gc_files.specs.Rows.{whole, opened_table, cuts_none, appended}
+use Rattle.gc_files.specs.Rows.{whole, opened_table, OpensFile, cuts_none, appended}
 use Rattle.gc_files.specs.Runs.{synced, Run, row_lines, IsRun, rows_of, AreRowCounts, HasRows}
 use Rattle.gc_files.specs.Sinks.{steps_in, taken_in, is_durable}
 use Rattle.gc_files.proofs.Adding.{appended_two}
@@ -31,13 +31,13 @@ use Rattle.gc_lines.specs.declared.ports.Source.{Ghosts as Source}
 use Rattle.gc_lines.specs.declared.ports.Sink.{Ghosts as Sink}
 use Rattle.gc_measuring.specs.Measuring.{PortsSeen, Measures, most_turns, survey_of, Survey, text_by, front_text, RunsAfterFront}
 use Rattle.std.proofs.lemmas.Option.{same_Some}
-use Rattle.gc_promise.specs.Lasting.{HasRunOfFile, AppendsAreRuns, RunMoment, IsRunMoment, rows_by, AreLeft, OpensFile, RowsOutlastCrashes, doubted_by, RunEnd, Stopped, Unsynced, MayEnd, sides_ended, doubt_of, life_begun, sides_begun, RowsOutlastFailures}
+use Rattle.gc_promise.specs.Lasting.{HasRunOfFile, AppendsAreRuns, RunMoment, IsRunMoment, rows_by, AreLeft, RowsOutlastCrashes, life_begun, sides_begun, RowsOutlastFailures}
 use Rattle.gc_promise.specs.Tables.{scope_of}
 use Rattle.gc_promise.proofs.Ended.{text_whole}
 use Rattle.gc_promise.proofs.Pieces.{all_pieces, rows_left, whole_rest}
 use Rattle.gc_promise.proofs.Seen.{IsKeptAt, kept_at, seen_at, Fronted, fronted, texts_whole}
 use Rattle.gc_promise.proofs.Taken.{appended_to_known}
-use Rattle.gc_promise.proofs.Staying.{run_by, is_run, happen_append, life_append, splits_at_run, cuts_first, occur_append, sides_append, runs_of_append}
+use Rattle.gc_promise.proofs.Staying.{run_by, is_run, happen_append, life_append, splits_at_run, cuts_first, possible_events_append, sides_append, runs_of_append}
 use Rattle.std.proofs.lemmas.Bool.{not-true}
 
 -- What the clauses say.
@@ -222,11 +222,6 @@ rows_outlast_crashes m is reads are x was =
     no_rows_of_none [] cs l = append-nil l
     no_rows_of_none (n ∷ counts) cs l = absurd cs
 
--- how the run ends, as an event
-abbrev event_of : Run → RunEnd → Event
-event_of run Stopped = Ran run
-event_of run (Unsynced read disk) = Failed run read disk
-
 -- the law on failed syncs: where a run ended by a kill or by a sync that failed, and events came before and after, the file's
 -- table is the one that was there at first, rows of the earlier runs, the rows that are left of this run, and rows of the later
 -- ones
@@ -234,34 +229,19 @@ pub rows_outlast_failures : {R : Type 0} → RowsOutlastFailures R
 rows_outlast_failures m is reads are x was =
     let sides = sides_begun x in
     let one_run : Run = run m is reads are x.opening in
-    let event = event_of one_run x.ending in
+    let event = Ran one_run x.ending in
     let now = run_is_run m is reads are x.head (content sides.read) x.opening was.opens in
-    let behind = occurs x.head sides (doubted_by false x.earlier) one_run x.ending x.later was.trusted now was.ends was.occurs in
-    let all = occur_append x.head (same_sides (settled x.first)) false x.earlier (event ∷ x.later) was.occurred behind in
-    let there =
-    subst (λ (s : Sides). IsFound s x.found) (sym (sides_append (same_sides (settled x.first)) x.earlier (event ∷ x.later) ∙ event_sides sides one_run x.ending x.later)) was.is_found in
+    let behind = possible_after x.head sides (doubt_after false x.earlier) one_run x.ending x.later was.trusted now was.ends was.happened_after in
+    let all = possible_events_append x.head (same_sides (settled x.first)) false x.earlier (event ∷ x.later) was.happened_before behind in
+    let there = subst (λ (s : Sides). IsFound s x.found) (sym (sides_append (same_sides (settled x.first)) x.earlier (event ∷ x.later))) was.is_found in
     let has = tables_outlast_failures x.head x.first was.is_head (x.earlier ++ event ∷ x.later) all x.found there in
     let p = splits_at_run x.head (opened_table x.head x.first) x.found (runs_of x.earlier) (runs_of x.later) one_run
-    (subst (λ (rs : List Run). HasRows x.head (opened_table x.head x.first) rs x.found)
-    (runs_of_append x.earlier (event ∷ x.later) ∙ ap (λ (rs : List Run). runs_of x.earlier ++ rs) (event_runs one_run x.ending x.later)) has) in
+    (subst (λ (rs : List Run). HasRows x.head (opened_table x.head x.first) rs x.found) (runs_of_append x.earlier (event ∷ x.later)) has) in
     (p.counts, row_lines (take p.count one_run.rows), p.counts', p.first, left_of m is reads are p.count p.least, p.others, p.is)
   where
-    -- a run that ends in this way, in a file that isn't in doubt, and events that may occur after that, may occur as events
-    occurs : (head : List ℕ) (sides : Sides) (doubted : Bool) (run : Run) (ending : RunEnd) (later : List Event) → doubted ≡ false → IsRun head (content sides.read) run
-        → MayEnd sides run.steps ending → Occur IsTrusted head (sides_ended sides run.steps ending) (doubt_of ending) later
-        → Occur IsTrusted head sides doubted (event_of run ending ∷ later)
-    occurs head sides doubted run Stopped later trusted is ends then_ =
-        (trusted, is, subst (λ (d : Bool). Occur IsTrusted head (sides_ended sides run.steps Stopped) d later) (sym trusted) then_)
-    occurs head sides doubted run (Unsynced read disk) later trusted is ends then_ = (trusted, is, ends.0, ends.1, then_)
-
-    -- the sides of a file after a run that ends in this way, as an event, and later events are those after the later events on
-    -- the sides that the run's calls and its ending leave
-    event_sides : (sides : Sides) (run : Run) (ending : RunEnd) (later : List Event)
-        → sides_after sides (event_of run ending ∷ later) ≡ sides_after (sides_ended sides run.steps ending) later
-    event_sides sides run Stopped later = refl
-    event_sides sides run (Unsynced read disk) later = refl
-
-    -- the runs of events that begin with this run are this run and those of the later events
-    event_runs : (run : Run) (ending : RunEnd) (later : List Event) → runs_of (event_of run ending ∷ later) ≡ run ∷ runs_of later
-    event_runs run Stopped later = refl
-    event_runs run (Unsynced read disk) later = refl
+    -- a run that ends in this way, in a file that isn't in doubt, and events that can happen after that, can happen as one list
+    possible_after : (head : List ℕ) (sides : Sides) (doubted : Bool) (run : Run) (ending : RunEnd) (later : List Event) → doubted ≡ false → IsRun head (content sides.read) run
+        → MayEnd sides run.steps ending → ArePossibleEvents IsTrusted head (sides_ended sides run.steps ending) (doubt_ended ending false) later
+        → ArePossibleEvents IsTrusted head sides doubted (Ran run ending ∷ later)
+    possible_after head sides doubted run ending later trusted is ends after =
+        ((trusted, is, ends), subst (λ (d : Bool). ArePossibleEvents IsTrusted head (sides_ended sides run.steps ending) (doubt_ended ending d) later) (sym trusted) after)

@@ -3,14 +3,13 @@
 -- a read returns, and the one of which a crash may leave a part.
 use Rattle.std.proofs.Common.{◌≡◌, inl, inr, ℕ, ◌≤◌, Bool, true, false, List, [], ◌∷◌, ◌++◌, length, take, refl, sym, ◌∙◌, ap, subst, append_assoc, append-nil, None}
 use Rattle.std.proofs.lemmas.Bool.{cases_Bool}
-use Rattle.gc_files.specs.Failing.{Sides, Event, Ran, Failed, Copied, Crashed, feeds, settled, same_sides, done_by, sides_after, runs_of, Occur, IsTrusted}
-use Rattle.gc_files.specs.Files.{Step, Append, Cut, Sync, Life, has_sync, content}
-use Rattle.gc_files.specs.Rows.{whole, opened_table, head_written, mended, cuts_none, appended, IsFront}
+use Rattle.gc_files.specs.Failing.{Sides, Event, Ran, Copied, Crashed, feeds, sides_by, sides_after, doubt_by, doubt_after, ArePossibleEvents, runs_of, IsTrusted}
+use Rattle.gc_files.specs.Files.{Step, Append, Cut, Sync, Life, has_sync}
+use Rattle.gc_files.specs.Rows.{whole, opened_table, head_written, OpensFile, mended, cuts_none, appended, IsFront}
 use Rattle.gc_files.specs.Runs.{synced, Run, row_lines, IsRun, WereKept, OpensAndWrites, Happen, life_after, life_once_ended, rows_of, AreRowCounts, HasRows}
 use Rattle.gc_files.proofs.Killing.{openings_are_runs}
 use Rattle.gc_files.proofs.Moments.{mended_by_two_steps, mend_synced, none_synced}
 use Rattle.gc_files.proofs.Whole.{whole_more}
-use Rattle.gc_promise.specs.Lasting.{doubted_by, OpensFile}
 use Rattle.gc_promise.proofs.Pieces.{all_pieces, pieces_rows, pieces_whole, pieces_fit, pieces_front}
 
 -- What was synced.
@@ -166,28 +165,17 @@ splits_at_run head before found (r ∷ earlier) later run (n ∷ counts, cs, is)
 -- the sides of a file after two lists of events are what the second makes of the sides after the first
 pub sides_append : (sides : Sides) (xs ys : List Event) → sides_after sides (xs ++ ys) ≡ sides_after (sides_after sides xs) ys
 sides_append sides [] ys = refl
-sides_append sides (Ran run ∷ xs) ys = sides_append (done_by run.steps sides) xs ys
-sides_append sides (Failed run read disk ∷ xs) ys = sides_append (record { read = settled read; disk = settled disk }) xs ys
-sides_append sides (Copied true ∷ xs) ys = sides_append (same_sides (settled (content sides.read))) xs ys
-sides_append sides (Copied false ∷ xs) ys = sides_append (record { read = settled (content sides.read); disk = sides.disk }) xs ys
-sides_append sides (Crashed left ∷ xs) ys = sides_append (same_sides (settled left)) xs ys
+sides_append sides (event ∷ xs) ys = sides_append (sides_by event sides) xs ys
 
 -- the runs of two lists of events are those of the first and then those of the second
 pub runs_of_append : (xs ys : List Event) → runs_of (xs ++ ys) ≡ runs_of xs ++ runs_of ys
 runs_of_append [] ys = refl
-runs_of_append (Ran run ∷ xs) ys = ap (λ (rs : List Run). run ∷ rs) (runs_of_append xs ys)
-runs_of_append (Failed run read disk ∷ xs) ys = ap (λ (rs : List Run). run ∷ rs) (runs_of_append xs ys)
+runs_of_append (Ran run ending ∷ xs) ys = ap (λ (rs : List Run). run ∷ rs) (runs_of_append xs ys)
 runs_of_append (Copied named ∷ xs) ys = runs_of_append xs ys
 runs_of_append (Crashed left ∷ xs) ys = runs_of_append xs ys
 
--- events that may occur, and then others that may occur after them, may occur as one list
-pub occur_append : (head : List ℕ) (sides : Sides) (doubted : Bool) (xs ys : List Event) → Occur IsTrusted head sides doubted xs
-    → Occur IsTrusted head (sides_after sides xs) (doubted_by doubted xs) ys → Occur IsTrusted head sides doubted (xs ++ ys)
-occur_append head sides doubted [] ys first second = second
-occur_append head sides doubted (Ran run ∷ xs) ys first second = (first.0, first.1, occur_append head (done_by run.steps sides) doubted xs ys first.2 second)
-occur_append head sides doubted (Failed run read disk ∷ xs) ys first second =
-    (first.0, first.1, first.2, first.3, occur_append head (record { read = settled read; disk = settled disk }) true xs ys first.4 second)
-occur_append head sides doubted (Copied true ∷ xs) ys first second = occur_append head (same_sides (settled (content sides.read))) false xs ys first second
-occur_append head sides doubted (Copied false ∷ xs) ys first second =
-    occur_append head (record { read = settled (content sides.read); disk = sides.disk }) true xs ys first second
-occur_append head sides doubted (Crashed left ∷ xs) ys first second = (first.0, occur_append head (same_sides (settled left)) false xs ys first.1 second)
+-- events that can happen, and then others that can happen after them, can happen as one list
+pub possible_events_append : (head : List ℕ) (sides : Sides) (doubted : Bool) (xs ys : List Event) → ArePossibleEvents IsTrusted head sides doubted xs
+    → ArePossibleEvents IsTrusted head (sides_after sides xs) (doubt_after doubted xs) ys → ArePossibleEvents IsTrusted head sides doubted (xs ++ ys)
+possible_events_append head sides doubted [] ys first second = second
+possible_events_append head sides doubted (event ∷ xs) ys first second = (first.0, possible_events_append head (sides_by event sides) (doubt_by event doubted) xs ys first.1 second)

@@ -23,7 +23,7 @@ use Rattle.gc_texts.specs.declared.quality.Quality.TheVariants.{Fine}
 use Rattle.gc_texts.specs.declared.tasks.Task.{Task}
 use Rattle.gc_texts.specs.declared.turn.Turn as command
 use Rattle.gc_links.specs.Acts.{Act, Told, Put, Cut, Gave, Silent, Ended, Broke, Closed, Opened, Unopened}
-use Rattle.gc_station.specs.Beginnings.{IsResynchronizing}
+use Rattle.gc_station.specs.Beginnings.{SynchronizesAnew}
 use Rattle.gc_station.specs.Links.{AreChained}
 use Rattle.gc_station.specs.Records.{Record}
 use Rattle.gc_station.specs.Scopes.{Scope}
@@ -250,10 +250,9 @@ first_moves =
 -- The station resynchronizes.
 
 -- the acts: the first null procedure is sent. The replies to commands 2 and 6 of the first cycle come; the one to command 6 has
--- the id of the first null procedure, and so answers it. The second null procedure is sent. Three replies come in one piece: one
--- to the last null procedure of the first cycle, which has the id 0; one to the first null procedure; and one to the second. The
--- third null procedure is sent. The third connection ends, and the fourth is made. Over it the null procedures from the third on
--- are sent and answered
+-- its id, and so answers it. The second is sent. Three replies come in one piece: to the last null procedure of the first cycle,
+-- which has the id 0, to the first one here, and to the second. The third is sent. The third connection ends, and the fourth is
+-- made, over which the null procedures from the third on are sent and answered
 abbrev pub anew_acts : List Act
 anew_acts =
     Told (at 345)
@@ -284,19 +283,24 @@ anew_turns =
 
 -- The second cycle, and the third.
 
--- the acts: the clock is read nine times: the second cycle begins and is missed, its seven commands are left out, and the third
--- cycle begins. Command 0 is sent and answered. Commands 1 to 6 are sent; the request of command 6 is cut after five bytes. The
--- fourth connection is closed, and the fifth is made. Over it noise comes, then a second reply to command 0, and then the replies
--- to commands 1 to 4, the one to command 3 twice. Commands 5 and 6 time out. A null procedure is sent. The reply to command 5
--- comes, late. The reply to the null procedure comes, and settles command 6 as lost. The fifth connection is closed
-abbrev pub last_acts : List Act
-last_acts =
+-- the acts, first: the clock is read nine times: the second cycle begins and is missed, its seven commands are left out, and the
+-- third cycle begins. Command 0 is sent and answered. Commands 1 to 6 are sent; the request of command 6 is cut after five bytes
+abbrev pub sent_acts : List Act
+sent_acts =
     map (λ now. Told (at now)) (replicate 9 385)
     ++ puts 385 (point_line ∷ [])
     ++ gave 390 (pointed_reply ∷ [])
     ∷ puts 390 (measure_line ∷ four_lines)
     ++ Cut (with_end last_line) 5
-    ∷ connects_again 390 400
+    ∷ []
+
+-- and then: the fourth connection is closed, and the fifth is made. Over it noise comes, then a second reply to command 0, and
+-- then the replies to commands 1 to 4, the one to command 3 twice. Commands 5 and 6 time out. A null procedure is sent. The
+-- reply to command 5 comes, late. The reply to the null procedure comes, and settles command 6 as lost. The fifth connection is
+-- closed
+abbrev pub heard_acts : List Act
+heard_acts =
+    connects_again 390 400
     ++ Silent (at 410)
     ∷ gave 415 (codes "?" ∷ pointed_reply ∷ measured_reply ∷ elsewhere_reply ∷ numbered_reply ∷ numbered_reply ∷ empty_reply ∷ [])
     ∷ Silent (at 440)
@@ -304,6 +308,10 @@ last_acts =
     ++ gave 445 (codes "%R1P,0,5:0,31" ∷ codes "%R1P,0,7:0,31" ∷ [])
     ∷ Closed
     ∷ []
+
+-- all acts of the second cycle and the third
+abbrev pub last_acts : List Act
+last_acts = sent_acts ++ heard_acts
 
 -- what happens meanwhile, first: the seven commands are sent; the line repeats the request of command 0, which is executed twice
 abbrev pub sent_moves : List (Move (List ℕ))
@@ -476,7 +484,7 @@ pub record IsEventful (reads : Asked → List ℕ → Reading) : Type 0 where
   -- a reply is lost: in the first cycle, too, the instrument made this line on executing the request of command 0
   pub made : WasMadeOn WINDOW reporting first_stretch.from first_stretch.moves 8 points pointed_reply
   -- the station resynchronizes where seven requests wait that have all timed out. Two requests and a reply are in flight then
-  pub begins_anew : IsResynchronizing plan commands (scope reads) acts_until_anew (Told (at 345))
+  pub begins_anew : SynchronizesAnew plan commands (scope reads) acts_until_anew (Told (at 345))
   pub up : left_by_first.up ≡ record { id = 6; call = Table InstrumentNo } ∷ record { id = 0; call = Table NullProc } ∷ []
   pub down : left_by_first.down ≡ codes "%R1P,0,2:0,27" ∷ []
   -- the instrument starts again in the third cycle, after five executions

@@ -107,8 +107,7 @@ quantity_source Refused reply = reply
 
 -- the row of a command that this line ended, in which `at` gives the text under each name, has the line's codes, and its
 -- parameters, `escaped`. If the command is answered, the row has the quality of the answer, by the return codes that are
--- accepted of the command; and, if rows have quantities, it has those of the line, `escaped`. The quantities of a warning are
--- those that the line would have if its return code were 0
+-- accepted of the command; and, if rows have quantities, it has those of the line, `escaped`
 pub record HasReply (has_quantities : Bool) (at : List ℕ → List ℕ) (accepted : Codes) (call : Asked) (line : List ℕ) : Type 0 where
   pub says : SaysCodes at line
   pub values : at (codes "values") ≡ escaped says.reply.params
@@ -124,17 +123,18 @@ pub record HasReply (has_quantities : Bool) (at : List ℕ → List ℕ) (accept
       (name : List ℕ) → IsQuantity name → at name ≡ escaped (quantity_in call quantity_reading name)
 
 module _ {State : Type 0} (ends : Ends State) (Good : State → Type 0) (kept : State → Option KeptReply) where
-  -- the row of record `r`, in which `at` gives the text under each name, is its own: it has the record's moment of sending,
-  -- cycle, place, attempt, target, procedure and outcome. If no request was sent, nothing is under `sent`. If the command sets
-  -- the clock and its request was sent, that asked for the moment under `sent`, cut to seconds. If the outcome is that of a
-  -- reply, the row says what a line says that the instrument made on executing the request of that very cycle and place, in a run
-  -- with the parts `ps` and the stretches `ss`. If the outcome isn't `answered`, the row has no quality and, where rows have
-  -- quantities (`has_quantities`), none of these
+  -- the row of record `r`, in which `at` gives the text under each name, is its own, in a run of these commands with the parts
+  -- `ps` and the stretches `ss`
   pub record IsOwn (has_quantities : Bool) (at : List ℕ → List ℕ) (commands : List Task) (ps : List Part) (ss : List (Stretch State)) (r : Record) : Type 0 where
     pub is_of : IsRowOf at r
+    -- if the command sets the clock and its request was sent, that asked for the moment under `sent`, cut to seconds
     pub clock : (task : Task) → slice_get commands r.place ≡ Some task → task.now ≡ true → went_out r.end ≡ true → IsSetTo at r
+    -- if no request was sent, nothing is under `sent`
     pub unsent : went_out r.end ≡ false → at (codes "sent") ≡ []
+    -- if the outcome is that of a reply, the row says what a line says that the instrument made on executing the request of that
+    -- very cycle and place
     pub replied :
         IsOutcomeOfReply (at (codes "outcome")) → (line : List ℕ) × HasReply has_quantities at (accepted_at commands r.place) r.command.call line × IsItsOwn ends Good kept commands ps ss r line
+    -- if the outcome isn't `answered`, the row has no quantity, where rows have quantities, and no quality
     pub without : has_quantities ≡ true → (at (codes "outcome") ≡ codes "answered" → ⊥) → (name : List ℕ) → IsQuantity name → at name ≡ []
     pub unqualified : (at (codes "outcome") ≡ codes "answered" → ⊥) → at (codes "quality") ≡ []

@@ -1,12 +1,11 @@
 -- What is left of the rows of a run that was killed, over crashes of the machine, or after a sync that failed: this project's
 -- own.
-use Rattle.std.specs.Prelude.{◌≡◌, ◌⊎◌, ℕ, Bool, true, false, List, [], ◌∷◌, ◌++◌, Option, Some, not}
+use Rattle.std.specs.Prelude.{◌≡◌, ◌⊎◌, ℕ, Bool, true, false, List, [], ◌∷◌, ◌++◌, Option, Some}
 use Rattle.gc_catalogue.specs.declared.answer.Reading.{Reading}
 use Rattle.gc_catalogue.specs.declared.asked.Asked.{Asked}
-use Rattle.gc_files.specs.Failing.{Sides, Event, Ran, Failed, Copied, Crashed, settled, same_sides, done_by, Loses, sides_after, runs_of, Occur, IsFound, IsTrusted}
+use Rattle.gc_files.specs.Failing.{Sides, RunEnd, MayEnd, sides_ended, doubt_ended, Event, settled, same_sides, sides_after, doubt_after, ArePossibleEvents, runs_of, IsFound, IsTrusted}
 use Rattle.gc_files.specs.Files.{Step, Life, content, later_by, MayBeLeft}
-use Rattle.gc_files.specs.Rows.{head_written, opened_table, IsFront}
-use Rattle.gc_files.specs.Rows as opening
+use Rattle.gc_files.specs.Rows.{opened_table, OpensFile, IsFront}
 use Rattle.gc_files.specs.Runs.{Run, IsHead, Happen, life_after, rows_of, AreRowCounts}
 use Rattle.gc_files.specs.Sinks.{steps_in, taken_in, is_durable, asks_sync}
 use Rattle.gc_links.specs.Acts.{Act}
@@ -39,11 +38,9 @@ pub record HasRunOfFile {R : Type 0} (file : Followed R) (acts : Option (List Ac
   pub before : run.old.turns ≡ turns
   pub after : run.new.turns ≡ turns'
 
--- what clause `told` of `append_at` says of a run that began without an act and left a file (`ReportsAppended`) comes to this:
--- either no act was made, so that what was seen at each act stays the same, or the run is one of that file (`HasRunOfFile`).
--- `source` and `sink` are the ghost members of the program's input and of such files as sinks; `K` and `E` are the types of the
--- output and the messages. `lasts` says whether a file is durable, `shown` gives the bytes written to the messages, and `has_log`
--- says whether the run keeps a log
+-- what clause `told` of `append_at` says of a run that began without an act and left a file (`ReportsAppended`, over the views
+-- that `views_by` makes) comes to this: either no act was made, so that what was seen at each act stays the same, or the run is
+-- one of that file (`HasRunOfFile`). `K` and `E` are the types of the output and the messages
 abbrev pub AppendsAreRuns : {S R : Type 0} → Source S → Sink (Followed R) → (K E : Type 0) → Type 0
 AppendsAreRuns {S = S} {R = R} source sink K E =
     (lasts : Followed R → Bool) (shown : E → Option (List ℕ)) (has_log : Bool) (station : Settings) (whole : AppendingRun S (Followed R) K E) (file : Followed R)
@@ -91,22 +88,19 @@ pub record IsRunMoment {R : Type 0} (m : RunMoment R) : Type 0 where
 abbrev pub rows_by : Survey → (Asked → List ℕ → Reading) → List Act → List ℕ
 rows_by survey reads acts = texts_of (text_by survey) (records_in survey reads acts)
 
--- `left` has the rows that are left of a run, after a moment. `settled`: the rows that the run had written by the moment's act,
--- into this file and into others before it, are those of all records that the acts of `done` settled. `has`: all that this file
--- had taken by then is left, and perhaps more. `own`: no other rows are left than of records that acts of the run settled
+-- `left` has the rows that are left of a run, after a moment
 pub record AreLeft {R : Type 0} (m : RunMoment R) (reads : Asked → List ℕ → Reading) (left : List ℕ) : Type 0 where
+  -- the rows that the run had written by the moment's act, into this file and into others before it, are those of all records
+  -- that the acts of `done` settled
   pub settled : bytes_in m.was ≡ rows_by m.run.survey reads m.done
+  -- all that this file had taken by then is left, and perhaps more
   pub more : List ℕ
   pub has : left ≡ taken_in m.was.rows ++ more
+  -- no other rows are left than of records that acts of the run settled
   pub acts : List Act
   pub others : List Act
   pub all : m.run.recorded ≡ acts ++ others
   pub own : IsFront (bytes_in m.was ++ more) (rows_by m.run.survey reads acts)
-
--- the calls of an opening of a file that held these bytes: a torn row, if there was one, was cut off, and the head was written if
--- there was no whole row
-abbrev pub OpensFile : (head held : List ℕ) → List Step → Type 0
-OpensFile head held steps = opening.MendedAndPut held steps (head_written head held)
 
 -- what happened to a file until a run was killed, or the machine crashed: the head of its table; what the file held at first, all
 -- of it on the disk; the earlier runs; the calls by which the run opened the file; and what was found at last
@@ -139,38 +133,6 @@ RowsOutlastCrashes R = (m : RunMoment R) → IsRunMoment m → ForEachReadings (
 
 -- Over failed syncs, too.
 
--- whether a file is in doubt after these events, where `doubted` says whether it was before: a failed sync puts it in doubt,
--- and so does a copy whose name isn't on the disk; a copy whose name is there, or a crash, ends the doubt; a run changes
--- nothing
-abbrev pub doubted_by : Bool → List Event → Bool
-doubted_by doubted [] = doubted
-doubted_by doubted (Ran run ∷ events) = doubted_by doubted events
-doubted_by doubted (Failed run read disk ∷ events) = doubted_by true events
-doubted_by doubted (Copied named ∷ events) = doubted_by (not named) events
-doubted_by doubted (Crashed left ∷ events) = doubted_by false events
-
--- how a run ends: its calls are done, and no more; or one more was a sync that failed, after which a read returns `read` and
--- the disk holds `disk`
-pub data RunEnd : Type 0 where
-  Stopped : RunEnd
-  Unsynced : (read disk : List ℕ) → RunEnd
-
--- a run may end in this way after these calls. If a sync failed, `read` is what such a sync may leave of what a read returned
--- before, and `disk` what it may leave of what the disk held
-abbrev pub MayEnd : Sides → List Step → RunEnd → Type 0
-MayEnd sides steps Stopped = Unit {0}
-MayEnd sides steps (Unsynced read disk) = Loses (later_by steps sides.read) read × Loses (later_by steps sides.disk) disk
-
--- the state of a file after these calls and this ending: what a read returns, and what the disk holds
-abbrev pub sides_ended : Sides → List Step → RunEnd → Sides
-sides_ended sides steps Stopped = done_by steps sides
-sides_ended sides steps (Unsynced read disk) = record { read = settled read; disk = settled disk }
-
--- whether a file is in doubt after this ending
-abbrev pub doubt_of : RunEnd → Bool
-doubt_of Stopped = false
-doubt_of (Unsynced read disk) = true
-
 -- what happened to a file around a run: the head of its table; what the file held at first, all of it on the disk; the events
 -- before the run; the calls by which the run opened the file; how the run ended; the events after it; and what was found at last
 pub record FileHistory : Type 0 where
@@ -182,11 +144,11 @@ pub record FileHistory : Type 0 where
   pub later : List Event
   pub found : List ℕ
 
--- the state of the file when the run began
+-- both sides of the file when the run began
 abbrev pub sides_begun : FileHistory → Sides
 sides_begun x = sides_after (same_sides (settled x.first)) x.earlier
 
--- the state of the file when the run had ended, which made these calls after its opening
+-- both sides of the file when the run had ended, which made these calls after its opening
 abbrev pub sides_left : FileHistory → List Step → Sides
 sides_left x calls = sides_ended (sides_begun x) (x.opening ++ calls) x.ending
 
@@ -194,11 +156,11 @@ sides_left x calls = sides_ended (sides_begun x) (x.opening ++ calls) x.ending
 -- in a file in doubt (`IsTrusted`); the opening, in a file that isn't in doubt; the ending; and what was found
 pub record IsFileHistory (calls : List Step) (x : FileHistory) : Type 0 where
   pub is_head : IsHead x.head
-  pub occurred : Occur IsTrusted x.head (same_sides (settled x.first)) false x.earlier
-  pub trusted : doubted_by false x.earlier ≡ false
+  pub happened_before : ArePossibleEvents IsTrusted x.head (same_sides (settled x.first)) false x.earlier
+  pub trusted : IsTrusted (doubt_after false x.earlier)
   pub opens : OpensFile x.head (content (sides_begun x).read) x.opening
   pub ends : MayEnd (sides_begun x) (x.opening ++ calls) x.ending
-  pub occurs : Occur IsTrusted x.head (sides_left x calls) (doubt_of x.ending) x.later
+  pub happened_after : ArePossibleEvents IsTrusted x.head (sides_left x calls) (doubt_ended x.ending false) x.later
   pub is_found : IsFound (sides_after (sides_left x calls) x.later) x.found
 
 -- after events, in a file that isn't in doubt, a run that syncs (`IsRunMoment`) ends at any moment, by a kill or by a sync that

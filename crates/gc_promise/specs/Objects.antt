@@ -46,9 +46,8 @@ module _ {State : Type 0} (ends : Ends State) (Good : State → Type 0) (kept : 
       pub reads_as : document line ≡ Some (json.object members)
       pub own : IsOwnIn ends Good kept true (λ name. text_of (get_member name members)) reads x r
 
-    -- what the sink of run `x` took, after what it had: lines, in none of which is a line feed, and which are the run's records,
-    -- one for one and in order, each its own: all of them, or, if the output failed, maybe only the first ones, and then a part
-    -- of the next one
+    -- what the sink of run `x` took, after what it had: lines, in none of which is a line feed, and which are the run's records
+    -- as far as these were written (`AreWrittenIn`), one for one and in order, each its own
     pub record AreOwnObjects : Type 0 where
       pub lines : List (List ℕ)
       pub torn : List ℕ

@@ -143,10 +143,8 @@ abbrev pub AreReadAs : List ℕ → List (List (List ℕ)) → Type 0
 AreReadAs bytes rows = (behind : List ℕ) → records default_config (bytes ++ behind) ≡ rows ++ records default_config behind
 
 module _ {State : Type 0} (ends : Ends State) (Good : State → Type 0) (kept : State → Option KeptReply) where
-  -- what the sink of run `x` took, after what it had: a table, whose rows after the header are the run's records, one for one and
-  -- in order, each its own: all of them, or, if the output failed, maybe only the first ones, and then a part of the next one.
-  -- `behind` is said of the file of --append: after earlier bytes, which a reader takes for `earlier`, the reader goes on with
-  -- the table's rows
+  -- what the sink of run `x` took, after what it had: a table, whose rows after the header are the run's records as far as these
+  -- were written (`AreWrittenIn`), one for one and in order, each its own
   pub record IsOwnTable (columns : Bool) (reads : Asked → List ℕ → Reading) (x : FieldRun State) : Type 0 where
     pub bytes : List ℕ
     pub torn : List ℕ
@@ -154,6 +152,7 @@ module _ {State : Type 0} (ends : Ends State) (Good : State → Type 0) (kept : 
     pub are : AreWrittenIn reads x torn
     pub rows : List (List (List ℕ))
     pub reads_as : AreReadAs bytes (head_rows x.run.survey.layout columns ++ rows)
+    -- also in a file of --append: after earlier bytes, which a reader takes for `earlier`, it goes on with the table's rows
     pub behind : (held : List ℕ) (earlier : List (List (List ℕ))) → AreReadAs held earlier → AreReadAs (held ++ bytes) (earlier ++ (head_rows x.run.survey.layout columns ++ rows))
     pub one_for_one : AreOneForOne (λ row r. IsOwnIn ends Good kept columns (λ name. under name (header columns) row) reads x r) rows are.written
 

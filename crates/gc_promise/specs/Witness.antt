@@ -7,7 +7,7 @@ use Rattle.gc_rows.specs.declared.record.Form.TheVariants.{Csv, Json}
 use Rattle.gc_links.specs.Acts.{Act}
 use Rattle.gc_station.specs.Keeping.{Snapshot}
 use Rattle.gc_station.specs.Records.{Record, texts_of}
-use Rattle.gc_station.specs.Scopes.{ForReadings}
+use Rattle.gc_station.specs.Scopes.{ForEachAndSomeReadings}
 use Rattle.gc_words.specs.declared.layout.Layout.{Layout}
 use Rattle.gc_measuring.specs.Measuring.{Survey, PortsSeen, RunsAfterFront, text_in}
 use Rattle.gc_field.specs.Instrument.{AnyState, never_kept}
@@ -95,5 +95,5 @@ module _ (reads : Asked → List ℕ → Reading) where
 -- `HasOwnRows` holds for every function that gives what each reply says of its call, and there is such a function. In each form
 -- the run is one as a station's contract has it: its link recorded these acts, and its sink took the texts of its records
 pub record SomeRowIsItsOwn : Type 0 where
-  pub own : ForReadings HasOwnRows
+  pub own : ForEachAndSomeReadings HasOwnRows
   pub measured : (form : Form) → (turns : List Snapshot) × RunsAfterFront (survey form) (ports_at [] [] []) (ports_at acts (taken form) turns) (Ok tally)

@@ -6,7 +6,7 @@ use Rattle.gc_lines.specs.Lines.{with_end}
 use Rattle.gc_links.specs.Acts.{Act, Put, Gave}
 use Rattle.gc_links.specs.declared.link.Moment.{Moment}
 use Rattle.gc_scenes.specs.SceneState.{SceneState, scene_restarted, at_moment}
-use Rattle.gc_rehearsal.specs.Carrying.{Lines, Happening, Acts, Reaches, Restarts, Passes, Repeats_up, Repeats_down, Loses_up, Loses_down, Loses_front, ActLeads, IsQuiet, Leads, LeadAll, acts_of, HasComeTo}
+use Rattle.gc_rehearsal.specs.Carrying.{Lines, Happening, Acts, Reaches, Restarts, Passes, Repeats_up, Repeats_down, Loses_up, Loses_down, Loses_front, ActLeads, CarriesNothing, Leads, LeadAll, acts_of, HasComeTo}
 use Rattle.gc_rehearsal.specs.Queues.{texts, lines_of, MayAddLine, MayRepeat, MayHandOver}
 use Rattle.gc_rehearsal.specs.declared.carried.Traffic.{Traffic}
 use Rattle.gc_rehearsal.specs.declared.flight.Flight.{Flight}
@@ -56,13 +56,13 @@ pub nothing_happened : (state : SceneState) → state.base.kept ≡ None → Has
 nothing_happened state none = record { start = state; happened = []; none = none; acts_are = refl; leads = refl }
 
 -- a quiet act leads from lines to the same lines
-quiet_leads : (act : Act) (l : Lines) → IsQuiet act → ActLeads l act l
+quiet_leads : (act : Act) (l : Lines) → CarriesNothing act → ActLeads l act l
 quiet_leads (Put bytes) l q = absurd q
 quiet_leads (Gave bytes moment) l q = absurd q
 quiet_leads act l q = refl
 
 -- where acts have come to the lines `l`, these acts, and a quiet one after them, have come to `l`
-pub quiet_act_noted : (acts : List Act) (act : Act) (l : Lines) → IsQuiet act → HasComeTo acts l → HasComeTo (acts ++ act ∷ []) l
+pub quiet_act_noted : (acts : List Act) (act : Act) (l : Lines) → CarriesNothing act → HasComeTo acts l → HasComeTo (acts ++ act ∷ []) l
 quiet_act_noted acts act l q c = one_more_happened acts (Acts act) l l c (quiet_leads act l q)
 
 -- where acts have come to the lines `l`, these acts, and a write after them whose bytes don't arrive, have come to `l`

@@ -54,10 +54,10 @@ ActLeads l (Gave bytes moment) m = GiveLeads l bytes m
 ActLeads l other m = m ≡ l
 
 -- an act that changes nothing on the line: neither a whole write nor a read of bytes
-abbrev pub IsQuiet : Act → Type 0
-IsQuiet (Put bytes) = ⊥
-IsQuiet (Gave bytes moment) = ⊥
-IsQuiet other = Unit {0}
+abbrev pub CarriesNothing : Act → Type 0
+CarriesNothing (Put bytes) = ⊥
+CarriesNothing (Gave bytes moment) = ⊥
+CarriesNothing other = Unit {0}
 
 -- these bytes are one line, without CR LF: plain bytes, at most 512
 abbrev pub IsOneLine : List ℕ → Type 0

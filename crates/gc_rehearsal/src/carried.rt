@@ -3,7 +3,7 @@
 ghost use Rattle.std.specs.Prelude.{◌≡◌, ◌≤◌, ◌+◌, [], ◌∷◌, ◌++◌, List, length, take, IfSome, MatchOption};
 ghost use Rattle.gc_links.specs.Acts.{Act, Put, Gave};
 ghost use Rattle.gc_links.specs.Noted.{act_of};
-ghost use Rattle.gc_rehearsal.specs.Carrying.{IsOfLine, IsQuiet};
+ghost use Rattle.gc_rehearsal.specs.Carrying.{IsOfLine, CarriesNothing};
 ghost use Rattle.gc_rehearsal.specs.Queues.{MaySend};
 
 use crate::flight::{
@@ -149,7 +149,7 @@ impl Carried {
 
     /// Adds an act that changes nothing on the line: the result of a call that neither wrote a whole request nor read a reply.
     pub fn note(&mut self, note: &Note<'_>)
-        requires { IsQuiet (act_of note.now) }
+        requires { CarriesNothing (act_of note.now) }
         ensures { self.new ≡ self.old ++ act_of note.now ∷ [] }
     {
         self.history = self.history.then(note);

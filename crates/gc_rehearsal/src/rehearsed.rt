@@ -3,7 +3,7 @@
 ghost use Rattle.std.specs.Prelude.{◌≡◌, ℕ, ◌<◌, ◌++◌, ◌∷◌, [], List, length};
 ghost use Rattle.gc_links.specs.Acts.{Cut, IsPartIfErr, Put, put_act};
 ghost use Rattle.gc_rehearsal.specs.Carrying.{IsOfLine};
-ghost use Rattle.gc_rehearsal.specs.Reading.{MayRead, Reads};
+ghost use Rattle.gc_rehearsal.specs.Reading.{AddsRead, MayRead};
 
 use crate::carried::Carried;
 use crate::chance::{Chance, Fate};
@@ -90,7 +90,7 @@ impl<C> Rehearsed<C> {
 
     // A read during which nothing comes until the moment `limit`: sets the clock to it, and returns silence.
     fn be_silent(&mut self, limit: u64) -> Came
-        ensures { (buf : List ℕ) → Reads self.old.carried self.new.carried result buf }
+        ensures { (buf : List ℕ) → AddsRead self.old.carried self.new.carried result buf }
     {
         self.state.come_to(limit);
         let moment = self.state.moment();
@@ -101,7 +101,7 @@ impl<C> Rehearsed<C> {
     // A read during which, or before which, the other end closes the connection at this moment: sets the clock forward to it,
     // unless it is past, and returns the end.
     fn end(&mut self, moment: u64) -> Came
-        ensures { (buf : List ℕ) → Reads self.old.carried self.new.carried result buf }
+        ensures { (buf : List ℕ) → AddsRead self.old.carried self.new.carried result buf }
     {
         self.state.come_to(moment);
         self.carried.note(&Note::Ended);

@@ -12,11 +12,11 @@ use Rattle.gc_station.specs.Parts.{Part, idle_part}
 use Rattle.gc_world.specs.Clients.{by_ids}
 use Rattle.gc_field.specs.Begin as begin
 use Rattle.gc_field.specs.Begin.{AreTurns, IsTurn, SyncModel, UnderWay, begins, leaves, turned, turns}
-use Rattle.gc_field.specs.Beginnings.{ArePossibleIf, AreRuns, Run, killed_if, left_by_run, left_by_runs, left_if, under_way_on}
+use Rattle.gc_field.specs.Beginnings.{ArePossibleIfBegun, AreRuns, Run, killed_unless_begun, left_by_run, left_by_runs, left_if_begun, under_way_on}
 use Rattle.gc_field.specs.Begun.{ids_begun}
 use Rattle.gc_field.specs.Field.{Move, ArePossible, IsPossible, moved, moves, seen}
 use Rattle.gc_field.specs.InARow.{AreFewKilledWithTurns, killed_by, killed_over}
-use Rattle.gc_rehearsed.specs.Rehearsals.{unbegun}
+use Rattle.gc_rehearsed.specs.Rehearsals.{unbegun_after}
 use Rattle.gc_field.specs.SceneField.{KeptReplyReads, scene_ends, scene_kept}
 use Rattle.gc_field.specs.Shown.{AreShownAs, shown, shows}
 use Rattle.gc_field.specs.World.{Numbered}
@@ -61,7 +61,7 @@ pub record Later (u : UnderWay SceneState) (rs : List (Run SceneState)) (coming 
   pub may : AreRuns WINDOW scene_ends KeptReplyReads scene_kept u rs
   pub holds : Holds (left_by_runs WINDOW scene_ends u rs) coming.lines
   pub few : AreFewKilledWithTurns scene_ends 0 u rs
-  pub ends : killed_over scene_ends 0 u rs ≤ unbegun 0 coming.begun
+  pub ends : killed_over scene_ends 0 u rs ≤ unbegun_after 0 coming.begun
 
 -- if some ids of a run's synchronization aren't answered, no other run (`rs`) follows, and the station hasn't synchronized at
 -- the end (`done`)
@@ -78,8 +78,8 @@ pub record FromBegin (b : SyncModel SceneState) (turns : List part.SyncStep) (st
   pub show : shown scene_ends ts b ≡ turns
   pub see : seen ms ≡ steps
   pub are : AreTurns scene_ends KeptReplyReads scene_kept ts b
-  pub may : ArePossibleIf WINDOW scene_ends KeptReplyReads scene_kept (turned scene_ends ts b).left (turned scene_ends ts b) ms
-  pub later : Later (left_if WINDOW scene_ends (turned scene_ends ts b).left (turned scene_ends ts b) ms) rs coming
+  pub may : ArePossibleIfBegun WINDOW scene_ends KeptReplyReads scene_kept (turned scene_ends ts b).left (turned scene_ends ts b) ms
+  pub later : Later (left_if_begun WINDOW scene_ends (turned scene_ends ts b).left (turned scene_ends ts b) ms) rs coming
   pub rest : IsLastUnlessBegun (turned scene_ends ts b).left coming.begun rs
 
 -- from the world w of a client on: possible moves show `steps`, and later runs show the sequel (`Later`)
@@ -163,8 +163,8 @@ begun_from b show steps coming none quiet f = record {
   show = sym quiet;
   see = f.see;
   are = tt;
-  may = subst (λ left. ArePossibleIf WINDOW scene_ends KeptReplyReads scene_kept left b f.ms) (sym none) f.may;
-  later = subst (λ left. Later (left_if WINDOW scene_ends left b f.ms) f.rs coming) (sym none) f.later;
+  may = subst (λ left. ArePossibleIfBegun WINDOW scene_ends KeptReplyReads scene_kept left b f.ms) (sym none) f.may;
+  later = subst (λ left. Later (left_if_begun WINDOW scene_ends left b f.ms) f.rs coming) (sym none) f.later;
   rest = subst (λ left. IsLastUnlessBegun left coming.begun f.rs) (sym none) tt;
 }
 
@@ -174,48 +174,49 @@ killed_first : (n : ℕ) (u : UnderWay SceneState) (r : Run SceneState) (left : 
     → (turned scene_ends ts (begins u)).left ≡ left → r.turns ≡ ts → IsLastUnlessBegun left done rs
     → ((left ≡ []) × (killed_by scene_ends n u r ts ≡ 0)) ⊎ ((rs ≡ []) × (done ≡ false) × (killed_by scene_ends n u r ts ≤ n + 1))
 killed_first n u r [] [] done rs e same rest = absurd (cons_not_nil _ _ e)
-killed_first n u r [] (t ∷ ts) done rs e same rest = inl (refl, ap (λ l. killed_if l n) (ap (λ xs. (turned scene_ends xs (begins u)).left) same ∙ e))
+killed_first n u r [] (t ∷ ts) done rs e same rest = inl (refl, ap (λ l. killed_unless_begun l n) (ap (λ xs. (turned scene_ends xs (begins u)).left) same ∙ e))
 killed_first n u r (asked ∷ word) [] done rs e same rest = inr (rest.0, rest.1, omega arith)
 killed_first n u r (asked ∷ word) (t ∷ ts) done rs e same rest =
-    let one : killed_by scene_ends n u r (t ∷ ts) ≡ n + 1 = ap (λ l. killed_if l n) (ap (λ xs. (turned scene_ends xs (begins u)).left) same ∙ e) in
+    let one : killed_by scene_ends n u r (t ∷ ts) ≡ n + 1 = ap (λ l. killed_unless_begun l n) (ap (λ xs. (turned scene_ends xs (begins u)).left) same ∙ e) in
     inr (rest.0, rest.1, omega (arith, one))
 
--- where the `n` runs before a synchronization were killed while they synchronized, and `unbegun n coming.begun` is at most five:
--- of these and the runs from the synchronization on, at most five in a row are killed so, and at the end at most
--- `unbegun n coming.begun`
+-- where the `n` runs before a synchronization were killed while they synchronized, and `unbegun_after n coming.begun` is at most
+-- five: of these and the runs from the synchronization on, at most five in a row are killed so, and at the end at most
+-- `unbegun_after n coming.begun`
 pub few_from : (n : ℕ) (u : UnderWay SceneState) (show : List part.SyncStep) (steps : List (client.Step Asked)) (coming : Sequel)
-    → (f : FromBegin (begins u) show steps coming) → unbegun n coming.begun ≤ 5
-    → AreFewKilledWithTurns scene_ends n u (run f.ts f.ms ∷ f.rs) × (killed_over scene_ends n u (run f.ts f.ms ∷ f.rs) ≤ unbegun n coming.begun)
+    → (f : FromBegin (begins u) show steps coming) → unbegun_after n coming.begun ≤ 5
+    → AreFewKilledWithTurns scene_ends n u (run f.ts f.ms ∷ f.rs) × (killed_over scene_ends n u (run f.ts f.ms ∷ f.rs) ≤ unbegun_after n coming.begun)
 few_from n u show steps coming f small = by_end (killed_first n u (run f.ts f.ms) (turned scene_ends f.ts (begins u)).left f.ts coming.begun f.rs refl refl f.rest) where
   -- if no run counts as killed in a row after the first run, at most five do
   none_killed : killed_by scene_ends n u (run f.ts f.ms) f.ts ≡ 0 → killed_by scene_ends n u (run f.ts f.ms) f.ts ≤ 5
   none_killed none = omega (arith, none)
 
-  -- if at the end at most `unbegun 0 d` in a row are killed, at most `unbegun n d` are
-  by_done : (d : Bool) → killed_over scene_ends 0 (left_by_run WINDOW scene_ends u (run f.ts f.ms)) f.rs ≤ unbegun 0 d
-      → killed_over scene_ends 0 (left_by_run WINDOW scene_ends u (run f.ts f.ms)) f.rs ≤ unbegun n d
+  -- if at the end at most `unbegun_after 0 d` in a row are killed, at most `unbegun_after n d` are
+  by_done : (d : Bool) → killed_over scene_ends 0 (left_by_run WINDOW scene_ends u (run f.ts f.ms)) f.rs ≤ unbegun_after 0 d
+      → killed_over scene_ends 0 (left_by_run WINDOW scene_ends u (run f.ts f.ms)) f.rs ≤ unbegun_after n d
   by_done true h = h
   by_done false h = omega (arith, h)
 
   -- the claim of `few_from`, by whether the first run has synchronized
   by_end : (((turned scene_ends f.ts (begins u)).left ≡ []) × (killed_by scene_ends n u (run f.ts f.ms) f.ts ≡ 0))
       ⊎ ((f.rs ≡ []) × (coming.begun ≡ false) × (killed_by scene_ends n u (run f.ts f.ms) f.ts ≤ n + 1))
-      → AreFewKilledWithTurns scene_ends n u ((run f.ts f.ms) ∷ f.rs) × (killed_over scene_ends n u ((run f.ts f.ms) ∷ f.rs) ≤ unbegun n coming.begun)
+      → AreFewKilledWithTurns scene_ends n u ((run f.ts f.ms) ∷ f.rs) × (killed_over scene_ends n u ((run f.ts f.ms) ∷ f.rs) ≤ unbegun_after n coming.begun)
   by_end (inl begun) = (
     (none_killed begun.1, subst (λ k. AreFewKilledWithTurns scene_ends k (left_by_run WINDOW scene_ends u (run f.ts f.ms)) f.rs) (sym begun.1) f.later.few),
-    subst (λ k. killed_over scene_ends k (left_by_run WINDOW scene_ends u (run f.ts f.ms)) f.rs ≤ unbegun n coming.begun) (sym begun.1) (by_done coming.begun f.later.ends),
+    subst (λ k. killed_over scene_ends k (left_by_run WINDOW scene_ends u (run f.ts f.ms)) f.rs ≤ unbegun_after n coming.begun) (sym begun.1) (by_done coming.begun f.later.ends),
   )
   by_end (inr killed) =
-      let count : killed_by scene_ends n u (run f.ts f.ms) f.ts ≤ unbegun n coming.begun = subst (λ d. killed_by scene_ends n u (run f.ts f.ms) f.ts ≤ unbegun n d) (sym killed.1) killed.2 in (
+      let count : killed_by scene_ends n u (run f.ts f.ms) f.ts ≤ unbegun_after n coming.begun =
+      subst (λ d. killed_by scene_ends n u (run f.ts f.ms) f.ts ≤ unbegun_after n d) (sym killed.1) killed.2 in (
         (
           omega (arith, count, small),
           subst (λ rs. AreFewKilledWithTurns scene_ends (killed_by scene_ends n u (run f.ts f.ms) f.ts) (left_by_run WINDOW scene_ends u (run f.ts f.ms)) rs) (sym killed.0) tt,
         ),
-        subst (λ rs. killed_over scene_ends (killed_by scene_ends n u (run f.ts f.ms) f.ts) (left_by_run WINDOW scene_ends u (run f.ts f.ms)) rs ≤ unbegun n coming.begun) (sym killed.0) count,
+        subst (λ rs. killed_over scene_ends (killed_by scene_ends n u (run f.ts f.ms) f.ts) (left_by_run WINDOW scene_ends u (run f.ts f.ms)) rs ≤ unbegun_after n coming.begun) (sym killed.0) count,
       )
 
 -- one station, killed or not, counts as at most five in a row
-one_station_is_few : (done : Bool) → unbegun 0 done ≤ 5
+one_station_is_few : (done : Bool) → unbegun_after 0 done ≤ 5
 one_station_is_few true = omega arith
 one_station_is_few false = omega arith
 
@@ -233,8 +234,8 @@ ended_from w p coming f =
       later = record { show = (f.show, f.see, f.later.show); may = ((f.are, f.may), f.later.may); holds = f.later.holds; few = few.0; ends = few.1 };
     }
 
--- where no run follows, 0 count as killed in a row, which is at most what `unbegun` gives
-none_killed_in_no_runs : (done : Bool) → 0 ≤ unbegun 0 done
+-- where no run follows, 0 count as killed in a row, which is at most what `unbegun_after` gives
+none_killed_in_no_runs : (done : Bool) → 0 ≤ unbegun_after 0 done
 none_killed_in_no_runs true = omega arith
 none_killed_in_no_runs false = omega arith
 
@@ -273,7 +274,7 @@ ends_begin b m some holds = by_left b.left refl where
     show = refl;
     see = refl;
     are = tt;
-    may = subst (λ left. ArePossibleIf WINDOW scene_ends KeptReplyReads scene_kept left b []) (sym e) refl;
-    later = subst (λ left. Later (left_if WINDOW scene_ends left b []) [] (sequel [] m false)) (sym e) (record { show = tt; may = tt; holds = holds; few = tt; ends = omega arith });
+    may = subst (λ left. ArePossibleIfBegun WINDOW scene_ends KeptReplyReads scene_kept left b []) (sym e) refl;
+    later = subst (λ left. Later (left_if_begun WINDOW scene_ends left b []) [] (sequel [] m false)) (sym e) (record { show = tt; may = tt; holds = holds; few = tt; ends = omega arith });
     rest = subst (λ left. IsLastUnlessBegun left false []) (sym e) (refl, refl);
   }

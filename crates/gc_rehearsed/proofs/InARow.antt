@@ -21,8 +21,8 @@ use Rattle.gc_field.specs.Shown.{AreShownAs}
 use Rattle.gc_field.proofs.InARow.{in_a_row, run}
 use Rattle.gc_field.proofs.SceneField.{scene_is_an_instrument}
 use Rattle.gc_field.proofs.BeginJoin.{word_small}
-use Rattle.gc_rehearsal.specs.Carrying.{Lines, Happening, Acts, ActLeads, IsQuiet, LeadAll, acts_of}
-use Rattle.gc_rehearsed.specs.Rehearsals.{FewEndUnbegun, RunsAndStops, RehearsalsInARowAreFaithful, RehearsedStation, has_begun_at_its_end, programs, acts_of_all, unbegun}
+use Rattle.gc_rehearsal.specs.Carrying.{Lines, Happening, Acts, ActLeads, CarriesNothing, LeadAll, acts_of}
+use Rattle.gc_rehearsed.specs.Rehearsals.{FewEndUnbegun, RunsAndStops, RehearsalsInARowAreFaithful, RehearsedStation, has_begun_at_its_end, programs, acts_of_all, unbegun_after}
 use Rattle.gc_rehearsed.proofs.Courses.{BeginIsAt, FromBegin, Sequel, begins_in_flight, few_from, sequel, steps_turn}
 use Rattle.gc_rehearsed.proofs.Rehearsed.{OnBegin, first_and_others, first_part, none_kept, other_parts, shows_the_run}
 use Rattle.gc_station.proofs.PartFronts.{some_parts}
@@ -63,7 +63,7 @@ cut_after_acts (h ∷ hs) (x ∷ xs) ys l m e all =
 -- Between two stations.
 
 -- a quiet act leaves the line as it is
-quiet_same : (act : Act) (l n : Lines) → IsQuiet act → ActLeads l act n → n ≡ l
+quiet_same : (act : Act) (l n : Lines) → CarriesNothing act → ActLeads l act n → n ≡ l
 quiet_same (Put bytes) l n quiet does = absurd quiet
 quiet_same (Gave bytes moment) l n quiet does = absurd quiet
 quiet_same act l n quiet does = does
@@ -71,7 +71,7 @@ quiet_same act l n quiet does = does
 -- if all acts of what happens on the line between two stations are quiet, and `FromBegin` holds from each state with the lines
 -- that this leads to in flight and with the unanswered ids of b, it holds from b
 idle_first : (hs : List Happening) (b : begin.SyncModel SceneState) (l n : Lines) (show : List part.SyncStep) (steps : List (client.Step Asked)) (coming : Sequel)
-    → AllByRecursion IsQuiet (acts_of hs) → Holds (leaves b) l → LeadAll l hs n
+    → AllByRecursion CarriesNothing (acts_of hs) → Holds (leaves b) l → LeadAll l hs n
     → ((c : begin.SyncModel SceneState) → BeginIsAt c b.left n → FromBegin c show steps coming) → FromBegin b show steps coming
 idle_first [] b l n show steps coming quiet holds all on = on b (refl, subst (Holds (leaves b)) (sym all) holds)
 idle_first (Acts act ∷ hs) b l n show steps coming quiet holds all on =
@@ -94,16 +94,17 @@ record AreInTheField (n : ℕ) (u : UnderWay SceneState) (xs : List RehearsedSta
 few_end_with_fewer_before : (k n : ℕ) (xs : List RehearsedStation) → k ≤ n → FewEndUnbegun n xs → FewEndUnbegun k xs
 few_end_with_fewer_before k n [] less few = tt
 few_end_with_fewer_before k n (x ∷ xs) less few = let one = fewer_one (has_begun_at_its_end x) in
-    ((let f = few.0 in omega (arith, one, f)), few_end_with_fewer_before (unbegun k (has_begun_at_its_end x)) (unbegun n (has_begun_at_its_end x)) xs one few.1) where
+    ((let f = few.0 in omega (arith, one, f)), few_end_with_fewer_before (unbegun_after k (has_begun_at_its_end x)) (unbegun_after n (has_begun_at_its_end x)) xs one few.1) where
       -- after k stations in a row that ended while they synchronized, one station more makes at most as many in a row as after
       -- n
-      fewer_one : (b : Bool) → unbegun k b ≤ unbegun n b
+      fewer_one : (b : Bool) → unbegun_after k b ≤ unbegun_after n b
       fewer_one true = omega arith
       fewer_one false = omega (arith, less)
 
 -- stations one after the other over a rehearsed line, after acts `before` that are quiet, are in the field (`AreInTheField`),
 -- over what is in flight, if each of them is `RunsAndStops`, and `FewEndUnbegun` holds of them with n
-goes_in_a_row : (n : ℕ) (xs : List RehearsedStation) (hs : List Happening) (before : List Act) (u : UnderWay SceneState) (l m : Lines) → AllByRecursion IsQuiet before → Holds u l → LeadAll l hs m
+goes_in_a_row : (n : ℕ) (xs : List RehearsedStation) (hs : List Happening) (before : List Act) (u : UnderWay SceneState) (l m : Lines)
+    → AllByRecursion CarriesNothing before → Holds u l → LeadAll l hs m
     → acts_of hs ≡ before ++ acts_of_all xs → AllByRecursion RunsAndStops xs → FewEndUnbegun n xs → AreInTheField n u xs
 goes_in_a_row n [] hs before u l m quiet holds all told lives few = record { runs = []; each = refl; field = tt }
 goes_in_a_row n (x ∷ xs) hs before u l m quiet holds all told lives few =
@@ -113,7 +114,8 @@ goes_in_a_row n (x ∷ xs) hs before u l m quiet holds all told lives few =
     let one = cut_after_acts hs before (acts_of_all (x ∷ xs)) l m told all in
     let two = cut_after_acts one.back x.acts (x.after_run ++ acts_of_all xs) one.middle m one.backs one.later in
     let f : OnBegin (begins u) two.middle ps done =
-    idle_first one.front (begins u) l one.middle (first_part ps).sync_steps (first_part ps).steps (sequel (other_parts ps) two.middle done) (subst (AllByRecursion IsQuiet) (sym one.fronts) quiet)
+    idle_first one.front (begins u) l one.middle (first_part ps).sync_steps (first_part ps).steps (sequel (other_parts ps) two.middle done)
+    (subst (AllByRecursion CarriesNothing) (sym one.fronts) quiet)
     (subst (λ v. Holds v l) (sym (begins_in_flight u)) holds) one.leads
     (λ c at. subst (λ acts. OnBegin c two.middle (parts_of x.plan x.commands s acts) (has_begun (after_all x.plan x.commands s acts).progress)) two.fronts
     ((shows_the_run x.plan x.commands lives.0.askable two.front two.middle).0 s c one.middle (invariant_opening x.plan x.commands x.scope) refl refl at
@@ -121,7 +123,7 @@ goes_in_a_row n (x ∷ xs) hs before u l m quiet holds all told lives few =
     let rs = run f.ts f.ms ∷ f.rs in
     let killed = few_from n u (first_part ps).sync_steps (first_part ps).steps (sequel (other_parts ps) two.middle done) f few.0 in
     let rest = goes_in_a_row (killed_over scene_ends n u rs) xs two.back x.after_run (left_by_runs WINDOW scene_ends u rs) two.middle m lives.0.quiet f.later.holds two.later two.backs lives.1
-    (few_end_with_fewer_before (killed_over scene_ends n u rs) (unbegun n done) xs killed.1 few.1) in
+    (few_end_with_fewer_before (killed_over scene_ends n u rs) (unbegun_after n done) xs killed.1 few.1) in
     record {
       runs = rs ∷ rest.runs;
       each = ap suc rest.each;

@@ -17,7 +17,7 @@ use Rattle.gc_field.specs.Beginnings.{Run}
 use Rattle.gc_field.specs.InARow.{AreFaithful, AreInARow}
 use Rattle.gc_field.specs.Runs.{IsInField, IsRunFaithful, Program}
 use Rattle.gc_field.specs.SceneField.{KeptReplyReads, scene_ends, scene_kept}
-use Rattle.gc_rehearsal.specs.Carrying.{IsOfLine, IsQuiet}
+use Rattle.gc_rehearsal.specs.Carrying.{IsOfLine, CarriesNothing}
 
 -- what a command asks is allowed, whenever it is sent: a call's numbers lie in their types, and a procedure that isn't in the
 -- table may be asked with its parameters (`IsAskedFitting`)
@@ -64,11 +64,11 @@ acts_of_all [] = []
 acts_of_all (x ∷ xs) = x.acts ++ (x.after_run ++ acts_of_all xs)
 
 -- a station's commands are `IsAskable`, its acts are a run of it, and after them nothing was sent whole and nothing came
--- (`IsQuiet`)
+-- (`CarriesNothing`)
 pub record RunsAndStops (x : RehearsedStation) : Type 0 where
   pub askable : AreAskable x.commands
   pub runs : Runs x.plan x.commands (opening x.plan x.scope) x.acts
-  pub quiet : AllByRecursion IsQuiet x.after_run
+  pub quiet : AllByRecursion CarriesNothing x.after_run
 
 -- these stations as programs of the field, with what happens on the line in each of their runs: as many as there are of both
 abbrev pub programs : List RehearsedStation → List (List (Run SceneState)) → List (Program SceneState)
@@ -77,9 +77,9 @@ programs _ _ = []
 
 -- how many stations in a row have ended while they synchronized, with one more station after `n` of them: none, if that one had
 -- synchronized at its end (`true`), and else one more
-abbrev pub unbegun : ℕ → Bool → ℕ
-unbegun n true = 0
-unbegun n false = n + 1
+abbrev pub unbegun_after : ℕ → Bool → ℕ
+unbegun_after n true = 0
+unbegun_after n false = n + 1
 
 -- whether a station has synchronized at the end of its acts: the eighth null procedure of its last synchronization is answered
 abbrev pub has_begun_at_its_end : RehearsedStation → Bool
@@ -89,7 +89,7 @@ has_begun_at_its_end x = has_begun (state_after x.plan x.commands x.scope x.acts
 -- first
 abbrev pub FewEndUnbegun : ℕ → List RehearsedStation → Type 0
 FewEndUnbegun n [] = Unit {0}
-FewEndUnbegun n (x ∷ xs) = (unbegun n (has_begun_at_its_end x) ≤ 5) × FewEndUnbegun (unbegun n (has_begun_at_its_end x)) xs
+FewEndUnbegun n (x ∷ xs) = (unbegun_after n (has_begun_at_its_end x) ≤ 5) × FewEndUnbegun (unbegun_after n (has_begun_at_its_end x)) xs
 
 -- stations in a row are in the field, with nothing in flight before the first: with a list of runs for each, they are programs in
 -- a row (`AreInARow`), and each of them is faithful

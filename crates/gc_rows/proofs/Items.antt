@@ -1,7 +1,7 @@
 -- The items of a reply's values are those of the grammar: a text that is parameters joined by commas, with any spaces round
 -- each, has these parameters as its items.
 use Rattle.std.proofs.Common.{◌≡◌, ◌<◌, ◌≤◌, ◌+◌, ◌%◌, ◌==◌, ◌⊎◌, inl, inr, ℕ, zero, suc, List, [], ◌∷◌, ◌++◌, length, get_or, take, map, replicate, Bool, true, false, cond, Some, None, refl, sym, ap, ◌∙◌, subst, arith, append_assoc, append-nil}
-use Rattle.std.specs.Prelude.{not, nat_lt, ◌&&◌}
+use Rattle.std.specs.Prelude.{not, ◌&&◌}
 use Rattle.std.specs.List.{AllByRecursion, onto_first}
 use Rattle.std.proofs.lemmas.Bool.{ne_eqb, eqb-true, eq-eqb, cond_both, lt-ltb, le-ltb, false≢true, false_from_ne_true}
 use Rattle.gc_values.specs.Params.{quotes, quoted_after, AreSpaces, HasCommasInQuotes, IsParam, IsPadded, ArePieces, joined, IsParams, total_length}
@@ -13,7 +13,7 @@ use Rattle.gc_values.proofs.Quotes.{IsPiece, quotes-append, quotes-cons}
 use Rattle.gc_values.proofs.Trimming.{param_is_trimmed, trimmed_from_both_ends}
 use Rattle.gc_values.specs.Pieces.{without_front_spaces, put_before, without_end_spaces}
 use Rattle.gc_texts.proofs.Logs.{IsOfBytes}
-use Rattle.gc_rows.specs.Items.{trimmed, comma_pieces, is_blank, items_of, split_items}
+use Rattle.gc_rows.specs.Items.{trimmed, comma_pieces, is_blank, items_of, items_if, split_items}
 use Rattle.gc_rows.specs.Laws.{ItemsAreTheGrammars}
 
 -- Spaces at the ends.
@@ -161,20 +161,20 @@ items_are_the_grammars text (item ∷ items) are =
 pub few_are_split : (text : List ℕ) (items : List (List ℕ)) → IsParams text items → length items ≤ 16 → split_items text ≡ Some items
 few_are_split text items are few =
     let same = items_are_the_grammars text items are in
-    ap (λ z. cond (z && not (nat_lt 16 (length (items_of text)))) (Some (items_of text)) None) (eq-eqb (quotes text % 2) 0 (params_even text items are))
-    ∙ ap (λ is. cond (not (nat_lt 16 (length is))) (Some is) None) same ∙ ap (λ z. cond (not z) (Some items) None) (le-ltb 16 (length items) few)
+    ap (λ z. items_if z (items_of text)) (eq-eqb (quotes text % 2) 0 (params_even text items are))
+    ∙ ap (items_if true) same ∙ ap (λ z. cond (not z) (Some items) None) (le-ltb 16 (length items) few)
 
 -- a text with an odd number of double quotes doesn't split
 pub open_is_none : (text : List ℕ) → quotes text % 2 ≡ 1 → split_items text ≡ None
 open_is_none text odd =
-    ap (λ z. cond (z && not (nat_lt 16 (length (items_of text)))) (Some (items_of text)) None) (ne_eqb (quotes text % 2) 0 (λ even. omega (arith, odd, even)))
+    ap (λ z. items_if z (items_of text)) (ne_eqb (quotes text % 2) 0 (λ even. omega (arith, odd, even)))
 
 -- a text of more than 16 items doesn't split
 pub many_are_none : (text : List ℕ) (items : List (List ℕ)) → IsParams text items → 16 < length items → split_items text ≡ None
 many_are_none text items are many =
     let same = items_are_the_grammars text items are in
-    ap (λ z. cond (z && not (nat_lt 16 (length (items_of text)))) (Some (items_of text)) None) (eq-eqb (quotes text % 2) 0 (params_even text items are))
-    ∙ ap (λ is. cond (not (nat_lt 16 (length is))) (Some is) None) same ∙ ap (λ z. cond (not z) (Some items) None) (lt-ltb 16 (length items) many)
+    ap (λ z. items_if z (items_of text)) (eq-eqb (quotes text % 2) 0 (params_even text items are))
+    ∙ ap (items_if true) same ∙ ap (λ z. cond (not z) (Some items) None) (lt-ltb 16 (length items) many)
 
 -- Items of bytes.
 

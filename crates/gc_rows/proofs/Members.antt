@@ -43,7 +43,7 @@ use Rattle.gc_texts.specs.declared.wish.Wish.{Wish}
 use Rattle.gc_rows.specs.declared.when.When.{When}
 use Rattle.gc_lines.proofs.Lists.{all_append}
 use Rattle.gc_values.proofs.Every.{every_weaker as all_on}
-use Rattle.gc_rows.specs.Items.{items_of, split_items}
+use Rattle.gc_rows.specs.Items.{items_if, items_of, split_items}
 use Rattle.gc_rows.proofs.Columns.{reply_columns}
 use Rattle.gc_rows.proofs.Items.{AreTextsOfBytes, items_bytes}
 use Rattle.gc_rows.proofs.JsonLines.{stamp_bytes}
@@ -321,9 +321,12 @@ each_by_places texts are = all_on IsOfBytes AreBytes texts bytes_by_places are
 
 -- the member of the items of a text of bytes is plain
 item_members_plain : (text : List ℕ) → IsOfBytes text → ArePlainMembers (item_members (split_items text))
-item_members_plain text are =
-    cond_both ((quotes text % 2 == 0) && not (nat_lt 16 (length (items_of text)))) (Some (items_of text)) None (λ items. ArePlainMembers (item_members items))
-    (λ _. ((plain_name (codes "items") refl, each_by_places (items_of text) (items_bytes text are)), tt)) (λ _. tt)
+item_members_plain text are = plain_if (quotes text % 2 == 0) (items_of text) (items_bytes text are) where
+  -- the member of these items, which are of bytes, is plain, if `items_if` gives them
+  plain_if : (paired : Bool) (items : List (List ℕ)) → AreTextsOfBytes items → ArePlainMembers (item_members (items_if paired items))
+  plain_if paired items are =
+      cond_both (paired && not (nat_lt 16 (length items))) (Some items) None (λ o. ArePlainMembers (item_members o))
+      (λ _. ((plain_name (codes "items") refl, each_by_places items are), tt)) (λ _. tt)
 
 -- the members of an answer's quantities or items are plain, if its line reads as a reply and is of bytes (`IsReplyOfBytes`), and
 -- the answer is as `IsAnswerOfBytes` has it

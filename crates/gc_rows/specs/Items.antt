@@ -24,6 +24,10 @@ is_blank text = list_all (λ b. b == 32) text
 abbrev pub items_of : List ℕ → List (List ℕ)
 items_of text = if is_blank text then [] else map trimmed (comma_pieces false text)
 
--- the items of a text; `None` if its double quotes aren't in pairs, or it has more than 16 items
+-- these items of a text; `None` if the text's double quotes aren't in pairs (`paired`), or there are more than 16 items
+abbrev pub items_if : (paired : Bool) → List (List ℕ) → Option (List (List ℕ))
+items_if paired items = if paired && not (nat_lt 16 (length items)) then Some items else None
+
+-- the items of a text, if it splits into these (`items_if`)
 abbrev pub split_items : List ℕ → Option (List (List ℕ))
-split_items text = if (quotes text % 2 == 0) && not (nat_lt 16 (length (items_of text))) then Some (items_of text) else None
+split_items text = items_if (quotes text % 2 == 0) (items_of text)

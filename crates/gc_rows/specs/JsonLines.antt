@@ -37,17 +37,17 @@ pub data Member : Type 0 where
   Number : (name digits : List ℕ) → Member
   Texts : (name : List ℕ) (texts : List (List ℕ)) → Member
 
--- a comma, the name of a member in double quotes, and a colon
-abbrev pub named : List ℕ → List ℕ
-named name = codes ",\"" ++ name ++ codes "\":"
+-- what a member with this name begins with: a comma, the name in double quotes, and a colon
+abbrev pub member_front : (name : List ℕ) → List ℕ
+member_front name = codes ",\"" ++ name ++ codes "\":"
 
 -- a member that is a string of these bytes, as it is written
 abbrev pub text_member : (name bytes : List ℕ) → List ℕ
-text_member name bytes = named name ++ string_text bytes
+text_member name bytes = member_front name ++ string_text bytes
 
 -- a member that is a number with these digits, as it is written
 abbrev pub number_member : (name digits : List ℕ) → List ℕ
-number_member name digits = named name ++ digits
+number_member name digits = member_front name ++ digits
 
 -- the comma before an item of a list, if another item is before it (`after_another`); else nothing
 abbrev pub comma_where : (after_another : Bool) → List ℕ
@@ -65,7 +65,7 @@ list_text texts = codes "[" ++ (strings_text false texts ++ codes "]")
 
 -- a member that is a list of strings of these bytes, as it is written
 abbrev pub texts_member : (name : List ℕ) → (texts : List (List ℕ)) → List ℕ
-texts_member name texts = named name ++ list_text texts
+texts_member name texts = member_front name ++ list_text texts
 
 -- a member as it is written
 abbrev pub member_text : Member → List ℕ

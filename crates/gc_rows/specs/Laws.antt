@@ -44,15 +44,16 @@ abbrev pub ReadsBackAs : (text : List ℕ) (fields : List (List ℕ)) → Type 0
 ReadsBackAs text fields =
     (behind : List ℕ) → next_record default_config StartRecord [] [] (text ++ behind) ≡ Some (map escaped fields, StartRecord, behind)
 
--- rows read back by a reader of comma-separated values, whatever bytes their fields hold. `row`: a row of two fields or more
--- reads back as its fields. `table`: rows of two fields or more give a table of their fields, escaped. `names`: what comes before
--- all records is the row of the columns' names. `once`: a field is read back escaped, and no two lists of bytes have one escaped
--- form
+-- rows read back by a reader of comma-separated values, whatever bytes their fields hold
 pub record RowsReadBack : Type 0 where
+  -- a row of two fields or more reads back as its fields, escaped
   pub row : (fields : List (List ℕ)) → 1 < length fields → ReadsBackAs (row_of fields) fields
+  -- rows of two fields or more give a table of their fields, escaped
   pub table : (rows : List (List (List ℕ))) → AllByRecursion (λ fields. 1 < length fields) rows
       → records_from default_config (length rows) StartRecord (flat_map row_of rows) ≡ map (map escaped) rows
+  -- what comes before all records is the row of the columns' names
   pub names : (head_text Csv ≡ row_of (header false)) × (head_text Columns ≡ row_of (header true))
+  -- no two lists of bytes have one escaped form
   pub once : (xs ys : List ℕ) → AreBytes xs → AreBytes ys → escaped xs ≡ escaped ys → xs ≡ ys
 
 -- a row whose fields hold bytes is printable, before its line feed

@@ -9,7 +9,7 @@ ghost use Rattle.gc_values.specs.Params.{total_length};
 ghost use Rattle.gc_texts.specs.Endings.{ending_seen};
 ghost use Rattle.gc_texts.specs.Logs.{escaped};
 ghost use Rattle.gc_rows.specs.declared.json_line.TheConstants.{NAME_ROOM, TEXT_ROOM, NUMBER_ROOM, SENT_ROOM, WHEN_ROOM, COMMAND_ROOM, REPLY_ROOM, ENDING_ROOM, OWN_ROOM, VALUE_ROOM, STRINGS_ROOM, LIST_ROOM, ANSWER_ROOM, LAST_ROOM, AFTER_ENDING_ROOM};
-ghost use Rattle.gc_rows.specs.JsonLines.{behind_backslash, named, string_text, text_member, number_member, comma_where, strings_text, texts_member, item_members, members_text, without_zeros, sent_members, when_members, text_if_any, command_members, fault_members, reply_members, ending_members, value_members, values_members, answer_members, quantity_members, attempt_members, last_members, members_after_ending};
+ghost use Rattle.gc_rows.specs.JsonLines.{behind_backslash, member_front, string_text, text_member, number_member, comma_where, strings_text, texts_member, item_members, members_text, without_zeros, sent_members, when_members, text_if_any, command_members, fault_members, reply_members, ending_members, value_members, values_members, answer_members, quantity_members, attempt_members, last_members, members_after_ending};
 ghost use Rattle.gc_rows.specs.Records.{record_of};
 ghost use Rattle.gc_rows.specs.Rows.{Adds};
 ghost use Rattle.gc_rows.specs.declared.record.Form.TheVariants.{Json};
@@ -112,7 +112,7 @@ fn append_name<const N: usize>(line: &mut ArrayVec<u8, N>, name: &[u8], suffix: 
     requires short { length name.now ≤ 32 }
     requires ends { length suffix.now ≤ 5 }
     requires room { array_vec_len line.old + NAME_ROOM ≤ N }
-    ensures { Adds line.old.items line.new.items (named (name.now ++ suffix.now)) NAME_ROOM }
+    ensures { Adds line.old.items line.new.items (member_front (name.now ++ suffix.now)) NAME_ROOM }
 {
     append(line, b",\"");
     append(line, name);

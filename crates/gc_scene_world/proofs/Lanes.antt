@@ -6,7 +6,7 @@ use Rattle.std.proofs.lemmas.List.{map-append, length-map}
 use Rattle.std.proofs.lemmas.Bool.{ltb-false}
 use Rattle.gc_lines.specs.Lines.{with_end}
 use Rattle.gc_scene_world.specs.Lanes.{Flight, losing, repeating}
-use Rattle.gc_world.specs.Sides.{IsPart}
+use Rattle.gc_world.specs.Sides.{IsPartOfFront}
 use Rattle.gc_world.specs.Streams.{is_begun}
 use Rattle.gc_world.specs.World.{without, doubled}
 use Rattle.gc_world.proofs.Pieces.{end_length}
@@ -16,27 +16,27 @@ use Rattle.gc_world.proofs.Queues.{without_map, doubled_past}
 pub flight_is : (f : Flight) (texts : List (List ℕ)) (gone : ℕ) → f.texts ≡ texts → f.gone ≡ gone → f ≡ record { texts = texts; gone = gone }
 flight_is f texts gone e1 e2 = ap₂ {C = Flight} (λ (t : List (List ℕ)) n. record { texts = t; gone = n }) e1 e2
 
--- 0 gone bytes are a part (`IsPart`) of any lines with their CR LF, also of none
-pub part_none : (texts : List (List ℕ)) → IsPart 0 (map with_end texts)
+-- 0 gone bytes are a part (`IsPartOfFront`) of any lines with their CR LF, also of none
+pub part_none : (texts : List (List ℕ)) → IsPartOfFront 0 (map with_end texts)
 part_none [] = refl
 part_none (t ∷ ts) = omega (arith, end_length t)
 
--- what has gone is still a part (`IsPart`) once one more line is at the back
-pub part_push : (gone : ℕ) (texts : List (List ℕ)) (text : List ℕ) → IsPart gone (map with_end texts) → IsPart gone (map with_end (texts ++ text ∷ []))
-part_push gone [] text h = subst (λ g. IsPart g (map with_end (text ∷ []))) (sym h) (part_none (text ∷ []))
+-- what has gone is still a part (`IsPartOfFront`) once one more line is at the back
+pub part_push : (gone : ℕ) (texts : List (List ℕ)) (text : List ℕ) → IsPartOfFront gone (map with_end texts) → IsPartOfFront gone (map with_end (texts ++ text ∷ []))
+part_push gone [] text h = subst (λ g. IsPartOfFront g (map with_end (text ∷ []))) (sym h) (part_none (text ∷ []))
 part_push gone (t ∷ ts) text h = h
 
 -- what has gone is still a part once a line that hasn't begun to go is lost
-pub part_without : (k gone : ℕ) (texts : List (List ℕ)) → is_begun k gone ≡ false → IsPart gone (map with_end texts) → IsPart gone (map with_end (without k texts))
+pub part_without : (k gone : ℕ) (texts : List (List ℕ)) → is_begun k gone ≡ false → IsPartOfFront gone (map with_end texts) → IsPartOfFront gone (map with_end (without k texts))
 part_without k gone [] e h = h
 part_without zero gone (t ∷ ts) e h =
     let le : gone ≤ 0 = ltb-false 0 gone e in
     let none : gone ≡ 0 = omega (arith, le) in
-    subst (λ g. IsPart g (map with_end ts)) (sym none) (part_none ts)
+    subst (λ g. IsPartOfFront g (map with_end ts)) (sym none) (part_none ts)
 part_without (suc k) gone (t ∷ ts) e h = h
 
 -- what has gone is still a part once text k is repeated
-part_doubled : (k gone : ℕ) (texts : List (List ℕ)) → IsPart gone (map with_end texts) → IsPart gone (map with_end (doubled k texts))
+part_doubled : (k gone : ℕ) (texts : List (List ℕ)) → IsPartOfFront gone (map with_end texts) → IsPartOfFront gone (map with_end (doubled k texts))
 part_doubled k gone [] h = h
 part_doubled zero gone (t ∷ ts) h = h
 part_doubled (suc k) gone (t ∷ ts) h = h
@@ -44,15 +44,15 @@ part_doubled (suc k) gone (t ∷ ts) h = h
 -- What std's calls on the lines leave of their texts: `f` gives the text of a line.
 module _ {A : Type 0} (f : A → List ℕ) where
   -- what has gone is still a part once one more line is at the back
-  pub part_pushed : (gone : ℕ) (old new : List A) (x : A) → new ≡ old ++ x ∷ [] → IsPart gone (map with_end (map f old)) → IsPart gone (map with_end (map f new))
+  pub part_pushed : (gone : ℕ) (old new : List A) (x : A) → new ≡ old ++ x ∷ [] → IsPartOfFront gone (map with_end (map f old)) → IsPartOfFront gone (map with_end (map f new))
   part_pushed gone old new x is h =
-      subst (λ q. IsPart gone (map with_end q)) (sym (ap (map f) is ∙ map-append f old (x ∷ []))) (part_push gone (map f old) (f x) h)
+      subst (λ q. IsPartOfFront gone (map with_end q)) (sym (ap (map f) is ∙ map-append f old (x ∷ []))) (part_push gone (map f old) (f x) h)
 
   -- what has gone is still a part once line k, which hasn't begun to go, is lost
-  pub part_lost : (k gone : ℕ) (old new : List A) → is_begun k gone ≡ false → new ≡ without k old → IsPart gone (map with_end (map f old))
-      → IsPart gone (map with_end (map f new))
+  pub part_lost : (k gone : ℕ) (old new : List A) → is_begun k gone ≡ false → new ≡ without k old → IsPartOfFront gone (map with_end (map f old))
+      → IsPartOfFront gone (map with_end (map f new))
   part_lost k gone old new whole is h =
-      subst (λ q. IsPart gone (map with_end q)) (without_map f k old ∙ sym (ap (map f) is)) (part_without k gone (map f old) whole h)
+      subst (λ q. IsPartOfFront gone (map with_end q)) (without_map f k old ∙ sym (ap (map f) is)) (part_without k gone (map f old) whole h)
 
   -- once line k, which hasn't begun to go, was taken out of the lines, the lane is what `losing` says
   pub lane_is_losing : (k gone : ℕ) (old new : List A) → is_begun k gone ≡ false → new ≡ without k old
@@ -82,9 +82,9 @@ module _ {A : Type 0} (f : A → List ℕ) where
 
   -- what has gone is still a part once a line with the text of line k was put in at its place
   pub part_repeated : (k gone : ℕ) (old new : List A) (x y : A) → k < length old → x ≡ get_or old k x → f y ≡ f x → new ≡ insert old k y
-      → IsPart gone (map with_end (map f old)) → IsPart gone (map with_end (map f new))
+      → IsPartOfFront gone (map with_end (map f old)) → IsPartOfFront gone (map with_end (map f new))
   part_repeated k gone old new x y lt at same is h =
-      subst (λ q. IsPart gone (map with_end q)) (sym (ap (map f) is ∙ doubled_text old k x y lt at same)) (part_doubled k gone (map f old) h)
+      subst (λ q. IsPartOfFront gone (map with_end q)) (sym (ap (map f) is ∙ doubled_text old k x y lt at same)) (part_doubled k gone (map f old) h)
 
   -- once a line with the text of line k, which hasn't begun to go, was put in at its place, the lane is what `repeating` says
   pub lane_is_repeating : (k gone : ℕ) (old new : List A) (x y : A) (whole : is_begun k gone ≡ false) (there : k < length old) (at : x ≡ get_or old k x) (same : f y ≡ f x)

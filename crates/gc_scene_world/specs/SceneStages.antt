@@ -16,7 +16,7 @@ use Rattle.gc_scene_world.specs.SceneReports.{AreCounts}
 use Rattle.gc_scene_world.specs.SceneRuns.{scene_ends}
 use Rattle.gc_world.specs.declared.direction.Direction.{Direction}
 use Rattle.gc_world.specs.Directions.{lines, gone, to_go}
-use Rattle.gc_world.specs.Sides.{IsPart}
+use Rattle.gc_world.specs.Sides.{IsPartOfFront}
 use Rattle.gc_world.specs.Staging.{Staging}
 use Rattle.gc_world.specs.Streams.{Streams, up_texts, down_texts}
 use Rattle.gc_world.specs.World.{Request, Numbered}
@@ -59,7 +59,7 @@ staging = record { ends = scene_ends; shows = λ width s v. AreStreamsOf width (
 -- line have gone, and none count as gone if there is no line
 pub record IsRemainder (d : Direction) (v : Streams (ById Call) SceneState) (n : ℕ) : Type 0 where
   pub left : n ≡ to_go d v
-  pub part : IsPart (gone d v) (lines d v.world.wire)
+  pub part : IsPartOfFront (gone d v) (lines d v.world.wire)
 
 -- on whatever streams the stage shows, `n` is how many bytes of the direction's front line are still to go (`IsRemainder`)
 abbrev pub ShowsRemainder : Stage → Direction → (n : ℕ) → Type 0

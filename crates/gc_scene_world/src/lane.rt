@@ -3,7 +3,7 @@
 ghost use Rattle.std.specs.Prelude.{◌≡◌, ◌↔◌, ◌<◌, ◌∷◌, [], IfOk, IsTrue, MatchOption, OnOk, length, map};
 ghost use Rattle.gc_lines.specs.Lines.{with_end};
 ghost use Rattle.gc_scene_world.specs.Lanes.{is_whole, losing, repeating, pushed, further};
-ghost use Rattle.gc_world.specs.Sides.{IsPart};
+ghost use Rattle.gc_world.specs.Sides.{IsPartOfFront};
 ghost use Rattle.gc_world.specs.Streams.{remaining};
 
 use gc_lines::{Line, line_from};
@@ -24,14 +24,14 @@ impl Model for Lane {
     ghost use Rattle.std.specs.Prelude.{map};
     ghost use Rattle.gc_lines.specs.Lines.{with_end};
     ghost use Rattle.gc_scene_world.specs.Lanes.{Flight};
-    ghost use Rattle.gc_world.specs.Sides.{IsPart};
+    ghost use Rattle.gc_world.specs.Sides.{IsPartOfFront};
 
     ghost Value = { Flight };
 
     ghost view = { λ l. record { texts = map (λ line. line.items) l.lines.items; gone = l.gone } };
 
     // Not all bytes of the front line have gone, and none where no line is in flight.
-    ghost invariant = { λ l. IsPart l.gone (map with_end (map (λ line. line.items) l.lines.items)) };
+    ghost invariant = { λ l. IsPartOfFront l.gone (map with_end (map (λ line. line.items) l.lines.items)) };
 }
 
 impl Lane {
@@ -55,7 +55,7 @@ impl Lane {
     /// How many bytes of the front line have still to go, CR LF included; 0 if no line is in flight.
     pub fn remaining(&self) -> usize
         ensures left { result ≡ remaining self.now.gone (map with_end self.now.texts) }
-        ensures part { IsPart self.now.gone (map with_end self.now.texts) }
+        ensures part { IsPartOfFront self.now.gone (map with_end self.now.texts) }
     {
         match self.lines.front() {
             Some(line) => line.len() + 2 - self.gone,

@@ -5,10 +5,11 @@
 //! `go_on` are written in both, since each stage has its own clauses on them: that one says which events take no memory, and this
 //! one requires room in its counts. Who changes one of them changes the other.
 
-ghost use Rattle.std.specs.Prelude.{◌≡◌, ◌↔◌, ◌+◌, ◌<◌, ◌≤◌, ◌^◌, ◌++◌, [], OnOk, IsTrue};
+ghost use Rattle.std.specs.Prelude.{◌≡◌, ◌↔◌, ◌+◌, ◌<◌, ◌≤◌, ◌^◌, ◌++◌, OnOk, IsTrue};
 ghost use Rattle.gc_client.specs.Rule.{IsWidth};
 ghost use Rattle.gc_world.specs.declared.event.Event.{Event};
 ghost use Rattle.gc_world.specs.Directions.{bytes, delivery};
+ghost use Rattle.gc_world.specs.Memory.{NoneInFlight};
 ghost use Rattle.gc_world.specs.Staging.{streams_at_start, ShowsSome, Follows, FollowsBytes, HasMoreThan};
 ghost use Rattle.gc_scene_world.specs.Lanes.{losing, repeating, idle_after};
 ghost use Rattle.gc_scene_world.specs.SceneRuns.{scene_ends};
@@ -253,7 +254,7 @@ impl Stage {
 
     // Whether no line is in flight.
     fn is_quiet(&self) -> bool
-        ensures { IsTrue result ↔ ((self.now.up.texts ≡ []) × (self.now.down.texts ≡ [])) }
+        ensures { IsTrue result ↔ NoneInFlight self.now.up.texts self.now.down.texts }
     {
         self.up.is_empty() && self.down.is_empty()
     }

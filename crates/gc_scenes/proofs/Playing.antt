@@ -13,7 +13,7 @@ use Rattle.gc_instrument.specs.Execution.{Executed}
 use Rattle.gc_instrument.specs.Replying.{refusal_line, reply_id}
 use Rattle.gc_scenes.specs.Appending.{AppendsHanded, AppendsPlayed}
 use Rattle.gc_scenes.specs.Rules.{fault_of, scripted_reply, noisy, noise_after}
-use Rattle.gc_scenes.specs.SceneExecution.{Played, Reports, plays, outcome, after_call, replied_answer, played_call, played_raw, unless_faulted_raw, scripted_played, counting, faulted_raw}
+use Rattle.gc_scenes.specs.SceneExecution.{Played, HasCodeAndAnswer, plays, outcome, after_call, replied_answer, played_call, played_raw, unless_faulted_raw, scripted_played, counting, faulted_raw}
 use Rattle.gc_scenes.specs.SceneReplying.{names_call, unreadable, AnswersRequest, resent_line, again_or_played, handed_call, handed_raw, played_or_refused, holding, kept_if_repeating, played_line}
 use Rattle.gc_scenes.specs.SceneState.{SceneState}
 use Rattle.gc_scenes.specs.declared.rules.Noise.{Noise}
@@ -80,7 +80,7 @@ pub record IsExecuted (s : SceneState) (call : Call) (number : ℕ) (u : SceneSt
   pub code : ℕ
   pub said : Answer
   pub told : Answer
-  pub gives : Reports (outcome s call) code said
+  pub gives : HasCodeAndAnswer (outcome s call) code said
   pub state : t ≡ record (after_call s call (outcome s call)) { noise = s.noise }
   pub noise : told ≡ noisy t.noise said
   pub drawn : u ≡ record t { noise = noise_after t.noise said }

@@ -26,10 +26,9 @@ aimed s hz v = adjusted (pointed s hz v) (nearest (record { hz = hz; v = v }) s.
 abbrev pub pointed_over : State → State
 pointed_over s = pointed s (other_hz s.pointing.hz) (other_v s.pointing.v)
 
--- the outcome of the call with these ways, but for the face. `now` is what a running clock shows, and CSV_GetDateTime answers it.
--- With `aims`, a positioning with target recognition (mode 1) turns to the nearest target within the window round its angles; if
--- there is none it stays at these, with code 8710. With `faces`, a face change turns to the other face's angles. With `takes`,
--- TMC_GetSimpleMea clears the distance that it answers
+-- the outcome of the call with these ways, but for the face: that of the execution table, except that with `aims` a positioning
+-- with target recognition (mode 1) aims (`aimed`), with `faces` a face change turns to the other face's angles, with `takes`
+-- TMC_GetSimpleMea clears the distance that it answers, and CSV_GetDateTime answers what a running clock shows (`now`)
 abbrev pub acted_faceless : Ways → (now : Option DateTime) → State → Call → Executed
 acted_faceless w now s (call.Position hz v pos_mode atr_mode dummy) =
     if w.aims && int_eq atr_mode (pos 1) then aimed s hz v

@@ -71,8 +71,8 @@ abbrev pub outcome : SceneState → Call → Executed
 outcome s asked = acted s.ways (clock_shows s) (seeing (seen_by s asked) s.base) asked
 
 -- the outcome `x` has this return code and this answer
-abbrev pub Reports : Executed → (code : ℕ) → Answer → Type 0
-Reports x code answered = Gives x x.state code answered
+abbrev pub HasCodeAndAnswer : Executed → (code : ℕ) → Answer → Type 0
+HasCodeAndAnswer x code answered = Gives x x.state code answered
 
 -- the clock after a call at this moment that had this return code: if the instrument has a clock that runs (true), a call that
 -- sets the date, and isn't refused, starts it from that date; else it stays as it was

@@ -5,7 +5,7 @@ ghost use Rattle.std.specs.Option.{option_map};
 ghost use Rattle.gc_instrument.specs.State.{kept_id, opening};
 ghost use Rattle.gc_instrument.specs.Targets.{first_at};
 ghost use Rattle.gc_scenes.specs.Rules.{seen, drifted, counted, fault_of, scripted_reply, noisy, noise_after};
-ghost use Rattle.gc_scenes.specs.SceneExecution.{Reports, is_measurement, is_search, look_of, heading, is_turned_for, outcome, noting, after_call, counting, clock_shows, sight_at, seen_by, clock_after, distance_in_warning, known_distance};
+ghost use Rattle.gc_scenes.specs.SceneExecution.{HasCodeAndAnswer, is_measurement, is_search, look_of, heading, is_turned_for, outcome, noting, after_call, counting, clock_shows, sight_at, seen_by, clock_after, distance_in_warning, known_distance};
 ghost use Rattle.gc_scenes.specs.SceneState.{scene_restarted, at_moment, seeing};
 ghost use Rattle.gc_catalogue.specs.declared.answer.Answer.TheVariants.{Nothing};
 
@@ -208,7 +208,7 @@ impl SceneInstrument {
     // `answer`, which stays `Answer::Nothing` if there is none.
     fn act_over_seen(&mut self, call: &Call, answer: &mut Answer) -> u16
         requires { answer.old ≡ Nothing }
-        ensures gives { Reports (outcome self.old call.now) result answer.new }
+        ensures gives { HasCodeAndAnswer (outcome self.old call.now) result answer.new }
         ensures state { self.new ≡ record self.old { base = seeing self.old.base.scene (outcome self.old call.now).state } }
     {
         let now = self.clock_shows();
@@ -254,7 +254,7 @@ impl SceneInstrument {
     /// start the clock. The noise is left to `disturb`.
     pub(crate) fn execute(&mut self, call: &Call, answer: &mut Answer) -> u16
         requires { answer.old ≡ Nothing }
-        ensures gives { Reports (outcome self.old call.now) result answer.new }
+        ensures gives { HasCodeAndAnswer (outcome self.old call.now) result answer.new }
         ensures state { self.new ≡ record (after_call self.old call.now (outcome self.old call.now)) { noise = self.old.noise } }
     {
         let sight = self.sight_at(call);

@@ -40,7 +40,7 @@ use Rattle.gc_station.proofs.Walk.{came_along, first_along, setup_along, losing_
 use Rattle.std.proofs.lemmas.List.{length-drop}
 use Rattle.gc_texts.specs.Again.{repeats_after}
 use Rattle.gc_texts.specs.declared.again.Again.{Again}
-use Rattle.gc_station.specs.Attempts.{code_of, listed_by}
+use Rattle.gc_station.specs.Attempts.{code_of, listed_after_settlements}
 use Rattle.gc_station.specs.Reasons.{HoldsBefore}
 use Rattle.gc_station.specs.Retries.{expected_of, code_of_end, HasItsTurn}
 use Rattle.gc_station.proofs.EachRun.{invariant_after, invariant_opening}
@@ -106,9 +106,9 @@ module _ (plan : Plan) (commands : List Task) (scope : Scope) where
       let expected = expected_first (drop (place_next commands p) commands) in
       ap (λ (b : Bool). expected_as b expected.turn.attempt expected) (sym (not_zero (cycles_begun plan p) many))
 
-  -- `listed_by` of settlements is `any_listed` of their records, if their marks are `ExpectsAsText`
+  -- `listed_after_settlements` of settlements is `any_listed` of their records, if their marks are `ExpectsAsText`
   listed_as_recorded : (utc : ℕ) (marks : List (Option Mark)) (xs : List (Rule.Settlement Asked)) (b : Bool) → AllByRecursion ExpectsAsText marks
-      → listed_by scope.reads b marks xs ≡ any_listed scope.reads commands b (records_of scope.reads utc marks xs)
+      → listed_after_settlements scope.reads b marks xs ≡ any_listed scope.reads commands b (records_of scope.reads utc marks xs)
   listed_as_recorded utc [] xs b all = refl
   listed_as_recorded utc (mark ∷ marks) [] b all = refl
   listed_as_recorded utc (None ∷ marks) (x ∷ xs) b all = listed_as_recorded utc marks xs b all.1
@@ -136,12 +136,13 @@ module _ (plan : Plan) (commands : List Task) (scope : Scope) where
       subst (λ (reads : Reads). AllByRecursion IsAsItsText (s.records ++ records_of reads utc s.marks x)) (sym k.reads)
       (all_settled ExpectsAsText IsAsItsText scope.reads utc s.marks s.records x (record_keeps utc) k.marks k.records)
 
-  -- if `KeepsToText` holds of `s`, `listed_by` of the settlements `x` is what its records and those of `x` after them say
+  -- if `KeepsToText` holds of `s`, `listed_after_settlements` of the settlements `x` is what its records and those of `x` after
+  -- them say
   settles_listed : (s : Model) (x : List (Rule.Settlement Asked)) → KeepsToText s
-      → listed_by s.reads s.listed s.marks x ≡ any_listed scope.reads commands false (s.records ++ records_of s.reads s.progress.moment.utc s.marks x)
+      → listed_after_settlements s.reads s.listed s.marks x ≡ any_listed scope.reads commands false (s.records ++ records_of s.reads s.progress.moment.utc s.marks x)
   settles_listed s x k =
       let utc = s.progress.moment.utc in
-      ap (λ (reads : Reads). listed_by reads s.listed s.marks x) k.reads
+      ap (λ (reads : Reads). listed_after_settlements reads s.listed s.marks x) k.reads
       ∙ listed_as_recorded utc s.marks x s.listed k.marks
       ∙ ap (λ b. any_listed scope.reads commands b (records_of scope.reads utc s.marks x)) k.listed
       ∙ sym (any_append scope.reads commands s.records (records_of scope.reads utc s.marks x) false)

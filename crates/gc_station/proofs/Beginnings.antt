@@ -15,7 +15,7 @@ use Rattle.gc_station.specs.declared.progress.Action.{Action}
 use Rattle.gc_station.specs.declared.progress.Action.TheVariants as actions
 use Rattle.gc_station.specs.declared.progress.Progress.{Progress}
 use Rattle.gc_links.specs.Acts.{Act}
-use Rattle.gc_station.specs.Beginnings.{lines_heard_at, lines_heard, unanswered_after, NoneBeforeTheLastAnswer, IsSynchronizing, IsResynchronizing, SynchronizesInOrder}
+use Rattle.gc_station.specs.Beginnings.{lines_heard_at, lines_heard, unanswered_after, NoneBeforeTheLastAnswer, IsSynchronizing, SynchronizesAnew, SynchronizesInOrder}
 use Rattle.gc_station.specs.Deciding.{has_begun, is_none_left}
 use Rattle.gc_station.specs.Progressing.{turned}
 use Rattle.gc_station.specs.Quiet.{IsAsking}
@@ -142,9 +142,9 @@ module _ (plan : Plan) (commands : List Task) (scope : Scope) (acts : List Act) 
         left = ap (λ (x : Model). x.progress.word) (after_all-append plan commands (opening plan scope) acts (act ∷ [])) ∙ word_after plan commands here act obeys begins;
       }
 
-  -- an act of a run at which the station resynchronizes is `IsResynchronizing`: it reads the clock where seven requests are
+  -- `SynchronizesAnew` holds of an act of a run at which the station resynchronizes: it reads the clock where seven requests are
   -- outstanding, all timed out; after it the client is new, and all eight ids are left
-  of_resynchronizing : Performs commands here (action_at plan here) act → has_begun here.progress ≡ true → has_begun there.progress ≡ false → IsResynchronizing plan commands scope acts act
+  of_resynchronizing : Performs commands here (action_at plan here) act → has_begun here.progress ≡ true → has_begun there.progress ≡ false → SynchronizesAnew plan commands scope acts act
   of_resynchronizing obeys begun begins =
       let far = progress_after_act plan commands scope acts act in
       let on = after_all-append plan commands (opening plan scope) acts (act ∷ []) in
@@ -156,8 +156,8 @@ module _ (plan : Plan) (commands : List Task) (scope : Scope) (acts : List Act) 
         client = (invariant_holds plan commands scope (acts ++ act ∷ [])).begins begins;
       }
 
-  -- each act of a run is as `SynchronizesInOrder` says: `IsSynchronizing` while the station synchronizes, and
-  -- `IsResynchronizing` if it resynchronizes
+  -- each act of a run is as `SynchronizesInOrder` says: `IsSynchronizing` holds of it while the station synchronizes, and
+  -- `SynchronizesAnew` if it resynchronizes
   pub synchronizes_in_order : (later : List Act) → Runs plan commands (opening plan scope) (acts ++ act ∷ later) → SynchronizesInOrder plan commands scope acts act
   synchronizes_in_order later runs =
       let obeys = (runs_split plan commands (opening plan scope) acts later act runs).1 in

@@ -4,7 +4,7 @@ use Rattle.std.proofs.Common.{◌||◌, ◌&&◌, not, nat_eq, nat_lt, ◌≡◌
 use Rattle.gc_texts.specs.Endings.{End, Answered, Unreadable, Elsewhere, Late, Lost, Skipped, Missed}
 use Rattle.gc_station.specs.Counting.{is_followed, last_attempts, further_attempts, how_many, ended_answered, ended_unreadable, ended_elsewhere, ended_late, ended_lost, ended_skipped, ended_missed, TalliesCountRecords}
 use Rattle.gc_station.specs.Records.{Record}
-use Rattle.gc_station.specs.Tallies.{none_yet, capped, one_more, counted, sum, nothing_yet, tallied, total, tally_of}
+use Rattle.gc_station.specs.Tallies.{empty_tally, capped, one_more, counted, sum, empty_counts, tallied, total, tally_of}
 use Rattle.gc_station.specs.declared.tally.Counts.{Counts}
 use Rattle.gc_station.specs.declared.tally.Tally.{Tally}
 
@@ -31,8 +31,8 @@ last_attempt_settled followed before attempt rest = adds_nothing followed (cappe
 -- the counts `c` once an attempt begins, as `started` gives them: it is a further one (`true`), or the first one of its chain
 abbrev attempt_begun : Counts → Bool → Counts
 attempt_begun c further =
-    if further then record { settled = record c.settled { again = one_more c.settled.again }; attempt = none_yet }
-    else record { settled = sum c.settled c.attempt; attempt = none_yet }
+    if further then record { settled = record c.settled { again = one_more c.settled.again }; attempt = empty_tally }
+    else record { settled = sum c.settled c.attempt; attempt = empty_tally }
 
 -- to count the records with an ending for which `so` is true, with r before `rs` unless its attempt is followed (q), is to count
 -- those of `rs`, and one more if r is there and has such an ending
@@ -66,7 +66,7 @@ counted_by_ending Missed t = refl
 
 -- a count that grows by one for each command with this ending (`so`), stays for any other, adds up, and doesn't depend on `again`
 module _ (count : Tally → ℕ) (so : End → Bool) (step : (end : End) (t : Tally) → count (with_counted end t) ≡ (if so end then one_more (count t) else count t))
-    (adds : (a b : Tally) → count (sum a b) ≡ capped (count a + count b)) (none : count none_yet ≡ 0) (stays : (t : Tally) (n : ℕ) → count (record t { again = n }) ≡ count t) where
+    (adds : (a b : Tally) → count (sum a b) ≡ capped (count a + count b)) (none : count empty_tally ≡ 0) (stays : (t : Tally) (n : ℕ) → count (record t { again = n }) ≡ count t) where
   -- if x is the count with r, the next command of an attempt, counted with that attempt (t), x is also the count with r counted
   -- among the records in its place, in front of `rs`. If the attempt is followed (q), r isn't counted either way
   counts_next : (x s : ℕ) (t : Tally) (r : Record) (rs : List Record) (q : Bool) → x ≡ capped (s + ((if q then 0 else count (counted r.end t)) + how_many so rs))
@@ -89,22 +89,22 @@ module _ (count : Tally → ℕ) (so : End → Bool) (step : (end : End) (t : Ta
     by_tests ih true l f = ih c
     by_tests ih false false f = counts_next _ (count c.settled) c.attempt r (last_attempts rs) (is_followed rs) (ih (record c { attempt = counted r.end c.attempt }))
     by_tests ih false true true =
-        counts_next _ (count (record c.settled { again = one_more c.settled.again })) none_yet r (last_attempts rs) (is_followed rs)
-        (ih (record { settled = record c.settled { again = one_more c.settled.again }; attempt = counted r.end none_yet }))
-        ∙ ap (λ n. capped (n + ((if is_followed rs then 0 else count none_yet) + how_many so (if is_followed rs then last_attempts rs else r ∷ last_attempts rs))))
+        counts_next _ (count (record c.settled { again = one_more c.settled.again })) empty_tally r (last_attempts rs) (is_followed rs)
+        (ih (record { settled = record c.settled { again = one_more c.settled.again }; attempt = counted r.end empty_tally }))
+        ∙ ap (λ n. capped (n + ((if is_followed rs then 0 else count empty_tally) + how_many so (if is_followed rs then last_attempts rs else r ∷ last_attempts rs))))
         (stays c.settled (one_more c.settled.again))
         ∙ ap (λ n. capped (count c.settled + ((if is_followed rs then 0 else n) + how_many so (if is_followed rs then last_attempts rs else r ∷ last_attempts rs)))) none
         ∙ adds_nothing (is_followed rs) (count c.settled) _
     by_tests ih false true false =
-        counts_next _ (count (sum c.settled c.attempt)) none_yet r (last_attempts rs) (is_followed rs) (ih (record { settled = sum c.settled c.attempt; attempt = counted r.end none_yet }))
-        ∙ ap (λ n. capped (n + ((if is_followed rs then 0 else count none_yet) + how_many so (if is_followed rs then last_attempts rs else r ∷ last_attempts rs)))) (adds c.settled c.attempt)
+        counts_next _ (count (sum c.settled c.attempt)) empty_tally r (last_attempts rs) (is_followed rs) (ih (record { settled = sum c.settled c.attempt; attempt = counted r.end empty_tally }))
+        ∙ ap (λ n. capped (n + ((if is_followed rs then 0 else count empty_tally) + how_many so (if is_followed rs then last_attempts rs else r ∷ last_attempts rs)))) (adds c.settled c.attempt)
         ∙ ap (λ n. capped (capped (count c.settled + count c.attempt) + ((if is_followed rs then 0 else n) + how_many so (if is_followed rs then last_attempts rs else r ∷ last_attempts rs)))) none
         ∙ last_attempt_settled (is_followed rs) (count c.settled) (count c.attempt) _
 
   -- a count of a tally of all records is the number of records of last attempts with its ending, at most 2^64 - 1
   pub counts_all : (records : List Record) → count (tally_of records) ≡ capped (how_many so (last_attempts records))
   counts_all records =
-      counts nothing_yet records ∙ ap (λ n. capped (n + ((if is_followed records then 0 else n) + how_many so (last_attempts records)))) none
+      counts empty_counts records ∙ ap (λ n. capped (n + ((if is_followed records then 0 else n) + how_many so (last_attempts records)))) none
       ∙ adds_nothing (is_followed records) 0 (how_many so (last_attempts records)) ∙ omega arith
 
 -- the number of further attempts of chains, after these records, is that before them plus those among them, at most 2^64 - 1, if
@@ -120,9 +120,10 @@ again_counts c (r ∷ rs) none = by_tests (λ d n. again_counts d rs n) (nat_eq 
   by_tests ih true l f = ih c none
   by_tests ih false false f = ih (record c { attempt = counted r.end c.attempt }) (ap (λ (t : Tally). t.again) (counted_by_ending r.end c.attempt) ∙ none)
   by_tests ih false true true =
-      ih (record { settled = record c.settled { again = one_more c.settled.again }; attempt = counted r.end none_yet }) (ap (λ (t : Tally). t.again) (counted_by_ending r.end none_yet)) ∙ omega arith
+      ih (record { settled = record c.settled { again = one_more c.settled.again }; attempt = counted r.end empty_tally })
+      (ap (λ (t : Tally). t.again) (counted_by_ending r.end empty_tally)) ∙ omega arith
   by_tests ih false true false =
-      ih (record { settled = sum c.settled c.attempt; attempt = counted r.end none_yet }) (ap (λ (t : Tally). t.again) (counted_by_ending r.end none_yet))
+      ih (record { settled = sum c.settled c.attempt; attempt = counted r.end empty_tally }) (ap (λ (t : Tally). t.again) (counted_by_ending r.end empty_tally))
       ∙ ap (λ n. capped (capped (c.settled.again + n) + further_attempts rs)) none ∙ omega arith
 
 -- each count of a tally is the number of the records of last attempts with its ending, and `again` is the number of further
@@ -136,5 +137,5 @@ count_records = record {
   skipped = counts_all (λ (t : Tally). t.skipped) ended_skipped (λ end t. refl) (λ a b. refl) refl (λ t n. refl);
   missed = counts_all (λ (t : Tally). t.missed) ended_missed (λ end t. refl) (λ a b. refl) refl (λ t n. refl);
   elsewhere = counts_all (λ (t : Tally). t.elsewhere) ended_elsewhere (λ end t. refl) (λ a b. refl) refl (λ t n. refl);
-  again = λ records. again_counts nothing_yet records refl ∙ omega arith;
+  again = λ records. again_counts empty_counts records refl ∙ omega arith;
 }

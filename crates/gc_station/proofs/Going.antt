@@ -16,7 +16,7 @@ use Rattle.gc_station.specs.Progressing.{turned, loses_all}
 use Rattle.gc_station.specs.Records.{Record, texts_of}
 use Rattle.gc_station.specs.Runs.{state_after, FailedAtRecord, FailedAtSync}
 use Rattle.gc_station.specs.Model.{Model, opening, action_at, Performs, after, after_all, moved, with_losses, stepped, Runs, with_progress, cycle_length}
-use Rattle.gc_station.specs.Stations.{waiting_of_station, Refines, Makes, Breaks, OnCall, as_seen, Does, KeepsToModel, Steps}
+use Rattle.gc_station.specs.Stations.{waiting_of_station, Refines, Makes, Breaks, OnCall, as_seen, MakesMove, KeepsToModel, Steps}
 use Rattle.gc_station.specs.Deciding.{action_of}
 use Rattle.gc_station.proofs.Counts.{unsent_within, with_losses_progress}
 use Rattle.gc_station.proofs.Growing.{losing_records, moved_grew}
@@ -48,9 +48,9 @@ on_then action claim other step on = step on
 module _ (plan : Plan) (commands : List Task) (action : Action) (text : Record → List ℕ) (told told' : Option (List Act)) (taken taken' : Option (List ℕ)) where
   -- a turn is an act and then, if the station has to, the loss of what is outstanding. If the act was made (`Makes`), and the
   -- loss wrote its records or the book failed at one of them (`RefinesOrTookPart`), the whole turn was made, or the book failed
-  -- in it (`Made`)
+  -- in it (`MakesOrBreaks`)
   pub makes_step : {X E : Type 0} (taken'' : Option (List ℕ)) (station mid new : Station) (p : Progress) (result : Result X E)
-      → p ≡ turned station.progress → Does plan commands action (as_seen told text taken (record station { progress = p })) (as_seen told' text taken' mid)
+      → p ≡ turned station.progress → MakesMove plan commands action (as_seen told text taken (record station { progress = p })) (as_seen told' text taken' mid)
       → KeepsToModel with_losses text taken' taken'' mid new result → Steps plan commands action (as_seen told text taken station) (as_seen told' text taken'' new) result
   makes_step taken'' station mid new p (Ok r) e makes ends = record {
     act = makes.act;

@@ -34,14 +34,14 @@ use Rattle.gc_station.specs.declared.progress.Until.{Until}
 use Rattle.gc_station.specs.declared.progress.Waiting.{Waiting}
 use Rattle.gc_station.specs.declared.recorded.Recorded.{Recorded}
 use Rattle.gc_station.specs.declared.station.Station.{Station}
-use Rattle.gc_station.specs.Attempts.{listed_by}
+use Rattle.gc_station.specs.Attempts.{listed_after_settlements}
 use Rattle.gc_station.specs.Marks.{commands_in, records_of, last_well, fresh_after}
 use Rattle.gc_station.specs.Progressing.{behind_noted, line_noted, bytes_noted, early_noted, after_failure, closed, failing, lines_synchronizing, line_synchronizing}
 use Rattle.gc_station.specs.Records.{Record, Grew, texts_of, WritesPart, WritesBy}
-use Rattle.gc_station.specs.Model.{Model, Performs, line_came, lines_came, lines_completed, lines_taken, with_rest, with_progress, with_moment, waiting_of, settles, piece_came}
+use Rattle.gc_station.specs.Model.{Model, Performs, line_came, lines_came, lines_completed, lines_taken, with_rest, with_progress, with_moment, waiting_of, settles, piece_heard}
 use Rattle.gc_station.specs.Stations.{waiting_of_station, Refines, Took, TookPart, RefinesOrTookPart, Makes, ReadsMoment, DropsMarks, as_seen, station_expiring}
 use Rattle.gc_station.specs.Scopes.{AreReadings, ForEachReadings}
-use Rattle.gc_station.specs.Tallies.{nothing_yet, tallied}
+use Rattle.gc_station.specs.Tallies.{empty_counts, tallied}
 use Rattle.gc_station.specs.Writing.{recorded_after}
 use Rattle.gc_station.proofs.Growing.{lines_records}
 use Rattle.gc_station.proofs.Making.{refines_with}
@@ -99,7 +99,7 @@ pub record HeardSoFar (begun : Bool) (text : Record → List ℕ) (start taken :
   pub stands : Refines station now
   pub wrote : Took text start taken now
   pub grown : Grew s.records now.records
-  pub goes : piece_came begun left now ≡ piece_came begun piece s
+  pub goes : piece_heard begun left now ≡ piece_heard begun piece s
 
 -- the model s after a frame: the line of the frame was heard, if it is a line, and the bytes `rest` of the next one are kept
 abbrev pub after_frame : (begun : Bool) (rest : List ℕ) → Frame → (s : Model) → Model
@@ -118,7 +118,7 @@ module _ (s : Model) (left later rest : List ℕ) (frame : Frame) (seen : frames
   lines_first = ap (filter_map line_in) seen ∙ lines_split frame (frames_behind rest later)
 
   -- once the station has synchronized, to hear `left` is to hear the line of the frame, and then `later`
-  came_first : piece_came true left s ≡ piece_came true later (after_frame true rest frame s)
+  came_first : piece_heard true left s ≡ piece_heard true later (after_frame true rest frame s)
   came_first =
       let end = rest_behind rest later in
       ap (λ xs. lines_came (with_rest (rest_behind s.rest left) s) xs) lines_first
@@ -129,7 +129,7 @@ module _ (s : Model) (left later rest : List ℕ) (frame : Frame) (seen : frames
       (ap (λ (x : Model). x.rest) (lines_rest s rest first_line)))
 
   -- while the station synchronizes, to hear `left` is to hear the line of the frame, and then `later`
-  asked_first : piece_came false left s ≡ piece_came false later (after_frame false rest frame s)
+  asked_first : piece_heard false left s ≡ piece_heard false later (after_frame false rest frame s)
   asked_first =
       ap (λ r. shown r (lines_synchronizing s.progress (lines_completed s.rest left))) rests
       ∙ ap (λ xs. shown (rest_behind rest later) (lines_synchronizing s.progress xs)) lines_first
@@ -139,7 +139,7 @@ module _ (s : Model) (left later rest : List ℕ) (frame : Frame) (seen : frames
         shown r p = record s { rest = r; progress = p }
 
   -- to hear `left` is to hear the line of its first frame, if that is a line, and then `later`
-  frame_first : (begun : Bool) → piece_came begun left s ≡ piece_came begun later (after_frame begun rest frame s)
+  frame_first : (begun : Bool) → piece_heard begun left s ≡ piece_heard begun later (after_frame begun rest frame s)
   frame_first true = came_first
   frame_first false = asked_first
 
@@ -163,25 +163,25 @@ module _ (begun : Bool) (text : Record → List ℕ) (start taken taken' : Optio
   }
 
   -- if the book failed at the frame's line, it failed at a record of the whole piece
-  pub hearing_part : TookPart text h.now.records start taken' mid → TookPart text s.records start taken' (piece_came begun piece s)
+  pub hearing_part : TookPart text h.now.records start taken' mid → TookPart text s.records start taken' (piece_heard begun piece s)
   hearing_part part are =
       let later = drop used left in
-      let whole : piece_came begun later mid ≡ piece_came begun piece s = sym (frame_first h.now left later t.now frame t.seen t.rests begun) ∙ h.goes in
+      let whole : piece_heard begun later mid ≡ piece_heard begun piece s = sym (frame_first h.now left later t.now frame t.seen t.rests begun) ∙ h.goes in
       let more = taken_records begun (with_rest (rest_behind mid.rest later) mid) (lines_completed mid.rest later) in
-      let same : mid.reads ≡ (piece_came begun piece s).reads =
+      let same : mid.reads ≡ (piece_heard begun piece s).reads =
       sym (taken_reads begun (with_rest (rest_behind mid.rest later) mid) (lines_completed mid.rest later)) ∙ ap (λ (x : Model). x.reads) whole in
-      let all = part_more_grew text h.now.records mid.records (piece_came begun later mid).records start taken' more
-      (part (same_readings mid.reads (piece_came begun piece s).reads same are)) in
-      part_since_grew text s.records h.now.records (piece_came begun piece s).records start taken' h.grown
+      let all = part_more_grew text h.now.records mid.records (piece_heard begun later mid).records start taken' more
+      (part (same_readings mid.reads (piece_heard begun piece s).reads same are)) in
+      part_since_grew text s.records h.now.records (piece_heard begun piece s).records start taken' h.grown
       (subst (λ (x : Model). WritesPart text h.now.records x.records start taken') whole all)
 
 -- if nothing is left of the piece, the station is as the model after the whole piece, and the book has taken the records of that
 -- model
 pub hearing_end : (begun : Bool) (text : Record → List ℕ) (start taken : Option (List ℕ)) (station : Station) (s : Model) (piece : List ℕ)
     → HeardSoFar begun text start taken station s piece []
-    → Refines station (piece_came begun piece s) × Took text start taken (piece_came begun piece s)
+    → Refines station (piece_heard begun piece s) × Took text start taken (piece_heard begun piece s)
 hearing_end begun text start taken station s piece h =
-    let goes : h.now ≡ piece_came begun piece s = sym (taken_none begun h.now) ∙ h.goes in (
+    let goes : h.now ≡ piece_heard begun piece s = sym (taken_none begun h.now) ∙ h.goes in (
       subst (λ (x : Model). Refines station x) goes h.stands,
       subst (λ (x : Model). Took text start taken x) goes h.wrote,
     )
@@ -281,12 +281,13 @@ module _ (text : Record → List ℕ) (old mid : Station) (s : Model) (x : Settl
           marks = ap (λ (n : Station). n.marks.items) is ∙ ap (λ k. drop k mid.marks.items) many ∙ ap (λ ms. drop (length x.settlements) ms) (ap (λ ms. ms.items) between.marks ∙ stands.marks);
           paired = paired;
           assembles = subst (λ (k : Kept). StandsFor k s.rest) (sym (ap (λ (n : Station). n.assembler) is ∙ between.assembler)) stands.assembles;
-          tally = λ are. ap (λ (r : Recorded). r.tally) (kept are) ∙ ap (λ t. tallied t added) (stands.tally are) ∙ sym (tallied-append nothing_yet s.records added)
-              ∙ ap (λ rs. tallied nothing_yet (s.records ++ rs)) records;
+          tally = λ are. ap (λ (r : Recorded). r.tally) (kept are) ∙ ap (λ t. tallied t added) (stands.tally are) ∙ sym (tallied-append empty_counts s.records added)
+              ∙ ap (λ rs. tallied empty_counts (s.records ++ rs)) records;
           well = λ are. ap (λ (r : Recorded). r.well) (kept are) ∙ ap (λ b. last_well b added) (stands.well are)
               ∙ sym (last-append false s.records added) ∙ ap (λ rs. last_well false (s.records ++ rs)) records;
-          listed = λ are. ap (λ (r : Recorded). r.listed) (kept are) ∙ ap (λ b. listed_by s.reads b mid.marks.items xs) (stands.listed are)
-              ∙ ap (λ (ms : List (Option Mark)). listed_by s.reads s.listed ms xs) (ap (λ ms. ms.items) between.marks ∙ stands.marks) ∙ ap (listed_by s.reads s.listed s.marks) same;
+          listed = λ are. ap (λ (r : Recorded). r.listed) (kept are) ∙ ap (λ b. listed_after_settlements s.reads b mid.marks.items xs) (stands.listed are)
+              ∙ ap (λ (ms : List (Option Mark)). listed_after_settlements s.reads s.listed ms xs) (ap (λ ms. ms.items) between.marks ∙ stands.marks)
+              ∙ ap (listed_after_settlements s.reads s.listed s.marks) same;
           fresh = λ are. ap (λ (r : Recorded). r.fresh) (kept are) ∙ ap (λ f. fresh_after mid.progress.moment.elapsed f added) (stands.fresh are)
               ∙ ap (λ (p : Progress). fresh_after p.moment.elapsed s.fresh added) (between.progress ∙ stands.progress)
               ∙ ap (fresh_after s.progress.moment.elapsed s.fresh) records;

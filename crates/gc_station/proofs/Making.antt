@@ -26,10 +26,10 @@ use Rattle.gc_station.specs.Progressing.{failing, unsent_at}
 use Rattle.gc_station.specs.Records.{Record}
 use Rattle.gc_station.specs.ActKinds.{Puts, ReadsLink}
 use Rattle.gc_station.specs.Model.{Model, client_sent, sent_to, request_for, request_or_null, asks_for, asks_first, end_unsent, first_unsent_record, with_progress, with_listed, with_more_records, after_put, after_read, text_or_null, next_request_text}
-use Rattle.gc_station.specs.Stations.{Refines, Took, cut_progress, as_seen, station_asking, Does, Moves, KeepsToModel}
+use Rattle.gc_station.specs.Stations.{Refines, Took, cut_progress, as_seen, station_asking, MakesMove, Moves, KeepsToModel}
 use Rattle.gc_station.specs.Scopes.{AreReadings}
 use Rattle.gc_station.specs.Attempts.{listed_after}
-use Rattle.gc_station.specs.Tallies.{nothing_yet, counted_in, tallied}
+use Rattle.gc_station.specs.Tallies.{empty_counts, counted_in, tallied}
 use Rattle.gc_station.specs.Writing.{noted, recorded_unsent}
 use Rattle.gc_station.specs.declared.recorded.Recorded.{Recorded}
 use Rattle.gc_station.specs.declared.station.sending.Outgoing.{Outgoing}
@@ -183,7 +183,7 @@ skipped_refines old new s rs b b' stands unwell same is = record {
   marks = ap (λ (n : Station). n.marks.items) is ∙ stands.marks;
   paired = stands.paired;
   assembles = subst (λ (x : Station). StandsFor x.assembler s.rest) (sym is) stands.assembles;
-  tally = λ are. ap (λ (n : Station). n.recorded.tally) is ∙ ap (λ t. tallied t rs) (stands.tally are) ∙ sym (tallied-append nothing_yet s.records rs);
+  tally = λ are. ap (λ (n : Station). n.recorded.tally) is ∙ ap (λ t. tallied t rs) (stands.tally are) ∙ sym (tallied-append empty_counts s.records rs);
   well = λ are. ap (λ (n : Station). n.recorded.well) is ∙ sym (last-append false s.records rs ∙ unwell (last_well false s.records));
   listed = λ are. ap (λ (n : Station). n.recorded.listed) is ∙ same are;
   fresh = λ are. ap (λ (n : Station). n.recorded.fresh) is ∙ stands.fresh are;
@@ -198,10 +198,10 @@ with_no_records s = ap (λ (rs : List Record). record s { records = rs }) (appen
 -- from `station` to `new`, the link recorded one act, which is a read
 module _ (plan : Plan) (commands : List Task) (until : Until) (text : Record → List ℕ) (told told' : Option (List Act)) (taken taken' : Option (List ℕ))
     (station new : Station) (act : Act) where
-  -- `Does` holds of the read, if after it the station is as the model after the read, and the book has that model's records
+  -- `MakesMove` holds of the read, if after it the station is as the model after the read, and the book has that model's records
   pub makes_read : AddsActs told told' (act ∷ []) → ReadsLink act
       → ((s : Model) (start : Option (List ℕ)) → Refines station s → Took text start taken s → Refines new (after_read plan until s act) × Took text start taken' (after_read plan until s act))
-      → Does plan commands (Read until) (as_seen told text taken station) (as_seen told' text taken' new)
+      → MakesMove plan commands (Read until) (as_seen told text taken station) (as_seen told' text taken' new)
   makes_read tells reads goes = record { act = act; tells = tells; goes = λ s start stands so. let g = goes s start stands so in (reads, g.0, g.1) }
 
   -- `Moves` holds of the read with this result, if after it the station is as the model after the read, and the book has that

@@ -7,8 +7,8 @@ use Rattle.std.proofs.lemmas.Bool.{lt-ltb, le-ltb, cond-true, cond-false, and_fr
 use Rattle.gc_texts.specs.declared.tasks.Task.{Task}
 use Rattle.gc_links.specs.Acts.{Act}
 use Rattle.gc_station.specs.Deciding.{later}
-use Rattle.gc_station.specs.Pauses.{doubled, pause_within, pause_after, LeavesTries, HasTriesAndPause, TriesAndPausesAreCounted}
-use Rattle.gc_station.specs.Progressing.{is_finished, is_spared, after_failure, bytes_noted, gives_back}
+use Rattle.gc_station.specs.Pauses.{doubled, pause_after, LeavesTries, HasTriesAndPause, TriesAndPausesAreCounted}
+use Rattle.gc_station.specs.Progressing.{is_finished, is_spared, pause_within, after_failure, bytes_noted, gives_back}
 use Rattle.gc_station.specs.Model.{Model, moved}
 use Rattle.gc_station.specs.declared.cause.Cause.{Cause}
 use Rattle.gc_station.specs.declared.cause.Cause.TheVariants as cause

@@ -16,7 +16,7 @@ use Rattle.gc_station.specs.declared.progress.Action.{Action}
 use Rattle.gc_links.specs.Acts.{Act}
 use Rattle.gc_station.specs.Progressing.{turned, loses_all}
 use Rattle.gc_station.specs.Runs.{state_after}
-use Rattle.gc_station.specs.Scopes.{Scope, AreReadings, OneReadingForALine, SomeReadings, ForEachReadings, ForReadings, Reads}
+use Rattle.gc_station.specs.Scopes.{Scope, AreReadings, OneReadingForALine, SomeReadings, ForEachReadings, ForEachAndSomeReadings, Reads}
 use Rattle.gc_station.proofs.Walk.{lines_along, losing_along, acts_along, moved_changed}
 use Rattle.gc_station.specs.Model.{Model, opening, action_at, with_progress, lines_came, moved, losing, stepped, after_all}
 
@@ -72,6 +72,6 @@ some_readings = (
       ∙ one_asked_reading call is.reply (each_asked_reply call is.reply).0 reading (each_asked_reply call is.reply).1 is.is_reading,
 )
 
--- what holds for every function that gives the readings is `ForReadings`, because there is such a function
-pub for_readings : (Holds : Reads → Type 0) → ForEachReadings Holds → ForReadings Holds
+-- what holds for every function that gives the readings is `ForEachAndSomeReadings`, because there is such a function
+pub for_readings : (Holds : Reads → Type 0) → ForEachReadings Holds → ForEachAndSomeReadings Holds
 for_readings Holds each = (each, (some_readings.0, some_readings.1, each some_readings.0 some_readings.1))

@@ -23,7 +23,7 @@ use Rattle.gc_texts.specs.declared.near.Expected.{Expected}
 use Rattle.gc_texts.specs.declared.near.Near.{Near}
 use Rattle.gc_texts.specs.declared.quality.Quality.{Quality}
 use Rattle.gc_texts.specs.declared.quality.Quality.TheVariants.{Fine, Warning, Refused}
-use Rattle.gc_station.specs.Attempts.{code_of, listed_after, listed_by}
+use Rattle.gc_station.specs.Attempts.{code_of, listed_after, listed_after_settlements}
 use Rattle.gc_station.specs.Marks.{commands_in, first_mark, value_as, warned_as, refused_as, answer_as, end_of, command_of, record_with, record_of, records_of, is_well, last_well, fresh_after}
 use Rattle.gc_station.specs.Records.{Record, Grew, texts_of, WritesPart}
 use Rattle.gc_station.specs.Scopes.{Reads}
@@ -133,27 +133,27 @@ records_seen_left reads utc marks ss i =
     ∙ ap (records_of reads utc marks) (map-append settlement_seen (take i ss) (drop i ss))
     ∙ records-append reads utc marks (map settlement_seen (take i ss)) (map settlement_seen (drop i ss))
 
--- without settlements, `listed_by` stays as it was: b
-pub listed-none : (reads : Reads) (b : Bool) (marks : List (Option Mark)) → listed_by reads b marks [] ≡ b
+-- without settlements, `listed_after_settlements` stays as it was: b
+pub listed-none : (reads : Reads) (b : Bool) (marks : List (Option Mark)) → listed_after_settlements reads b marks [] ≡ b
 listed-none reads b [] = refl
 listed-none reads b (mark ∷ marks) = refl
 
--- `listed_by` of one settlement, which is of the oldest request, depends, but for b, on the first mark alone
+-- `listed_after_settlements` of one settlement, which is of the oldest request, depends, but for b, on the first mark alone
 listed_here : (reads : Reads) (b : Bool) (mark : Option Mark) (marks : List (Option Mark)) (x : Rule.Settlement Asked)
-    → listed_by reads b (mark ∷ marks) (x ∷ []) ≡ listed_by reads b (mark ∷ []) (x ∷ [])
+    → listed_after_settlements reads b (mark ∷ marks) (x ∷ []) ≡ listed_after_settlements reads b (mark ∷ []) (x ∷ [])
 listed_here reads b None marks x = listed-none reads b marks
 listed_here reads b (Some mark) marks x = listed-none reads _ marks
 
--- `listed_by` of one settlement depends, but for b, on the first mark alone
+-- `listed_after_settlements` of one settlement depends, but for b, on the first mark alone
 listed_first : (reads : Reads) (b : Bool) (marks : List (Option Mark)) (x : Rule.Settlement Asked)
-    → listed_by reads b marks (x ∷ []) ≡ listed_by reads b (first_mark marks ∷ []) (x ∷ [])
+    → listed_after_settlements reads b marks (x ∷ []) ≡ listed_after_settlements reads b (first_mark marks ∷ []) (x ∷ [])
 listed_first reads b [] x = refl
 listed_first reads b (m ∷ marks) x = listed_here reads b m marks x
 
--- `listed_by` of the settlements `xs` and then `ys`, from b on, is that of `ys` with the marks that are left, from that of `xs`
--- on
+-- `listed_after_settlements` of the settlements `xs` and then `ys`, from b on, is that of `ys` with the marks that are left, from
+-- that of `xs` on
 listed-append : (reads : Reads) (marks : List (Option Mark)) (xs ys : List (Rule.Settlement Asked)) (b : Bool)
-    → listed_by reads b marks (xs ++ ys) ≡ listed_by reads (listed_by reads b marks xs) (drop (length xs) marks) ys
+    → listed_after_settlements reads b marks (xs ++ ys) ≡ listed_after_settlements reads (listed_after_settlements reads b marks xs) (drop (length xs) marks) ys
 listed-append reads [] [] ys b = refl
 listed-append reads [] (x ∷ xs) ys b = refl
 listed-append reads (mark ∷ marks) [] ys b = refl
@@ -161,9 +161,9 @@ listed-append reads (None ∷ marks) (x ∷ xs) ys b = listed-append reads marks
 listed-append reads (Some mark ∷ marks) (x ∷ xs) ys b =
     listed-append reads marks xs ys (listed_after b mark.expected (code_of reads x.call x.outcome) (end_of reads mark.expected x.call x.outcome))
 
--- `listed_by` of settlements as the code has them
+-- `listed_after_settlements` of settlements as the code has them
 abbrev listed_seen : (reads : Reads) (listed : Bool) (marks : List (Option Mark)) → List (Settlement Asked) → Bool
-listed_seen reads listed marks ss = listed_by reads listed marks (map settlement_seen ss)
+listed_seen reads listed marks ss = listed_after_settlements reads listed marks (map settlement_seen ss)
 
 -- Records are added, and none goes.
 
@@ -286,17 +286,17 @@ module _ (reads : Reads) (marks : List (Option Mark)) (ss : List (Settlement Ask
       ∙ ap (λ rs. records_of reads utc marks front ++ rs)
       (records_first reads utc (drop i marks) (settlement_seen s) ∙ ap (λ k. records_of reads utc (k ∷ []) (settlement_seen s ∷ [])) (sym first))
 
-  -- c is `listed_by` of the first i + 1 settlements, from a on, if b is that of the first i, and c is that of s, with `mark`,
-  -- from b on
+  -- c is `listed_after_settlements` of the first i + 1 settlements, from a on, if b is that of the first i, and c is that of s,
+  -- with `mark`, from b on
   listed_more : (a b c : Bool) → b ≡ listed_seen reads a marks (take i ss) → c ≡ listed_seen reads b (mark ∷ []) (s ∷ []) → c ≡ listed_seen reads a marks (take (i + 1) ss)
   listed_more a b c so more =
       let front = map settlement_seen (take i ss) in
-      more ∙ ap (λ x. listed_by reads x (mark ∷ []) (settlement_seen s ∷ [])) so
-      ∙ ap (λ k. listed_by reads (listed_by reads a marks front) (k ∷ []) (settlement_seen s ∷ [])) first
-      ∙ sym (listed_first reads (listed_by reads a marks front) (drop i marks) (settlement_seen s))
-      ∙ ap (λ n. listed_by reads (listed_by reads a marks front) (drop n marks) (settlement_seen s ∷ [])) (sym front_length)
+      more ∙ ap (λ x. listed_after_settlements reads x (mark ∷ []) (settlement_seen s ∷ [])) so
+      ∙ ap (λ k. listed_after_settlements reads (listed_after_settlements reads a marks front) (k ∷ []) (settlement_seen s ∷ [])) first
+      ∙ sym (listed_first reads (listed_after_settlements reads a marks front) (drop i marks) (settlement_seen s))
+      ∙ ap (λ n. listed_after_settlements reads (listed_after_settlements reads a marks front) (drop n marks) (settlement_seen s ∷ [])) (sym front_length)
       ∙ sym (listed-append reads marks front (settlement_seen s ∷ []) a)
-      ∙ sym (ap (listed_by reads a marks) (map_more settlement_seen ss i s below ∙ ap (λ x. front ++ settlement_seen x ∷ []) (sym is)))
+      ∙ sym (ap (listed_after_settlements reads a marks) (map_more settlement_seen ss i s below ∙ ap (λ x. front ++ settlement_seen x ∷ []) (sym is)))
 
   -- if b is what the first i settlements make of a, and c what s makes of b, c is what the first i + 1 make of a
   pub recorded_more : (now : Moment) (a b c : Recorded) → b ≡ recorded_after now marks (map settlement_seen (take i ss)) reads a

@@ -25,7 +25,7 @@ use Rattle.gc_station.specs.Deciding.{is_quiet}
 use Rattle.gc_station.specs.Marks.{commands_in}
 use Rattle.gc_station.specs.Progressing.{turned, moment_noted, cycle_begun, skipped, failing, opened, after_failure, cleared, request_noted, null_sent, resynchronized, sent, line_synchronizing, lines_synchronizing, pause_ended, drained, quieted, time_passed, early_noted, ended_for, closed, setup_sent}
 use Rattle.gc_station.specs.ActKinds.{Puts}
-use Rattle.gc_station.specs.Model.{Model, waiting_of, next_request_text, null_text, first_text, listed_after_skip, with_listed, after_pass, Performs, is_heard, with_progress, with_moment, with_rest, with_more_records, asks_for, asks_first, asks_next, unsent_record, line_came, lines_came, lines_completed, piece_came, after_piece, piece_noted, piece_at, after_read, after_put, after_close, moved, settles, losing, after, after_all, cycle_length, text_or_null, asks_setup, request_for, null_request, request_or_null}
+use Rattle.gc_station.specs.Model.{Model, waiting_of, next_request_text, null_text, first_text, listed_after_skip, with_listed, after_pass, Performs, is_heard, with_progress, with_moment, with_rest, with_more_records, asks_for, asks_first, asks_next, unsent_record, line_came, lines_came, lines_completed, piece_heard, after_piece, piece_noted, piece_at, after_read, after_put, after_close, moved, settles, losing, after, after_all, cycle_length, text_or_null, asks_setup, request_for, null_request, request_or_null}
 use Rattle.gc_station.specs.NextCommand.{place_next, commands_left, mark_next, commands_before, upcoming_after}
 
 -- Parts of an act.
@@ -48,7 +48,7 @@ asked_along P step p (line ∷ others) h = asked_along P step (line_synchronizin
 -- a fact of models that each line keeps holds after a piece, if it holds in each of three cases: before its lines, if the client
 -- hears them; after it, if it is heard while the station synchronizes; and if it is discarded
 pub came_along : (P : Model → Type 0) → ((t : Model) (line : List ℕ) → P t → P (line_came t line)) → (heard : Bool) (word piece : List ℕ) (s : Model)
-    → P (with_rest (rest_behind s.rest piece) s) → P (piece_came false piece s) → P s → P (after_piece heard word piece s)
+    → P (with_rest (rest_behind s.rest piece) s) → P (piece_heard false piece s) → P s → P (after_piece heard word piece s)
 came_along P step true [] piece s hears begins drops = lines_along P step (with_rest (rest_behind s.rest piece) s) (lines_completed s.rest piece) hears
 came_along P step true (asked ∷ others) piece s hears begins drops = begins
 came_along P step false word piece s hears begins drops = drops

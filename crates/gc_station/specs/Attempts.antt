@@ -33,9 +33,11 @@ listed_after listed expected code end = (if nat_eq expected.turn.link 0 then fal
 
 -- whether a command of the current attempt has ended as its rule names, once this settlement of the request with `mark` is
 -- recorded; `listed` says whether one had before
-abbrev pub listed_with : Reads → (listed : Bool) → Mark → Settlement Asked → Bool
-listed_with reads listed mark x = listed_after listed mark.expected (code_of reads x.call x.outcome) (end_of reads mark.expected x.call x.outcome)
+abbrev pub listed_after_settlement : Reads → (listed : Bool) → Mark → Settlement Asked → Bool
+listed_after_settlement reads listed mark x = listed_after listed mark.expected (code_of reads x.call x.outcome) (end_of reads mark.expected x.call x.outcome)
 
--- as `listed_with`, after these settlements, by the marks of all outstanding requests (`with_marks`)
-abbrev pub listed_by : Reads → (listed : Bool) → List (Option Mark) → List (Settlement Asked) → Bool
-listed_by reads listed marks settlements = fold (λ (so : Bool) (x : Mark × Settlement Asked). listed_with reads so x.0 x.1) listed (with_marks marks settlements)
+-- whether a command of the current attempt has ended as its rule names, once these settlements are recorded, by the marks of all
+-- outstanding requests (`with_marks`); `listed` says whether one had before
+abbrev pub listed_after_settlements : Reads → (listed : Bool) → List (Option Mark) → List (Settlement Asked) → Bool
+listed_after_settlements reads listed marks settlements =
+    fold (λ (so : Bool) (x : Mark × Settlement Asked). listed_after_settlement reads so x.0 x.1) listed (with_marks marks settlements)

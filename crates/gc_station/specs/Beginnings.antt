@@ -50,21 +50,21 @@ pub record IsSynchronizing (s : Model) (act : Act) (t : Model) : Type 0 where
   -- otherwise none
   pub left : t.progress.word ≡ unanswered_after s.progress.word (lines_heard_at s act)
 
--- at the act `act`, made after `acts`, the station resynchronizes, as `Resynchronizes` says; after it no null procedure is
--- answered, and the client is new
-pub record IsResynchronizing (plan : Plan) (commands : List Task) (scope : Scope) (acts : List Act) (act : Act) : Type 0 where
+-- at the act `act`, made after `acts`, the station resynchronizes, as `Resynchronizes` says, and begins anew: after the act no
+-- null procedure is answered, and the client is new
+pub record SynchronizesAnew (plan : Plan) (commands : List Task) (scope : Scope) (acts : List Act) (act : Act) : Type 0 where
   pub resynchronizes : Resynchronizes plan (state_after plan commands scope acts) act
   pub word : (state_after plan commands scope (acts ++ act ∷ [])).progress.word ≡ the_word
   pub client : (state_after plan commands scope (acts ++ act ∷ [])).client ≡ fresh
 
--- a run begins with all eight null procedures (`starts`); each act while the station synchronizes is `IsSynchronizing`
--- (`begins`); and an act after which the station synchronizes, and before which it didn't, is `IsResynchronizing` (`anew`)
+-- a run begins with all eight null procedures (`starts`); `IsSynchronizing` holds of each act while the station synchronizes
+-- (`begins`), and `SynchronizesAnew` of an act after which the station synchronizes, and before which it didn't (`anew`)
 pub record SynchronizesInOrder (plan : Plan) (commands : List Task) (scope : Scope) (acts : List Act) (act : Act) : Type 0 where
   pub starts : (state_after plan commands scope []).progress.word ≡ the_word
   pub begins : has_begun (state_after plan commands scope acts).progress ≡ false
       → IsSynchronizing (state_after plan commands scope acts) act (state_after plan commands scope (acts ++ act ∷ []))
   pub anew : has_begun (state_after plan commands scope acts).progress ≡ true → has_begun (state_after plan commands scope (acts ++ act ∷ [])).progress ≡ false
-      → IsResynchronizing plan commands scope acts act
+      → SynchronizesAnew plan commands scope acts act
 
 -- among `acts` a connection was made, which is still there (`stays`), and as soon as it was made a lone line feed was sent
 -- whole. If the station had synchronized by then, the connection was quiet before anything else was sent on it

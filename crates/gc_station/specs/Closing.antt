@@ -60,10 +60,9 @@ abbrev pub EndsAtFailure : Plan → Progress → (count : ℕ) (other why : Caus
 EndsAtFailure plan p count other why =
     EndsDone p count why ⊎ ((why ≡ other) × (is_finished count p ≡ false) × (is_spared plan other p ≡ false) × (p.tries ≡ 0))
 
--- at the progress `p` with `count` outstanding commands a connection was closed, or couldn't be made, for the cause `other`;
--- then the run ends for the cause `why`. After `Clock` (the clock can't be read), `Turns` (all turns are used up), `Stale` and
--- `Stopped`, `why` is that same cause. After `Done` the run is done: no command is left to be sent, and none is outstanding.
--- After any other cause it ends as `EndsAtFailure` says
+-- at the progress `p` with `count` outstanding commands a connection was closed, or couldn't be made, for the cause `other`,
+-- and then the run ends for the cause `why`: after `Done` it is done; after `Clock`, `Turns`, `Stale` and `Stopped` it ends for
+-- that same cause, as no further connection is made then; and after any other as `EndsAtFailure` says
 abbrev pub EndsAfter : Plan → Progress → (count : ℕ) (other why : Cause) → Type 0
 EndsAfter plan p count cause.Done why = EndsDone p count why
 EndsAfter plan p count cause.Clock why = why ≡ cause.Clock

@@ -82,9 +82,8 @@ pub record IsMissedIn (plan : Plan) (commands : List Task) (scope : Scope) (acts
   pub sent : r.sent ≡ None
   pub due : r.utc ≡ its.moment.utc - its.late
 
--- the command of the record `r` is skipped: it goes on with a chain (`IsChained`); its cycle began before the next one was due;
--- it wasn't sent, because the one before it wasn't answered well, or a connection was closed or the station resynchronized since
--- that one was sent (`broken`); and the record has the moment that was read to record it
+-- the command of the record `r` is skipped: one of `acts` reads the clock at the moment `moment` to record that the cycle's next
+-- command isn't sent
 pub record IsSkippedIn (plan : Plan) (commands : List Task) (scope : Scope) (acts : List Act) (r : Record) : Type 0 where
   pub before : List Act
   pub moment : Moment
@@ -93,8 +92,11 @@ pub record IsSkippedIn (plan : Plan) (commands : List Task) (scope : Scope) (act
   pub skips : action_at plan (state_after plan commands scope before) ≡ Skip
   pub cycle : r.cycle ≡ cycles_begun plan (state_after plan commands scope before).progress
   pub place : r.place ≡ place_next commands (state_after plan commands scope before).progress
+  -- the command goes on with a chain
   pub chained : IsChained plan commands (state_after plan commands scope before).progress
+  -- the command before it wasn't answered well, or since that was sent a connection was closed or the station resynchronized
   pub broken : may_go (state_after plan commands scope before).progress (waiting_of (state_after plan commands scope before)) ≡ false
+  -- its cycle began before the next one was due
   pub last : LastBegan plan commands scope before
   pub in_time : last.late < plan.every
   pub sent : r.sent ≡ None

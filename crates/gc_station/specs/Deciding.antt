@@ -39,7 +39,7 @@ is_past wait p = nat_le wait (p.moment.elapsed - p.since)
 abbrev pub is_quiet : Plan → Progress → Bool
 is_quiet plan p = is_past plan.quiet p
 
--- whether this list is empty. It is of the ids of those null procedures of a synchronization that aren't answered
+-- whether none is left of the ids of a synchronization's null procedures that aren't answered
 abbrev pub is_none_left : List ℕ → Bool
 is_none_left [] = true
 is_none_left (asked ∷ others) = false
@@ -62,14 +62,11 @@ is_dead plan p w = (nat_lt 0 w.all || nat_lt 0 p.again) && nat_le (dead_after pl
 abbrev pub is_stale : Plan → Progress → Waiting → Bool
 is_stale plan p w = nat_lt 0 plan.stale && nat_le plan.stale (p.moment.elapsed - w.fresh)
 
--- whether the station is between two chains: no command of the cycle is left, or the next one begins a chain or a further attempt
--- of one; or there is a setup, and since the connection was made and the station synchronized no cycle began or went on
--- (`preparing`), so that no chain goes on. In a missed cycle each command, the first one too, counts as going on with a chain
+-- whether the station is between two chains: the test of `IsBetweenChains`, which says when that is so
 abbrev pub is_between_chains : Progress → Bool
 is_between_chains p = (nat_eq p.unsent 0 || not p.next_is_chained) || p.preparing
 
--- whether the run may end here if that is asked for: there is no connection, or the station synchronizes, or it is between two
--- chains and nothing is in flight that hasn't timed out
+-- whether the run may end here if that is asked for: the test of `IsResting`
 abbrev pub is_resting : Progress → Waiting → Bool
 is_resting p w = (not (is_up p.phase) || not (has_begun p)) || (nat_eq w.current 0 && is_between_chains p)
 
@@ -101,29 +98,28 @@ is_idle plan p = p.early && not (is_due plan p)
 abbrev pub goes_on : Plan → Progress → Bool
 goes_on plan p = nat_lt 0 p.unsent || is_due plan p
 
--- whether no command of any cycle is left to be sent, and none is outstanding: `count` is how many are outstanding
+-- whether no command of any cycle is left to be sent, and none is outstanding (`count` is how many are): the test of `IsFinished`
 abbrev pub is_finished : (count : ℕ) → Progress → Bool
 is_finished count p = nat_eq p.left 0 && nat_eq p.unsent 0 && nat_eq count 0
 
--- the next action while the station synchronizes: to send the null procedure of the first id that isn't answered, for the first
--- time or again at its deadline, and to read until then. Nothing is sent if no command is left to be sent and none is outstanding
--- (the connection is closed: the run is done), nor between cycles (it reads until the next is due), nor over a dead line (the
--- connection is closed)
+-- the next action while the station synchronizes, or its setup isn't done: to close the connection if the run is done
+-- (`is_finished`), to read until the next cycle is due if the station is idle (`is_idle`), and else `action`
+abbrev pub action_unless_idle : Plan → Progress → Waiting → Action → Action
+action_unless_idle plan p w action = if is_finished w.commands p then Close Done else if is_idle plan p then Read Due else action
+
+-- the next action while the station synchronizes, unless the run is done or the station idle (`action_unless_idle`): to close
+-- the connection if the line is dead; and else to send the null procedure of the first id that isn't answered, for the first time
+-- or again at its deadline, and to read until then
 abbrev pub action_beginning : Plan → Progress → Waiting → Action
 action_beginning plan p w =
-    if is_finished w.commands p then Close Done
-    else if is_idle plan p then Read Due
-    else if is_dead plan p w then Close Dead
-    else if nat_le p.again p.moment.elapsed then Ask
-    else Read Limit
+    action_unless_idle plan p w (if is_dead plan p w then Close Dead else if nat_le p.again p.moment.elapsed then Ask else Read Limit)
 
 -- the next action if each command of the cycle is settled: to close the connection if no cycle is left, to begin the next cycle
 -- if it is due, and else to read until it is
 abbrev pub action_done : Plan → Progress → Action
 action_done plan p = if nat_eq p.left 0 then Close Done else if is_due plan p then Begin else Read Due
 
--- whether another request may be sent: fewer that haven't timed out are in flight than `width_of` allows, and fewer are
--- outstanding in all than the window has places
+-- whether there is room for another request: the test of `HasRoomToAsk`
 abbrev pub has_room_to_ask : Plan → Waiting → Bool
 has_room_to_ask plan w = nat_lt w.current (width_of plan) && nat_lt w.all WINDOW
 
@@ -178,18 +174,15 @@ action_held plan p w = if nat_eq w.commands 0 then action_settled plan p w else 
 abbrev pub action_to_prepare : Plan → Progress → Waiting → Action
 action_to_prepare plan p w = if nat_lt p.prepared plan.setup then action_to_send plan p w Prepare else Read Limit
 
--- the next action while the setup isn't done: nothing is sent if no command of a cycle is left to be sent and no command is
--- outstanding (the connection is closed: the run is done), nor between cycles (it reads until the next is due). The setup's first
--- command may be sent at once (`action_to_send`), and each other one once the one before it was answered well. If that wasn't,
--- the connection is closed, and the setup begins with its first command on the next one. If commands are outstanding, it is that
--- of `action_flush`
+-- the next action while the setup isn't done, unless the run is done or the station idle (`action_unless_idle`): the setup's
+-- first command may be sent at once, and each other one once the one before it was answered well. If that wasn't, the connection
+-- is closed, and the setup begins with its first command on the next one. If commands are outstanding, it is that of
+-- `action_flush`
 abbrev pub action_preparing : Plan → Progress → Waiting → Action
-action_preparing plan p w =
-    if is_finished w.commands p then Close Done
-    else if is_idle plan p then Read Due
-    else if nat_eq p.prepared 0 then action_to_prepare plan p w
+action_preparing plan p w = action_unless_idle plan p w (
+    if nat_eq p.prepared 0 then action_to_prepare plan p w
     else if nat_eq w.commands 0 then (if w.well then action_to_prepare plan p w else Close SetUp)
-    else action_flush plan p w
+    else action_flush plan p w)
 
 -- the next action once the station has synchronized and its setup is done: that of `action_to_send`, if there is a command that
 -- needn't wait for those before it (`waits_for_all`); otherwise that of `action_held`

@@ -21,17 +21,20 @@ use Rattle.gc_station.specs.NextCommand.{cycles_begun, place_next}
 use Rattle.gc_station.specs.Scopes.{Scope}
 use Rattle.gc_station.specs.Links.{IsBefore}
 
--- all commands of the first `cycles` cycles, in order. Cycles count from 1, and the commands of each are those of the list
--- `commands` but the first `setup`, which are the setup
+-- the commands of one cycle, in order: those of the list `commands` but the first `setup`, which are the setup
+abbrev pub commands_of_cycle : (cycle setup : ℕ) (commands : List Task) → List RunRequest
+commands_of_cycle cycle setup commands = requests cycle setup (map of_task (drop setup commands))
+
+-- all commands of the first `cycles` cycles, in order; cycles count from 1
 abbrev pub all_cycles : (setup : ℕ) (commands : List Task) (cycles : ℕ) → List RunRequest
 all_cycles setup commands zero = []
-all_cycles setup commands (suc n) = all_cycles setup commands n ++ requests (suc n) setup (map of_task (drop setup commands))
+all_cycles setup commands (suc n) = all_cycles setup commands n ++ commands_of_cycle (suc n) setup commands
 
 -- the commands that had their turn, sent or not, if `cycles` cycles began: all of the cycles before the last one, and those
--- before the place `place` of the last one. The first `setup` of the list `commands` are the setup
+-- before the place `place` of the last one
 abbrev pub commands_reached : (setup : ℕ) (commands : List Task) (cycles place : ℕ) → List RunRequest
 commands_reached setup commands zero place = []
-commands_reached setup commands (suc n) place = all_cycles setup commands n ++ requests (suc n) setup (map of_task (drop setup (take place commands)))
+commands_reached setup commands (suc n) place = all_cycles setup commands n ++ commands_of_cycle (suc n) setup (take place commands)
 
 -- those of these requests that are of a cycle: the others are of the setup, which has cycle 0
 abbrev pub of_cycles : List RunRequest → List RunRequest

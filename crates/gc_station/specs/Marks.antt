@@ -58,10 +58,9 @@ abbrev pub refused_as : (accepted : Bool) → Option Near → (zeroed : Reading)
 refused_as true near zeroed line = warned_as near zeroed line
 refused_as false near zeroed line = end.Answered quality.Refused None line
 
--- how a command ends whose reply, `line`, came in time. The line says `said`, and would say `zeroed` with return code 0.
--- `expected` says where the target is, if the text says so, and which return codes are accepted. As unreadable: both codes are 0,
--- and the values don't read. As elsewhere: the answer was measured elsewhere than the target is. Otherwise as answered: fine with
--- both codes 0, with a warning if the return code is accepted, and else refused
+-- how a command ends whose reply, `line`, came in time. The line says `said`, and would say `zeroed` with return code 0;
+-- `expected` says where the target is, if the text says so, and which return codes are accepted. An answer ends it as `value_as`
+-- says, and a return code as `refused_as` does. It is unreadable if its values don't read, and refused with a communication code
 abbrev pub answer_as : Expected → (said zeroed : Reading) → (line : List ℕ) → End
 answer_as expected (reading.Unreadable fault) zeroed line = end.Unreadable line fault
 answer_as expected (reading.Value answer) zeroed line = value_as quality.Fine (is_elsewhere expected.near answer) answer line

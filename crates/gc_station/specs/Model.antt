@@ -32,7 +32,7 @@ use Rattle.gc_links.specs.Acts.{Act, Told, Cut, Gave, Silent, Ended, Broke, Clos
 use Rattle.gc_station.specs.ActKinds.{Puts, ReadsClock, IsOpening, ReadsLink}
 use Rattle.gc_station.specs.Deciding.{later, is_none_left, is_preparing, action_of}
 pub use Rattle.gc_station.specs.Lines.{is_reply}
-use Rattle.gc_station.specs.Attempts.{listed_after, listed_by}
+use Rattle.gc_station.specs.Attempts.{listed_after, listed_after_settlements}
 use Rattle.gc_station.specs.Marks.{commands_in, record_with, records_of, last_well, fresh_after}
 use Rattle.gc_station.specs.NextCommand.{place_next, commands_left, cycles_begun, mark_next, mark_setup, commands_before, upcoming_after}
 use Rattle.gc_station.specs.Progressing.{at_start, turned, moment_noted, cycle_begun, skipped, attempts_left_out, unsent_at, failing, opened, after_failure, cleared, request_noted, null_sent, resynchronized, sent, behind_noted, line_noted, lines_synchronizing, bytes_noted, silent, early_noted, closed, loses_all, setup_sent}
@@ -176,10 +176,10 @@ abbrev pub client_sent : ById Asked → Option (Sending (ById Asked)) → ById A
 client_sent client None = client
 client_sent client (Some x) = x.client
 
--- the client after a send of `command` at the moment `now`, whose request waits for `wait` milliseconds. `width` is how many
--- requests may wait at once, and `ids` is the client before
-abbrev pub sent_to : (width : ℕ) (ids : ById Asked) (command : Wish) (now wait : ℕ) → ById Asked
-sent_to width ids command now wait = client_sent ids (sends width ids command.target command.call (later now wait))
+-- `client` after a send of `command` at the moment `now`, whose request waits for `wait` milliseconds. `width` is how many
+-- requests may wait at once
+abbrev pub sent_to : (width : ℕ) (client : ById Asked) (command : Wish) (now wait : ℕ) → ById Asked
+sent_to width client command now wait = client_sent client (sends width client command.target command.call (later now wait))
 
 -- the request for the command of `task`, with `mark`
 abbrev pub request_for : Mark → Task → Outgoing
@@ -264,17 +264,17 @@ with_more_records records s = record s { records = s.records ++ records }
 
 -- the model `s` once these settlements of the oldest outstanding requests are recorded, by their marks, which are removed. The
 -- records may change `listed` and `fresh`; the client of `s` stays
-abbrev pub with_settled : List (Settlement Asked) → Model → Model
-with_settled settlements s = record s {
+abbrev pub records_settled : List (Settlement Asked) → Model → Model
+records_settled settlements s = record s {
   records = s.records ++ records_of s.reads s.progress.moment.utc s.marks settlements;
-  listed = listed_by s.reads s.listed s.marks settlements;
+  listed = listed_after_settlements s.reads s.listed s.marks settlements;
   marks = drop (length settlements) s.marks;
   fresh = fresh_after s.progress.moment.elapsed s.fresh (records_of s.reads s.progress.moment.utc s.marks settlements);
 }
 
 -- the model `s` with what its client settled: the records of the settlements of `x`, and the client of `x`
 abbrev pub settles : Settled Asked (ById Asked) → Model → Model
-settles x s = record (with_settled x.settlements s) { client = x.client }
+settles x s = record (records_settled x.settlements s) { client = x.client }
 
 -- whether there is a settlement, and its call is one of the table
 abbrev pub is_some_of_table : Option (Settlement Asked) → Bool
@@ -310,8 +310,8 @@ lines_taken true lines s = lines_came s lines
 lines_taken false lines s = with_progress (λ p. lines_synchronizing p lines) s
 
 -- the model `s` after `piece`, whose lines are heard as `lines_taken` says
-abbrev pub piece_came : (begun : Bool) → List ℕ → Model → Model
-piece_came begun piece s = lines_taken begun (lines_completed s.rest piece) (with_rest (rest_behind s.rest piece) s)
+abbrev pub piece_heard : (begun : Bool) → List ℕ → Model → Model
+piece_heard begun piece s = lines_taken begun (lines_completed s.rest piece) (with_rest (rest_behind s.rest piece) s)
 
 -- whether what comes in a phase is heard: in `Ready` alone. In each other phase it is discarded
 abbrev pub is_heard : Phase → Bool
@@ -322,7 +322,7 @@ is_heard _ = false
 -- `word`: the ids of the synchronization that aren't answered. If all are, the client hears the piece; otherwise the
 -- synchronization does, and the client doesn't hear what follows its last answer in the piece
 abbrev pub after_piece : (ready : Bool) (word piece : List ℕ) → Model → Model
-after_piece true word piece s = piece_came (is_none_left word) piece s
+after_piece true word piece s = piece_heard (is_none_left word) piece s
 after_piece false word piece s = s
 
 -- the model `s` after `piece`, which is heard as `after_piece` says in the phase of `s` and with the ids that aren't answered

@@ -21,6 +21,10 @@ place_next commands p = length commands - p.unsent
 abbrev pub commands_left : List Task → Progress → List Task
 commands_left commands p = drop (place_next commands p) commands
 
+-- the commands of the cycle that are left once it has gone on by `count` commands
+abbrev pub commands_left_after : (count : ℕ) → List Task → Progress → List Task
+commands_left_after count commands p = drop (place_next commands p + count) commands
+
 -- how many cycles have begun at the progress `p`, missed ones included
 abbrev pub cycles_begun : Plan → Progress → ℕ
 cycles_begun plan p = plan.cycles - p.left
@@ -35,6 +39,10 @@ abbrev pub expected_first : List Task → Expected
 expected_first [] = record { near = None; accepted = no_codes; again = no_again; turn = no_turn }
 expected_first (task ∷ others) = record { near = task.near; accepted = task.accepted; again = task.again; turn = task.turn }
 
+-- what is expected of the answer of the command at `place` in the list `commands` (`expected_first`)
+abbrev pub expected_at : List Task → (place : ℕ) → Expected
+expected_at commands place = expected_first (drop place commands)
+
 -- the mark of the cycle's next command at the progress `p`: its cycle, its place, the moment read last, and what is expected of
 -- its answer
 abbrev pub mark_next : Plan → List Task → Progress → Mark
@@ -42,7 +50,7 @@ mark_next plan commands p = record {
   cycle = cycles_begun plan p;
   place = place_next commands p;
   sent = p.moment.utc;
-  expected = expected_first (commands_left commands p);
+  expected = expected_at commands (place_next commands p);
 }
 
 -- `expected` as it is for a command of the setup in the attempt `attempt` of the setup: no ending sends such a command again, and
@@ -57,7 +65,7 @@ mark_setup commands p = record {
   cycle = 0;
   place = p.prepared;
   sent = p.moment.utc;
-  expected = expected_of_setup p.attempt (expected_first (drop p.prepared commands));
+  expected = expected_of_setup p.attempt (expected_at commands p.prepared);
 }
 
 -- how many commands come before the cycle's next one in the list `commands`, those of the setup included; 0 before the first
@@ -79,12 +87,12 @@ others_in (task ∷ others) = task.others
 -- whether the command `count` places after the cycle's next one is sent only once the one before it was answered well; false if
 -- there is no such command. In a missed cycle, in which none is sent, always true
 abbrev pub is_chained_after : (count : ℕ) → List Task → Progress → Bool
-is_chained_after count commands p = p.missed || first_is_chained (drop (place_next commands p + count) commands)
+is_chained_after count commands p = p.missed || first_is_chained (commands_left_after count commands p)
 
 -- if the command `count` places after the cycle's next one begins a further attempt of its chain, the number of commands of
 -- this and the chain's later attempts (`others_in`); otherwise 0, also if there is no such command
 abbrev pub others_after : (count : ℕ) → List Task → Progress → ℕ
-others_after count commands p = others_in (drop (place_next commands p + count) commands)
+others_after count commands p = others_in (commands_left_after count commands p)
 
 -- what is noted of the cycle's next command once the cycle has gone on by `count` commands
 abbrev pub upcoming_after : (count : ℕ) → List Task → Progress → Upcoming

@@ -9,16 +9,11 @@ use Rattle.gc_station.specs.declared.progress.Until.{Until}
 use Rattle.gc_station.specs.declared.progress.Until.TheVariants.{Limit, Due}
 use Rattle.gc_station.specs.Deciding.{later, has_begun, dead_after, is_due}
 use Rattle.gc_station.specs.NextCommand.{cycles_begun}
-use Rattle.gc_station.specs.Progressing.{is_idle}
+use Rattle.gc_station.specs.Progressing.{is_idle, due_at}
 
 -- the moment from which on the line is dead, if no reply line comes until then and something is outstanding (`is_dead`)
 abbrev pub dead_at : Plan → Progress → ℕ
 dead_at plan p = later p.alive (dead_after plan)
-
--- the moment at which the next cycle is due: `every` milliseconds after `began`, the moment that counts as the beginning of the
--- last one. It isn't that of the first cycle, which is due at once
-abbrev pub due_at : Plan → Progress → ℕ
-due_at plan p = later p.began plan.every
 
 -- the moment of the next attempt to connect: the end of the pause, or, if no connection is wanted before the next cycle is due,
 -- that due moment if it is later

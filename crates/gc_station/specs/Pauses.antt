@@ -1,9 +1,9 @@
 -- How often a station reconnects, and how long it pauses before that, by its failures in a row: this project's own. An act is
 -- one call on the link, with its result.
-use Rattle.std.specs.Prelude.{◌≡◌, ◌⊎◌, ℕ, zero, suc, ◌+◌, ◌*◌, ◌<◌, ◌≤◌, true, false, List, min, max}
+use Rattle.std.specs.Prelude.{◌≡◌, ◌⊎◌, ℕ, zero, suc, ◌+◌, ◌*◌, ◌<◌, ◌≤◌, true, false, List}
 use Rattle.gc_texts.specs.declared.tasks.Task.{Task}
 use Rattle.gc_links.specs.Acts.{Act}
-use Rattle.gc_station.specs.Progressing.{at_start, is_spared, after_failure, bytes_noted}
+use Rattle.gc_station.specs.Progressing.{at_start, is_spared, pause_within, after_failure, bytes_noted}
 use Rattle.gc_station.specs.Model.{Model, moved}
 use Rattle.gc_station.specs.declared.cause.Cause.{Cause}
 use Rattle.gc_station.specs.declared.cause.Cause.TheVariants as cause
@@ -19,10 +19,6 @@ use Rattle.gc_station.specs.declared.progress.Waiting.{Waiting}
 abbrev pub doubled : (n time : ℕ) → ℕ
 doubled zero time = time
 doubled (suc n) time = 2 * doubled n time
-
--- `time`, cut to a minute, and then raised to the quiet time
-abbrev pub pause_within : (quiet time : ℕ) → ℕ
-pause_within quiet time = max (min time 60000) quiet
 
 -- the length of the pause after this number of failures in a row: 0 after none; the quiet time after the first; and after each
 -- further one twice the pause before, up to a minute and never below the quiet time

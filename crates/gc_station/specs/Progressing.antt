@@ -67,12 +67,17 @@ moment_noted m p = record p {
   stops = p.stops || m.stops;
 }
 
+-- the moment at which the next cycle is due: `every` milliseconds after `began`, the moment that counts as the beginning of the
+-- last one. It isn't that of the first cycle, which is due at once
+abbrev pub due_at : Plan → Progress → ℕ
+due_at plan p = later p.began plan.every
+
 -- the moment that counts as the beginning of a cycle that is begun at the moment `m`. For the first cycle, and where cycles
 -- have no due moment, it is `m`; for any other cycle the moment at which it was due, or `m` if that is earlier
 abbrev pub cycle_start : Plan → Moment → Progress → ℕ
 cycle_start plan m p =
     if nat_eq p.left plan.cycles || nat_eq plan.every 0 then m.elapsed
-    else min (later p.began plan.every) m.elapsed
+    else min (due_at plan p) m.elapsed
 
 -- how late a cycle begins that is begun at the moment `m`: how long before `m` it counts as begun (`cycle_start`)
 abbrev pub lateness : Plan → Moment → Progress → ℕ
@@ -153,12 +158,16 @@ phase_again plan count why p =
     else if is_spared plan why p || nat_lt 0 p.tries then phase.Pausing
     else phase.Over why
 
--- the length of the next pause, in milliseconds: twice the last pause, up to a minute, or the last pause itself where no try is
+-- the pause `time`, in milliseconds, cut to a minute, and then raised to the quiet time
+abbrev pub pause_within : (quiet time : ℕ) → ℕ
+pause_within quiet time = max (min time 60000) quiet
+
+-- the length of the next pause, in milliseconds: twice the last pause, up to a minute, or the last pause itself if no try is
 -- taken (`is_spared`); but never below the quiet time. So it is the quiet time if the last pause counts as 0 (`pause`)
 abbrev pub pause_again : Plan → Cause → Progress → ℕ
 pause_again plan why p =
     if is_spared plan why p then max p.pause plan.quiet
-    else max (min (later p.pause p.pause) 60000) plan.quiet
+    else pause_within plan.quiet (later p.pause p.pause)
 
 -- the number of the next attempt of the setup: one more than the last one's, if something of that was sent; else the same
 abbrev pub next_attempt : Progress → ℕ

@@ -1,6 +1,6 @@
 -- What the quality of an answer says of its line, this project's own: fine with both codes 0, a warning with a return code that
 -- the text accepts of that command, and else refused.
-use Rattle.std.specs.Prelude.{◌≡◌, ℕ, true, false, List, drop, Option, Some, None}
+use Rattle.std.specs.Prelude.{◌≡◌, ℕ, true, false, List, Option, Some, None}
 use Rattle.gc_catalogue.specs.declared.answer.Answer.{Answer}
 use Rattle.gc_catalogue.specs.declared.answer.Reading.{Reading}
 use Rattle.gc_catalogue.specs.declared.answer.Reading.TheVariants as reading
@@ -13,7 +13,7 @@ use Rattle.gc_texts.specs.declared.codes.Codes.{Codes}
 use Rattle.gc_texts.specs.declared.quality.Quality.{Quality}
 use Rattle.gc_texts.specs.declared.quality.Quality.TheVariants.{Fine, Warning, Refused}
 use Rattle.gc_texts.specs.declared.tasks.Task.{Task}
-use Rattle.gc_station.specs.NextCommand.{expected_first}
+use Rattle.gc_station.specs.NextCommand.{expected_at}
 use Rattle.gc_station.specs.Records.{Record}
 use Rattle.gc_station.specs.Runs.{OfAnyRecord}
 use Rattle.gc_station.specs.Scopes.{Reads}
@@ -30,19 +30,19 @@ IsRefusedReading accepted (reading.Refused code) = lists_code accepted code ≡ 
 IsRefusedReading accepted (reading.ComFault code) = Unit {0}
 IsRefusedReading accepted (reading.Unreadable fault) = ⊥
 
--- what `line`, the reply to `call`, says if its answer is of this quality, and which values its record has (`said`). `Fine`: the
--- line says an answer, and the record has it. `Warning`: the line says a refusal with a code of `accepted`; the record has the
--- answer, if any, that the line would say with return code 0. `Refused`: the line says any other refusal or a fault of
--- communication, and the record has no answer
+-- what `line`, the reply to `call`, says if its answer is of this quality, and which values its record has (`said`)
 abbrev pub IsOfQuality : Reads → (accepted : Codes) → Asked → Quality → (said : Option Answer) (line : List ℕ) → Type 0
+-- the line says an answer, and the record has it
 IsOfQuality reads accepted call Fine said line = (answer : Answer) × (said ≡ Some answer) × (reads call line ≡ reading.Value answer)
+-- the line says a refusal with a code of `accepted`, and the record has the answer, if any, that it would say with return code 0
 IsOfQuality reads accepted call Warning said line =
     (code : ℕ) × (reads call line ≡ reading.Refused code) × (lists_code accepted code ≡ true) × (said ≡ answer_in (reads call (as_zero line)))
+-- the line says any other refusal or a fault of communication, and the record has no answer
 IsOfQuality reads accepted call Refused said line = (said ≡ None) × IsRefusedReading accepted (reads call line)
 
 -- the return codes that are accepted of the command at `place` in the list `commands`
 abbrev pub accepted_at : List Task → (place : ℕ) → Codes
-accepted_at commands place = (expected_first (drop place commands)).accepted
+accepted_at commands place = (expected_at commands place).accepted
 
 -- the record `r` is an answer of a good quality: with both codes 0 and values that read, or with a return code that is accepted
 -- of its command. `line` is its reply, and `said` the values that it has; the line says them, with that quality (`says`)

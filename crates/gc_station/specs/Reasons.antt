@@ -53,8 +53,8 @@ WaitsForWhatIsInFlight plan p w =
     (AwaitsSettlements plan p w × (0 < w.commands) × (0 < w.current))
     ⊎ (((WINDOW ≤ p.behind) × (0 < w.current)) ⊎ ((p.stops ≡ true) × IsBetweenChains p × (0 < w.current)))
 
--- no command may be sent: the station hasn't synchronized; or there is no room for a request (`HasRoomToAsk`); or the station waits
--- for what is in flight
+-- no command may be sent: the station hasn't synchronized; or there is no room for a request (`HasRoomToAsk`); or the station
+-- waits for what is in flight
 abbrev pub NothingMayGo : Plan → Progress → Waiting → Type 0
 NothingMayGo plan p w =
     (has_begun p ≡ false) ⊎ ((width_of plan ≤ w.current) ⊎ ((WINDOW ≤ w.all) ⊎ WaitsForWhatIsInFlight plan p w))

@@ -1,7 +1,7 @@
 -- Chains that are sent again, this project's own: a further attempt of a chain is sent only if a command of the attempt before
 -- ended as its rule names, and it is left out only if none did, or its cycle is missed. An act is one call on the link, with its
 -- result.
-use Rattle.std.specs.Prelude.{◌≡◌, ◌⊎◌, ℕ, ◌<◌, Bool, true, if◌then◌else◌, nat_eq, List, ◌∷◌, ◌++◌, drop, Option, None}
+use Rattle.std.specs.Prelude.{◌≡◌, ◌⊎◌, ℕ, ◌<◌, Bool, true, if◌then◌else◌, nat_eq, List, ◌∷◌, ◌++◌, Option, None}
 use Rattle.std.specs.List.{AllByRecursion}
 use Rattle.gc_catalogue.specs.declared.asked.Asked.{Asked}
 use Rattle.gc_texts.specs.Again.{repeats_after}
@@ -11,7 +11,7 @@ use Rattle.gc_texts.specs.declared.tasks.Task.{Task}
 use Rattle.gc_station.specs.Attempts.{code_in}
 use Rattle.gc_station.specs.Marks.{commands_in}
 use Rattle.gc_station.specs.Model.{Model}
-use Rattle.gc_station.specs.NextCommand.{place_next, commands_left, expected_first, expected_of_setup, first_is_chained, others_in}
+use Rattle.gc_station.specs.NextCommand.{place_next, commands_left, expected_at, expected_of_setup, first_is_chained, others_in}
 use Rattle.gc_station.specs.Records.{Record}
 use Rattle.gc_station.specs.Runs.{state_after, WhereNext, OfAnyRecord}
 use Rattle.gc_station.specs.Scopes.{Reads}
@@ -22,7 +22,7 @@ use Rattle.gc_station.specs.declared.progress.Action.TheVariants.{Send, Pass}
 -- setup, which has cycle 0, as it is in the attempt `attempt` of the setup (`expected_of_setup`)
 abbrev pub expected_of : List Task → (cycle attempt place : ℕ) → Expected
 expected_of commands cycle attempt place =
-    if nat_eq cycle 0 then expected_of_setup attempt (expected_first (drop place commands)) else expected_first (drop place commands)
+    if nat_eq cycle 0 then expected_of_setup attempt (expected_at commands place) else expected_at commands place
 
 -- the return code other than 0 of the reply to `call`, if the command ended as answered and the reply has one, with
 -- communication code 0

@@ -38,5 +38,5 @@ abbrev pub ForEachReadings : (Reads → Type 0) → Type 0
 ForEachReadings Holds = (reads : Reads) → AreReadings reads → Holds reads
 
 -- `Holds` is true of every function that gives each line's reading for a call, and there is such a function
-abbrev pub ForReadings : (Reads → Type 0) → Type 0
-ForReadings Holds = ForEachReadings Holds × ((reads : Reads) × AreReadings reads × Holds reads)
+abbrev pub ForEachAndSomeReadings : (Reads → Type 0) → Type 0
+ForEachAndSomeReadings Holds = ForEachReadings Holds × ((reads : Reads) × AreReadings reads × Holds reads)

@@ -24,11 +24,12 @@ use Rattle.gc_links.specs.declared.link.Moment.{Moment}
 use Rattle.gc_station.specs.Deciding.{has_begun}
 use Rattle.gc_station.specs.Marks.{commands_in, last_well}
 use Rattle.gc_station.specs.NextCommand.{upcoming_after}
+use Rattle.gc_station.specs.Runs.{RunSeen}
 use Rattle.gc_station.specs.Scopes.{AreReadings}
 use Rattle.gc_station.specs.Progressing.{failing, moment_noted, advanced, early_noted}
 use Rattle.gc_station.specs.Records.{Record, texts_of, WritesPart}
 use Rattle.gc_station.specs.Model.{Model, Performs, moved, stepped, waiting_by, lines_taken, sent_to, unsent_record, listed_unsent}
-use Rattle.gc_station.specs.Tallies.{nothing_yet, tallied}
+use Rattle.gc_station.specs.Tallies.{empty_counts, tallied}
 use Rattle.gc_station.specs.Writing.{recorded_unsent}
 
 -- what a decision looks at besides the progress, of a station
@@ -58,7 +59,7 @@ pub record Refines (station : Station) (s : Model) : Type 0 where
   -- the assembler stores the model's bytes since the last line feed
   pub assembles : StandsFor station.assembler s.rest
   -- the tally counts the model's records
-  pub tally : AreReadings s.reads → station.recorded.tally ≡ tallied nothing_yet s.records
+  pub tally : AreReadings s.reads → station.recorded.tally ≡ tallied empty_counts s.records
   -- whether the last of the model's records is of a command that was answered well; false if there is none
   pub well : AreReadings s.reads → station.recorded.well ≡ last_well false s.records
   -- whether a recorded command of the current attempt ended as its rule names: as the model says
@@ -76,67 +77,66 @@ Took text start taken s = AreReadings s.reads → Appends start taken (texts_of 
 abbrev pub TookPart : (Record → List ℕ) → (before : List Record) → (start taken : Option (List ℕ)) → Model → Type 0
 TookPart text before start taken s = AreReadings s.reads → WritesPart text before s.records start taken
 
--- what contracts see of a run at a moment
-pub record Seen : Type 0 where
-  -- the acts that the link has recorded, if they are known
-  pub acts : Option (List Act)
-  -- the bytes of a record, as the book writes them
-  pub text : Record → List ℕ
-  -- the bytes that the book has taken, if they are known
-  pub taken : Option (List ℕ)
-  -- the station
+-- what contracts see of a station at a moment of its run
+pub record StationSeen : Type 0 where
+  -- the link and the book
+  pub run : RunSeen
+  -- the station itself
   pub station : Station
 
--- what is seen of a run, from its four parts
-abbrev pub as_seen : Option (List Act) → (Record → List ℕ) → Option (List ℕ) → Station → Seen
-as_seen acts text taken station = record { acts = acts; text = text; taken = taken; station = station }
+-- what is seen of this station, if its link has recorded these acts, and its book writes each record by `text` and has taken
+-- these bytes
+abbrev pub as_seen : (acts : Option (List Act)) (text : Record → List ℕ) (taken : Option (List ℕ)) → Station → StationSeen
+as_seen acts text taken station = record { run = record { acts = acts; text = text; taken = taken }; station = station }
 
 -- between `old` and `new` the link recorded one act, and it performs `action`. If the model `s` describes the station before
 -- it, and the book had taken the records of `s`, then `next s act` describes the station after it, and the book has taken the
 -- records of that model
-pub record Makes (commands : List Task) (action : Action) (next : Model → Act → Model) (old new : Seen) : Type 0 where
+pub record Makes (commands : List Task) (action : Action) (next : Model → Act → Model) (old new : StationSeen) : Type 0 where
   pub act : Act
-  pub tells : AddsActs old.acts new.acts (act ∷ [])
-  pub goes : (s : Model) (start : Option (List ℕ)) → Refines old.station s → Took old.text start old.taken s
-      → Performs commands s action act × Refines new.station (next s act) × Took new.text start new.taken (next s act)
+  pub tells : AddsActs old.run.acts new.run.acts (act ∷ [])
+  pub goes : (s : Model) (start : Option (List ℕ)) → Refines old.station s → Took old.run.text start old.run.taken s
+      → Performs commands s action act × Refines new.station (next s act) × Took new.run.text start new.run.taken (next s act)
 
 -- the link recorded one act after those of `old`, up to `told`, and it performs `action`. If the model `s` describes the
 -- station before it, and the book had taken the records of `s`, the book has taken `taken` by now: it failed at one of the
 -- records that the model `next s act` has beyond those of `s`
-pub record Breaks (commands : List Task) (action : Action) (next : Model → Act → Model) (old : Seen) (told : Option (List Act))
+pub record Breaks (commands : List Task) (action : Action) (next : Model → Act → Model) (old : StationSeen) (told : Option (List Act))
     (taken : Option (List ℕ)) : Type 0 where
   pub act : Act
-  pub tells : AddsActs old.acts told (act ∷ [])
-  pub goes : (s : Model) (start : Option (List ℕ)) → Refines old.station s → Took old.text start old.taken s
-      → Performs commands s action act × TookPart old.text s.records start taken (next s act)
+  pub tells : AddsActs old.run.acts told (act ∷ [])
+  pub goes : (s : Model) (start : Option (List ℕ)) → Refines old.station s → Took old.run.text start old.run.taken s
+      → Performs commands s action act × TookPart old.run.text s.records start taken (next s act)
 
 -- the link recorded one act that performs `action`. If the result is `Ok`, the model changed by `next`, and the book has the
 -- new records (`Makes`); if it is `Err`, the book failed at one of them (`Breaks`)
-abbrev pub Made : {X E : Type 0} → List Task → Action → (next : Model → Act → Model) → (old new : Seen) → Result X E → Type 0
-Made commands action next old new (Ok _) = Makes commands action next old new
-Made commands action next old new (Err _) = Breaks commands action next old new.acts new.taken
+abbrev pub MakesOrBreaks : {X E : Type 0} → List Task → Action → (next : Model → Act → Model) → (old new : StationSeen) → Result X E → Type 0
+MakesOrBreaks commands action next old new (Ok _) = Makes commands action next old new
+MakesOrBreaks commands action next old new (Err _) = Breaks commands action next old new.run.acts new.run.taken
 
--- the station made an act that performs `action`, and its model changed as `moved` says
-abbrev pub Does : Plan → List Task → Action → (old new : Seen) → Type 0
-Does plan commands action old new = Makes commands action (moved plan commands action) old new
+-- from `old` to `new` a station made an act that performs `action`, its model changed as `moved` says, and the book took the new
+-- records whole (`Makes`)
+abbrev pub MakesMove : Plan → List Task → Action → (old new : StationSeen) → Type 0
+MakesMove plan commands action old new = Makes commands action (moved plan commands action) old new
 
--- the station `old`, which became `new`, made an act that performs `action` (`Does`), whatever a book is like and has taken.
+-- the station `old`, which became `new`, made an act that performs `action` (`MakesMove`), whatever a book is like and has taken.
 -- `told` and `told'` are what the link had recorded before the act and after it
-abbrev pub DoesAlone : Plan → List Task → Action → (told told' : Option (List Act)) → (old new : Station) → Type 0
-DoesAlone plan commands action told told' old new =
-    (text : Record → List ℕ) (known : Option (List ℕ)) → Does plan commands action (as_seen told text known old) (as_seen told' text known new)
+abbrev pub MakesMoveAlone : Plan → List Task → Action → (told told' : Option (List Act)) → (old new : Station) → Type 0
+MakesMoveAlone plan commands action told told' old new =
+    (text : Record → List ℕ) (known : Option (List ℕ)) → MakesMove plan commands action (as_seen told text known old) (as_seen told' text known new)
 
--- from `old` to `new` a station made an act that performs `action` (`Made`), and its model changed as `moved` says
-abbrev pub Moves : {X E : Type 0} → Plan → List Task → Action → (old new : Seen) → Result X E → Type 0
-Moves plan commands action old new result = Made commands action (moved plan commands action) old new result
+-- from `old` to `new` a station made an act as `MakesMove` says if this result is `Ok`; if it is `Err`, the book failed at one of
+-- the records that `moved` adds (`Breaks`)
+abbrev pub Moves : {X E : Type 0} → Plan → List Task → Action → (old new : StationSeen) → Result X E → Type 0
+Moves plan commands action old new result = MakesOrBreaks commands action (moved plan commands action) old new result
 
 -- from `old` to `new` a station made a read that ends as `until` says (`Moves`), whatever its commands are
-abbrev pub MovesByReading : {X E : Type 0} → Plan → Until → (old new : Seen) → Result X E → Type 0
+abbrev pub MovesByReading : {X E : Type 0} → Plan → Until → (old new : StationSeen) → Result X E → Type 0
 MovesByReading plan until old new result = (commands : List Task) → Moves plan commands (Read until) old new result
 
--- from `old` to `new` a station took a turn with an act that performs `action` (`Made`), and its model changed as `stepped` says
-abbrev pub Steps : {X E : Type 0} → Plan → List Task → Action → (old new : Seen) → Result X E → Type 0
-Steps plan commands action old new result = Made commands action (stepped plan commands action) old new result
+-- from `old` to `new` a station took a turn with an act that performs `action`: as `Moves`, with `stepped` in place of `moved`
+abbrev pub Steps : {X E : Type 0} → Plan → List Task → Action → (old new : StationSeen) → Result X E → Type 0
+Steps plan commands action old new result = MakesOrBreaks commands action (stepped plan commands action) old new result
 
 -- the progress after a write with this result: `p` itself or, if the write was cut after `n` bytes (`Err n`), failing for a
 -- cause that has `n` and the number `requests`

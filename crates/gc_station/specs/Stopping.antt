@@ -95,9 +95,8 @@ GoesOnInItsChain = OfEachRun (λ plan commands scope acts.
     asked_after false acts ≡ true
     → (action_at plan s ≡ Send → s.progress.next_is_chained ≡ true) × (action_at plan s ≡ Begin → ⊥) × (action_at plan s ≡ Prepare → ⊥))
 
--- after `acts`, which led to the model `s`, a run may stop because its end was asked for: that was asked for at a moment that was
--- read; there is no connection, or the station synchronizes, or it is between two chains, or two attempts of one, and nothing is
--- in flight that hasn't timed out (`IsResting`); and no command of an attempt that has begun is left that may be sent
+-- after `acts`, which led to the model `s`, a run may stop because its end was asked for: that was asked for at a moment that
+-- was read; the run may end where it is (`IsResting`); and no command of an attempt that has begun is left that may be sent
 abbrev pub MayStopAfter : List Act → Model → Type 0
 MayStopAfter acts s =
     (asked_after false acts ≡ true) × IsResting s.progress (waiting_of s)

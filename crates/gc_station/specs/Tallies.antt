@@ -8,8 +8,8 @@ use Rattle.gc_station.specs.declared.tally.Counts.{Counts}
 use Rattle.gc_station.specs.declared.tally.Tally.{Tally}
 
 -- the tally in which no command is counted
-abbrev pub none_yet : Tally
-none_yet = record { answered = 0; late = 0; lost = 0; skipped = 0; unreadable = 0; missed = 0; elsewhere = 0; again = 0 }
+abbrev pub empty_tally : Tally
+empty_tally = record { answered = 0; late = 0; lost = 0; skipped = 0; unreadable = 0; missed = 0; elsewhere = 0; again = 0 }
 
 -- `n`, or 2^64 - 1 if `n` is greater: a count of a tally holds no greater number
 abbrev pub capped : ℕ → ℕ
@@ -43,15 +43,15 @@ sum a b = record {
 }
 
 -- the counts in which no command is counted, of the chains that are over and of the current attempt
-abbrev pub nothing_yet : Counts
-nothing_yet = record { settled = none_yet; attempt = none_yet }
+abbrev pub empty_counts : Counts
+empty_counts = record { settled = empty_tally; attempt = empty_tally }
 
 -- the counts `c` once an attempt begins, in this turn. If it is a further attempt, the counts of the attempt before are
 -- discarded, and `again` counts one more; otherwise they are added to those of the chains that are over
 abbrev pub started : Turn → Counts → Counts
 started turn c =
-    if nat_lt 1 turn.attempt then record { settled = record c.settled { again = one_more c.settled.again }; attempt = none_yet }
-    else record { settled = sum c.settled c.attempt; attempt = none_yet }
+    if nat_lt 1 turn.attempt then record { settled = record c.settled { again = one_more c.settled.again }; attempt = empty_tally }
+    else record { settled = sum c.settled c.attempt; attempt = empty_tally }
 
 -- the counts `c` before a command with this turn is counted: an attempt begins (`started`) if the command is the first one of
 -- it
@@ -74,4 +74,4 @@ total c = sum c.settled c.attempt
 
 -- the tally of the commands of `records`
 abbrev pub tally_of : List Record → Tally
-tally_of records = total (tallied nothing_yet records)
+tally_of records = total (tallied empty_counts records)

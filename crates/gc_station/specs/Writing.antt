@@ -6,7 +6,7 @@ use Rattle.gc_client.specs.Settlements.{settlement_seen}
 use Rattle.gc_client.specs.declared.settlement.Settlement.{Settlement}
 use Rattle.gc_lines.specs.Ports.{FailsWith}
 use Rattle.gc_links.specs.declared.link.Moment.{Moment}
-use Rattle.gc_station.specs.Attempts.{listed_after, listed_by}
+use Rattle.gc_station.specs.Attempts.{listed_after, listed_after_settlements}
 use Rattle.gc_station.specs.Marks.{records_of, is_well, last_well, fresh_after}
 use Rattle.gc_station.specs.Records.{Record}
 use Rattle.gc_station.specs.Scopes.{ForEachReadings, Reads}
@@ -43,7 +43,7 @@ recorded_after now marks settlements reads r =
     record {
       tally = tallied r.tally news;
       well = last_well r.well news;
-      listed = listed_by reads r.listed marks settlements;
+      listed = listed_after_settlements reads r.listed marks settlements;
       fresh = fresh_after now.elapsed r.fresh news;
     }
 

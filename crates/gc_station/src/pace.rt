@@ -7,7 +7,8 @@ ghost use Rattle.std.specs.Option.{option_to_list};
 ghost use Rattle.std.specs.Io.KnownBytes.{Appends};
 ghost use Rattle.gc_client.specs.Rule.{IsEarliest, deadlines};
 ghost use Rattle.gc_station.specs.NextCommand.{cycles_begun};
-ghost use Rattle.gc_station.specs.Pace.{dead_at, due_at, retry_at, stale_at, longest_timeout, read_end_in, read_end_without_deadline, read_end, read_timeout, overrun};
+ghost use Rattle.gc_station.specs.Pace.{dead_at, retry_at, stale_at, longest_timeout, read_end_in, read_end_without_deadline, read_end, read_timeout, overrun};
+ghost use Rattle.gc_station.specs.Progressing.{due_at};
 
 use crate::book::{Book, LinkHealth};
 use crate::plan::Plan;

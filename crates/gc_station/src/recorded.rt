@@ -1,7 +1,7 @@
 //! What a station keeps of the records that it wrote.
 
 ghost use Rattle.std.specs.Prelude.{◌≡◌, false};
-ghost use Rattle.gc_station.specs.Tallies.{nothing_yet};
+ghost use Rattle.gc_station.specs.Tallies.{empty_counts};
 ghost use Rattle.gc_station.specs.Writing.{noted};
 ghost use Rattle.gc_texts.specs.Endings.{ending_seen};
 
@@ -29,7 +29,7 @@ pub(crate) struct Recorded {
 impl Recorded {
     // Nothing was recorded yet.
     pub(crate) fn new() -> Recorded
-        ensures { result ≡ record { tally = nothing_yet; well = false; listed = false; fresh = 0 } }
+        ensures { result ≡ record { tally = empty_counts; well = false; listed = false; fresh = 0 } }
     {
         Recorded {
             tally: Counts::new(),

@@ -3,7 +3,7 @@
 ghost use Rattle.std.specs.Prelude.{◌≡◌, true, OnOk};
 ghost use Rattle.gc_station.specs.Keeping.{KeepsUpBy, close_if_failed, close_at_output};
 ghost use Rattle.gc_station.specs.Runs.{EndsBy, RanBy, FailsAtOutput, LastUnlessFailed, run_seen};
-ghost use Rattle.gc_station.specs.Scopes.{ForEachReadings, ForReadings};
+ghost use Rattle.gc_station.specs.Scopes.{ForEachReadings, ForEachAndSomeReadings};
 ghost use Rattle.gc_station.specs.Writing.{KeepsBook};
 
 use crate::book::Book;
@@ -120,12 +120,12 @@ pub fn run_station<L: Link, B: Book>(
 ) -> Result<Tally, RunFault>
     // What the link recorded, what the book took and how the run ended are as the model has them, for whatever function says
     // what each reply says of its call; and there is such a function.
-    ensures ran { ForReadings (RanBy plan.now commands.now max_turns
+    ensures ran { ForEachAndSomeReadings (RanBy plan.now commands.now max_turns
         (run_seen (L.acts link.old) B.Book book.old) (run_seen (L.acts link.new) B.Book book.new) result) }
 
     // At each act what the acts before it settled is in the book, and lasts. If the book failed one act is made all the same:
     // the connection is closed.
-    ensures keeps { ForReadings (KeepsUpBy plan.now commands.now max_turns
+    ensures keeps { ForEachAndSomeReadings (KeepsUpBy plan.now commands.now max_turns
         (run_seen (L.acts link.old) B.Book book.old) (run_seen (L.acts link.new) B.Book book.new)
         kept.old.turns kept.new.turns (close_at_output result)) }
 

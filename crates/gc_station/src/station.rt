@@ -9,7 +9,7 @@ ghost use Rattle.gc_station.specs.Scopes.{AreReadings, scoped, Reads};
 ghost use Rattle.gc_station.specs.Records.{WritesNews};
 ghost use Rattle.gc_station.specs.Model.{Model, opening, action_at, with_losses};
 ghost use Rattle.gc_station.specs.NextCommand.{place_next, expected_first, mark_next, commands_before, first_is_chained, others_in, is_chained_after, others_after, upcoming_after, mark_setup};
-ghost use Rattle.gc_station.specs.Stations.{waiting_of_station, CanPerform, Refines, DoesAlone, Moves, Steps, as_seen, OnCall, KeepsToModel, DropsMarks, SuitsAction, ReadsMoment, station_expiring};
+ghost use Rattle.gc_station.specs.Stations.{waiting_of_station, CanPerform, Refines, MakesMoveAlone, Moves, Steps, as_seen, OnCall, KeepsToModel, DropsMarks, SuitsAction, ReadsMoment, station_expiring};
 ghost use Rattle.gc_station.specs.Writing.{KeepsBook, news_settled, NotesSettled};
 ghost use Rattle.gc_station.specs.declared.progress.Action.TheVariants.{ReadClock, Renew, Begin, Open, Close};
 ghost use Rattle.gc_texts.specs.declared.tasks.Task.{Task};
@@ -241,7 +241,7 @@ impl Station {
 
     // Reads the clock (`read_moment`), and notes the moment, and whether the cycle was done early.
     fn read_clock<L: Link>(&mut self, link: &mut L, plan: &Plan)
-        ensures { (commands : List Task) → DoesAlone plan.now commands ReadClock (L.acts link.old) (L.acts link.new) self.old self.new }
+        ensures { (commands : List Task) → MakesMoveAlone plan.now commands ReadClock (L.acts link.old) (L.acts link.new) self.old self.new }
     {
         if let Some(moment) = self.read_moment(link) {
             let commands = self.commands_waiting();
@@ -254,7 +254,7 @@ impl Station {
     // counts as outstanding where it notes whether the cycle was done early. If the clock can't be read, the station doesn't
     // resynchronize.
     fn renew<L: Link>(&mut self, link: &mut L, plan: &Plan)
-        ensures { (commands : List Task) → DoesAlone plan.now commands Renew (L.acts link.old) (L.acts link.new) self.old self.new }
+        ensures { (commands : List Task) → MakesMoveAlone plan.now commands Renew (L.acts link.old) (L.acts link.new) self.old self.new }
     {
         if let Some(moment) = self.read_moment(link) {
             self.progress.resynchronize(plan, moment);
@@ -265,7 +265,7 @@ impl Station {
     // Reads the clock (`read_moment`), and begins a cycle of the commands after the setup. If the clock can't be read, no cycle
     // begins.
     fn begin<L: Link>(&mut self, link: &mut L, plan: &Plan, commands: &[Task])
-        ensures { DoesAlone plan.now commands.now Begin (L.acts link.old) (L.acts link.new) self.old self.new }
+        ensures { MakesMoveAlone plan.now commands.now Begin (L.acts link.old) (L.acts link.new) self.old self.new }
     {
         if let Some(moment) = self.read_moment(link) {
             let count = commands.len().saturating_sub(plan.setup);
@@ -275,7 +275,7 @@ impl Station {
 
     // Makes a connection, or notes that none could be made: then the station pauses, or the run is over, as `note_unconnected` says.
     fn open<L: Link>(&mut self, link: &mut L, plan: &Plan)
-        ensures { (commands : List Task) → DoesAlone plan.now commands Open (L.acts link.old) (L.acts link.new) self.old self.new }
+        ensures { (commands : List Task) → MakesMoveAlone plan.now commands Open (L.acts link.old) (L.acts link.new) self.old self.new }
     {
         let commands = self.commands_waiting();
         match link.open() {
@@ -306,7 +306,7 @@ impl Station {
     // Closes the connection, if there is one, and discards half a line that came on it. Outstanding requests stay outstanding on the
     // next connection; if the run is over, `record_lost` then records them as lost.
     fn close<L: Link>(&mut self, link: &mut L, plan: &Plan, cause: Cause)
-        ensures { (commands : List Task) → DoesAlone plan.now commands (Close cause) (L.acts link.old) (L.acts link.new) self.old self.new }
+        ensures { (commands : List Task) → MakesMoveAlone plan.now commands (Close cause) (L.acts link.old) (L.acts link.new) self.old self.new }
     {
         link.close();
         let waiting = self.waiting();

@@ -1,7 +1,7 @@
 //! A tally: how many commands ended how, and how many chains were sent again.
 
 ghost use Rattle.std.specs.Prelude.{◌≡◌};
-ghost use Rattle.gc_station.specs.Tallies.{none_yet, counted, sum, nothing_yet, started, turned_to, counted_in, total};
+ghost use Rattle.gc_station.specs.Tallies.{empty_tally, counted, sum, empty_counts, started, turned_to, counted_in, total};
 ghost use Rattle.gc_texts.specs.Endings.{ending_seen};
 
 use gc_texts::{Ending, Turn};
@@ -31,7 +31,7 @@ pub struct Tally {
 impl Tally {
     /// No command ended yet.
     pub fn new() -> Tally
-        ensures { result ≡ none_yet }
+        ensures { result ≡ empty_tally }
     {
         Tally {
             answered: 0,
@@ -89,7 +89,7 @@ pub(crate) struct Counts {
 impl Counts {
     // No command ended yet.
     pub(crate) fn new() -> Counts
-        ensures { result ≡ nothing_yet }
+        ensures { result ≡ empty_counts }
     {
         Counts {
             settled: Tally::new(),

@@ -2,7 +2,7 @@
 
 ghost use Rattle.std.specs.Prelude.{Some};
 ghost use Rattle.gc_station.specs.Runs.{RanBy, run_seen};
-ghost use Rattle.gc_station.specs.Scopes.{ForReadings};
+ghost use Rattle.gc_station.specs.Scopes.{ForEachAndSomeReadings};
 
 use gc_links::{Link, Telling};
 use gc_station::{Book, Kept, Plan, Tally, run_station};
@@ -17,7 +17,7 @@ pub fn run_telling<L: Link, B: Book>(
     plan: &Plan,
     max_turns: u64,
 ) -> Result<Tally, RunFault>
-    ensures { ForReadings (RanBy plan.now commands.now max_turns
+    ensures { ForEachAndSomeReadings (RanBy plan.now commands.now max_turns
         (run_seen (Some link.old.history.acts) B.Book book.old) (run_seen (Some link.new.history.acts) B.Book book.new) result) }
 {
     run_station(link, book, commands, plan, max_turns, &mut Kept::new())

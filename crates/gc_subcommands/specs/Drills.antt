@@ -19,8 +19,8 @@ RefusesWidth seen = Refuses range_line seen.status seen.told_before seen.told ×
 
 -- the width was refused, or the bytes that a source gave were played as a schedule or refused (`IsDrill`), and the status and the messages
 -- tell how that ended (`TellsEnd`)
-abbrev pub TellsWithin : (text_of : List Event → (totals : Bool) → List ℕ) → (totals : Bool) → EndSeen → Type 0
-TellsWithin text_of totals seen =
+abbrev pub TellsDrillWithin : (text_of : List Event → (totals : Bool) → List ℕ) → (totals : Bool) → EndSeen → Type 0
+TellsDrillWithin text_of totals seen =
     RefusesWidth seen ⊎ TellsEnd run_fault_text (IsDrill text_of totals seen.old seen.new) seen
 
 -- `Holds` is true of what is written of events (`text_of`) that are played on the instrument of the scene (`HoldsOfInstrument`)
@@ -32,16 +32,16 @@ HoldsOfText drilling Holds =
 -- the scene or the width was refused, or the schedule was played on the instrument of the scene, and how that ended is reported
 abbrev pub TellsDrill : Drilling → EndSeen → Type 0
 TellsDrill drilling seen =
-    RefusesScene drilling.scene seen ⊎ HoldsOfText drilling (λ text_of. TellsWithin text_of drilling.totals seen)
+    RefusesScene drilling.scene seen ⊎ HoldsOfText drilling (λ text_of. TellsDrillWithin text_of drilling.totals seen)
 
 -- a source gave a schedule, and the sink took the output of its events
-abbrev pub PlaysWhole : (text_of : List Event → (totals : Bool) → List ℕ) → (totals : Bool) → (old new : Ports) → Type 0
-PlaysWhole text_of totals old new =
+abbrev pub PlaysSource : (text_of : List Event → (totals : Bool) → List ℕ) → (totals : Bool) → (old new : Ports) → Type 0
+PlaysSource text_of totals old new =
     (given : List ℕ) × Consumes old.remaining new.remaining given × PlaysAll text_of given totals old.taken new.taken
 
 -- a source gave a schedule, and the sink took the output of its events on the instrument of the scene
 abbrev pub PlaysScene : Drilling → (old new : Ports) → Type 0
-PlaysScene drilling old new = HoldsOfText drilling (λ text_of. PlaysWhole text_of drilling.totals old new)
+PlaysScene drilling old new = HoldsOfText drilling (λ text_of. PlaysSource text_of drilling.totals old new)
 
 -- the source was read to its end (`IsReadToEnd`)
 abbrev pub ReadsWholeSource : (old new : Ports) → Type 0

@@ -2,7 +2,7 @@
 
 ghost use Rattle.std.specs.Prelude.{◌≡◌, ◌≤◌, IfOk};
 ghost use Rattle.std.specs.Process.{exit_status};
-ghost use Rattle.gc_subcommands.specs.Drills.{TellsWithin, TellsDrill, PlaysScene, ReadsWholeSource};
+ghost use Rattle.gc_subcommands.specs.Drills.{TellsDrillWithin, TellsDrill, PlaysScene, ReadsWholeSource};
 ghost use Rattle.gc_subcommands.specs.Refusing.{end_seen};
 ghost use Rattle.gc_lines.specs.Answering.{ports_of};
 ghost use Rattle.gc_messages.specs.Statuses.{IsStatusUpTo};
@@ -121,7 +121,7 @@ fn drill_within<I: Playable, S: Source, K: Sink, E: Write>(
     sink: &mut K,
     messages: &mut E,
 ) -> io::Result<ExitCode>
-    ensures told { IfOk result (λ status. TellsWithin (I.text instrument drilling.entry.width) drilling.entry.totals (end_seen
+    ensures told { IfOk result (λ status. TellsDrillWithin (I.text instrument drilling.entry.width) drilling.entry.totals (end_seen
         (ports_of S.Source source.old K.Sink sink.old)
         (ports_of S.Source source.new K.Sink sink.new)
         (exit_status status) (E.contents messages.old) (E.contents messages.new))) }

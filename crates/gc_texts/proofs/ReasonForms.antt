@@ -131,11 +131,6 @@ rule_of_one_more : (again : Again) (count : ℕ) (read : List Reason) (r : Reaso
 rule_of_one_more again count [] r = refl
 rule_of_one_more again count (x ∷ read) r = rule_of_one_more (again_with again count x) (count_with count x) read r
 
--- words and one more have as many codes as the words, and one code more if the last is a code
-codes_of_one_more : (count : ℕ) (read : List Reason) (r : Reason) → count_with_words count (read ++ r ∷ []) ≡ count_with (count_with_words count read) r
-codes_of_one_more count [] r = refl
-codes_of_one_more count (x ∷ read) r = codes_of_one_more (count_with count x) read r
-
 -- with one more word there are no fewer codes
 count_grows_by_word : (count : ℕ) (r : Reason) → count ≤ count_with count r
 count_grows_by_word count (reason.Code code) = omega arith
@@ -213,7 +208,7 @@ module _
         read = f.read ++ r ∷ [];
         reads = one_more_read IsReason reason_form text now word left rest f.read f.reads some cut r is;
         again_is = more ∙ ap (λ a. again_with a count r) f.again_is ∙ ap (λ n. again_with (again_with_words no_again 0 f.read) n r) f.count_is ∙ sym (rule_of_one_more no_again 0 f.read r);
-        count_is = counted ∙ ap (λ n. count_with n r) f.count_is ∙ sym (codes_of_one_more 0 f.read r);
+        count_is = counted ∙ ap (λ n. count_with n r) f.count_is ∙ sym (codes_of_all 0 f.read (r ∷ []));
         few = subst (λ n. n ≤ 16) (sym counted) (room_keeps_to_16 count r f.few (sym tested ∙ has));
       }
 

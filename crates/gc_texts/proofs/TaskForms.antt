@@ -10,7 +10,7 @@ use Rattle.gc_texts.specs.Names.{is_name}
 use Rattle.gc_texts.specs.Procedures.{IsNumber, IsTarget}
 use Rattle.gc_texts.specs.Troubles.{NoTarget}
 use Rattle.gc_texts.specs.Nears.{AreNearWords, IsNearText}
-use Rattle.gc_texts.specs.TaskLines.{IsDeadlineLine, IsNameLine, IsNearLine, SetsAccepted, AsksForWish, IsTaskLine}
+use Rattle.gc_texts.specs.TaskLines.{IsDeadlineLine, IsNameLine, IsNearLine, SetsAccepted, IsCommandLine, IsTaskLine}
 use Rattle.gc_texts.specs.Wishes.{AsksFor}
 use Rattle.gc_texts.specs.Words.{first_word, second_word, third_word, after_three_words}
 use Rattle.gc_texts.specs.declared.codes.Codes.{Codes}
@@ -187,7 +187,7 @@ accept_is_no_start line accepted (inr is) e = let second : ◌≡◌ {A = ℕ} 9
 
 -- a line asks for one thing at most, and not both with the moment at which it is sent and without it
 one_asked_for : (line : List ℕ) (v w : Wish) (m n : Bool)
-    → AsksForWish line v m → AsksForWish line w n → says.Command v m ≡ says.Command w n
+    → IsCommandLine line v m → IsCommandLine line w n → says.Command v m ≡ says.Command w n
 one_asked_for line v w true true x y = ap (λ u. says.Command u true) (one_clock line v w x y)
 one_asked_for line v w false false x y = ap (λ u. says.Command u false) (one_wish line v w x y)
 one_asked_for line v w true false x y = absurd (wish_is_no_clock line w v y x)

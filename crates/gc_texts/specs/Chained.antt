@@ -13,13 +13,17 @@ use Rattle.gc_texts.specs.declared.task_line.TaskLine.{TaskLine}
 use Rattle.gc_texts.specs.declared.task_line.TaskLine.TheVariants as says
 use Rattle.gc_texts.specs.declared.tasks.Task.{Task}
 
--- whether the commands after these lines are setup, as the last line `at start` or `each cycle` says, or as `setup` says where
--- there is none
+-- whether the commands after this line are setup, where `setup` says whether those before it are: `at start` and `each cycle` set that,
+-- and any other line leaves it as it is
+abbrev pub section_by : (setup : Bool) → TaskLine → Bool
+section_by setup says.AtStart = true
+section_by setup says.EachCycle = false
+section_by setup _ = setup
+
+-- whether the commands after these lines are setup, where `setup` says whether those before them are
 abbrev pub section_after : (setup : Bool) → List TaskLine → Bool
 section_after setup [] = setup
-section_after setup (says.AtStart ∷ later) = section_after true later
-section_after setup (says.EachCycle ∷ later) = section_after false later
-section_after setup (line ∷ later) = section_after setup later
+section_after setup (line ∷ later) = section_after (section_by setup line) later
 
 -- the commands among these lines, counted: one of the setup counts as `of_setup`, and one of each cycle as `of_cycle`. `setup` says
 -- whether the setup holds before the lines
@@ -27,9 +31,7 @@ abbrev pub commands_counted : (of_setup of_cycle : ℕ) (setup : Bool) → List 
 commands_counted of_setup of_cycle setup [] = 0
 commands_counted of_setup of_cycle setup (says.Command command now ∷ later) =
     (if setup then of_setup else of_cycle) + commands_counted of_setup of_cycle setup later
-commands_counted of_setup of_cycle setup (says.AtStart ∷ later) = commands_counted of_setup of_cycle true later
-commands_counted of_setup of_cycle setup (says.EachCycle ∷ later) = commands_counted of_setup of_cycle false later
-commands_counted of_setup of_cycle setup (line ∷ later) = commands_counted of_setup of_cycle setup later
+commands_counted of_setup of_cycle setup (line ∷ later) = commands_counted of_setup of_cycle (section_by setup line) later
 
 -- how many of these lines are commands of the setup; `setup` says whether the setup holds before them
 abbrev pub setup_commands : (setup : Bool) → List TaskLine → ℕ
@@ -119,10 +121,8 @@ pub record IsTaskOfSetUp (front : List TaskLine) (task : Task) : Type 0 where
   pub place : task.turn.place ≡ setup_commands false front
   pub chained : task.chained ≡ nat_lt 0 (setup_commands false front)
 
--- the task of a command that follows the lines `front`: it is of that command, in the first attempt of its chain, with the
--- deadline and the accepted codes that hold there, and is as a task of its section is (`IsTaskOfSetUp`, `IsTaskInCycle`).
--- `deadline` and `chained` hold where no line says otherwise; `now` says whether the command sets the clock to the moment at
--- which it is sent
+-- the task of a command that follows the lines `front`, in the first attempt of its chain, by what holds there. `deadline` and
+-- `chained` hold where no line says otherwise; `now` says whether the command sets the clock to the moment at which it is sent
 pub record IsTaskOf (deadline : ℕ) (chained : Bool) (front : List TaskLine) (command : Wish) (now : Bool) (task : Task) : Type 0 where
   pub asks : task.command ≡ command
   pub moment : task.now ≡ now

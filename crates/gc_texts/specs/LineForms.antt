@@ -92,8 +92,7 @@ TextFaultBy IsFirstFaulty ReachesASound text (Schedule n) = (length text ≤ TEX
 TextFaultBy IsFirstFaulty ReachesASound text Memory = (length text ≤ TEXT_LIMIT) × ReachesASound text
 TextFaultBy IsFirstFaulty ReachesASound text _ = ⊥
 
--- why the reading of a text gave no items: the text is too long; or it isn't, and either line n is its first faulty one, or memory was
--- refused at a line that has the form of an item and follows no faulty one
+-- why the reading of a text whose lines are to have this form gave no items (`TextFaultBy`)
 abbrev pub TextFault : {Item : Type 0} → ItemForm Item → List ℕ → RunFault → Type 0
 TextFault form text fault = TextFaultBy (FirstFaulty form) (ReachesASoundLine form) text fault
 

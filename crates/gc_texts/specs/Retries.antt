@@ -11,7 +11,7 @@ use Rattle.gc_texts.specs.declared.retry.Reason.{Reason}
 use Rattle.gc_texts.specs.declared.retry.Reason.TheVariants.{Code, Unreadable, Elsewhere, Late, Lost, Skipped}
 use Rattle.gc_texts.specs.declared.retry.Retry.{Retry}
 
--- the rule of a chain that isn't repeated
+-- the retry of a chain that isn't repeated
 abbrev pub no_retry : Retry
 no_retry = record { times = 0; again = no_again }
 

@@ -41,23 +41,43 @@ abbrev pub clock_text : (hours minutes seconds millis : ℕ) → List ℕ
 clock_text hours minutes seconds millis =
     two_digits hours ++ codes ":" ++ two_digits minutes ++ codes ":" ++ two_digits seconds ++ codes "." ++ three_digits millis
 
+-- the whole hours since midnight, by the milliseconds since then
+abbrev pub hours_at : ℕ → ℕ
+hours_at millis = millis / 3_600_000
+
+-- the whole minutes of the hour, by the milliseconds since midnight
+abbrev pub minutes_at : ℕ → ℕ
+minutes_at millis = millis / 60_000 % 60
+
+-- the whole seconds of the minute, by the milliseconds since midnight
+abbrev pub seconds_at : ℕ → ℕ
+seconds_at millis = millis / 1_000 % 60
+
 -- the text of the time of day that is `millis` milliseconds after midnight
 abbrev pub time_text : ℕ → List ℕ
-time_text millis = clock_text (millis / 3_600_000) (millis / 60_000 % 60) (millis / 1_000 % 60) (millis % 1_000)
+time_text millis = clock_text (hours_at millis) (minutes_at millis) (seconds_at millis) (millis % 1_000)
+
+-- the date at the moment this many milliseconds after the beginning of 1970
+abbrev pub date_at : ℕ → Date
+date_at utc = date_of (utc / 86_400_000)
+
+-- the milliseconds from midnight to the moment this many milliseconds after the beginning of 1970
+abbrev pub since_midnight : ℕ → ℕ
+since_midnight utc = utc % 86_400_000
 
 -- the moment this many milliseconds after the beginning of 1970, as 2026-11-22T23:08:27.123Z
 abbrev pub stamp_text : ℕ → List ℕ
-stamp_text utc = date_text (date_of (utc / 86_400_000)) ++ codes "T" ++ time_text (utc % 86_400_000) ++ codes "Z"
+stamp_text utc = date_text (date_at utc) ++ codes "T" ++ time_text (since_midnight utc) ++ codes "Z"
 
 -- the moment this many milliseconds after the beginning of 1970, cut to seconds, as a date and a time of day; the years from
 -- 32767 on are all given as 32767
 abbrev pub date_time : ℕ → DateTime
 date_time utc =
     record {
-      year = pos (min (date_of (utc / 86_400_000)).year 32767);
-      month = (date_of (utc / 86_400_000)).month;
-      day = (date_of (utc / 86_400_000)).day;
-      hour = utc % 86_400_000 / 3_600_000;
-      minute = utc % 86_400_000 / 60_000 % 60;
-      second = utc % 86_400_000 / 1_000 % 60;
+      year = pos (min (date_at utc).year 32767);
+      month = (date_at utc).month;
+      day = (date_at utc).day;
+      hour = hours_at (since_midnight utc);
+      minute = minutes_at (since_midnight utc);
+      second = seconds_at (since_midnight utc);
     }

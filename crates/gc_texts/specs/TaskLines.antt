@@ -59,15 +59,15 @@ pub record SetsClock (line : List ℕ) (wish : Wish) : Type 0 where
   pub rest_is : behind 32 line ≡ codes "5007 now"
   pub call_is : wish.call ≡ Table (SetDate FIRST_MOMENT)
 
--- a line asks for this wish; `now` says whether the wish sets the clock to the moment at which it is sent
-abbrev pub AsksForWish : (line : List ℕ) → Wish → (now : Bool) → Type 0
-AsksForWish line wish true = SetsClock line wish
-AsksForWish line wish false = IsWish line wish
+-- the line of a command with this wish; `now` says whether the wish sets the clock to the moment at which it is sent
+abbrev pub IsCommandLine : (line : List ℕ) → Wish → (now : Bool) → Type 0
+IsCommandLine line wish true = SetsClock line wish
+IsCommandLine line wish false = IsWish line wish
 
 -- what a line says: a command, a deadline, that commands are chained or that they aren't, a name, where a target is, which
 -- return codes are accepted, how often chains are repeated, or that the commands after it are setup or those of each cycle
 abbrev pub IsTaskLine : List ℕ → TaskLine → Type 0
-IsTaskLine line (says.Command wish now) = AsksForWish line wish now
+IsTaskLine line (says.Command wish now) = IsCommandLine line wish now
 IsTaskLine line (says.Deadline deadline) = IsDeadlineLine line deadline
 IsTaskLine line says.Chained = line ≡ codes "chained"
 IsTaskLine line says.Unchained = line ≡ codes "unchained"

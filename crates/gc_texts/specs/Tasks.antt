@@ -247,8 +247,7 @@ pub record ReachesASoundTaskLine (text : List ℕ) : Type 0 where
   pub form : IsTaskLine line said
   pub allowed : may_follow (names_of before) (nears_of before) said ≡ true
 
--- why the reading of a station's text gave no tasks: the text is too long; or it isn't, and either line n is its first faulty one, or
--- memory was refused at a line that has a form, isn't faulty and follows no faulty one
+-- why the reading of a station's text gave no tasks (`TextFaultBy`)
 abbrev pub TaskFault : List ℕ → RunFault → Type 0
 TaskFault text fault = TextFaultBy FirstFaultyTaskLine ReachesASoundTaskLine text fault
 

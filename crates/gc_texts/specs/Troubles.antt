@@ -112,15 +112,17 @@ IsSettingTrouble line trouble.Target =
     ⊎ ((first_word line ≡ codes "near") × NoTarget (second_word line))
 IsSettingTrouble line t = ⊥
 
--- a line that is taken for a command has this trouble; more than one may fit a line. `Now`: its second and third words are
--- `5007 now`. `NoForm`: the line is one word, with or without a space after it, or its number and its parameters make a call, or
--- may be asked for after the word `raw`, so that neither of these is at fault
+-- of a line that is taken for a command neither a procedure's number nor the parameters are at fault: the line is one word, with or
+-- without a space after it; or number and parameters make a call, or may be asked for after the word `raw`
+abbrev pub HasNoCallAtFault : List ℕ → Type 0
+HasNoCallAtFault line = (length (behind 32 line) ≡ 0) ⊎ (IsCommandTrouble line trouble.NoForm ⊎ IsRawCommandTrouble line trouble.NoForm)
+
+-- a line that is taken for a command has this trouble; more than one may fit a line
 abbrev pub IsAskingTrouble : List ℕ → Trouble → Type 0
 IsAskingTrouble line trouble.Now = (second_word line ≡ codes "5007") × (third_word line ≡ codes "now")
 IsAskingTrouble line trouble.Target = NoTarget (first_word line)
 IsAskingTrouble line trouble.Number = (IsRawLine line × NoRpc (third_word line)) ⊎ ((IsRawLine line → ⊥) × NoRpc (second_word line))
-IsAskingTrouble line trouble.NoForm =
-    (length (behind 32 line) ≡ 0) ⊎ (IsCommandTrouble line trouble.NoForm ⊎ IsRawCommandTrouble line trouble.NoForm)
+IsAskingTrouble line trouble.NoForm = HasNoCallAtFault line
 IsAskingTrouble line (trouble.RawInTable rpc) = IsRawCommandTrouble line (trouble.RawInTable rpc)
 IsAskingTrouble line trouble.RawParameters = IsRawCommandTrouble line trouble.RawParameters
 IsAskingTrouble line trouble.RawTooLong = IsRawCommandTrouble line trouble.RawTooLong

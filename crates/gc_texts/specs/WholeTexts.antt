@@ -28,16 +28,17 @@ input_of of_source source =
 abbrev pub source_of : Ports → Input
 source_of ports = record { remaining = ports.remaining; reads = ports.reads; ended = ports.ended; failed = ports.source_failed }
 
--- a source gave some bytes, with at most one read for each byte and one for its end, and `claim` holds of these bytes
-abbrev pub GaveBytes : (old new : Input) → (claim : List ℕ → Type 0) → Type 0
-GaveBytes old new claim =
-    (given : List ℕ) × Consumes old.remaining new.remaining given × (new.reads ≤ old.reads + length given + end_reads new.ended) × claim given
+-- a source gave these bytes with at most one read for each of them, and one for its end
+abbrev pub ReadsFew : (old new : Input) → List ℕ → Type 0
+ReadsFew old new given = new.reads ≤ old.reads + length given + end_reads new.ended
 
--- reading took a source from `old` to `new`, with at most one read for each byte and one for the end, and gave this text, which is within
--- the limit
+-- a source gave some bytes, with few reads (`ReadsFew`), and `claim` holds of these bytes
+abbrev pub GaveBytes : (old new : Input) → (claim : List ℕ → Type 0) → Type 0
+GaveBytes old new claim = (given : List ℕ) × Consumes old.remaining new.remaining given × ReadsFew old new given × claim given
+
+-- reading took a source from `old` to `new`, with few reads (`ReadsFew`), and gave this text, which is within the limit
 abbrev pub ReadsText : (old new : Input) → (text : List ℕ) → Type 0
-ReadsText old new text =
-    Consumes old.remaining new.remaining text × (length text ≤ TEXT_LIMIT) × (new.reads ≤ old.reads + length text + end_reads new.ended)
+ReadsText old new text = Consumes old.remaining new.remaining text × (length text ≤ TEXT_LIMIT) × ReadsFew old new text
 
 -- reading took a source from `old` to `new`, as `GaveBytes` says, and gave no text, for the reason that this fault says
 abbrev pub ReadsNoText : (old new : Input) → RunFault → Type 0

@@ -5,7 +5,7 @@ use Rattle.std.proofs.lemmas.Str.{IsAscii-append, IsUtf8-from_ascii}
 use Rattle.std.proofs.lemmas.Str.Ascii.{IsAscii-nil, IsAscii-cons, IsAscii-from_all}
 use Rattle.std.proofs.lemmas.List.Elements.{All-weaker, All-from_recursion}
 use Rattle.gc_values.specs.Digits.{IsDigit, AreDigits}
-use Rattle.gc_values.specs.Written.{minus_text, whole_text, behind_text, written}
+use Rattle.gc_values.specs.Written.{minus_text, whole_text, places_text, written}
 use Rattle.gc_values.proofs.WrittenSpells.{writes_whole, is_fraction_text}
 
 -- digits are ASCII
@@ -22,6 +22,6 @@ pub utf8_written : (m : ℤ) (s : ℕ) → IsUtf8 (written m s)
 utf8_written m s =
     let n = unsigned_abs m in
     IsUtf8-from_ascii (written m s)
-    (IsAscii-append (minus_text m) (whole_text (n / 10 ^ s) ++ (46 ∷ behind_text s (n % 10 ^ s))) (ascii_minus m)
-    (IsAscii-append (whole_text (n / 10 ^ s)) (46 ∷ behind_text s (n % 10 ^ s)) (ascii_digits (whole_text (n / 10 ^ s)) (writes_whole (n / 10 ^ s)).digits)
-    (IsAscii-cons 46 (behind_text s (n % 10 ^ s)) (lit< tt) (ascii_digits (behind_text s (n % 10 ^ s)) (is_fraction_text n s).digits))))
+    (IsAscii-append (minus_text m) (whole_text (n / 10 ^ s) ++ (46 ∷ places_text s (n % 10 ^ s))) (ascii_minus m)
+    (IsAscii-append (whole_text (n / 10 ^ s)) (46 ∷ places_text s (n % 10 ^ s)) (ascii_digits (whole_text (n / 10 ^ s)) (writes_whole (n / 10 ^ s)).digits)
+    (IsAscii-cons 46 (places_text s (n % 10 ^ s)) (lit< tt) (ascii_digits (places_text s (n % 10 ^ s)) (is_fraction_text n s).digits))))

@@ -14,7 +14,7 @@ use Rattle.gc_values.specs.Digits.{IsDigit, AreDigits, number}
 use Rattle.gc_values.specs.Fraction.{signed, IsCanonical}
 use Rattle.gc_values.specs.Spelling.{Spells}
 use Rattle.gc_values.specs.Whole.{NamesWhole, signed_text}
-use Rattle.gc_values.specs.Written.{digits_text, whole_text, last_digits, behind_text, written}
+use Rattle.gc_values.specs.Written.{digits_text, whole_text, last_digits, places_text, written}
 use Rattle.gc_values.specs.WrittenForm.{IsWholePart, IsFractionPart, HasWholeForm, HasDecimalForm, minus_where}
 use Rattle.gc_values.specs.declared.decimal.Decimal.{Decimal}
 use Rattle.gc_values.proofs.Every.{every_behind}
@@ -126,7 +126,7 @@ signed_text-signed true (suc n) some = refl
 -- a decimal whose digits are given as a sign and a magnitude, with no minus before zero, is written as the minus, where there is
 -- one, and the two parts
 pub written-signed : (negative : Bool) (a s : ℕ) → (negative ≡ true → 0 < a)
-    → written (signed negative a) s ≡ minus_where negative ++ (whole_text (a / 10 ^ s) ++ (46 ∷ behind_text s (a % 10 ^ s)))
+    → written (signed negative a) s ≡ minus_where negative ++ (whole_text (a / 10 ^ s) ++ (46 ∷ places_text s (a % 10 ^ s)))
 written-signed false a s some = refl
 written-signed true zero s some = let h = some refl in absurd (omega (arith, h))
 written-signed true (suc a) s some = refl
@@ -182,7 +182,7 @@ record IsWrittenText (text : List ℕ) : Type 0 where
 -- a text of a decimal's form is a written one (`IsWrittenText`) where a / 10^s has the text's digits before the point and after
 -- it, isn't 0 after a minus, needs all its places, and has at most 24
 is_written_text : (text : List ℕ) (f : HasDecimalForm text) (a s : ℕ) → (some : f.negative ≡ true → 0 < a) → (canonical : 0 < s → a % 10 ≢ 0)
-    → (places : s ≤ 24) → (front : a / 10 ^ s ≡ number f.whole) → (back : behind_text s (a % 10 ^ s) ≡ f.fraction) → IsWrittenText text
+    → (places : s ≤ 24) → (front : a / 10 ^ s ≡ number f.whole) → (back : places_text s (a % 10 ^ s) ≡ f.fraction) → IsWrittenText text
 is_written_text text f a s some canonical places front back = record {
   m = signed f.negative a;
   s = s;
@@ -201,8 +201,8 @@ whole_is_written text f none =
     is_written_text text f (number f.whole) 0 (λ e. let h = f.no_minus_on_zero e in omega (arith, h, all)) (λ h. absurd (omega (arith, h))) (lit≤ tt) (div-one (number f.whole)) (sym none)
 
 -- s digits, at least one, that write n are what is written after the point for n at s places
-behind_text-number : (s n : ℕ) (ds : List ℕ) → AreDigits ds → length ds ≡ s → number ds ≡ n → 0 < s → behind_text s n ≡ ds
-behind_text-number s n ds digits long is some = elim (eqb_tells s 0) [
+places_text-number : (s n : ℕ) (ds : List ℕ) → AreDigits ds → length ds ≡ s → number ds ≡ n → 0 < s → places_text s n ≡ ds
+places_text-number s n ds digits long is some = elim (eqb_tells s 0) [
   | inl none ↦ let e = none.1 in absurd (omega (arith, e, some))
   | inr more ↦
       ap (λ b. cond b (48 ∷ []) (last_digits s n)) more.0
@@ -219,7 +219,7 @@ fraction_is_written text f other =
     let tens : number (f.whole ++ f.fraction) % 10 ≡ number f.fraction % 10 = last_of_all f.whole f.fraction f.fraction_is.some in
     is_written_text text f (number (f.whole ++ f.fraction)) (length f.fraction) f.no_minus_on_zero (λ _ divides. other (sym tens ∙ divides)) f.fraction_is.few
     (ap (λ x. x / p) all ∙ div-mul-add (number f.whole) p (number f.fraction) few)
-    (behind_text-number (length f.fraction) (number (f.whole ++ f.fraction) % p) f.fraction f.fraction_is.are_digits refl
+    (places_text-number (length f.fraction) (number (f.whole ++ f.fraction) % p) f.fraction f.fraction_is.are_digits refl
     (sym (ap (λ x. x % p) all ∙ mod-mul-add (number f.whole) p (number f.fraction) few)) f.fraction_is.some) where
       -- if the second of two runs of digits isn't empty, the number of both in a row has the last digit that the number of the
       -- second has
@@ -256,7 +256,7 @@ last_digits_fraction_part a (suc s) few some other = record {
 }
 
 -- if there are at most 24 places, and all of them are needed, what is written after the point is a fraction part
-fraction_part : (a s : ℕ) → s ≤ 24 → (0 < s → a % 10 ≢ 0) → IsFractionPart (behind_text s (a % 10 ^ s))
+fraction_part : (a s : ℕ) → s ≤ 24 → (0 < s → a % 10 ≢ 0) → IsFractionPart (places_text s (a % 10 ^ s))
 fraction_part a s few canonical = elim (eqb_tells s 0) [
   | inl none ↦ subst IsFractionPart (ap (λ b. cond b (48 ∷ []) (last_digits s (a % 10 ^ s))) (sym none.0)) zero_fraction_part
   | inr more ↦
@@ -276,17 +276,17 @@ decimal_form-signed : (negative : Bool) (a s : ℕ) → s ≤ 24 → (0 < s → 
 decimal_form-signed negative a s few canonical some = record {
   negative = negative;
   whole = whole_text (a / 10 ^ s);
-  fraction = behind_text s (a % 10 ^ s);
+  fraction = places_text s (a % 10 ^ s);
   text_is = written-signed negative a s some;
   whole_is = whole_part (a / 10 ^ s);
   fraction_is = fraction_part a s few canonical;
   no_minus_on_zero = λ e. above_zero (some e);
 } where
   -- if a is above 0, so is the number that the digits before and after the point write
-  above_zero : 0 < a → 0 < number (whole_text (a / 10 ^ s) ++ behind_text s (a % 10 ^ s))
+  above_zero : 0 < a → 0 < number (whole_text (a / 10 ^ s) ++ places_text s (a % 10 ^ s))
   above_zero h =
       let b = is_fraction_text a s in
-      let ds : List ℕ = behind_text s (a % 10 ^ s) in
+      let ds : List ℕ = places_text s (a % 10 ^ s) in
       let all : number (whole_text (a / 10 ^ s) ++ ds) ≡ a / 10 ^ s * 10 ^ length ds + number ds =
       number-append (whole_text (a / 10 ^ s)) ds ∙ ap (λ n. n * 10 ^ length ds + number ds) (sym (writes_whole (a / 10 ^ s)).value) in
       subst (λ x. 0 < x) (sym all) (factor_positive a (10 ^ length ds) (a / 10 ^ s * 10 ^ length ds + number ds) (10 ^ s) h (ten_pow_pos (length ds)) b.same)

@@ -17,14 +17,14 @@ use Rattle.gc_values.specs.Whole.{signed_text}
 use Rattle.gc_values.specs.Boolean.{boolean_text}
 use Rattle.gc_values.specs.Byte.{byte_text}
 use Rattle.gc_values.specs.Fraction.{IsInRange}
-use Rattle.gc_values.specs.Written.{minus_text, whole_text, behind_text, written}
+use Rattle.gc_values.specs.Written.{minus_text, whole_text, places_text, written}
 use Rattle.gc_values.specs.declared.value.Value.{Value}
 use Rattle.gc_values.specs.declared.value.Value.TheVariants as value
 use Rattle.gc_values.proofs.Every.{every_weaker, every_append, every_behind}
 use Rattle.gc_values.proofs.Quotes.{quotes-append, quotes-cons, quotes-none, push_cut}
 use Rattle.gc_values.proofs.Powers.{ten_pow_pos}
 use Rattle.gc_values.proofs.WholeText.{length-whole_text, length-minus_text, length-long, length-short}
-use Rattle.gc_values.proofs.WrittenLemmas.{length-behind_text}
+use Rattle.gc_values.proofs.WrittenLemmas.{length-places_text}
 use Rattle.gc_values.proofs.ParamLists.{joined_params}
 use Rattle.gc_values.proofs.WrittenSpells.{writes_whole, is_fraction_text}
 
@@ -82,9 +82,9 @@ bare_signed z = every_append IsBare (minus_text z) (whole_text (unsigned_abs z))
 bare_written : (m : ℤ) (s : ℕ) → AreBare (written m s)
 bare_written m s =
     let n = unsigned_abs m in
-    every_append IsBare (minus_text m) (whole_text (n / 10 ^ s) ++ (46 ∷ behind_text s (n % 10 ^ s))) (bare_minus m)
-    (every_append IsBare (whole_text (n / 10 ^ s)) (46 ∷ behind_text s (n % 10 ^ s)) (bare_whole (n / 10 ^ s))
-    (bare_above 46 (lit< tt), bare_digits (behind_text s (n % 10 ^ s)) (is_fraction_text n s).digits))
+    every_append IsBare (minus_text m) (whole_text (n / 10 ^ s) ++ (46 ∷ places_text s (n % 10 ^ s))) (bare_minus m)
+    (every_append IsBare (whole_text (n / 10 ^ s)) (46 ∷ places_text s (n % 10 ^ s)) (bare_whole (n / 10 ^ s))
+    (bare_above 46 (lit< tt), bare_digits (places_text s (n % 10 ^ s)) (is_fraction_text n s).digits))
 
 -- a hexadecimal digit is above 44, the comma
 pub hex_digit_above_comma : (d : ℕ) → d < 16 → 44 < slice_index lower_digits d
@@ -185,12 +185,12 @@ length-written m s small few =
     let top : n / 10 ^ s < 10 ^ 14 = div_below n (10 ^ s) (10 ^ 14) (ten_pow_pos s) (omega (arith, small, ten_pow_pos s)) in
     omega (
       arith,
-      length-append (minus_text m) (whole_text (n / 10 ^ s) ++ (46 ∷ behind_text s (n % 10 ^ s))),
+      length-append (minus_text m) (whole_text (n / 10 ^ s) ++ (46 ∷ places_text s (n % 10 ^ s))),
       length-append (whole_text (n / 10 ^ s))
-          (46 ∷ behind_text s (n % 10 ^ s)),
+          (46 ∷ places_text s (n % 10 ^ s)),
       length-minus_text m,
       length-whole_text (n / 10 ^ s) 14 (lit< tt) top,
-      length-behind_text s (n % 10 ^ s) few,
+      length-places_text s (n % 10 ^ s) few,
     )
 
 -- the text of a value in its kind's range has at most 66 bytes

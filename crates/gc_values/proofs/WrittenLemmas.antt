@@ -6,7 +6,7 @@ use Rattle.std.proofs.lemmas.List.{length-map, map-append, append-nil}
 use Rattle.std.specs.Int.Digits.{digits_of}
 use Rattle.std.proofs.lemmas.Int.Digits.{digits_of_step, length-digits_of-le}
 use Rattle.std.proofs.lemmas.Bool.{ne_eqb, cond_both}
-use Rattle.gc_values.specs.Written.{digits_text, last_digits, behind_text}
+use Rattle.gc_values.specs.Written.{digits_text, last_digits, places_text}
 use Rattle.gc_values.proofs.Powers.{ten_pow_pos}
 
 -- the digits of a number above 0 are those of the number without its last digit, and then its last digit
@@ -111,14 +111,14 @@ digits_left_have_room old self n rest e small some room =
     )
 
 -- for s above 0, the last s digits of m are what is written after the point for m at s places
-pub behind_is_last_digits : (s m n : ℕ) (xs : List ℕ) → 0 < s → n ≡ m → xs ≡ last_digits s n ++ [] → xs ≡ behind_text s (m % 10 ^ s)
-behind_is_last_digits s m n xs some e f =
+pub places_are_last_digits : (s m n : ℕ) (xs : List ℕ) → 0 < s → n ≡ m → xs ≡ last_digits s n ++ [] → xs ≡ places_text s (m % 10 ^ s)
+places_are_last_digits s m n xs some e f =
     f ∙ append-nil (last_digits s n) ∙ ap (last_digits s) e ∙ sym (last_digits-mod s m)
     ∙ ap (λ b. cond b (48 ∷ []) (last_digits s (m % 10 ^ s))) (sym (ne_eqb s 0 (λ h. omega (arith, h, some))))
 
 -- if there are at most 24 places, at most 24 digits follow the point
-pub length-behind_text : (s n : ℕ) → s ≤ 24 → length (behind_text s n) ≤ 24
-length-behind_text s n few = cond_both (eqb s 0) (48 ∷ []) (last_digits s n) (λ ds. length ds ≤ 24) (λ _. lit≤ tt) (λ _. omega (arith, length-last_digits s n))
+pub length-places_text : (s n : ℕ) → s ≤ 24 → length (places_text s n) ≤ 24
+length-places_text s n few = cond_both (eqb s 0) (48 ∷ []) (last_digits s n) (λ ds. length ds ≤ 24) (λ _. lit≤ tt) (λ _. omega (arith, length-last_digits s n))
 
 -- k digits put before an empty text make a text of k bytes
 pub length-put : (k n : ℕ) (old new : List ℕ) → new ≡ last_digits k n ++ old → old ≡ [] → length new ≡ k

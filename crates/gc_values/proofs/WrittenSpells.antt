@@ -10,7 +10,7 @@ use Rattle.gc_values.specs.Digits.{IsDigit, AreDigits, number}
 use Rattle.gc_values.specs.Fraction.{signed, IsCanonical}
 use Rattle.gc_values.specs.Spelling.{Sign, Absent, Minus, sign_text, is_minus, Parts, parts_value, Spells}
 use Rattle.gc_values.specs.Whole.{NamesNumber}
-use Rattle.gc_values.specs.Written.{digits_text, whole_text, last_digits, behind_text, written}
+use Rattle.gc_values.specs.Written.{digits_text, whole_text, last_digits, places_text, written}
 use Rattle.gc_values.proofs.Every.{every_append}
 use Rattle.gc_values.proofs.Kept.{number-append}
 use Rattle.gc_values.proofs.Powers.{ten_pow_pos}
@@ -100,7 +100,7 @@ fraction_text_some a s some =
     }
 
 -- what is written after the point of a / 10^s is allowed there, as `IsFractionText` has it
-pub is_fraction_text : (a s : ℕ) → IsFractionText a s (behind_text s (a % 10 ^ s))
+pub is_fraction_text : (a s : ℕ) → IsFractionText a s (places_text s (a % 10 ^ s))
 is_fraction_text a s = elim (eqb_tells s 0) [
   | inl none ↦ subst (λ xs. IsFractionText a s xs) (ap (λ b. cond b (48 ∷ []) (last_digits s (a % 10 ^ s))) (sym none.0))
       (subst (λ t. IsFractionText a t (48 ∷ [])) (sym none.1) (fraction_text_none a))
@@ -110,12 +110,12 @@ is_fraction_text a s = elim (eqb_tells s 0) [
 -- if m, a number with the sign `sign` and the magnitude a, needs all its places s, at most 24, its sign, the digits before the
 -- point, a point and the digits after it spell m / 10^s
 parts_spell : (sign : Sign) (m : ℤ) (s : ℕ) (a : ℕ) → m ≡ signed (is_minus sign) a → IsCanonical m s → s ≤ 24 →
-    Spells (sign_text sign ++ (whole_text (a / 10 ^ s) ++ (46 ∷ behind_text s (a % 10 ^ s)))) m s
+    Spells (sign_text sign ++ (whole_text (a / 10 ^ s) ++ (46 ∷ places_text s (a % 10 ^ s)))) m s
 parts_spell sign m s a m_is canonical places =
     let w = writes_whole (a / 10 ^ s) in
     let b = is_fraction_text a s in
     let whole : List ℕ = whole_text (a / 10 ^ s) in
-    let frac : List ℕ = behind_text s (a % 10 ^ s) in
+    let frac : List ℕ = places_text s (a % 10 ^ s) in
     let parts : Parts = record { sign = sign; whole = whole; fraction = Some frac; exponent = None } in
     let digits : number (whole ++ frac) ≡ a / 10 ^ s * 10 ^ length frac + number frac = number-append whole frac ∙ ap (λ n. n * 10 ^ length frac + number frac) (sym w.value) in
     let size : a * 10 ^ (length frac + 0) ≡ number (whole ++ frac) * 10 ^ 0 * 10 ^ s =

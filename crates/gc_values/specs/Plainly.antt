@@ -35,11 +35,11 @@ pub record CutsItem (Is : List ℕ → Type 0) (text : List ℕ) (rest : Option 
   pub cut : CutsPlain text item rest
   pub is : Is item
 
--- the text begins with an item that spells the decimal d, and the rest is what follows the item's comma, if there is one
+-- `CutsItem`, for an item that spells the decimal d
 abbrev pub CutsDecimal : (text : List ℕ) (d : Decimal) (rest : Option (List ℕ)) → Type 0
 CutsDecimal text d rest = CutsItem (λ item. SpellsDecimal item d) text rest
 
--- the text begins with an item that writes the whole number n, and the rest is what follows the item's comma, if there is one
+-- `CutsItem`, for an item that writes the whole number n
 abbrev pub CutsNumber : (text : List ℕ) (n : ℕ) (rest : Option (List ℕ)) → Type 0
 CutsNumber text n rest = CutsItem (λ item. NamesWhole item (pos n)) text rest
 

@@ -21,18 +21,18 @@ zeros_one_more : (m s n t : ℕ) → m % 10 ≡ 0 → WithoutZeros (m / 10) s n 
 zeros_one_more m s n t whole w = record { same = zero_back m s n t whole w.same; fewer = let f = w.fewer in omega (arith, f); canonical = w.canonical }
 
 -- r is m / 10^s without the zeros at its end
-abbrev pub Stripped : (m s : ℕ) → (r : Placed) → Type 0
-Stripped m s r = WithoutZeros m s r.digits r.places
+abbrev pub IsStripped : (m s : ℕ) → (r : Placed) → Type 0
+IsStripped m s r = WithoutZeros m s r.digits r.places
 
 -- `stripped` takes off the zeros at the end, and changes no value
-pub stripped_is : (m s : ℕ) → Stripped m s (stripped m s)
+pub stripped_is : (m s : ℕ) → IsStripped m s (stripped m s)
 stripped_is m zero = record { same = refl; fewer = omega arith; canonical = λ h. absurd (omega arith) }
 stripped_is m (suc s) = elim (eqb_tells (m % 10) 0) [
   | inl whole ↦
-      subst (Stripped m (suc s)) (ap (λ b. cond b (stripped (m / 10) s) (record { digits = m; places = suc s })) (sym whole.0))
+      subst (IsStripped m (suc s)) (ap (λ b. cond b (stripped (m / 10) s) (record { digits = m; places = suc s })) (sym whole.0))
       (zeros_one_more m s (stripped (m / 10) s).digits (stripped (m / 10) s).places whole.1 (stripped_is (m / 10) s))
   | inr part ↦
-      subst (Stripped m (suc s)) (ap (λ b. cond b (stripped (m / 10) s) (record { digits = m; places = suc s })) (sym part.0))
+      subst (IsStripped m (suc s)) (ap (λ b. cond b (stripped (m / 10) s) (record { digits = m; places = suc s })) (sym part.0))
       (record { same = refl; fewer = omega arith; canonical = λ _. part.1 })
 ]
 
@@ -82,7 +82,7 @@ places_in_range a s p places h =
 
 -- `rounded_to` gives the nearest whole number to m / 10^(s - p), over 10^s or 10^p, whichever is less, without the zeros at its
 -- end
-pub rounded_to_is : (m s p : ℕ) → Stripped (half_up m (10 ^ (s - p))) (min s p) (rounded_to m s p)
+pub rounded_to_is : (m s p : ℕ) → IsStripped (half_up m (10 ^ (s - p))) (min s p) (rounded_to m s p)
 rounded_to_is m s p = stripped_is (half_up m (10 ^ (s - p))) (min s p)
 
 -- a number of at most 24 places has at most 24 when it is rounded

@@ -17,11 +17,11 @@ QuickReads quick vs = ReadsPlainly quick.good (option_copied quick.rest) vs
 abbrev pub TakesPlainly : Value → (old new : Quick) → Type 0
 TakesPlainly v old new = ReadsOne QuickReads old new v
 
--- the quick reader took the item: it took each value as which the item is read (`TakesPlainly`)
+-- the quick reader took the item: if the item is read as the value v, it took v (`TakesPlainly`)
 abbrev pub TakesItem : (item : List ℕ) → (old new : Quick) → Type 0
 TakesItem item old new = (v : Value) → IsItem item v → TakesPlainly v old new
 
--- the quick reader took the whole number n: it took each value as which every text of n is read (`TakesPlainly`)
+-- the quick reader took the whole number n: if every text of n is read as the value v, it took v (`TakesPlainly`)
 abbrev pub TakesNumber : (n : ℕ) → (old new : Quick) → Type 0
 TakesNumber n old new = (v : Value) → ((item : List ℕ) → NamesWhole item (pos n) → IsItem item v) → TakesPlainly v old new
 

@@ -11,7 +11,7 @@ ghost use Rattle.gc_values.specs.Fraction.{signed, SameValue, IsCanonical, IsInR
 ghost use Rattle.gc_values.specs.Nearest.{SignedWithoutZeros, RoundsHalfUp};
 ghost use Rattle.gc_values.specs.Spelling.{SpellsBeyond, SpellsNothing};
 ghost use Rattle.gc_values.specs.ValueFault.{IsEither};
-ghost use Rattle.gc_values.specs.Written.{behind_text};
+ghost use Rattle.gc_values.specs.Written.{places_text};
 ghost use Rattle.gc_values.specs.Zeros.{WithoutZeros};
 
 use crate::appending::push_decimal;
@@ -93,7 +93,7 @@ fn put_places(tail: &mut Tail, magnitude: u128, scale: u8) -> u64
     requires empty { tail.old ≡ [] }
     requires places { scale ≤ 24 }
     requires range { magnitude ≤ 10 ^ 13 * 10 ^ scale }
-    ensures digits { tail.new ≡ behind_text scale (magnitude % 10 ^ scale) }
+    ensures digits { tail.new ≡ places_text scale (magnitude % 10 ^ scale) }
     ensures few { length tail.new ≤ 24 }
     ensures rest { result ≡ magnitude / 10 ^ scale }
 {

@@ -13,7 +13,7 @@ use Rattle.gc_world.specs.World.{call_line}
 use Rattle.gc_world.specs.Worlds.{Request, Numbered, Ends, Step, Send, Up_deliver, Up_lose, Up_repeat, Down_deliver, Down_lose, Down_repeat, Expire, Restart_client, Restart_instrument, Nothing, Wire, World, without, doubled, idle, up_delivered, with_up, with_down, started, instrument_restarted, on_wire, requested, with_settled, down_delivered, client_restarted, happens, run}
 use Rattle.gc_world.specs.Clients.{ByNumber, by_ids, ids_open, number_send, number_reply, expired_from, by_numbers, numbers_open, run_by_ids, run_by_numbers}
 use Rattle.gc_world.specs.Exchange.{IsExchange}
-use Rattle.gc_world.specs.Order.{Rising, numbers, in_flight, IsOrderly}
+use Rattle.gc_world.specs.Order.{Rising, numbers, numbers_in_flight, IsOrderly}
 use Rattle.gc_world.proofs.Ids.{place_within, place_before}
 use Rattle.gc_world.proofs.Sound.{IsComing, Sound, length_expired, all_sent, sound_step, sound_all, sound_open}
 
@@ -210,8 +210,10 @@ module _ {Q State : Type 0} (width : ℕ) (narrow : width ≤ 7) (ends : Ends Q 
       record {
         settled = omega (arith, s.booked, s.counted, s.within);
         few = omega (arith, s.booked, s.counted, s.few);
-        order = subst (λ n. Rising n (in_flight w.wire)) (sym s.booked) s.order;
-        sent = subst (λ n. AllByRecursion (λ m. m < n) (in_flight w.wire)) s.counted (all_sent width ends Good w.client.since (length w.client.requests) w.wire.down w.wire.up s.coming s.going);
+        order = subst (λ n. Rising n (numbers_in_flight w.wire)) (sym s.booked) s.order;
+        sent =
+            subst (λ n. AllByRecursion (λ m. m < n) (numbers_in_flight w.wire)) s.counted
+            (all_sent width ends Good w.client.since (length w.client.requests) w.wire.down w.wire.up s.coming s.going);
       }
 
 module _ {State : Type 0} (width : ℕ) (narrow : width ≤ 7) (ends : calls.Ends State) (Good : State → Type 0) where

@@ -4,7 +4,7 @@ use Rattle.std.proofs.Common.{◌≡◌, ◌⊎◌, ℕ, zero, suc, ◌<◌, Lis
 use Rattle.gc_world.specs.declared.direction.Direction.{Direction}
 use Rattle.gc_world.specs.declared.direction.Direction.TheVariants.{Up, Down}
 use Rattle.gc_world.specs.Directions.{deliver, delivery, bytes, texts, lines, gone, with_front_gone}
-use Rattle.gc_world.specs.Sides.{IsPart}
+use Rattle.gc_world.specs.Sides.{IsPartOfFront}
 use Rattle.gc_world.specs.Streams.{Streams, passed, left_gone, remaining, flows}
 use Rattle.gc_world.specs.World.{Request, Numbered, Ends, Rule, Wire, World, bytes_of, idle, up_delivered, on_wire, down_delivered, happens, run}
 
@@ -46,10 +46,11 @@ module _ {Client State : Type 0} where
     bytes_pass Up v n = refl
     bytes_pass Down v n = refl
 
-    -- where the bytes gone are a part of the front line of q (`IsPart`), 0 bytes that go over with q as the lines in flight, or
-    -- any where no bytes of q's front line are still to go, leave the streams as they were, but with one more idle event counted
+    -- where the bytes gone are a part of the front line of q (`IsPartOfFront`), 0 bytes that go over with q as the lines in
+    -- flight, or any where no bytes of q's front line are still to go, leave the streams as they were, but with one more idle
+    -- event counted
     pub idle_bytes : (d : Direction) (v : Streams Client State) (q : List (List ℕ)) (n : ℕ) {r : ℕ} → r ≡ remaining (gone d v) q → (n ≡ 0) ⊎ (r ≡ 0)
-        → IsPart (gone d v) q
+        → IsPartOfFront (gone d v) q
         → passing d v q n ≡ record { world = on_wire v.world (idle v.world.wire); up_gone = v.up_gone; down_gone = v.down_gone }
     idle_bytes d v [] n e none part = unmoved d v (on_wire v.world (idle v.world.wire))
     idle_bytes d v (line ∷ q) zero e none part = unmoved d v (on_wire v.world (idle v.world.wire))

@@ -14,7 +14,7 @@ use Rattle.gc_world.specs.declared.direction.Direction.TheVariants.{Up, Down}
 use Rattle.gc_world.specs.Clients.{by_ids, ends}
 use Rattle.gc_world.specs.Directions.{deliver, delivery, bytes, texts, lines, gone, to_go, with_front_gone, after_cut, handed_over}
 use Rattle.gc_world.specs.Memory.{FrontIsStray, AreStrays, TakesNoMemory}
-use Rattle.gc_world.specs.Sides.{IsPart}
+use Rattle.gc_world.specs.Sides.{IsPartOfFront}
 use Rattle.gc_world.specs.Stages.{StageParts, after_step, AreStreamsOf}
 use Rattle.gc_world.specs.Staging.{after_event, after_bytes}
 use Rattle.gc_world.specs.Streams.{Streams, Cut, one_line_more, cut, down_lines, remaining, flows}
@@ -32,9 +32,9 @@ pub in_front : (gone : ℕ) (texts : List (List ℕ)) → 0 < remaining gone (ma
 in_front gone [] some = absurd (omega (arith, some))
 in_front gone (t ∷ ts) some = (t, ts, refl)
 
--- where no byte of the front line is still to go, no line is in flight, and no byte has gone: by `IsPart` of a line in
+-- where no byte of the front line is still to go, no line is in flight, and no byte has gone: by `IsPartOfFront` of a line in
 -- flight not all bytes have gone
-none_in_flight : (gone : ℕ) (lines : List (List ℕ)) → IsPart gone lines → remaining gone lines ≡ 0 → (lines ≡ []) × (gone ≡ 0)
+none_in_flight : (gone : ℕ) (lines : List (List ℕ)) → IsPartOfFront gone lines → remaining gone lines ≡ 0 → (lines ≡ []) × (gone ≡ 0)
 none_in_flight gone [] part e = (refl, part)
 none_in_flight gone (line ∷ lines) part e = absurd (omega (arith, part, e))
 
@@ -90,8 +90,8 @@ module _ {Client State : Type 0} (ends : Ends State) (rule : Rule Client) (d : D
       let some : length (texts d v.world.wire) ≡ suc (length h.behind) = ap length h.front in
       ap (λ (x : Streams Client State). x.world.wire.idle) (delivered ends rule d v) ∙ not_idle ends rule d v.world (omega (arith, some))
 
-  -- where no byte of the front line remains, handing over n bytes changes nothing: by `IsPart` no line is in flight then
-  pub none_to_hand_over : (n : ℕ) → IsPart (gone d v) (lines d v.world.wire) → to_go d v ≡ 0 → handed_over ends rule d v n ≡ v
+  -- where no byte of the front line remains, handing over n bytes changes nothing: by `IsPartOfFront` no line is in flight then
+  pub none_to_hand_over : (n : ℕ) → IsPartOfFront (gone d v) (lines d v.world.wire) → to_go d v ≡ 0 → handed_over ends rule d v n ≡ v
   none_to_hand_over n part e =
       let none = none_in_flight (gone d v) (lines d v.world.wire) part e in
       ap (λ q. after_cut ends rule d v (cut q (gone d v + n))) none.0 ∙ ap (with_front_gone d v v.world) (sym none.1) ∙ unmoved d v v.world

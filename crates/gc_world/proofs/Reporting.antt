@@ -18,7 +18,7 @@ use Rattle.gc_instrument.specs.State.{State, IsFittingState, restarted}
 use Rattle.gc_world.specs.declared.report.Made.{Made}
 use Rattle.gc_world.specs.declared.report.Report.{Report}
 use Rattle.gc_world.specs.declared.report.Sent.{Sent}
-use Rattle.gc_world.specs.Faithful.{OneForOne, IsBookedAnswer, BooksAnswers, has_number, restarted_if, AreBefore, IsReplyOf, RecordsExecution, ActsOnce, sent_seen, AgreesWith}
+use Rattle.gc_world.specs.Faithful.{OneForOne, IsBookedAnswer, BooksAnswers, has_number, restarted_if, AreStatesBefore, IsReplyOf, RecordsExecution, ActsOnce, sent_seen, AgreesWith}
 use Rattle.gc_world.specs.Record.{Increasing, IsOneForOne, IsBooked, IsExecutedIn, HasExecutions}
 use Rattle.gc_world.specs.Reports.{made_seen, IsReport, IsNoLongerThan}
 use Rattle.gc_world.specs.Clients.{ends}
@@ -115,8 +115,8 @@ module _ (r : Report) (w : Wire State) (h : IsReport r w) where
     request_of : (j n : ℕ) (d : IsExecutedIn ends w.sent n (x.before j)) → (q : Sent) × (slice_get r.sent n ≡ Some q) × (sent_seen q ≡ d.request)
     request_of j n d = get_seen sent_seen r.sent n d.request (ap (λ l. slice_get l n) h.sent ∙ d.found)
 
-    -- the states `before` are those before the executions of the report, as `AreBefore` has it
-    states : AreBefore opening r before
+    -- the states `before` are those before the executions of the report, as `AreStatesBefore` has it
+    states : AreStatesBefore opening r before
     states =
         record {
           first = ap without_kept x.first;

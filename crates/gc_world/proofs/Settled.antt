@@ -83,8 +83,8 @@ same_at (x ∷ xs) rest (y ∷ ys) (suc m) s r e g h =
     let tail : map of_settled xs ++ rest ≡ map of_sent ys = cc in
     same_at xs rest ys m s r tail g h
 
--- where the settled requests, and those that wait, are those that were sent (`AccountForSent`), settlement m has the target and the
--- call of request m, and there are no more settlements than requests (`IsOneForOne`)
+-- where the settled requests, and those that wait, are those that were sent (`AccountForSent`), settlement m has the target and
+-- the call of request m, and there are no more settlements than requests (`IsOneForOne`)
 pub one_for_one : {Q : Type 0} (settled : List (Settlement Q)) (waiting : List (Pending Q)) (sent : List (Sent Q)) → AccountForSent settled waiting sent
     → IsOneForOne sent settled
 one_for_one {Q} settled waiting sent e =

@@ -30,7 +30,7 @@ use Rattle.gc_world.specs.World
 use Rattle.gc_world.specs.World.{Request, Numbered, Wire, World, bytes_of, Send, Up_deliver, Up_lose, Up_repeat, Down_deliver, Down_lose, Down_repeat, Restart_client, Restart_instrument, without, doubled, idle, up_delivered, with_up, with_down, on_wire, requested, down_delivered, client_restarted, instrument_restarted}
 use Rattle.gc_world.specs.Clients.{by_ids, ends}
 use Rattle.gc_world.specs.Faithful.{sent_seen}
-use Rattle.gc_world.specs.Memory.{IsBusy}
+use Rattle.gc_world.specs.Memory.{SomeInFlight}
 use Rattle.gc_world.specs.Order.{numbers}
 use Rattle.gc_world.specs.Reports.{made_seen, IsReport}
 use Rattle.gc_world.specs.Stages.{after_step, IsSentIn, replies_at, AreOfWorld}
@@ -394,8 +394,8 @@ module _ (width : ℕ) (r : Report) (up down : List ℕ) (c : Windowed Call) (w 
       }))
 
   -- while a line is in flight, a restart of the client is only counted
-  pub busy_client : IsBusy up down → AreOfWorld width (counted false r) up down c (after_step width w Restart_client)
-  busy_client b = by_queues w.wire.up w.wire.down refl refl
+  pub shows_restart_client_idle : SomeInFlight up down → AreOfWorld width (counted false r) up down c (after_step width w Restart_client)
+  shows_restart_client_idle b = by_queues w.wire.up w.wire.down refl refl
     where
       by_queues : (us : List (Numbered Request)) (ds : List (Numbered (List ℕ))) → w.wire.up ≡ us → w.wire.down ≡ ds
           → AreOfWorld width (counted false r) up down c (client_restarted ends (by_ids width ends) w us ds)
@@ -404,8 +404,8 @@ module _ (width : ℕ) (r : Report) (up down : List ℕ) (c : Windowed Call) (w 
       by_queues (x ∷ us) ds eu ed = shows_idle
 
   -- while a line is in flight, a restart of the instrument is only counted
-  pub busy_instrument : IsBusy up down → AreOfWorld width (counted false r) up down c (after_step width w Restart_instrument)
-  busy_instrument b = by_queues w.wire.up w.wire.down refl refl
+  pub shows_restart_instrument_idle : SomeInFlight up down → AreOfWorld width (counted false r) up down c (after_step width w Restart_instrument)
+  shows_restart_instrument_idle b = by_queues w.wire.up w.wire.down refl refl
     where
       by_queues : (us : List (Numbered Request)) (ds : List (Numbered (List ℕ))) → w.wire.up ≡ us → w.wire.down ≡ ds
           → AreOfWorld width (counted false r) up down c (on_wire w (instrument_restarted ends w.wire us ds))

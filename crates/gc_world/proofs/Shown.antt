@@ -21,10 +21,10 @@ use Rattle.gc_world.specs.declared.report.Sent.{Sent}
 use Rattle.gc_world.specs.declared.side.Side.{Side}
 use Rattle.gc_world.specs.Clients.{by_ids, ends}
 use Rattle.gc_world.specs.Directions.{pick, bytes, texts, lines, gone, to_go, with_front_gone, after_cut}
-use Rattle.gc_world.specs.Memory.{IsBusy}
+use Rattle.gc_world.specs.Memory.{SomeInFlight}
 use Rattle.gc_world.specs.Order.{numbers}
 use Rattle.gc_world.specs.Reports.{made_seen}
-use Rattle.gc_world.specs.Sides.{text_at, IsPart, IsFlow, Carries, ReplacesQueue}
+use Rattle.gc_world.specs.Sides.{text_at, IsPartOfFront, IsFlow, Carries, ReplacesQueue}
 use Rattle.gc_world.specs.Stages.{StageParts, after_step, IsSentIn, replies_at, AreOfWorld, AreStreamsOf}
 use Rattle.gc_world.specs.Staging.{after_event, after_bytes}
 use Rattle.gc_world.specs.Streams.{Streams, up_texts, down_texts, is_begun, remaining}
@@ -34,7 +34,7 @@ use Rattle.std.proofs.lemmas.Option.{same_Some}
 use Rattle.gc_world.proofs.Places.{get_seen}
 use Rattle.gc_world.proofs.Queues.{without_map, doubled_map}
 use Rattle.gc_world.proofs.Contracts.{Sends, HandsToInstrument, HandsToClient, RestartsBoth}
-use Rattle.gc_world.proofs.Showing.{counted, shows_idle, shows_up_lose, shows_up_repeat, shows_down_lose, shows_down_repeat, shows_send, shows_up_deliver, shows_down_deliver, shows_restart_client, busy_client, busy_instrument, up_front, down_front}
+use Rattle.gc_world.proofs.Showing.{counted, shows_idle, shows_up_lose, shows_up_repeat, shows_down_lose, shows_down_repeat, shows_send, shows_up_deliver, shows_down_deliver, shows_restart_client, shows_restart_client_idle, shows_restart_instrument_idle, up_front, down_front}
 use Rattle.gc_world.proofs.Streaming.{flow_start, flow_push, flow_without, flow_doubled, cut_short}
 
 -- The queues after a step.
@@ -133,8 +133,8 @@ module _ (width : ℕ) (s : StageParts) (v : Streams (ById Call) State) (h : Are
   carries Down = record { names = names_down s.report s.down.queue v.world.wire.down h.lines.down_is; flow = h.down_flow }
 
   -- not all bytes of the front line of a direction have gone; and where no line is in flight, none has
-  pub part : (d : Direction) → IsPart (gone d v) (lines d v.world.wire)
-  part d = subst (λ g. IsPart g (lines d v.world.wire)) (gone_is d) (carries d).flow.part
+  pub part : (d : Direction) → IsPartOfFront (gone d v) (lines d v.world.wire)
+  part d = subst (λ g. IsPartOfFront g (lines d v.world.wire)) (gone_is d) (carries d).flow.part
 
   -- where n bytes of a side's front line are still to go, n bytes of its direction's front line are
   pub left_is : (d : Direction) (n : ℕ) → n ≡ remaining (pick d s.up s.down).gone (map with_end (texts d v.world.wire))
@@ -308,17 +308,17 @@ module _ (width : ℕ) (s : StageParts) (v : Streams (ById Call) State) (h : Are
       (client_restart_keeps_queues width v.world v.world.wire.up v.world.wire.down)
 
   -- while a line is in flight, a restart of the client is only counted
-  pub streams_busy_client : IsBusy s.up.queue s.down.queue
+  pub streams_restart_client_idle : SomeInFlight s.up.queue s.down.queue
       → AreStreamsOf width (record s { report = counted false s.report }) (after_event ends width v event.RestartClient)
-  streams_busy_client b =
-      kept (counted false s.report) s.client (after_step width v.world Restart_client) (busy_client width s.report s.up.queue s.down.queue s.client v.world h.lines b)
+  streams_restart_client_idle b =
+      kept (counted false s.report) s.client (after_step width v.world Restart_client) (shows_restart_client_idle width s.report s.up.queue s.down.queue s.client v.world h.lines b)
       (client_restart_keeps_queues width v.world v.world.wire.up v.world.wire.down)
 
   -- while a line is in flight, a restart of the instrument is only counted
-  pub streams_busy_instrument : IsBusy s.up.queue s.down.queue
+  pub streams_restart_instrument_idle : SomeInFlight s.up.queue s.down.queue
       → AreStreamsOf width (record s { report = counted false s.report }) (after_event ends width v event.RestartInstrument)
-  streams_busy_instrument b =
-      kept (counted false s.report) s.client (after_step width v.world Restart_instrument) (busy_instrument width s.report s.up.queue s.down.queue s.client v.world h.lines b)
+  streams_restart_instrument_idle b =
+      kept (counted false s.report) s.client (after_step width v.world Restart_instrument) (shows_restart_instrument_idle width s.report s.up.queue s.down.queue s.client v.world h.lines b)
       (instrument_restart_keeps_queues v.world.wire v.world.wire.up v.world.wire.down)
 
   -- Deliveries.

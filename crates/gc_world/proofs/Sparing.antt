@@ -8,7 +8,7 @@ use Rattle.gc_client.specs.Rule.{ById, Windowed, fits, heard}
 use Rattle.gc_instrument.specs.State.{State}
 use Rattle.gc_world.specs.declared.report.Made.{Made}
 use Rattle.gc_world.specs.declared.report.Report.{Report}
-use Rattle.gc_world.specs.Memory.{IsBusy, FrontIsStray, IsNoRepeat}
+use Rattle.gc_world.specs.Memory.{SomeInFlight, FrontIsStray, IsNoRepeat}
 use Rattle.gc_world.specs.Order.{numbers}
 use Rattle.gc_world.specs.Stages.{AreOfWorld}
 use Rattle.gc_world.specs.Streams.{is_begun}
@@ -42,11 +42,11 @@ module _ (width : ℕ) (r : Report) (up down : List ℕ) (c : Windowed Call) (w 
   no_repeat_down k gone gone' e t = no_repeat k gone gone' down w.wire.down (same_down width r up down c w h) e t
 
   -- where the world has a line in flight, the stage has
-  pub busy : IsBusy w.wire.up w.wire.down → IsBusy up down
-  busy b = λ quiet. b (no_up width r up down c w h quiet.0, no_down width r up down c w h quiet.1)
+  pub some_in_flight : SomeInFlight w.wire.up w.wire.down → SomeInFlight up down
+  some_in_flight b = λ quiet. b (no_up width r up down c w h quiet.0, no_down width r up down c w h quiet.1)
 
-  -- where the world's front reply is a stray (`FrontIsStray`), no request of the stage's client waits for a reply with these bytes:
-  -- those of reply m, which the report has at place p, the front of the stage's downward queue
+  -- where the world's front reply is a stray (`FrontIsStray`), no request of the stage's client waits for a reply with these
+  -- bytes: those of reply m, which the report has at place p, the front of the stage's downward queue
   pub stray : (p : ℕ) (rest : List ℕ) (m : Made) (bytes : List ℕ) → down ≡ p ∷ rest → slice_get r.made p ≡ Some m → bytes ≡ m.line.items
       → FrontIsStray w.client w.wire.down → fits c.ids (heard bytes) ≡ false
   stray p rest m bytes e found same t =

@@ -49,8 +49,8 @@ pub all_shown : (width : ℕ) (opening : State) (events : List Event) (s : Stage
     → AreStreamsOf width s (streamed width opening (take i events)) → AreStreamsOf width s (streamed width opening events)
 all_shown width opening events s i all shows = subst (λ es. AreStreamsOf width s (streamed width opening es)) (take_all i events all) shows
 
--- where s shows the streams after all events, and r is the report of s with the assemblers of its two sides, r with the queues and
--- the client of s is that of the whole run (`AreOfWorld`)
+-- where s shows the streams after all events, and r is the report of s with the assemblers of its two sides, r with the queues
+-- and the client of s is that of the whole run (`AreOfWorld`)
 pub report_at_end : (width : ℕ) (opening : State) (events : List Event) (s : StageParts) (r : Report) → AreStreamsOf width s (streamed width opening events)
     → r ≡ record s.report { up = s.up.assembler; down = s.down.assembler } → AreOfWorld width r s.up.queue s.down.queue s.client (played width opening events)
 report_at_end width opening events s r shows is =

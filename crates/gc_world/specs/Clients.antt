@@ -54,7 +54,7 @@ number_reply c x false =
       client = record { count = x.number + 1; requests = c.requests; since = c.since };
     }
 
--- the requests after this moment, which reaches only those from place k on
+-- the requests once the client got this moment, at which only those from place k on may time out
 abbrev pub expired_from : {Q : Type 0} → (now k : ℕ) → List (Pending Q) → List (Pending Q)
 expired_from now k ps = take k ps ++ map (expired now) (drop k ps)
 

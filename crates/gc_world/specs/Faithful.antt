@@ -21,7 +21,7 @@ use Rattle.gc_world.specs.Clients.{left_by_numbers}
 use Rattle.gc_world.specs.World
 use Rattle.gc_world.specs.World.{Wire}
 
--- one for one: there are no more settlements than requests, and settlement m has the target and the call of request m.
+-- one for one: there are no more settlements than requests, and settlement m has the target and the call of request m
 pub record OneForOne (r : Report) : Type 0 where
   pub count : length r.settled ≤ length r.sent
   pub same :
@@ -46,15 +46,13 @@ pub record IsBookedFor (r : Report) (m : ℕ) (call : Call) (reading : Reading) 
   pub reads : ReadsAs call line reading
   pub fine : IsValueOrRefusal reading
 
--- if the outcome of this call is an answer, it is booked for request m, as `IsBookedFor` has it; of any other outcome nothing is
--- claimed
+-- if the outcome of this call is an answer, it is booked for request m (`IsBookedFor`); of any other outcome nothing is claimed
 abbrev pub IsBookedAnswer : Report → ℕ → Call → Outcome → Type 0
 IsBookedAnswer r m call (Answered reading line) = IsBookedFor r m call reading line.items
 IsBookedAnswer r m call Late = ⊤
 IsBookedAnswer r m call Lost = ⊤
 
--- booked answers: where settlement m is answered with a line, that line is among those that the instrument made for
--- request m, and the reading is the value or the refusal that the line has for the settlement's call
+-- booked answers: if settlement m is an answer, that answer is booked for request m (`IsBookedFor`)
 abbrev pub BooksAnswers : Report → Type 0
 BooksAnswers r =
     (m : ℕ) (settlement : Settlement Call) → slice_get r.settled m ≡ Some settlement → IsBookedAnswer r m settlement.call settlement.outcome
@@ -71,30 +69,31 @@ restarted_if restarted true state = restarted state
 
 -- `before j` is the state before execution j: at first the restarted opening state, then the one that execution j - 1 leaves,
 -- restarted where `starts` has the number j
-pub record AreBefore (opening : State) (r : Report) (before : ℕ → State) : Type 0 where
+pub record AreStatesBefore (opening : State) (r : Report) (before : ℕ → State) : Type 0 where
   pub first : before 0 ≡ restarted opening
   pub next :
       (j n : ℕ) (request : Sent) → slice_get r.executed j ≡ Some n → slice_get r.sent n ≡ Some request →
       before (j + 1) ≡ restarted_if restarted (has_number (j + 1) r.starts) (exec (before j) request.call).state
 
--- an entry of `made` for request n is the reply of execution j, the one execution of request n. The request's line is that of
--- its call with some id from 0 to 7. The entry's line is the reply line, with that id, of what the call gives when it is
--- executed in the state before execution j, written with the precision that the execution leaves
+-- an entry of `made` is the reply of execution j, the one execution of the entry's request
 pub record IsReplyOf (r : Report) (before : ℕ → State) (entry : Made) : Type 0 where
   pub j : ℕ
   pub executed : slice_get r.executed j ≡ Some entry.number
   pub alone : (i : ℕ) → slice_get r.executed i ≡ Some entry.number → i ≡ j
+  -- the request's line is that of its call with some id from 0 to 7
   pub request : Sent
   pub sent : slice_get r.sent entry.number ≡ Some request
   pub id : ℕ
   pub digit : id < IDS
   pub request_is : request.line.items ≡ request_line (Some id) request.call
+  -- the entry's line is the reply line, with that id, of what the call gives when it is executed in the state before execution j,
+  -- written with the precision that the execution leaves
   pub line_is : entry.line.items ≡ executed_line id (exec (before j) request.call)
 
 -- the record of execution: each entry of `made` is the reply of one execution, and each executed number is in `made`
 pub record RecordsExecution (opening : State) (r : Report) : Type 0 where
   pub before : ℕ → State
-  pub states : AreBefore opening r before
+  pub states : AreStatesBefore opening r before
   pub replies : (k : ℕ) (entry : Made) → slice_get r.made k ≡ Some entry → IsReplyOf r before entry
   pub replied : (j n : ℕ) → slice_get r.executed j ≡ Some n → (k : ℕ) × (entry : Made) × (slice_get r.made k ≡ Some entry) × (entry.number ≡ n)
 
@@ -103,7 +102,7 @@ pub record RecordsExecution (opening : State) (r : Report) : Type 0 where
 pub record ActsOnce (opening : State) (r : Report) : Type 0 where
   pub climbs : (i j n m : ℕ) → i < j → slice_get r.executed i ≡ Some n → slice_get r.executed j ≡ Some m → n < m
   pub before : ℕ → State
-  pub states : AreBefore opening r before
+  pub states : AreStatesBefore opening r before
   pub last : without_kept r.instrument ≡ before (length r.executed)
 
 -- a request of the report as the world speaks of it: its target, its call and its line's bytes
@@ -111,10 +110,7 @@ abbrev pub sent_seen : Sent → World.Sent
 sent_seen s = record { target = s.target; call = s.call; line = s.line.items }
 
 -- agreement: the report's requests and settlements, with their lines and readings, and its counts of refused sends and of idle
--- events are those of the wire w. In `Faithful` that wire is the one that the run by numbers of the same events leaves: what the
--- client would do if every reply carried its request's number. By that run each request's first reply is booked if it comes
--- unsettled and in time (`FirstReply.antt` says what these words mean); if it comes unsettled and too late, its request is
--- settled as late. The requests before it that weren't settled are lost.
+-- events are those of the wire w
 pub record AgreesWith (w : Wire State) (r : Report) : Type 0 where
   pub sent : map sent_seen r.sent ≡ w.sent
   pub settled : AreSettlements r.settled w.settled
@@ -126,4 +122,6 @@ pub record Faithful (width : ℕ) (opening : State) (events : List Event) (r : R
   pub one_for_one : OneForOne r
   pub booked : BooksAnswers r
   pub executed : RecordsExecution opening r
+  -- agreement with the run by numbers of the same events, in which the client is given the number of each reply's request. What
+  -- that makes of a first reply, in time or too late, `FirstReply.antt` says
   pub agrees : AgreesWith (left_by_numbers width opening events) r

@@ -9,9 +9,13 @@ use Rattle.gc_world.specs.Clients.{streamed}
 use Rattle.gc_world.specs.Streams.{Streams, up_lines, down_lines, cut, is_begun}
 use Rattle.gc_world.specs.World.{Numbered}
 
+-- no line is in flight: both queues are empty
+abbrev pub NoneInFlight : {A B : Type 0} → (up : List A) → (down : List B) → Type 0
+NoneInFlight up down = (up ≡ []) × (down ≡ [])
+
 -- a line is in flight in at least one of the two queues
-abbrev pub IsBusy : {A B : Type 0} → List A → List B → Type 0
-IsBusy up down = ¬ ((up ≡ []) × (down ≡ []))
+abbrev pub SomeInFlight : {A B : Type 0} → (up : List A) → (down : List B) → Type 0
+SomeInFlight up down = ¬ (NoneInFlight up down)
 
 -- the first k replies of the downward queue, or all if there are fewer, are strays: no request of the client waits for them
 abbrev pub AreStrays : ById Call → ℕ → List (Numbered (List ℕ)) → Type 0
@@ -41,8 +45,8 @@ TakesNoMemory width v (DownBytes n) = AreStrays v.world.client (cut (down_lines 
 TakesNoMemory width v (DownLose k) = ⊤
 TakesNoMemory width v (DownRepeat k) = IsNoRepeat k v.down_gone v.world.wire.down
 TakesNoMemory width v (Expire now) = ⊤
-TakesNoMemory width v RestartClient = IsBusy v.world.wire.up v.world.wire.down
-TakesNoMemory width v RestartInstrument = IsBusy v.world.wire.up v.world.wire.down
+TakesNoMemory width v RestartClient = SomeInFlight v.world.wire.up v.world.wire.down
+TakesNoMemory width v RestartInstrument = SomeInFlight v.world.wire.up v.world.wire.down
 
 -- none of these events takes memory, on the streams that those before it leave
 abbrev pub NoneTakesMemory : ℕ → State → List Event → Type 0

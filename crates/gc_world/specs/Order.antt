@@ -16,8 +16,8 @@ abbrev pub numbers : {Line : Type 0} → List (Numbered Line) → List ℕ
 numbers xs = map (λ x. x.number) xs
 
 -- the numbers of all lines in flight, from the front of the downward queue to the back of the upward one
-abbrev pub in_flight : {Q State : Type 0} → Wire Q State → List ℕ
-in_flight w = numbers w.down ++ numbers w.up
+abbrev pub numbers_in_flight : {Q State : Type 0} → Wire Q State → List ℕ
+numbers_in_flight w = numbers w.down ++ numbers w.up
 
 -- while a reply is kept, some request was executed, and each of the numbers `up` is the one executed last or one of the `width`
 -- above it
@@ -32,6 +32,6 @@ pub record IsOrderly {Q State : Type 0} (width : ℕ) (w : Wire Q State) : Type 
   pub few : length w.sent ≤ length w.settled + width
   -- in each queue the numbers never fall from front to back, no number downward is above one upward, and every number is at
   -- least the count of settlements less one
-  pub order : Rising (length w.settled) (in_flight w)
+  pub order : Rising (length w.settled) (numbers_in_flight w)
   -- every number is below the count of requests sent
-  pub sent : AllByRecursion (λ n. n < length w.sent) (in_flight w)
+  pub sent : AllByRecursion (λ n. n < length w.sent) (numbers_in_flight w)

@@ -14,7 +14,8 @@ abbrev pub Increasing : ℕ → List ℕ → Type 0
 Increasing low [] = Unit {0}
 Increasing low (x ∷ xs) = (low ≤ x) × Increasing (x + 1) xs
 
--- settlement m has the target and the call of request m, and there are no more settlements than requests
+-- of a wire's requests and settlements what `OneForOne` says of a report's: settlement m has the target and the call of request
+-- m, and there are no more settlements than requests
 pub record IsOneForOne {Q : Type 0} (sent : List (Worlds.Sent Q)) (settled : List (Settlement Q)) : Type 0 where
   pub count : length settled ≤ length sent
   pub same :

@@ -20,14 +20,14 @@ text_at Up r place = option_map (λ (q : Sent). q.line.items) (slice_get r.sent 
 text_at Down r place = option_map (λ (m : Made). m.line.items) (slice_get r.made place)
 
 -- `gone` counts bytes of the front line, never all of them, and is 0 where no line is in flight
-abbrev pub IsPart : ℕ → List (List ℕ) → Type 0
-IsPart gone [] = gone ≡ 0
-IsPart gone (line ∷ lines) = gone < length line
+abbrev pub IsPartOfFront : ℕ → List (List ℕ) → Type 0
+IsPartOfFront gone [] = gone ≡ 0
+IsPartOfFront gone (line ∷ lines) = gone < length line
 
 -- the texts are lines without their CR LF. Of the first line, with its CR LF, `gone` bytes have gone, and not the last one; where
 -- there is no line, `gone` is 0. The assembler stands for the bytes that have gone, and no text has a CR or an LF in it
 pub record IsFlow (kept : Kept) (gone : ℕ) (texts : List (List ℕ)) : Type 0 where
-  pub part : IsPart gone (map with_end texts)
+  pub part : IsPartOfFront gone (map with_end texts)
   pub stands : StandsFor kept (gone_of gone (map with_end texts))
   pub plain : AllByRecursion IsPlain texts
 

@@ -39,15 +39,15 @@ pub record IsSentIn (sent : List Sent) (x : Numbered Request) : Type 0 where
 abbrev pub replies_at : List Made → List ℕ → List (Option (Numbered (List ℕ)))
 replies_at made places = map (slice_get (map made_seen made)) places
 
--- the report, the queues and the client are those of this world, for a client with a window of this width: the queue upward
--- has the numbers of the requests in flight, and the queue downward names the replies. Each request in flight is the one that was
--- sent with its number, the id that the client gives next is below 8, and the numbers of each call that was sent lie in their
--- types
+-- the report, the queues and the client are those of this world, for a client with a window of this width
 pub record AreOfWorld (width : ℕ) (report : Report) (up down : List ℕ) (client : Windowed Call) (w : World (ById Call) State) : Type 0 where
   pub reports : IsReport report w.wire
+  -- the queue upward has the numbers of the requests in flight, and the queue downward the replies' places in the report
   pub up_is : up ≡ numbers w.wire.up
   pub down_is : replies_at report.made down ≡ map Some w.wire.down
   pub client_is : client ≡ record { width = width; ids = w.client }
+  -- the id that the client gives next is below 8, each request in flight is the one that was sent with its number, and the
+  -- numbers of each call that was sent lie in their types
   pub next : w.client.next < IDS
   pub requests : AllByRecursion (IsSentIn report.sent) w.wire.up
   pub calls : AllByRecursion (λ (q : Sent). IsFitting q.call) report.sent

@@ -6,8 +6,8 @@ use Rattle.gc_world.specs.declared.event.Event.{Event}
 use Rattle.gc_world.specs.declared.event.Event.TheVariants.{Send, UpDeliver, DownDeliver, DownRepeat}
 use Rattle.gc_world.specs.Clients.{left_by_ids, left_by_numbers}
 
--- the boundary of eight, for a window that is eight wide: the first request's reply comes twice, and the second time when eight
--- others have been sent, the last of them with the first one's id
+-- a schedule for a window that is eight wide: the first request's reply comes twice, and the second time when eight others have
+-- been sent, the last of them with the first one's id
 abbrev pub boundary_of_eight : List Event
 boundary_of_eight =
     Send 1 NullProc 9

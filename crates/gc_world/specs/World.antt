@@ -9,19 +9,19 @@ pub use Rattle.gc_world.specs.Worlds.{Numbered, Send, Up_deliver, Up_lose, Up_re
 
 -- The line.
 
--- a request that was sent: its target, its call, and the line that its client wrote; its number is its place in the list of these
+-- a request that was sent, for a call of the table
 abbrev pub Sent : Type 0
 Sent = Worlds.Sent Call
 
--- a request in flight: its line is the request line of this id and this call
+-- a request in flight, for a call of the table: its line is the request line of its id and its call
 abbrev pub Request : Type 0
 Request = Worlds.Request Call
 
--- all of the world but its client: the line, the instrument's state, and the lists and counts of what has happened
+-- all of a world but its client, for calls of the table
 abbrev pub Wire : Type 0 → Type 0
 Wire State = Worlds.Wire Call State
 
--- a wire with its client
+-- such a wire with its client
 abbrev pub World : Type 0 → Type 0 → Type 0
 World Client State = Worlds.World Call Client State
 

@@ -9,7 +9,7 @@ ghost use Rattle.gc_instrument.specs.State.{IsFittingState, restarted};
 ghost use Rattle.gc_world.specs.declared.event.Event.{Event};
 ghost use Rattle.gc_world.specs.Clients.{ends};
 ghost use Rattle.gc_world.specs.Directions.{bytes, delivery};
-ghost use Rattle.gc_world.specs.Memory.{IsBusy};
+ghost use Rattle.gc_world.specs.Memory.{NoneInFlight, SomeInFlight};
 ghost use Rattle.gc_world.specs.Stages.{Shows, staging, IsOkWithoutMemory};
 ghost use Rattle.gc_world.specs.Staging.{streams_at_start, ShowsSome, Follows, FollowsBytes, HasLeft, HasMoreThan};
 
@@ -271,7 +271,7 @@ impl<W: Window<Asked = Call>> Stage<W> {
     fn restart_client(&mut self) -> Result<(), AllocError>
         requires { self.old.report.idle_events + 1 < 2 ^ 64 }
         ensures follows { OnOk result (Follows staging self.old Event.RestartClient self.new) }
-        ensures spare { IsBusy self.old.up.queue self.old.down.queue → IsOk result }
+        ensures spare { SomeInFlight self.old.up.queue self.old.down.queue → IsOk result }
     {
         if !self.is_quiet() {
             self.report.idle_events += 1;
@@ -290,7 +290,7 @@ impl<W: Window<Asked = Call>> Stage<W> {
     fn restart_instrument(&mut self) -> Result<(), AllocError>
         requires { self.old.report.idle_events + 1 < 2 ^ 64 }
         ensures follows { OnOk result (Follows staging self.old Event.RestartInstrument self.new) }
-        ensures spare { IsBusy self.old.up.queue self.old.down.queue → IsOk result }
+        ensures spare { SomeInFlight self.old.up.queue self.old.down.queue → IsOk result }
     {
         if self.is_quiet() {
             self.report.starts.push(self.report.executed.len())?;
@@ -303,7 +303,7 @@ impl<W: Window<Asked = Call>> Stage<W> {
 
     // Whether no line is in flight.
     fn is_quiet(&self) -> bool
-        ensures { IsTrue result ↔ ((self.now.up.queue ≡ []) × (self.now.down.queue ≡ [])) }
+        ensures { IsTrue result ↔ NoneInFlight self.now.up.queue self.now.down.queue }
     {
         self.up.queue.is_empty() && self.down.queue.is_empty()
     }

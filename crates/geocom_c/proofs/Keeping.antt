@@ -1,14 +1,14 @@
 -- What is kept of a line that no line feed has ended yet, as more of it comes: at most 514 bytes, the first 513 and the last
 -- one so far. A frame is what a line feed makes of the bytes before it. `GoAlike` says of two texts that the same frame comes
 -- of them, however both go on.
-use Rattle.std.proofs.Common.{◌≡◌, ◌≢◌, ℕ, ◌+◌, ◌-◌, ◌<◌, ◌≤◌, List, [], ◌∷◌, ◌++◌, length, take, get_or, All, refl, sym, subst, ap, ap₂, ◌∙◌, arith, append_assoc, length-append, if◌then◌else◌, ◌==◌}
+use Rattle.std.proofs.Common.{◌≡◌, ℕ, ◌+◌, ◌-◌, ◌<◌, ◌≤◌, List, [], ◌∷◌, ◌++◌, length, take, get_or, All, refl, sym, subst, ap, ap₂, ◌∙◌, arith, append_assoc, length-append, if◌then◌else◌, ◌==◌}
 use Rattle.std.specs.Prelude.{slice_set}
 use Rattle.std.proofs.lemmas.List.{length-take, append-nil, take-take, take_more_set}
 use Rattle.std.proofs.lemmas.List.Elements.{All-append, All-push, All-take}
 use Rattle.std.proofs.lemmas.Bool.{lt-ltb}
 use Rattle.gc_lines.specs.Frames.{frame_of}
 use Rattle.gc_lines.specs.declared.frame.Frame.TheVariants.{Overlong, Cleared}
-use Rattle.geocom_c.specs.Rest.{IsRest}
+use Rattle.geocom_c.specs.Rest.{IsNoLineFeed, IsRest}
 use Rattle.gc_lines.proofs.Keeping.{take-append, last-append}
 
 -- the last byte of a text; 0 for an empty one
@@ -54,12 +54,12 @@ same_front_once_filled t p n short room fits = take-append 513 t (take n p) ∙ 
 
 -- a piece `p` comes after the n bytes `t` that are kept, neither of which has a line feed, and f more bytes are kept, in the room
 -- `bytes`; `t` goes on as `rest` does, which came since the last line feed (`GoAlike`)
-module _ (bytes t p rest : List ℕ) (n f : ℕ) (is : n ≡ length t) (clean : All (λ b. b ≢ 10) t) (cleanly : All (λ b. b ≢ 10) p) (same : GoAlike t rest) where
+module _ (bytes t p rest : List ℕ) (n f : ℕ) (is : n ≡ length t) (clean : All IsNoLineFeed t) (cleanly : All IsNoLineFeed p) (same : GoAlike t rest) where
   -- if all of the piece was kept, what is retained stands for all bytes that came since the last line feed, `rest` and then `p`
   pub all_rest : n + f ≤ 514 → take (n + f) bytes ≡ t ++ p → IsRest (record { length = n + f; bytes = bytes }) (rest ++ p)
   all_rest short text =
       record {
-        valid = record { short = short; unended = subst (λ u. All (λ b. b ≢ 10) u) (sym text) (All-append (λ b. b ≢ 10) t p clean cleanly) };
+        valid = record { short = short; unended = subst (All IsNoLineFeed) (sym text) (All-append IsNoLineFeed t p clean cleanly) };
         same = λ more. ap (λ u. frame_of (u ++ more)) text ∙ alike_all t p rest same more;
       }
 
@@ -77,12 +77,12 @@ module _ (bytes t p rest : List ℕ) (n f : ℕ) (is : n ≡ length t) (clean : 
       let byte : last ≡ last_byte (t ++ p) = e ∙ sym (last-append t p (omega (arith, more))) in
       let whole : take (n + f) (slice_set bytes 513 last) ≡ take 513 (t ++ p) ++ last_byte (t ++ p) ∷ [] =
       ap (λ k. take k (slice_set bytes 513 last)) sum ∙ take_more_set bytes 513 last within ∙ ap₂ (λ u b. u ++ b ∷ []) front byte in
-      let both = All-append (λ b. b ≢ 10) t p clean cleanly in
+      let both = All-append IsNoLineFeed t p clean cleanly in
       record {
         valid = record {
           short = omega (arith, sum);
-          unended = subst (λ u. All (λ b. b ≢ 10) u) (sym whole) (All-push (λ b. b ≢ 10) (take 513 (t ++ p)) (last_byte (t ++ p))
-              (All-take (λ b. b ≢ 10) 513 (t ++ p) both) (both (length (t ++ p) - 1) 0 (omega (arith, long))));
+          unended = subst (All IsNoLineFeed) (sym whole) (All-push IsNoLineFeed (take 513 (t ++ p)) (last_byte (t ++ p))
+              (All-take IsNoLineFeed 513 (t ++ p) both) (both (length (t ++ p) - 1) 0 (omega (arith, long))));
         };
         same = λ next. ap (λ u. frame_of (u ++ next)) whole ∙ alike_cut t p rest long same next;
       }

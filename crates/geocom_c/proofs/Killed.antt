@@ -5,7 +5,7 @@ use Rattle.std.proofs.Common.{ℕ, ◌≤◌, List, [], ◌∷◌, Option, refl}
 use Rattle.gc_instrument.specs.State.{KeptReply}
 use Rattle.gc_field.specs.World.{Ends}
 use Rattle.gc_field.specs.Begin.{LacksTheWord, UnderWay}
-use Rattle.gc_field.specs.Beginnings.{AreFewKilled, AreRuns, Run, killed_if, left_by_run, left_by_runs, after_turns}
+use Rattle.gc_field.specs.Beginnings.{AreFewKilled, AreRuns, Run, killed_unless_begun, left_by_run, left_by_runs, after_turns}
 use Rattle.gc_field.specs.Instrument.{IsAnInstrument}
 use Rattle.geocom_c.specs.Laws.{NextMayBegin}
 use Rattle.gc_field.proofs.BegunRuns.{IsShortOfTheWord, run_result, short_if_rising, short_lacks_the_word}
@@ -18,7 +18,7 @@ module _ {State : Type 0} (ends : Ends State) (Good : State → Type 0) (kept : 
   may_begin_after [] n u short runs few = short_lacks_the_word Good n u short
   may_begin_after (r ∷ rs) n u short runs few =
       let one = run_result ends Good kept is width narrow n u r (after_turns ends u r).left refl short runs.0.0 runs.0.1 few.0 in
-      may_begin_after rs (killed_if (after_turns ends u r).left n) (left_by_run width ends u r) one.short runs.1 few.1
+      may_begin_after rs (killed_unless_begun (after_turns ends u r).left n) (left_by_run width ends u r) one.short runs.1 few.1
 
 -- the law: as long as fewer than six runs in a row are killed while they synchronize, the next one may begin
 pub next_may_begin : {State : Type 0} (ends : Ends State) (Good : State → Type 0) (kept : State → Option KeptReply) → IsAnInstrument ends Good kept

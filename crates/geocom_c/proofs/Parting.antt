@@ -17,7 +17,7 @@ use Rattle.gc_station.proofs.Behind.{course_append}
 use Rattle.gc_station.proofs.Lists.{all_append, all_on}
 use Rattle.gc_field.specs.World.{Ends}
 use Rattle.gc_field.specs.Begin.{InFlight, IsWellFormed, LacksTheWord, AreTurns, Asks, Comes, Foreign, Reaches, Up_lose, Up_repeat, Down_lose, Down_repeat, Anew, Changes, SyncModel, SyncTurn, UnderWay, asks, begins, comes, leaves, turned, turns}
-use Rattle.gc_field.specs.Beginnings.{IsOwnIf, Run, left_by_run, left_if, under_way_on, after_turns}
+use Rattle.gc_field.specs.Beginnings.{IsOwnIfBegun, Run, left_by_run, left_if_begun, under_way_on, after_turns}
 use Rattle.gc_field.specs.Begun.{world_once_begun, ids_begun}
 use Rattle.gc_field.specs.Field.{Move, Sends, Tells, OnLine, Joins, ArePossible, seen}
 use Rattle.gc_field.specs.Field as field
@@ -133,9 +133,9 @@ module _ {State : Type 0} (width : ℕ) (ends : Ends State) where
   module _ (Good : State → Type 0) (kept : State → Option KeptReply) (is : IsAnInstrument ends Good kept) (narrow : width ≤ 7) where
     -- a run that has synchronized is faithful, and leaves lines among which the next run may begin
     record Begins (u : UnderWay State) (r : Run State) : Type 0 where
-      own : IsOwnIf width ends Good kept [] (after_turns ends u r) r.moves
-      lines : IsWellFormed Good (left_if width ends [] (after_turns ends u r) r.moves)
-      may : LacksTheWord (left_if width ends [] (after_turns ends u r) r.moves)
+      own : IsOwnIfBegun width ends Good kept [] (after_turns ends u r) r.moves
+      lines : IsWellFormed Good (left_if_begun width ends [] (after_turns ends u r) r.moves)
+      may : LacksTheWord (left_if_begun width ends [] (after_turns ends u r) r.moves)
 
     -- the run may begin among what was in flight before it, and its turns and moves are possible
     record MayRun (p : PlacedRun State) : Type 0 where
@@ -191,7 +191,7 @@ module _ {State : Type 0} (width : ℕ) (ends : Ends State) where
           client = ap (λ l. (course width begun l).client) same ∙ f.stands ∙ sym (ap (λ l. client_if width ends l w) e);
           left = front.left (map Stepped steps) ∙ ap (λ l. left_among l (map Stepped steps)) e ∙ ap (left_among []) (sym nil) ∙ left_after_moves p.run.moves [] ∙ sym e;
           own = subst (λ l. OwnAll (p ∷ []) l) (sym none) (own_here width ends Good kept p [] f safe);
-          each = (subst (λ l. IsOwnIf width ends Good kept l s p.run.moves) (sym e) b.own, tt);
+          each = (subst (λ l. IsOwnIfBegun width ends Good kept l s p.run.moves) (sym e) b.own, tt);
         }
     last_holds p (asked ∷ later) e run safe h =
         let s = begun_at ends p in
@@ -207,7 +207,7 @@ module _ {State : Type 0} (width : ℕ) (ends : Ends State) where
           client = ap (λ l. (course width begun l).client) same ∙ sym (ap (λ l. client_if width ends l w) e);
           left = front.left (map Stepped steps) ∙ ap (λ l. left_among s.left (map Stepped l)) none;
           own = subst (λ l. OwnAll (p ∷ []) (settled_if width ends l w)) (sym e) tt;
-          each = (subst (λ l. IsOwnIf width ends Good kept l s p.run.moves) (sym e) tt, tt);
+          each = (subst (λ l. IsOwnIfBegun width ends Good kept l s p.run.moves) (sym e) tt, tt);
         }
 
     -- a run after which the client restarts has synchronized (`Begins`), and the events after that restart, `rest`, come in their
@@ -274,7 +274,7 @@ module _ {State : Type 0} (width : ℕ) (ends : Ends State) where
               (own_here width ends Good kept p (next ∷ others) f safe) (none_answered width ends Good kept all w.client.waiting))
               (all_on (IsOwnAnswer width ends Good kept (next ∷ others)) (IsOwnAnswer width ends Good kept all) (settled_over width ends (next ∷ others))
               (later_own width ends Good kept p (next ∷ others)) more.own));
-          each = (subst (λ l. IsOwnIf width ends Good kept l s p.run.moves) (sym e) pass.begins.own, more.each);
+          each = (subst (λ l. IsOwnIfBegun width ends Good kept l s p.run.moves) (sym e) pass.begins.own, more.each);
         }
 
     -- `Holds` is true of all runs, one after the other, if what is in flight at first is well-formed and hasn't the word in it,
@@ -291,8 +291,8 @@ module _ {State : Type 0} (width : ℕ) (ends : Ends State) where
         let run : MayRun p = record { lines = lines; may = may; turns = possible.0.0; moves = possible.0.1 } in
         let pass = passes p _ (events_over width ends after (next ∷ others)) refl run h in
         let s = after_turns ends u r in
-        let now = subst (λ l. IsWellFormed Good (left_if width ends l s r.moves)) (sym pass.done) pass.begins.lines in
-        let again = subst (λ l. LacksTheWord (left_if width ends l s r.moves)) (sym pass.done) pass.begins.may in
+        let now = subst (λ l. IsWellFormed Good (left_if_begun width ends l s r.moves)) (sym pass.done) pass.begins.lines in
+        let again = subst (λ l. LacksTheWord (left_if_begun width ends l s r.moves)) (sym pass.done) pass.begins.may in
         passed_holds p (record { before = after; run = next }) (placed_runs width ends (left_by_run width ends after next) others) (events_over width ends after (next ∷ others)) safe.0 pass
         (all_hold (next ∷ others) after now again possible.1 safe.1 pass.turns)
 

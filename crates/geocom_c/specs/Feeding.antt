@@ -112,8 +112,8 @@ FeedsUnended c bytes old new told =
 
 -- if these bytes have a line feed, feeding them to the client `c` in the state `old` feeds the frame that the first one ends, as
 -- `FeedsFrame` says of the state `new` and of the feed
-abbrev pub FeedsFirst : Windowed Asked → (bytes : List ℕ) → (old new : GeocomClient) → FeedEffect → Type 0
-FeedsFirst c bytes old new x =
+abbrev pub FeedsFirstLine : Windowed Asked → (bytes : List ℕ) → (old new : GeocomClient) → FeedEffect → Type 0
+FeedsFirstLine c bytes old new x =
     (rest : List ℕ) (at : ℕ) → StandsForClient old c rest → position is_line_feed bytes ≡ Some at
     → FeedsFrame c (frame_of (rest ++ take at bytes)) (at + 1) new x
 

@@ -31,7 +31,7 @@ use Rattle.gc_field.specs.Witness.{eight_answered, replies}
 use Rattle.geocom_c.specs.Following.{CallsReach, CallStage, first_stage}
 use Rattle.geocom_c.specs.Laws.{IsSafeRun}
 use Rattle.geocom_c.specs.Runs.{ArePossibleRuns, events_over, placed_runs}
-use Rattle.geocom_c.specs.Steps.{AreEvents, steps_among}
+use Rattle.geocom_c.specs.Steps.{ClientEvent, AreEvents, steps_among}
 use Rattle.geocom_c.specs.declared.following.StateCall.{StateCall}
 use Rattle.geocom_c.specs.declared.following.StateCall.TheVariants.{Send, SendRaw, Begin, Feed, Expire, Restart}
 
@@ -88,9 +88,13 @@ moves x = Sends 7 (Table InstrumentNo) 9 ∷ Sends 8 x.asked 9 ∷ Tells 5 ∷ O
 abbrev pub runs : {State : Type 0} → Exchange → List (Run State)
 runs x = record { turns = beginning; moves = moves x } ∷ record { turns = Asks ∷ []; moves = [] } ∷ []
 
+-- the events that these runs are to the library, from this state of the instrument on
+abbrev pub run_events : {State : Type 0} → Ends State → State → Exchange → List ClientEvent
+run_events ends state x = events_over WINDOW ends (old_reply_alone state) (runs x)
+
 -- the stage that the calls come to
 abbrev pub end_stage : {State : Type 0} → Ends State → State → Exchange → CallStage
-end_stage ends state x = record { reached = course WINDOW begun (steps_among (events_over WINDOW ends (old_reply_alone state) (runs x))); rest = []; left = the_word }
+end_stage ends state x = record { reached = course WINDOW begun (steps_among (run_events ends state x)); rest = []; left = the_word }
 
 module _ {State : Type 0} (ends : Ends State) (Good : State → Type 0) (kept : State → Option KeptReply) where
   -- all premises of `EachAnswerIsOwn` hold at once of the calls of this exchange, from this state of the instrument on, and the
@@ -102,7 +106,7 @@ module _ {State : Type 0} (ends : Ends State) (Good : State → Type 0) (kept : 
     pub follows : CallsReach WINDOW first_stage (calls x) (end_stage ends state x)
     pub lines : IsWellFormed Good (old_reply_alone state)
     pub may : LacksTheWord (old_reply_alone state)
-    pub are : AreEvents the_word [] (calls x) (events_over WINDOW ends (old_reply_alone state) (runs x))
+    pub are : AreEvents the_word [] (calls x) (run_events ends state x)
     pub possible : ArePossibleRuns WINDOW ends Good kept (old_reply_alone state) (runs x)
     pub safe : AllByRecursion (IsSafeRun WINDOW ends Good kept) (placed_runs WINDOW ends (old_reply_alone state) (runs x))
     pub settlements :

@@ -38,7 +38,7 @@ abbrev pub first_stage : CallStage
 first_stage = record { reached = begun; rest = []; left = the_word }
 
 -- the state stands for a client at this stage
-pub record IsAt (width : ℕ) (s : CallStage) (state : GeocomClient) : Type 0 where
+pub record IsAtStage (width : ℕ) (s : CallStage) (state : GeocomClient) : Type 0 where
   pub stands : StandsForCourse width state s.reached s.rest
   pub left : left_of state ≡ s.left
 
@@ -91,7 +91,7 @@ CallsReach width s (call ∷ calls) t = CallMakes s.left s.rest call (λ steps. 
 -- (`stage`) since then. What `later` come to from there, `calls` come to from s
 pub record MadeBut (width : ℕ) (s : CallStage) (calls : List StateCall) (state : GeocomClient) (later : List StateCall) : Type 0 where
   pub stage : CallStage
-  pub at : IsAt width stage state
+  pub at : IsAtStage width stage state
   pub on : (t : CallStage) → CallsReach width stage later t → CallsReach width s calls t
 
 -- no part of a promise: all these bytes but the last ones, `unfed`, were fed to a client, whatever its course, which has heard the

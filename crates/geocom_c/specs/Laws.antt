@@ -14,7 +14,7 @@ use Rattle.gc_field.specs.Simulator.{simulator_ends}
 use Rattle.gc_world.specs.Record.{IsReplyTo}
 use Rattle.gc_field.specs.World.{Ends, Sent}
 use Rattle.gc_field.specs.Begin.{IsWellFormed, LacksTheWord, UnderWay, leaves}
-use Rattle.gc_field.specs.Beginnings.{IsOwnIf, OfRunsInARow, Run, left_by_runs}
+use Rattle.gc_field.specs.Beginnings.{IsOwnIfBegun, OfRunsInARow, Run, left_by_runs}
 use Rattle.gc_field.specs.Begun.{IsSafe, WasMadeOn}
 use Rattle.gc_field.specs.Instrument.{AnyState, OfAnyInstrument, TreatsRawsAlike}
 use Rattle.gc_field.specs.Laws.{WasExecuted, asked, kept_of}
@@ -60,9 +60,9 @@ module _ {State : Type 0} (width : ℕ) (ends : Ends State) (Good : State → Ty
   abbrev pub IsOwnAnswer : List (PlacedRun State) → Settlement Asked → Type 0
   IsOwnAnswer ps s = (line : List ℕ) → s.outcome ≡ Answered line → IsItsOwn ps s line
 
-  -- if this run has synchronized, it has done so cleanly, and its moves are faithful (`IsOwnIf`)
+  -- if this run has synchronized, it has done so cleanly, and its moves are faithful (`IsOwnIfBegun`)
   abbrev pub IsOwnRun : PlacedRun State → Type 0
-  IsOwnRun p = IsOwnIf width ends Good kept (begun_at ends p).left (begun_at ends p) p.run.moves
+  IsOwnRun p = IsOwnIfBegun width ends Good kept (begun_at ends p).left (begun_at ends p) p.run.moves
 
   -- what holds of calls that are the events of these runs, and that bring the client to the stage t
   pub record AreOwn (ps : List (PlacedRun State)) (t : CallStage) : Type 0 where

@@ -9,10 +9,14 @@ use Rattle.geocom_c.specs.declared.rest.GeocomRest.{GeocomRest}
 abbrev pub kept_bytes : GeocomRest → List ℕ
 kept_bytes r = take r.length r.bytes
 
+-- the byte is no line feed
+abbrev pub IsNoLineFeed : ℕ → Type 0
+IsNoLineFeed b = b ≢ 10
+
 -- at most 514 bytes are kept, and no line feed among them
 pub record IsValid (r : GeocomRest) : Type 0 where
   pub short : r.length ≤ 514
-  pub unended : All (λ b. b ≢ 10) (kept_bytes r)
+  pub unended : All IsNoLineFeed (kept_bytes r)
 
 -- the bytes `rest` came since the last line feed: whatever follows, the next line feed makes the same frame of the kept bytes
 -- as of `rest`

@@ -54,28 +54,30 @@ AreEvents left rest (call ∷ calls) events = CallMakes left rest call (λ steps
 -- the steps of the client among events
 abbrev pub steps_among : List ClientEvent → List (one.Step Asked)
 steps_among [] = []
-steps_among (Null ∷ events) = steps_among events
-steps_among (Came line ∷ events) = steps_among events
 steps_among (Stepped step ∷ events) = step ∷ steps_among events
+steps_among (other ∷ events) = steps_among events
 
 -- the ids that aren't answered after a step: all of them if it is a restart, and else none
 abbrev pub left_by_step : one.Step Asked → List ℕ
 left_by_step one.Restart = the_word
 left_by_step other = []
 
+-- the ids that aren't answered after an event, where `left` weren't before
+abbrev pub left_by_event : (left : List ℕ) → ClientEvent → List ℕ
+left_by_event left Null = left
+left_by_event left (Came line) = left_by left (heard line)
+left_by_event left (Stepped step) = left_by_step step
+
 -- the ids that aren't answered after these events, where `left` weren't before
 abbrev pub left_among : (left : List ℕ) → List ClientEvent → List ℕ
 left_among left [] = left
-left_among left (Null ∷ events) = left_among left events
-left_among left (Came line ∷ events) = left_among (left_by left (heard line)) events
-left_among left (Stepped step ∷ events) = left_among (left_by_step step) events
+left_among left (event ∷ events) = left_among (left_by_event left event) events
 
 -- no step of the client comes before all ids of the word are answered; at first `left` aren't, and after each restart none is
 abbrev pub AreInTurn : (left : List ℕ) → List ClientEvent → Type 0
 AreInTurn left [] = Unit {0}
-AreInTurn left (Null ∷ events) = AreInTurn left events
-AreInTurn left (Came line ∷ events) = AreInTurn (left_by left (heard line)) events
-AreInTurn left (Stepped step ∷ events) = (left ≡ []) × AreInTurn (left_by_step step) events
+AreInTurn left (Stepped step ∷ events) = (left ≡ []) × AreInTurn (left_by_event left (Stepped step)) events
+AreInTurn left (other ∷ events) = AreInTurn (left_by_event left other) events
 
 -- these calls are one list of events, and no other, each in its turn; and they bring the client to what its rule makes of the
 -- steps among those events, and its synchronization to the ids that those events leave unanswered

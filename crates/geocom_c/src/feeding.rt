@@ -10,7 +10,7 @@ ghost use Rattle.geocom_c.specs.Beginning.{left_by_restart};
 ghost use Rattle.geocom_c.specs.Rest.{IsValid};
 ghost use Rattle.geocom_c.specs.State.{IsOfNoClient, IsOfClient, KeepsAnswered, StandsForClient, left_of};
 ghost use Rattle.geocom_c.specs.Rooms.{FaultLeavesAll, ReportsNoClient, ReportsNoRoom, WritesFirst};
-ghost use Rattle.geocom_c.specs.Feeding.{FeedFaultLeavesState, FeedsFirst, FeedsUnended, HasRoomToSettle, IsFed, RestartsClient, WritesSettled, client_past, feed_effect};
+ghost use Rattle.geocom_c.specs.Feeding.{FeedFaultLeavesState, FeedsFirstLine, FeedsUnended, HasRoomToSettle, IsFed, RestartsClient, WritesSettled, client_past, feed_effect};
 ghost use Rattle.geocom_c.specs.declared.header.TheConstants.{NO_ROOM, NO_CLIENT};
 
 use crate::answers::{GeocomCount, GeocomHeard, counted, heard, refused, unheard, using};
@@ -102,7 +102,7 @@ fn feed(
     requires room { HasRoomToSettle settlements.old text.old }
     requires cut { IsValid state.old.rest }
     ensures more { FeedsUnended client bytes.now state.old state.new result }
-    ensures frame { FeedsFirst client bytes.now state.old state.new (feed_effect result settlements.new text.new) }
+    ensures frame { FeedsFirstLine client bytes.now state.old state.new (feed_effect result settlements.new text.new) }
     ensures fault { result.fault ≡ 0 }
     ensures answered { KeepsAnswered state.old state.new }
     ensures used { IsUsedOf bytes.now result.used }
@@ -133,7 +133,7 @@ pub extern "C" fn geocom_client_feed(
 ) -> GeocomHeard
     ensures more { HasRoomToSettle settlements.old text.old → (c : Windowed Asked) → FeedsUnended c bytes.now state.old state.new result }
     ensures frame { HasRoomToSettle settlements.old text.old → (c : Windowed Asked)
-        → FeedsFirst c bytes.now state.old state.new (feed_effect result settlements.new text.new) }
+        → FeedsFirstLine c bytes.now state.old state.new (feed_effect result settlements.new text.new) }
     ensures used { (result.used ≤ length bytes.now) × (result.fault ≡ 0 → 0 < length bytes.now → 0 < result.used) }
     ensures room { (result.fault ≡ NO_ROOM) ↔ (HasRoomToSettle settlements.old text.old → ⊥) }
     ensures astray { (result.fault ≡ NO_CLIENT) ↔ (HasRoomToSettle settlements.old text.old × IsOfNoClient state.old) }

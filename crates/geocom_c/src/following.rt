@@ -5,7 +5,7 @@ ghost use Rattle.gc_lines.specs.Taking.{IsUsedOf};
 ghost use Rattle.gc_client.specs.Rule.{IsWidth};
 ghost use Rattle.gc_client.specs.OneForOne.{AccountsForSends};
 ghost use Rattle.geocom_c.specs.State.{KeepsAnswered};
-ghost use Rattle.geocom_c.specs.Following.{FeedsBut, FeedsBytes, CallsReach, IsAt, MadeBut, CallStage, first_stage};
+ghost use Rattle.geocom_c.specs.Following.{FeedsBut, FeedsBytes, CallsReach, IsAtStage, MadeBut, CallStage, first_stage};
 
 use crate::beginning::geocom_client_begin;
 use crate::calls::{geocom_client_expire, geocom_client_init};
@@ -86,7 +86,7 @@ fn feed_all(state: &mut GeocomClient, bytes: &[u8])
 
 // Makes this call, with ample room. What it returns and writes is dropped; a fault leaves the state as it is.
 fn make_call(state: &mut GeocomClient, call: &StateCall<'_>)
-    ensures { (width : ℕ) (s : CallStage) (calls : List StateCall) → IsAt width s state.old
+    ensures { (width : ℕ) (s : CallStage) (calls : List StateCall) → IsAtStage width s state.old
         → MadeBut width s (call.now ∷ calls) state.new calls }
 {
     match call {
@@ -139,7 +139,7 @@ fn call_at<'a>(calls: &[StateCall<'a>], k: usize) -> StateCall<'a>
 /// came. What was settled, and after it the outstanding requests, are the sends that weren't refused, in order, each once. With
 /// another width no client is made: the calls are made on the state as it was, and nothing is said of what comes of it.
 pub fn follow(state: &mut GeocomClient, width: u8, calls: &[StateCall<'_>])
-    ensures { IsWidth width → (t : CallStage) × CallsReach width first_stage calls.now t × IsAt width t state.new
+    ensures { IsWidth width → (t : CallStage) × CallsReach width first_stage calls.now t × IsAtStage width t state.new
         × AccountsForSends t.reached }
 {
     let _ = geocom_client_init(state, width);

@@ -1,11 +1,11 @@
 //! The bytes of an incomplete line: a state keeps of them what the frame of the next line feed depends on.
 
-ghost use Rattle.std.specs.Prelude.{◌≡◌, ◌≢◌, ◌≤◌, ◌↔◌, All, ◌+◌, ◌++◌, ℕ, List, [], length, Some, None, IsTrue};
+ghost use Rattle.std.specs.Prelude.{◌≡◌, ◌≤◌, ◌↔◌, All, ◌+◌, ◌++◌, ℕ, List, [], length, Some, None, IsTrue};
 ghost use Rattle.std.specs.List.{position};
 ghost use Rattle.gc_lines.specs.Frames.{frame_of, is_line_feed};
 ghost use Rattle.gc_lines.specs.Taking.{IsUsedOf};
 ghost use Rattle.geocom_c.specs.Beginning.{IsGiven};
-ghost use Rattle.geocom_c.specs.Rest.{IsValid, IsRest, UsesFirstLine, UsesUnended};
+ghost use Rattle.geocom_c.specs.Rest.{IsNoLineFeed, IsRest, IsValid, UsesFirstLine, UsesUnended};
 ghost use Rattle.geocom_c.specs.Rooms.{IsWritten, WritesWithin};
 ghost use Rattle.geocom_c.specs.declared.header.TheConstants.{LINE_ROOM};
 
@@ -100,7 +100,7 @@ impl GeocomRest {
 
 // Whether no byte is a line feed.
 fn has_no_line_feed(bytes: &[u8]) -> bool
-    ensures { IsTrue result ↔ All (λ b. b ≢ 10) bytes.now }
+    ensures { IsTrue result ↔ All IsNoLineFeed bytes.now }
 {
     bytes.iter().all(|b| *b != b'\n')
 }

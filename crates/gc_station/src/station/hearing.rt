@@ -1,7 +1,7 @@
 //! What a station hears: a piece, its lines, and what they settle.
 
-ghost use Rattle.gc_lines.specs.Lent.{IsLineWithin};
-ghost use Rattle.gc_station.specs.Model.{piece_came, piece_taken, piece_at};
+ghost use Rattle.gc_lines.specs.Lent.{IsLineWithinLimit};
+ghost use Rattle.gc_station.specs.Model.{piece_heard, piece_taken, piece_at};
 ghost use Rattle.gc_station.specs.Stations.{MovesByReading, as_seen, KeepsToModel, frame_came};
 ghost use Rattle.gc_station.specs.Writing.{KeepsBook};
 
@@ -25,7 +25,7 @@ impl Station {
         begun: bool,
         frame: Lent<'_>,
     ) -> Result<(), PortFailed>
-        requires { IsLineWithin frame }
+        requires { IsLineWithinLimit frame }
         ensures hears { KeepsToModel (frame_came begun frame.entry) (B.text book.old) (B.taken book.old) (B.taken book.new) self.old self.new result }
         ensures kept { KeepsBook B.Book book.old book.new result }
     {
@@ -50,7 +50,7 @@ impl Station {
     // the piece after the last answer of a synchronization settle nothing. `Err`: the book failed at a record, and the lines after
     // it weren't heard.
     fn listen<B: Book>(&mut self, book: &mut B, begun: bool, piece: &[u8]) -> Result<(), PortFailed>
-        ensures listens { KeepsToModel (piece_came begun piece.now) (B.text book.old) (B.taken book.old) (B.taken book.new) self.old self.new result }
+        ensures listens { KeepsToModel (piece_heard begun piece.now) (B.text book.old) (B.taken book.old) (B.taken book.new) self.old self.new result }
         ensures kept { KeepsBook B.Book book.old book.new result }
     {
         let mut cut = Line::new();

@@ -6,7 +6,7 @@ ghost use Rattle.gc_lines.specs.Lines.{with_end};
 ghost use Rattle.gc_links.specs.Acts.{AddsActs, put_act, IsPartIfErr};
 ghost use Rattle.gc_station.specs.Deciding.{has_begun};
 ghost use Rattle.gc_station.specs.Model.{next_request_text, null_text, request_for, null_request, request_of_setup};
-ghost use Rattle.gc_station.specs.Stations.{CanSend, DoesAlone, cut_progress, station_asking};
+ghost use Rattle.gc_station.specs.Stations.{CanSend, MakesMoveAlone, cut_progress, station_asking};
 ghost use Rattle.gc_station.specs.declared.progress.Action.TheVariants.{Clear, Ask, Prepare, Send, Flush};
 
 use super::Station;
@@ -76,7 +76,7 @@ impl Station {
 
     // Sends the lone line feed that clears a new connection. A cut write is noted, by `note_cut`.
     pub(super) fn clear<L: Link>(&mut self, link: &mut L, plan: &Plan, commands: &[Task])
-        ensures { DoesAlone plan.now commands.now Clear (L.acts link.old) (L.acts link.new) self.old self.new }
+        ensures { MakesMoveAlone plan.now commands.now Clear (L.acts link.old) (L.acts link.new) self.old self.new }
     {
         let requests = self.commands_before(plan, commands);
         let put = link.put(b"\n");
@@ -120,7 +120,7 @@ impl Station {
     // Sends the null procedure of the first id that isn't answered, and notes its deadline; and a cut write, by `note_cut`.
     pub(super) fn ask_null<L: Link>(&mut self, link: &mut L, plan: &Plan, commands: &[Task])
         requires { has_begun self.old.progress ≡ false }
-        ensures { DoesAlone plan.now commands.now Ask (L.acts link.old) (L.acts link.new) self.old self.new }
+        ensures { MakesMoveAlone plan.now commands.now Ask (L.acts link.old) (L.acts link.new) self.old self.new }
     {
         let requests = self.commands_before(plan, commands);
         let put = self.put_null(link);
@@ -133,7 +133,7 @@ impl Station {
         requires ready { CanSend self.old }
         requires unsent { 0 < self.old.progress.unsent }
         requires within { self.old.progress.unsent ≤ length commands.now }
-        ensures { DoesAlone plan.now commands.now Send (L.acts link.old) (L.acts link.new) self.old self.new }
+        ensures { MakesMoveAlone plan.now commands.now Send (L.acts link.old) (L.acts link.new) self.old self.new }
     {
         let requests = self.commands_before(plan, commands);
         let mark = self.mark(plan, commands);
@@ -159,7 +159,7 @@ impl Station {
     // Sends the next command of the setup, if the list has one; otherwise a null procedure. A cut write is noted (`note_cut`).
     pub(super) fn prepare<L: Link>(&mut self, link: &mut L, plan: &Plan, commands: &[Task])
         requires { CanSend self.old }
-        ensures { DoesAlone plan.now commands.now Prepare (L.acts link.old) (L.acts link.new) self.old self.new }
+        ensures { MakesMoveAlone plan.now commands.now Prepare (L.acts link.old) (L.acts link.new) self.old self.new }
     {
         let requests = self.commands_before(plan, commands);
         let asking = self.next_setup(plan, commands);
@@ -172,7 +172,7 @@ impl Station {
     // `Action::Flush` says. A cut write is noted (`note_cut`).
     pub(super) fn flush<L: Link>(&mut self, link: &mut L, plan: &Plan, commands: &[Task])
         requires { CanSend self.old }
-        ensures { DoesAlone plan.now commands.now Flush (L.acts link.old) (L.acts link.new) self.old self.new }
+        ensures { MakesMoveAlone plan.now commands.now Flush (L.acts link.old) (L.acts link.new) self.old self.new }
     {
         let requests = self.commands_before(plan, commands);
         let put = self.ask(link, &null_request(plan));

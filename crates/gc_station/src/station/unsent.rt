@@ -5,7 +5,7 @@ ghost use Rattle.gc_links.specs.Acts.{Told};
 ghost use Rattle.gc_texts.specs.Endings.{ending_seen};
 ghost use Rattle.gc_station.specs.Records.{WritesMore};
 ghost use Rattle.gc_station.specs.Model.{end_unsent, unsent_record};
-ghost use Rattle.gc_station.specs.Stations.{DoesAlone, Moves, as_seen, station_advancing, station_skipping};
+ghost use Rattle.gc_station.specs.Stations.{MakesMoveAlone, Moves, as_seen, station_advancing, station_skipping};
 ghost use Rattle.gc_station.specs.Writing.{KeepsBook};
 ghost use Rattle.gc_station.specs.declared.progress.Action.TheVariants.{Skip, Pass};
 
@@ -48,7 +48,7 @@ impl Station {
     // Reads the clock (`read_moment`), and leaves out the further attempt that the next command begins, and those of its chain
     // after it. If the clock can't be read, nothing is left out.
     pub(super) fn leave_out<L: Link>(&mut self, link: &mut L, plan: &Plan, commands: &[Task])
-        ensures { DoesAlone plan.now commands.now Pass (L.acts link.old) (L.acts link.new) self.old self.new }
+        ensures { MakesMoveAlone plan.now commands.now Pass (L.acts link.old) (L.acts link.new) self.old self.new }
     {
         if let Some(moment) = self.read_moment(link) {
             let count = self.progress.next_others;

@@ -6,7 +6,7 @@ use Rattle.gc_ask.specs.Links.{SeenStep}
 use Rattle.gc_ask.specs.Listening.{heard_by, reads_of, seen_through}
 use Rattle.gc_ask.specs.Looping.{BothEnd, SeenAtBoth}
 use Rattle.gc_ask.proofs.Asked.{course_start, course_all}
-use Rattle.gc_ask.proofs.Ends.{sound_start, both_sound_step, both_end, both_end_well, ends_with_weaker}
+use Rattle.gc_ask.proofs.Ends.{sound_start, both_sound_step, both_end, both_end_well, asking_ends_weaker}
 use Rattle.gc_ask.proofs.Exchanging.{course_next, run_fault}
 use Rattle.gc_ask.proofs.ask.ask_all.Goals as goal
 use Rattle.gc_texts.proofs.SettlementLines.{split_at_item}
@@ -83,30 +83,32 @@ returns-in-Err-clause-asks g c =
     let before : SeenAtBoth = seen_through g.L.AskedLink c.loop-place.link g.K.Sink c.loop-place.sink in
     let new : SeenAtBoth = seen_through g.L.AskedLink c.ask.new.link g.K.Sink c.ask.new.sink in
     record {
-      given = so.0 ++ one.0;
-      gave = Consumes-trans _ _ _ so.0 one.0 so.1 one.1;
-      few = omega (
-        arith,
-        so.2,
-        one.2,
-        length-append so.0 one.0,
-        c.loop-place.invariant.sound.client.grows,
-        c.in-Err.ensures.spends.grows,
-      );
-      asks = run_fault g.L.AskedLink.is_remote commands place _ (record {
-        done = take place commands;
-        command = command;
-        later = drop (place + 1) commands;
-        order = (split_at_item commands place command c.loop-place-test.true c.index-commands-place.is).1;
-        course = at;
-      }) one.0 (heard_by asking.end at.now (old.ahead ++ one.0) asking.ahead) new c.in-Err.fault
-          c.loop-place.invariant.sound (place_is commands place c.loop-place-test.true)
-          (one.3 at.now at.stands) c.in-Err.ensures.ends;
-      ends = ends_with_weaker (SeenStep before new) (BothEnd first new)
-          (λ r. both_end first before new r c.loop-place.invariant.sound)
-          first.sink.failed before.sink.failed new.sink.failed c.loop-place.invariant.sink (Err c.in-Err.fault) c.in-Err.ensures.ends;
-      bound = omega (arith, c.loop-place.invariant.reads, c.in-Err.ensures.spends.reads);
-      too_many = λ is. omega (arith, c.loop-place.invariant.reads, c.in-Err.ensures.spends.reads, c.in-Err.ensures.too_many is);
+      within = record {
+        given = so.0 ++ one.0;
+        gave = Consumes-trans _ _ _ so.0 one.0 so.1 one.1;
+        few = omega (
+          arith,
+          so.2,
+          one.2,
+          length-append so.0 one.0,
+          c.loop-place.invariant.sound.client.grows,
+          c.in-Err.ensures.spends.grows,
+        );
+        asks = run_fault g.L.AskedLink.is_remote commands place _ (record {
+          done = take place commands;
+          command = command;
+          later = drop (place + 1) commands;
+          order = (split_at_item commands place command c.loop-place-test.true c.index-commands-place.is).1;
+          course = at;
+        }) one.0 (heard_by asking.end at.now (old.ahead ++ one.0) asking.ahead) new c.in-Err.fault
+            c.loop-place.invariant.sound (place_is commands place c.loop-place-test.true)
+            (one.3 at.now at.stands) c.in-Err.ensures.ends;
+        ends = asking_ends_weaker (SeenStep before new) (BothEnd first new)
+            (λ r. both_end first before new r c.loop-place.invariant.sound)
+            first.sink.failed before.sink.failed new.sink.failed c.loop-place.invariant.sink (Err c.in-Err.fault) c.in-Err.ensures.ends;
+        bound = omega (arith, c.loop-place.invariant.reads, c.in-Err.ensures.spends.reads);
+        too_many = λ is. omega (arith, c.loop-place.invariant.reads, c.in-Err.ensures.spends.reads, c.in-Err.ensures.too_many is);
+      };
     }
 
 pub returns-in-Err-clause-held : goal.returns-in-Err-clause-held
@@ -121,15 +123,17 @@ returns-clause-asks g c =
     let so = c.loop-place.invariant.course in
     let whole : take c.loop-place.place c.args.commands.now ≡ c.args.commands.now = take_all _ _ c.loop-place-test.false in
     record {
-      given = so.0;
-      gave = so.1;
-      few = so.2;
-      asks = course_all _ _ (rw whole at so.3);
-      ends = (
-        both_end_well (seen_through g.L.AskedLink c.args.link.now g.K.Sink c.args.sink.now) (seen_through g.L.AskedLink c.loop-place.link g.K.Sink c.loop-place.sink)
-            c.loop-place.invariant.sound,
-        c.loop-place.invariant.sink,
-      );
-      bound = omega (arith, c.loop-place.invariant.reads);
-      too_many = λ is. absurd (went_well TooManyReads is);
+      within = record {
+        given = so.0;
+        gave = so.1;
+        few = so.2;
+        asks = course_all _ _ (rw whole at so.3);
+        ends = (
+          both_end_well (seen_through g.L.AskedLink c.args.link.now g.K.Sink c.args.sink.now) (seen_through g.L.AskedLink c.loop-place.link g.K.Sink c.loop-place.sink)
+              c.loop-place.invariant.sound,
+          c.loop-place.invariant.sink,
+        );
+        bound = omega (arith, c.loop-place.invariant.reads);
+        too_many = λ is. absurd (went_well TooManyReads is);
+      };
     }

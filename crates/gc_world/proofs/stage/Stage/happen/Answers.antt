@@ -4,7 +4,7 @@ use Rattle.gc_world.specs.Memory.{TakesNoMemory}
 use Rattle.gc_world.specs.Stages.{stage_parts, staging}
 use Rattle.gc_world.specs.Staging.{Follows}
 use Rattle.gc_world.proofs.Shown.{up_lost, up_repeated, down_lost, down_repeated}
-use Rattle.gc_world.proofs.Sparing.{full, none_up, no_repeat_up, no_repeat_down, busy}
+use Rattle.gc_world.proofs.Sparing.{full, none_up, no_repeat_up, no_repeat_down, some_in_flight}
 use Rattle.gc_world.proofs.stage.Stage.happen.Goals as goal
 
 -- What the event's own method says of it. The search finds some of these, at its limits.
@@ -109,10 +109,10 @@ pub returns-in_err-restart_client-in-RestartClient-clause-spare : goal.returns-i
 returns-in_err-restart_client-in-RestartClient-clause-spare g c =
     let s = c.args.self.now in
     λ width v h none. absurd (false≢true (c.in_err-restart_client-in-RestartClient.ensures.spare
-    (busy width s.report s.up.queue s.down.queue s.client v.world h.lines (subst (λ event. TakesNoMemory width v event) c.in-RestartClient.is none))))
+    (some_in_flight width s.report s.up.queue s.down.queue s.client v.world h.lines (subst (λ event. TakesNoMemory width v event) c.in-RestartClient.is none))))
 
 pub returns-in_err-restart_instrument-in-RestartInstrument-clause-spare : goal.returns-in_err-restart_instrument-in-RestartInstrument-clause-spare
 returns-in_err-restart_instrument-in-RestartInstrument-clause-spare g c =
     let s = c.args.self.now in
     λ width v h none. absurd (false≢true (c.in_err-restart_instrument-in-RestartInstrument.ensures.spare
-    (busy width s.report s.up.queue s.down.queue s.client v.world h.lines (subst (λ event. TakesNoMemory width v event) c.in-RestartInstrument.is none))))
+    (some_in_flight width s.report s.up.queue s.down.queue s.client v.world h.lines (subst (λ event. TakesNoMemory width v event) c.in-RestartInstrument.is none))))

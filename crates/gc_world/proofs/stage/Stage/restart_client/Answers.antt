@@ -1,12 +1,12 @@
 use Rattle.std.proofs.Common.{[], ◌∷◌, ◌++◌, ◌∙◌, ap}
 use Rattle.std.proofs.lemmas.Bool.{iff_false}
 use Rattle.gc_world.specs.Stages.{stage_parts}
-use Rattle.gc_world.proofs.Shown.{streams_busy_client, streams_restart_client}
+use Rattle.gc_world.proofs.Shown.{streams_restart_client_idle, streams_restart_client}
 use Rattle.gc_world.proofs.stage.Stage.restart_client.Goals as goal
 
 pub returns-then-not-is_quiet-clause-follows : goal.returns-then-not-is_quiet-clause-follows
 returns-then-not-is_quiet-clause-follows g c =
-    λ width v h. streams_busy_client width (stage_parts c.args.self.now) v h (iff_false c.is_quiet.ensures c.if-not-is_quiet.true)
+    λ width v h. streams_restart_client_idle width (stage_parts c.args.self.now) v h (iff_false c.is_quiet.ensures c.if-not-is_quiet.true)
 
 pub returns-clause-follows : goal.returns-clause-follows
 returns-clause-follows g c =

@@ -1,8 +1,8 @@
 use Rattle.gc_world.specs.Stages.{stage_parts}
 use Rattle.std.proofs.lemmas.Bool.{iff_false}
-use Rattle.gc_world.proofs.Shown.{streams_busy_instrument}
+use Rattle.gc_world.proofs.Shown.{streams_restart_instrument_idle}
 use Rattle.gc_world.proofs.stage.Stage.restart_instrument.Goals as goal
 
 pub returns-else-is_quiet-clause-follows : goal.returns-else-is_quiet-clause-follows
 returns-else-is_quiet-clause-follows g c =
-    λ width v h. streams_busy_instrument width (stage_parts c.args.self.now) v h (iff_false c.is_quiet.ensures c.if-is_quiet.false)
+    λ width v h. streams_restart_instrument_idle width (stage_parts c.args.self.now) v h (iff_false c.is_quiet.ensures c.if-is_quiet.false)
