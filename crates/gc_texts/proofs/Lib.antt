@@ -23,6 +23,7 @@ pub mod Dates
 pub mod Logs
 pub mod LogStamps
 mod Moments
+mod FaultLines
 mod FirstAttempts
 mod Chained
 pub mod Placing

@@ -5,12 +5,12 @@ ghost use Rattle.gc_lines.specs.Ports.{WritesIfOk};
 ghost use Rattle.gc_texts.specs.Faults.{run_fault_number, run_fault_text, fault_line, end_of_serving};
 
 use gc_lines::{READ_FAILED, READS_SPENT, ServeFault, Served, WRITE_FAILED};
-use std::error::Error;
-use std::fmt;
 use std::io::{self, Write};
+use thiserror::Error;
 
 /// Why an engine of the program stopped. `Display` prints what the program prints after its name.
-#[derive(Clone, Copy, Debug, PartialEq, Eq)]
+#[derive(Clone, Copy, Debug, PartialEq, Eq, Error)]
+#[error("fault {}", self.number())]
 pub enum RunFault {
     /// A scene has more than 32 targets, 32 faults, 16 replies or 32 delays.
     SceneFull,
@@ -19,6 +19,7 @@ pub enum RunFault {
     /// A write to the link, or of replies to the output, failed after the first `bytes` bytes of a line. `replies` is the number
     /// of whole lines before that line. In a station's run it is the number of commands that stand before the cycle's next one in
     /// the station's list, those of the setup included; 0 before the first cycle.
+    #[error("fault {} reply {replies} byte {bytes}", self.number())]
     Write { replies: u64, bytes: usize },
     /// As many reads were made as are allowed, or, by a station, as many acts.
     TooManyReads,
@@ -35,6 +36,7 @@ pub enum RunFault {
     /// A station's text has no command of a cycle.
     NoCommand,
     /// This line of the text, counted from 1, is the first faulty one.
+    #[error("fault {} line {line}", self.number())]
     Schedule { line: u32 },
     /// Memory was refused.
     Memory,
@@ -98,33 +100,26 @@ impl RunFault {
         }
     }
 
-    /// Writes the line of the fault: the program's name, and the text that `Display` prints.
+    /// Writes the line of the fault: the program's name, and the text that `Display` prints. It writes that text itself, since the
+    /// derive states none that the clause could name; a case for each variant compares the two.
     pub fn tell<E: Write>(self, messages: &mut E) -> io::Result<()>
         ensures { WritesIfOk E.contents messages.old messages.new result (fault_line (run_fault_text self)) }
     {
-        writeln!(messages, "geocom: {self}")
-    }
-}
-
-impl fmt::Display for RunFault {
-    ghost use Rattle.std.specs.Prelude.{Some};
-
-    ghost output = { λ fault. Some (run_fault_text fault) };
-
-    fn fmt<W: fmt::Write>(&self, f: &mut fmt::Formatter<W>) -> fmt::Result {
         match self {
-            RunFault::Write { replies, bytes } => write!(
-                f,
-                "fault {} reply {replies} byte {bytes}",
+            RunFault::Write { replies, bytes } => writeln!(
+                messages,
+                "geocom: fault {} reply {replies} byte {bytes}",
                 self.number()
             ),
-            RunFault::Schedule { line } => write!(f, "fault {} line {line}", self.number()),
-            _ => write!(f, "fault {}", self.number()),
+            RunFault::Schedule { line } => writeln!(
+                messages,
+                "geocom: fault {} line {line}",
+                self.number()
+            ),
+            _ => writeln!(messages, "geocom: fault {}", self.number()),
         }
     }
 }
-
-impl Error for RunFault {}
 
 /// How serving ended, as the end of a run: well, or with the fault of serving, which is `Read`, `Write` or `TooManyReads`.
 pub fn end_of_serving(end: Result<Served, ServeFault>) -> Result<(), RunFault>
