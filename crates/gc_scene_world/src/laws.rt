@@ -18,7 +18,8 @@ pub fn runs_agree()
     ensures { RunsAgree scene_ends }
 {}
 
-/// Where a settlement is an answer, its line is a reply that the instrument made for the very request that it settles.
+/// Where a settlement is an answer, its line is one that the instrument sent when it was given the very request that is settled:
+/// a reply made then, or a stored reply that it sent again. Which of the two isn't said.
 pub fn answers_are_booked()
     ensures { BooksOwnLines }
 {}

@@ -1,9 +1,10 @@
 -- The bytes of a line, and its CR LF, in pieces.
-use Rattle.std.proofs.Common.{◌≡◌, ℕ, ◌+◌, ◌-◌, ◌≤◌, cond, not, List, [], ◌∷◌, ◌++◌, length, take, drop, Some, None, refl, sym, ap, ◌∙◌, subst, arith, length-append, append_assoc, take-add, ltb}
+use Rattle.std.proofs.Common.{◌≡◌, ℕ, ◌+◌, ◌-◌, ◌<◌, ◌≤◌, cond, not, List, [], ◌∷◌, ◌++◌, length, take, drop, Some, None, refl, sym, ap, ◌∙◌, subst, arith, length-append, append_assoc, take-add, ltb}
+use Rattle.std.specs.Prelude.{◌≢◌}
 use Rattle.std.specs.List.{AllByRecursion, position, prefix_len}
-use Rattle.std.proofs.lemmas.Bool.{le-ltb, ne_eqb}
-use Rattle.std.proofs.lemmas.List.{append-nil, take_at, take-append-le}
-use Rattle.std.proofs.lemmas.List.Elements.{All-take, All-drop, recursion_from_All}
+use Rattle.std.proofs.lemmas.Bool.{le-ltb, lt-ltb, ne_eqb}
+use Rattle.std.proofs.lemmas.List.{take_at, take-append-le, drop-append-le, take-append-drop}
+use Rattle.std.proofs.lemmas.List.Elements.{All-take, All-drop, recursion_from_All, All-from_recursion}
 use Rattle.arrayvec.specs.ArrayVec.{ArrayVec}
 use Rattle.gc_lines.specs.declared.frame.Frame.{Frame}
 use Rattle.gc_lines.specs.declared.frame.Frame.TheVariants.{Line}
@@ -11,9 +12,9 @@ use Rattle.gc_lines.specs.declared.frame.Lent.{Lent}
 use Rattle.gc_lines.specs.declared.frame.Lent.TheVariants as lent
 use Rattle.gc_lines.specs.Lent.{lent_seen, IsLentLine}
 use Rattle.gc_lines.specs.Assembler.{Kept, StandsFor}
-use Rattle.gc_lines.specs.Frames.{is_line_feed, frame_of}
+use Rattle.gc_lines.specs.Frames.{is_line_feed, frame_of, HasNoLineFeed}
 use Rattle.gc_lines.specs.Lines.{IsPlainByte, IsPlain, with_end}
-use Rattle.gc_lines.specs.Taking.{KeepsPiece}
+use Rattle.gc_lines.specs.Taking.{KeepsPiece, EndsFrame}
 use Rattle.gc_lines.proofs.Plain.{frame_is_line}
 use Rattle.gc_world.specs.Sides.{StandsForPart}
 
@@ -70,9 +71,44 @@ pub fed_return : {used : ℕ} {frame : Frame} (old new : Kept) (line : List ℕ)
     → StandsForPart new m line
 fed_return old new line m e next stands = subst (StandsFor new) (sym (with_return line m e)) ((next refl).2 line stands)
 
--- the frame of the first g bytes of a line of at most 512 bytes with its CR LF, which are all but the line feed, is that line
-pub frame_of_line : (line : List ℕ) (g : ℕ) → g ≡ length line + 1 → length line ≤ 512 → frame_of (take g (with_end line) ++ []) ≡ Line (record { items = line })
-frame_of_line line g e fits = ap frame_of (append-nil (take g (with_end line)) ∙ with_return line g e) ∙ sym (frame_is_line line fits)
+-- plain bytes and a CR have no line feed
+no_feed_before : (bs : List ℕ) → AllByRecursion IsPlainByte bs → HasNoLineFeed (bs ++ 13 ∷ [])
+no_feed_before [] h = ((λ e. absurd (omega arith)), tt)
+no_feed_before (b ∷ bs) h = (h.0.0, no_feed_before bs h.1)
+
+-- where bytes have no line feed, and one is after them, `prefix_len` of those that are no line feed is the number of all
+prefix_of_all : (bs : List ℕ) → HasNoLineFeed bs → prefix_len (λ b. not (is_line_feed b)) (bs ++ 10 ∷ []) ≡ length bs
+prefix_of_all [] h = refl
+prefix_of_all (b ∷ bs) h =
+    ap (λ v. cond (Rattle.std.specs.Prelude.not v) (1 + prefix_len (λ c. not (is_line_feed c)) (bs ++ 10 ∷ [])) 0) (ne_eqb b 10 h.0)
+    ∙ ap (λ n. 1 + n) (prefix_of_all bs h.1) ∙ omega arith
+
+-- the first line feed after bytes that have none is the one after them
+feed_behind : (bs : List ℕ) → HasNoLineFeed bs → position is_line_feed (bs ++ 10 ∷ []) ≡ Some (length bs)
+feed_behind bs h =
+    ap (λ n. cond (ltb n (length (bs ++ 10 ∷ []))) (Some n) None) (prefix_of_all bs h)
+    ∙ ap (λ v. cond v (Some (length bs)) None) (lt-ltb (length bs) (length (bs ++ 10 ∷ [])) (omega (arith, length-append bs (10 ∷ []))))
+
+-- where an assembler stood (`old`) for the first g bytes of a line with its CR LF, and was fed the others (`piece`), these end a
+-- frame, which is the line, and the assembler is then (`new`) at the start of a line
+pub fed_rest : {used : ℕ} {frame : Frame} (old new : Kept) (line : List ℕ) (g : ℕ) (piece : List ℕ) → IsPlain line → length line ≤ 512 → g < length line + 2
+    → piece ≡ drop g (with_end line) → EndsFrame old new piece used frame → StandsForPart old g line
+    → (frame ≡ Line (record { items = line })) × StandsFor new []
+fed_rest old new line g piece plain fits some piece_is ends stands =
+    let body = line ++ 13 ∷ [] in
+    let left = drop g body in
+    let none : HasNoLineFeed left =
+    let each = All-from_recursion (λ b. b ≢ 10) body (no_feed_before line (recursion_from_All IsPlainByte line plain)) in
+    recursion_from_All (λ b. b ≢ 10) left (All-drop (λ b. b ≢ 10) g body each) in
+    let within : g ≤ length body = omega (arith, some, length-append line (13 ∷ [])) in
+    let whole : with_end line ≡ body ++ 10 ∷ [] = sym (append_assoc line (13 ∷ []) (10 ∷ [])) in
+    let left_is : piece ≡ left ++ 10 ∷ [] = piece_is ∙ ap (drop g) whole ∙ drop-append-le g body (10 ∷ []) within in
+    let at = ends (length left) (ap (position is_line_feed) left_is ∙ feed_behind left none) in
+    let gone : take g (with_end line) ≡ take g body = ap (take g) whole ∙ take-append-le g body (10 ∷ []) within in
+    let fed : take (length left) piece ≡ left = ap (take (length left)) left_is ∙ take_at left (10 ∷ []) (length left) refl in
+    let bytes : take g (with_end line) ++ take (length left) piece ≡ body =
+    ap (λ bs. bs ++ take (length left) piece) gone ∙ ap (λ bs. take g body ++ bs) fed ∙ take-append-drop g body in
+    (at.1 (take g (with_end line)) stands ∙ ap frame_of bytes ∙ sym (frame_is_line line fits), at.2)
 
 -- two frames that are equal lines have equal bytes
 line_items : (xs ys : List ℕ) → ◌≡◌ {A = Frame} (Line (record { items = xs })) (Line (record { items = ys })) → xs ≡ ys

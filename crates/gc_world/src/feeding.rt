@@ -1,5 +1,5 @@
 //! Feeding: the bytes of a line in flight, and then its CR LF, are handed to the assembler at the far end of their
-//! direction, all at once or in parts, without a copy of the line.
+//! direction, all at once or in parts.
 
 ghost use Rattle.std.specs.Prelude.{◌≡◌, ◌+◌, ◌<◌, ◌≤◌, [], length};
 ghost use Rattle.gc_lines.specs.Assembler.{StandsFor};
@@ -7,7 +7,11 @@ ghost use Rattle.gc_lines.specs.Lent.{IsLentLine};
 ghost use Rattle.gc_lines.specs.Lines.{IsPlain};
 ghost use Rattle.gc_world.specs.Sides.{StandsForPart};
 
-use gc_lines::{Assembler, Lent, Line};
+use arrayvec::ArrayVec;
+use gc_lines::{Assembler, Lent, Line, append, bytes_from};
+
+/// The bytes of a line with its CR LF.
+pub type Piece = ArrayVec<u8, 514>;
 
 /// Feeds the next `n` bytes of a line whose first `gone` bytes have gone, its CR LF counted. The last byte, the LF, isn't among them, so
 /// the line isn't completed. `cut` is left as it is: the assembler puts a line together there only when the line's last byte
@@ -30,13 +34,15 @@ pub fn feed_some(assembler: &mut Assembler, line: &[u8], gone: usize, n: usize, 
     }
 }
 
-/// Feeds what remains of a line whose first `gone` bytes have gone, and returns the completed line. `cut` is where the
-/// assembler puts together a line of which bytes have gone before; its old content doesn't matter.
+/// Feeds what remains of a line whose first `gone` bytes have gone, its CR LF counted, as one piece, and returns the completed line.
+/// The old content of the two buffers doesn't matter: in `piece` the line gets its CR LF, and in `cut` the assembler puts together a
+/// line of which bytes have gone before.
 #[inline(always)]
 pub fn feed_rest<'a>(
     assembler: &mut Assembler,
-    line: &'a [u8],
+    line: &[u8],
     gone: usize,
+    piece: &'a mut Piece,
     cut: &'a mut Line,
 ) -> Lent<'a>
     requires plain { IsPlain line.now }
@@ -46,14 +52,8 @@ pub fn feed_rest<'a>(
     ensures line { IsLentLine result line.now }
     ensures start { StandsFor assembler.new [] }
 {
-    // No byte of the line has gone, so the line is lent as it is.
-    if assembler.at_start() {
-        return Lent::Line(line);
-    }
-    if gone <= line.len() {
-        assembler.next(&line[gone..], cut);
-        assembler.next(b"\r\n", cut).1
-    } else {
-        assembler.next(b"\n", cut).1
-    }
+    piece.clear();
+    append(piece, line);
+    append(piece, b"\r\n");
+    assembler.next(bytes_from(piece.as_slice(), gone), cut).1
 }

@@ -9,7 +9,7 @@ ghost use Rattle.gc_world.specs.Streams.{remaining};
 ghost use Rattle.gc_world.specs.Worlds.{without, doubled};
 
 use crate::direction::Direction;
-use crate::feeding::{feed_rest, feed_some};
+use crate::feeding::{Piece, feed_rest, feed_some};
 use crate::parts::is_begun;
 use crate::queue::Queue;
 use crate::report::Report;
@@ -71,9 +71,9 @@ impl Side {
     }
 
     /// Feeds the assembler what remains of this line, which was taken from the front of the queue, and returns the completed line.
-    /// `cut` is where the assembler puts together a line of which bytes have gone before (`feed_rest`).
+    /// `piece` and `cut` are buffers (`feed_rest`).
     #[inline(always)]
-    pub fn finish<'a>(&mut self, line: &'a [u8], cut: &'a mut Line) -> &'a [u8]
+    pub fn finish<'a>(&mut self, line: &[u8], piece: &'a mut Piece, cut: &'a mut Line) -> &'a [u8]
         requires flow { (texts : List (List ℕ)) × IsFlow self.old.assembler self.old.gone (line.now ∷ texts) }
         requires within { length line.now ≤ 512 }
         ensures line { result.now ≡ line.now }
@@ -81,7 +81,7 @@ impl Side {
         ensures gone { self.new.gone ≡ 0 }
         ensures queue { self.new.queue ≡ self.old.queue }
     {
-        let frame = feed_rest(&mut self.assembler, line, self.gone, cut);
+        let frame = feed_rest(&mut self.assembler, line, self.gone, piece, cut);
         self.gone = 0;
         let Lent::Line(whole) = frame else {
             unreachable!()

@@ -16,6 +16,7 @@ ghost use Rattle.gc_world.specs.Staging.{streams_at_start, ShowsSome, Follows, F
 use crate::direction::Direction;
 use crate::entries::Entries;
 use crate::event::Event;
+use crate::feeding::Piece;
 use crate::parts::completes;
 use crate::report::{Made, Report, Sent};
 use crate::side::Side;
@@ -38,9 +39,11 @@ pub struct Stage<W: Window<Asked = Call>> {
     pub down: Side,
     pub client: Client<W>,
 
-    // Two buffers that are made once, because they are large. No event needs what an earlier one left in them.
+    // Three buffers that are made once, because they are large. No event needs what an earlier one left in them.
     /// For a request's line that the client writes, and for a line that an assembler puts together when its last byte comes.
     pub cut: Line,
+    /// For a line that is handed over, with its CR LF.
+    pub piece: Piece,
     /// For what a reply settles.
     pub settled: ArrayVec<Settlement<Call>, WINDOW>,
 }
@@ -77,6 +80,7 @@ impl<W: Window<Asked = Call>> Stage<W> {
             down: Side::new(alloc),
             client: Client::with_width(window, width),
             cut: Line::new(),
+            piece: Piece::new(),
             settled: ArrayVec::new(),
         }
     }
@@ -119,6 +123,7 @@ impl<W: Window<Asked = Call>> Stage<W> {
             down,
             client,
             cut: _,
+            piece: _,
             settled: _,
         } = self;
         report.up = up.assembler;
@@ -156,7 +161,7 @@ impl<W: Window<Asked = Call>> Stage<W> {
         };
         let mut reply = Line::new();
         let line = self.report.sent.at(number).line.as_slice();
-        let request = self.up.finish(line, &mut self.cut);
+        let request = self.up.finish(line, &mut self.piece, &mut self.cut);
         let kept = self.report.instrument.kept_id();
         if self.report.instrument.reply_onto(request, &mut reply) {
             let id = self.report.instrument.kept_id();
@@ -181,7 +186,7 @@ impl<W: Window<Asked = Call>> Stage<W> {
             return Ok(());
         };
         let line = self.report.made.at(place).line.as_slice();
-        let reply = self.down.finish(line, &mut self.cut);
+        let reply = self.down.finish(line, &mut self.piece, &mut self.cut);
         if let Hearing::Settled = self.client.hear(reply, &mut self.settled) {
             self.report.settled.append_all(self.settled.as_slice())?;
         }
