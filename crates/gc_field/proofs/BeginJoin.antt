@@ -1,6 +1,6 @@
 -- A synchronization over lines of bytes is one over their ids: any turns of the former are some moves of the latter. `Shows`
 -- says that the state of the one over ids is that of the one over lines.
-use Rattle.std.proofs.Common.{◌≡◌, ℕ, ◌<◌, ◌⊎◌, inl, inr, Bool, true, false, List, [], ◌∷◌, ◌++◌, map, Option, Some, None, refl, sym, ◌∙◌, ap, subst, arith}
+use Rattle.std.proofs.Common.{◌≡◌, ℕ, ◌<◌, ◌⊎◌, inl, inr, Bool, true, false, List, [], ◌∷◌, ◌++◌, map, Option, Some, None, refl, sym, ◌∙◌, ap, subst, arith, append_assoc}
 use mathlib.Core.List.{map-map}
 use mathlib.Core.Path.{ap₂}
 use Rattle.std.specs.List.{filter_map, cons_option, AllByRecursion}
@@ -22,7 +22,7 @@ use Rattle.gc_field.specs.Begun.{HasSynchronizedCleanly, NoneIsOld, eighth_null}
 use Rattle.gc_field.specs.Instrument.{IsAnInstrument, IsOwnOrNone, MayForget, own_reply}
 use Rattle.gc_field.proofs.BeginIds as ids
 use Rattle.gc_field.proofs.BeginIds.{IdSent, IsCleanByIds, aged, begun_anew, ids_in_flight, ids_of, moved}
-use Rattle.gc_field.proofs.BeginKilled.{SplitWord, upto_absent_after_moves, begins_anew, ids_before, ids_upto}
+use Rattle.gc_field.proofs.BeginKilled.{IsFirstLeft, SplitWord, upto_absent_after_moves, upto_absent_unanswered, begins_anew, ids_before, ids_upto}
 use Rattle.gc_field.proofs.BeginLists.{each_map}
 use Rattle.gc_lines.proofs.Lists.{all_append}
 use Rattle.gc_values.proofs.Every.{every_front as all_front}
@@ -418,4 +418,16 @@ module _ {State : Type 0} (ends : Ends State) (Good : State → Type 0) (kept : 
       let r = shown ts (begins u) (begun_anew the_word (marks u)) possible (shows_begins u lines) in
       let small : AreSmall (ids_before w) = all_front (λ i. i < 8) (ids_before w) (w.c ∷ w.tail) (subst AreSmall w.is word_small) in
       upto_absent_after_moves (marks u) r.0 w (absent_marks u (ids_before w) small none)
+      (left_marks (turned ends ts (begins u)) (moved r.0 (begun_anew the_word (marks u))) (ids_upto w) r.1 h)
+
+  -- where the word is split at its id c, what is in flight at the start of a synchronization is `IsWellFormed`, its ids don't
+  -- contain those of the word up to c (`ids_upto`), and the turns are possible, and leave the word's first id unanswered: the ids
+  -- that the synchronization leaves don't contain them either
+  pub upto_absent_in_left_unanswered : (u : UnderWay State) (ts : List (SyncTurn State)) (w : SplitWord the_word) → IsWellFormed Good u → AreTurns ends Good kept ts (begins u)
+      → (IsSubsequence (ids_upto w) (ids_under_way u) → ⊥) → IsFirstLeft w.a (turned ends ts (begins u)).left → IsSubsequence (ids_upto w) (ids_under_way (left_by_turns ends ts u)) → ⊥
+  upto_absent_in_left_unanswered u ts w lines possible none is_left h =
+      let r = shown ts (begins u) (begun_anew the_word (marks u)) possible (shows_begins u lines) in
+      let split : the_word ≡ ids_upto w ++ w.tail = w.is ∙ sym (ap (λ l. w.a ∷ w.b ∷ l) (append_assoc w.more (w.c ∷ []) w.tail)) in
+      let small : AreSmall (ids_upto w) = all_front (λ i. i < 8) (ids_upto w) w.tail (subst AreSmall split word_small) in
+      upto_absent_unanswered (marks u) r.0 w (absent_marks u (ids_upto w) small none) (subst (IsFirstLeft w.a) (sym r.1.left) is_left)
       (left_marks (turned ends ts (begins u)) (moved r.0 (begun_anew the_word (marks u))) (ids_upto w) r.1 h)

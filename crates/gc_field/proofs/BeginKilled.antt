@@ -18,7 +18,7 @@ use Rattle.gc_field.proofs.BeginMoves.{Lasts, holds_moved}
 use Rattle.gc_field.proofs.BeginLines.{FrontAnswers, IsLine, IsOld, IsOwn, KeepsOwn, HasNoneIfOwn, KeepsTheId, OwnIdsFit, old_if, olds, olds_all, olds_push, no_more_words_without, no_more_words_doubled, line_without, line_doubled, line_asked, line_came}
 use Rattle.gc_field.proofs.BeginSound.{sound_at_start}
 use Rattle.gc_world.proofs.Rows.{each_without, each_doubled}
-use Rattle.gc_station.proofs.Lists.{one_front_begins_other}
+use Rattle.gc_station.proofs.Lists.{cons_head, one_front_begins_other}
 
 -- The invariant of one synchronization.
 
@@ -185,6 +185,15 @@ front_or_left done left front c tail e =
     by_more (asked ∷ more) is =
         inr (asked, more, append_cancel_left done left (asked ∷ (more ++ c ∷ tail)) (e ∙ ap (λ l. l ++ c ∷ tail) is ∙ append_assoc done (asked ∷ more) (c ∷ tail)))
 
+-- where a word in which no id is twice is split into `done` and `left`, and its first id, a, is the first one left: the whole word
+-- is left
+whole_if_first_left : (word done left : List ℕ) (a : ℕ) (after : List ℕ) → AllDiffer word → word ≡ a ∷ after → word ≡ done ++ left → IsFirstLeft a left → left ≡ word
+whole_if_first_left word [] left a after d e split first = sym split
+whole_if_first_left word (i ∷ done) [] a after d e split first = absurd first
+whole_if_first_left word (i ∷ done) (asked ∷ rest) a after d e split first =
+    let same : i ≡ asked = cons_head i a (done ++ asked ∷ rest) after (sym split ∙ e) ∙ first in
+    absurd ((all_behind (λ j. i ≡ j → ⊥) done (asked ∷ rest) (subst AllDiffer split d).0).0 same)
+
 -- ids among which c, the last id of a word, isn't don't contain the word
 lacks_without_last : (front : List ℕ) (c : ℕ) (ids : List ℕ) → AllByRecursion (λ i. c ≡ i → ⊥) ids → IsSubsequence (front ++ c ∷ []) ids → ⊥
 lacks_without_last front c ids h s = (all_behind (λ i. c ≡ i → ⊥) front (c ∷ []) (subword_each (λ i. c ≡ i → ⊥) (front ++ c ∷ []) ids h s)).0 refl
@@ -232,6 +241,33 @@ own_of_two_lack_three p left word line a b c d h s =
     (each_map (IsOwnOfTwo p left) (IsOneOfTwo p left) (λ (x : IdSent). x.id) (λ x g. g.1) line h) s in
     three_not_one_of_two p left a b c d.0.0 d.0.1.0 d.1.0.0 near.0 near.1.0 near.1.1.0
 
+-- if no id is in the word twice, none is among those up to its id c twice
+upto_differs : (word : List ℕ) (w : SplitWord word) → AllDiffer word → AllDiffer (ids_upto w)
+upto_differs word w d =
+    pairs_front (λ i j. i ≡ j → ⊥) (ids_upto w) w.tail (subst AllDiffer (w.is ∙ sym (ap (λ l. w.a ∷ w.b ∷ l) (append_assoc w.more (w.c ∷ []) w.tail))) d)
+
+-- where `IsLine` holds, and c isn't answered yet, and isn't the first id left, no own line has it
+own_none : (z : ℕ) (left : List ℕ) (line : List IdSent) (c asked : ℕ) (between tail : List ℕ) → left ≡ asked ∷ (between ++ c ∷ tail) → IsLine z left line
+    → AllByRecursion (λ x. IsOwn x → c ≡ x.id → ⊥) line
+own_none z left line c asked between tail f sound =
+    all_on (HasNoneIfOwn (between ++ c ∷ tail)) (λ x. IsOwn x → c ≡ x.id → ⊥) line (λ x g o. (all_behind (λ i. i ≡ x.id → ⊥) between (c ∷ tail) (g o)).0)
+    (subst (λ l. OwnIdsFit z l line) f sound.own).0
+
+-- where `IsTrying` holds of what is in flight, no id is in the word twice, and its first id is left, so that none is answered: if
+-- the ids at the start (`first`) didn't contain those of the word up to its id c (`ids_upto`), the ids in flight don't either
+upto_absent_if_unanswered : (z : ℕ) (word first left : List ℕ) (line : List IdSent) (w : SplitWord word) → AllDiffer word → (IsSubsequence (ids_upto w) first → ⊥)
+    → IsFirstLeft w.a left → IsTrying z word first left line → IsSubsequence (ids_upto w) (ids_of line) → ⊥
+upto_absent_if_unanswered z word first left line w d none is_left h s =
+    elim h.phase [
+      | inl g ↦ none (g.from (ids_upto w) (upto_differs word w d) (word_in_olds line (ids_before w) w.c h.sound.ordered own s))
+      | inr g ↦ lacks_without_last (ids_before w) w.c (ids_of line) (each_to_map (λ i. w.c ≡ i → ⊥) (λ (y : IdSent). y.id) line
+          (each_both (IsOwnOfTwo g.0 left) (λ x. IsOwn x → w.c ≡ x.id → ⊥) (λ x. w.c ≡ x.id → ⊥) (λ x f n. n f.0) line g.1 own)) s
+    ]
+  where
+    -- no own line has the id c
+    own : AllByRecursion (λ x. IsOwn x → w.c ≡ x.id → ⊥) line
+    own = own_none z left line w.c w.a (w.b ∷ w.more) w.tail (whole_if_first_left word h.done left w.a (w.b ∷ (w.more ++ w.c ∷ w.tail)) d w.is h.split is_left ∙ w.is) h.sound
+
 -- where `IsTrying` holds of what is in flight, and no id is in the word twice: if the ids at the start (`first`) didn't contain
 -- those of the word before its id c (`ids_before`), the ids in flight don't contain them with c after them (`ids_upto`)
 upto_absent_if_trying : (z : ℕ) (word first left : List ℕ) (line : List IdSent) (w : SplitWord word) → AllDiffer word → (IsSubsequence (ids_before w) first → ⊥)
@@ -242,24 +278,14 @@ upto_absent_if_trying z word first left line w d none h s =
           elim (front_or_left h.done left (ids_before w) w.c w.tail (sym h.split ∙ w.is)) [
             | inl f ↦ none (subword_front (ids_before w) f.0 first (subst
                 (λ l. IsSubsequence l first) (append-nil h.done ∙ f.1) (g.heard [] (subst AllDiffer (sym (append-nil h.done)) done_differs) tt)))
-            | inr f ↦ none (subword_front (ids_before w) (w.c ∷ []) first (g.from (ids_upto w) upto_differs (word_in_olds line (ids_before w) w.c h.sound.ordered (own_none f.0 f.1 f.2) s)))
+            | inr f ↦ none (subword_front (ids_before w) (w.c ∷ []) first (g.from (ids_upto w) (upto_differs word w d) (word_in_olds line (ids_before w) w.c h.sound.ordered (own_none z left line w.c f.0 f.1 w.tail f.2 h.sound) s)))
           ])
-      | inr g ↦ third w.more upto_differs s g.0 g.1
+      | inr g ↦ third w.more (upto_differs word w d) s g.0 g.1
     ]
   where
     -- no id is among the answered ones twice
     done_differs : AllDiffer h.done
     done_differs = pairs_front (λ i j. i ≡ j → ⊥) h.done left (subst AllDiffer h.split d)
-
-    -- no id is among those up to c twice
-    upto_differs : AllDiffer (ids_upto w)
-    upto_differs = pairs_front (λ i j. i ≡ j → ⊥) (ids_upto w) w.tail (subst AllDiffer (w.is ∙ sym (ap (λ l. w.a ∷ w.b ∷ l) (append_assoc w.more (w.c ∷ []) w.tail))) d)
-
-    -- where c isn't answered yet, and isn't the first id left, no own line has it
-    own_none : (asked : ℕ) (between : List ℕ) → left ≡ asked ∷ (between ++ w.c ∷ w.tail) → AllByRecursion (λ x. IsOwn x → w.c ≡ x.id → ⊥) line
-    own_none asked between f =
-        all_on (HasNoneIfOwn (between ++ w.c ∷ w.tail)) (λ x. IsOwn x → w.c ≡ x.id → ⊥) line (λ x g o. (all_behind (λ i. i ≡ x.id → ⊥) between (w.c ∷ w.tail) (g o)).0)
-        (subst (λ l. OwnIdsFit z l line) f h.sound.own).0
 
     -- the ids up to c are three at least, so they aren't in the ids of lines that have two ids at most
     third : (more : List ℕ) → AllDiffer (w.a ∷ w.b ∷ (more ++ w.c ∷ [])) → IsSubsequence (w.a ∷ w.b ∷ (more ++ w.c ∷ [])) (ids_of line) → (p : ℕ)
@@ -296,6 +322,20 @@ trying_at_start s h =
       phase = inl (record { from = λ v d g. subst (λ ids. IsSubsequence v ids) same g; heard = λ v d g. subst (λ ids. IsSubsequence v ids) same g });
     }
 
+-- `IsTrying` holds after any moves of a synchronization, wherever it is killed, if the ids in flight at its start didn't contain a
+-- front of the word
+trying_after_moves : (s : IdModel) (ms : List IdMove) (front tail : List ℕ) → the_word ≡ front ++ tail → (IsSubsequence front (ids_in_flight s) → ⊥)
+    → IsTrying 7 the_word (ids_in_flight (begun_anew the_word s)) (moved ms (begun_anew the_word s)).left
+    ((moved ms (begun_anew the_word s)).down ++ (moved ms (begun_anew the_word s)).up)
+trying_after_moves s ms front tail split none =
+    let anew : IdModel = begun_anew the_word s in
+    let begins : Begins the_word anew = begins_anew s (λ g. none (subword_front front tail (ids_in_flight s) (subst (λ l. IsSubsequence l (ids_in_flight s)) split g))) in
+    holds_moved (IsTrying 7 the_word (ids_in_flight anew)) (trying_lasts 7 the_word (ids_in_flight anew)) ms anew (trying_at_start anew begins)
+
+-- a word that is in the ids in flight is in those of the line, replies and then requests
+in_line : (s : IdModel) (word : List ℕ) → IsSubsequence word (ids_in_flight s) → IsSubsequence word (ids_of (s.down ++ s.up))
+in_line s word h = subst (λ ids. IsSubsequence word ids) (sym (map-append (λ (x : IdSent). x.id) s.down s.up)) h
+
 -- where the word is split at its id c, and the ids in flight don't contain those of the word before c (`ids_before`): the ids in
 -- flight after any moves of a synchronization, wherever it is killed, don't contain them with c after them (`ids_upto`)
 pub upto_absent_after_moves : (s : IdModel) (ms : List IdMove) (w : SplitWord the_word) → (IsSubsequence (ids_before w) (ids_in_flight s) → ⊥)
@@ -303,8 +343,18 @@ pub upto_absent_after_moves : (s : IdModel) (ms : List IdMove) (w : SplitWord th
 upto_absent_after_moves s ms w none h =
     let anew : IdModel = begun_anew the_word s in
     let end : IdModel = moved ms anew in
-    let begins : Begins the_word anew = begins_anew s (λ g. none (subword_front (ids_before w) (w.c ∷ w.tail) (ids_in_flight s) (subst (λ l. IsSubsequence l (ids_in_flight s)) w.is g))) in
-    let trying = holds_moved (IsTrying 7 the_word (ids_in_flight anew)) (trying_lasts 7 the_word (ids_in_flight anew)) ms anew (trying_at_start anew begins) in
     upto_absent_if_trying 7 the_word (ids_in_flight anew) end.left (end.down ++ end.up) w word_ids_differ
-    (λ g. none (subst (λ ids. IsSubsequence (ids_before w) ids) (ids_anew s) g)) trying
-    (subst (λ ids. IsSubsequence (ids_upto w) ids) (sym (map-append (λ (x : IdSent). x.id) end.down end.up)) h)
+    (λ g. none (subst (λ ids. IsSubsequence (ids_before w) ids) (ids_anew s) g)) (trying_after_moves s ms (ids_before w) (w.c ∷ w.tail) w.is none)
+    (in_line end (ids_upto w) h)
+
+-- where the word is split at its id c, and the ids in flight don't contain those up to c (`ids_upto`): the ids in flight after
+-- moves of a synchronization that leave the word's first id unanswered don't contain them either
+pub upto_absent_unanswered : (s : IdModel) (ms : List IdMove) (w : SplitWord the_word) → (IsSubsequence (ids_upto w) (ids_in_flight s) → ⊥)
+    → IsFirstLeft w.a (moved ms (begun_anew the_word s)).left → IsSubsequence (ids_upto w) (ids_in_flight (moved ms (begun_anew the_word s))) → ⊥
+upto_absent_unanswered s ms w none is_left h =
+    let anew : IdModel = begun_anew the_word s in
+    let end : IdModel = moved ms anew in
+    let split : the_word ≡ ids_upto w ++ w.tail = w.is ∙ sym (ap (λ l. w.a ∷ w.b ∷ l) (append_assoc w.more (w.c ∷ []) w.tail)) in
+    upto_absent_if_unanswered 7 the_word (ids_in_flight anew) end.left (end.down ++ end.up) w word_ids_differ
+    (λ g. none (subst (λ ids. IsSubsequence (ids_upto w) ids) (ids_anew s) g)) is_left (trying_after_moves s ms (ids_upto w) w.tail split none)
+    (in_line end (ids_upto w) h)

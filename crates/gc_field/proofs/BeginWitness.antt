@@ -37,7 +37,7 @@ was_made =
       reply = refl;
     }
 
--- two runs meet the premises of the law on runs one after the other
+-- some runs meet the premises of the law on runs one after the other
 pub some_runs : AreSomeRuns
 unfolding header_at reply_at handed exec digits
 some_runs =
@@ -55,16 +55,31 @@ some_runs =
             ids = refl;
           };
       runs = (
-        ((tt, (tt, (tt, tt))), refl),
+        ((tt, (tt, tt)), refl),
         (
+          ((tt, (tt, tt)), refl),
           (
-            units 36,
-            (tt, (tt, (tt, (tt, (tt, ((7, first_reply ∷ second_reply ∷ [], refl), ((8, second_reply ∷ [], refl), ((9, [], refl), tt)))))))),
+            ((tt, (tt, tt)), refl),
+            (
+              ((tt, (tt, tt)), refl),
+              (
+                ((tt, (tt, tt)), refl),
+                (
+                  ((tt, (tt, (tt, tt))), refl),
+                  (
+                    (
+                      units 36,
+                      (tt, (tt, (tt, (tt, (tt, ((7, first_reply ∷ second_reply ∷ [], refl), ((8, second_reply ∷ [], refl), ((9, [], refl), tt)))))))),
+                    ),
+                    tt,
+                  ),
+                ),
+              ),
+            ),
           ),
-          tt,
         ),
       );
-      few = (one, (none, tt));
+      few = (none, (none, (none, (none, (none, (one, (none, tt)))))));
       settled = refl;
       made_on = was_made;
     }

@@ -17,7 +17,7 @@ use Rattle.gc_field.specs.Witness.{replies}
 
 -- Some runs.
 
--- in flight before the first run: a reply with id 6, and after it two requests, with ids 7 and 0
+-- in flight before the runs: a reply with id 6, and after it two requests, with ids 7 and 0
 abbrev pub at_start : UnderWay State
 at_start =
     record {
@@ -26,13 +26,17 @@ at_start =
       state = simulator_opening;
     }
 
--- the first run: it begins, hears the old reply as the answer to its first null procedure, and is killed once its second null
--- procedure is sent
+-- a run that gets no answer: its null procedure is lost, and it is killed. It leaves in flight what was in flight before it
+abbrev pub unanswered_run : Run State
+unanswered_run = record { turns = Asks ∷ Up_lose 2 ∷ []; moves = [] }
+
+-- the run after five of these: it begins, hears the old reply as the answer to its first null procedure, and is killed once its
+-- second null procedure is sent
 abbrev pub killed_run : Run State
 killed_run = record { turns = Asks ∷ Comes ∷ Asks ∷ []; moves = [] }
 
--- what happens while the second run synchronizes: the two old requests are answered, and both replies discarded; null procedures
--- 6 and 5 are answered by the replies to those of the first run, and the six others by their own replies. Meanwhile the
+-- what happens while the last run synchronizes: the two old requests are answered, and both replies discarded; null procedures
+-- 6 and 5 are answered by the replies to those of the killed run, and the six others by their own replies. Meanwhile the
 -- instrument starts again, the request of null procedure 0 is lost and is sent again, and the line repeats that of null procedure
 -- 7
 abbrev pub next_turns : List (SyncTurn State)
@@ -56,21 +60,25 @@ next_moves =
     ∷ field.Comes (codes "%R1P,0,1:0,123456")
     ∷ []
 
--- the second run, which synchronizes
+-- the last run, which synchronizes
 abbrev pub next_run : Run State
 next_run = record { turns = next_turns; moves = next_moves }
 
--- what is in flight once the second run has synchronized
+-- the runs: six in a row are killed while they synchronize, but five of these don't count
+abbrev pub the_runs : List (Run State)
+the_runs = unanswered_run ∷ unanswered_run ∷ unanswered_run ∷ unanswered_run ∷ unanswered_run ∷ killed_run ∷ next_run ∷ []
+
+-- what is in flight once the last run has synchronized. The killed run began over `at_start`, which the five before it left as it was
 abbrev pub from : UnderWay State
 from = left_by_turns simulator_ends next_turns (left_by_run WINDOW simulator_ends at_start killed_run)
 
--- these runs meet the premises of `simulators_runs_are_their_own`; both commands of the second are answered, and the first
+-- these runs meet the premises of `simulators_runs_are_their_own`; both commands of the last are answered, and the first
 -- answer was made on executing its request
 pub record AreSomeRuns : Type 0 where
   pub lines : IsWellFormed IsFittingState at_start
   pub rising : HasRisingIds at_start
-  pub runs : AreRuns WINDOW simulator_ends IsFittingState kept_of at_start (killed_run ∷ next_run ∷ [])
-  pub few : AreFewKilled WINDOW simulator_ends 0 at_start (killed_run ∷ next_run ∷ [])
+  pub runs : AreRuns WINDOW simulator_ends IsFittingState kept_of at_start the_runs
+  pub few : AreFewKilled WINDOW simulator_ends 0 at_start the_runs
   pub settled :
       (world_once_begun WINDOW simulator_ends from next_moves).wire.settled
       ≡ nulls_settled ++ record { target = 7; call = Table InstrumentNo; outcome = Answered (codes "%R1P,0,0:0,123456") }

@@ -2,7 +2,7 @@
 -- commands, and is killed at any moment, also while it synchronizes; and one may resynchronize within itself. Nothing here
 -- depends on a clock. The word of a synchronization has the ids of its null procedures, 6 5 4 3 2 1 0 7; what is left of it are
 -- those that aren't answered.
-use Rattle.std.specs.Prelude.{◌≡◌, ℕ, ◌+◌, ◌%◌, ◌<◌, ◌≤◌, List, [], ◌∷◌, map, Option}
+use Rattle.std.specs.Prelude.{◌≡◌, ℕ, ◌+◌, ◌%◌, ◌<◌, ◌≤◌, if◌then◌else◌, List, [], ◌∷◌, map, nat_eq, Option}
 use Rattle.std.specs.List.{AllByRecursion}
 use Rattle.gc_client.specs.declared.window.TheConstants.{WINDOW}
 use Rattle.gc_instrument.specs.State.{KeptReply, IsFittingState}
@@ -50,11 +50,17 @@ pub record Run (State : Type 0) : Type 0 where
 abbrev pub after_turns : {State : Type 0} → Ends State → UnderWay State → Run State → SyncModel State
 after_turns ends u r = turned ends r.turns (begins u)
 
--- how many runs in a row were killed while they synchronized, at the end of a run that leaves these ids of its word unanswered,
--- where `n` were before it: 0 if none is left, because the run has synchronized; else one more
+-- how many runs in a row count as killed while they synchronized, at the end of a run that leaves these ids of its word
+-- unanswered, where `n` did before it: 0 if none is left, because the run has synchronized; still `n` if the first one left is
+-- 6, the word's first, because then none was answered, and the run sent nothing but that null procedure; else one more
 abbrev pub killed_unless_begun : List ℕ → ℕ → ℕ
 killed_unless_begun [] n = 0
-killed_unless_begun (asked ∷ rest) n = n + 1
+killed_unless_begun (asked ∷ rest) n = if nat_eq asked 6 then n else n + 1
+
+-- how many runs in a row count as killed while they synchronized, at the end of the run r, where `n` did before it, and `u` is in
+-- flight when it begins
+abbrev pub killed_by : {State : Type 0} → Ends State → ℕ → UnderWay State → Run State → ℕ
+killed_by ends n u r = killed_unless_begun (after_turns ends u r).left n
 
 module _ {State : Type 0} (width : ℕ) (ends : Ends State) where
   -- what is in flight after a run that leaves these ids of its word unanswered, where its synchronization ended in the state `s`:
@@ -72,16 +78,11 @@ module _ {State : Type 0} (width : ℕ) (ends : Ends State) where
   left_by_runs u [] = u
   left_by_runs u (r ∷ rs) = left_by_runs (left_by_run u r) rs
 
-  -- at the end of each of these runs the count is at most five, where it is `n` before the first, and `counted` gives it at the
-  -- end of a run
-  abbrev pub CountsFew : (counted : ℕ → UnderWay State → Run State → ℕ) → (n : ℕ) → UnderWay State → List (Run State) → Type 0
-  CountsFew counted n u [] = Unit {0}
-  CountsFew counted n u (r ∷ rs) = (counted n u r ≤ 5) × CountsFew counted (counted n u r) (left_by_run u r) rs
-
-  -- at the end of each of these runs, at most five in a row have been killed while they synchronized, counted with the `n`
-  -- before the first
+  -- at the end of each of these runs, at most five in a row count as killed while they synchronized, counted with the `n` before
+  -- the first. A run during which none of its null procedures was answered leaves the count as it was (`killed_unless_begun`)
   abbrev pub AreFewKilled : ℕ → UnderWay State → List (Run State) → Type 0
-  AreFewKilled n u rs = CountsFew (λ before v r. killed_unless_begun (after_turns ends v r).left before) n u rs
+  AreFewKilled n u [] = Unit {0}
+  AreFewKilled n u (r ∷ rs) = (killed_by ends n u r ≤ 5) × AreFewKilled (killed_by ends n u r) (left_by_run u r) rs
 
   module _ (Good : State → Type 0) (kept : State → Option KeptReply) where
     -- the moves of a run that leaves these ids of its word unanswered are possible: if none is left, they are possible moves of a
@@ -106,10 +107,10 @@ module _ {State : Type 0} (width : ℕ) (ends : Ends State) where
     AreOwn u [] = Unit {0}
     AreOwn u (r ∷ rs) = IsOwnIfBegun (after_turns ends u r).left (after_turns ends u r) r.moves × AreOwn (left_by_run u r) rs
 
--- `Holds` is true of any possible runs one after the other, as long as fewer than six in a row end while they synchronize, for
--- clients with a window of at most `WINDOW` requests. What is in flight before the first is as a run that had synchronized leaves
--- it, or nothing (`HasRisingIds`, `IsWellFormed`). `Good` says which states of the instrument are good, and `kept` what reply
--- each of them keeps
+-- `Holds` is true of any possible runs one after the other, as long as fewer than six in a row end while they synchronize
+-- (`AreFewKilled`), for clients with a window of at most `WINDOW` requests. What is in flight before the first is as a run that
+-- had synchronized leaves it, or nothing (`HasRisingIds`, `IsWellFormed`). `Good` says which states of the instrument are good,
+-- and `kept` what reply each of them keeps
 abbrev pub OfRunsInARow : {State : Type 0} → (ends : Ends State) → (Good : State → Type 0) → (kept : State → Option KeptReply)
     → (Holds : (width : ℕ) → UnderWay State → List (Run State) → Type 0) → Type 0
 OfRunsInARow {State = State} ends Good kept Holds =

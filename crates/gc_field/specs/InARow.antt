@@ -6,40 +6,28 @@ use Rattle.gc_instrument.specs.State.{KeptReply, IsFittingState}
 use Rattle.gc_station.specs.Model.{Runs, opening}
 use Rattle.gc_field.specs.Simulator.{simulator_ends}
 use Rattle.gc_field.specs.World.{Ends}
-use Rattle.gc_field.specs.Begin.{IsWellFormed, SyncTurn, UnderWay}
-use Rattle.gc_field.specs.Beginnings.{AreRuns, CountsFew, HasRisingIds, Run, killed_unless_begun, left_by_run, left_by_runs, after_turns}
+use Rattle.gc_field.specs.Begin.{IsWellFormed, UnderWay}
+use Rattle.gc_field.specs.Beginnings.{AreFewKilled, AreRuns, HasRisingIds, Run, killed_by, left_by_run, left_by_runs}
 use Rattle.gc_field.specs.Instrument.{OfAnyInstrument}
 use Rattle.gc_field.specs.Laws.{kept_of}
 use Rattle.gc_field.specs.Runs.{IsRunFaithful, Program, program_parts}
 use Rattle.gc_field.specs.Shown.{AreShownAs}
 
 module _ {State : Type 0} (ends : Ends State) where
-  -- how many runs in a row were killed while they synchronized, up to the run r, where `n` were before it; `u` is what is in
-  -- flight when it begins. The list is the run's turns: a run without turns, in which nothing happened, leaves the count as it
-  -- was
-  abbrev pub killed_by : ℕ → UnderWay State → Run State → List (SyncTurn State) → ℕ
-  killed_by n u r [] = n
-  killed_by n u r (t ∷ ts) = killed_unless_begun (after_turns ends u r).left n
-
-  -- how many runs in a row were killed while they synchronized, at the end of these, where `n` were before
+  -- how many runs in a row count as killed while they synchronized (`killed_by`), at the end of these, where `n` did before
   abbrev pub killed_over : ℕ → UnderWay State → List (Run State) → ℕ
   killed_over n u [] = n
-  killed_over n u (r ∷ rs) = killed_over (killed_by n u r r.turns) (left_by_run WINDOW ends u r) rs
-
-  -- at the end of each of these runs, at most five in a row have been killed while they synchronized, counted with the `n`
-  -- before the first. Unlike in `AreFewKilled`, a run in which nothing happened doesn't count
-  abbrev pub AreFewKilledWithTurns : ℕ → UnderWay State → List (Run State) → Type 0
-  AreFewKilledWithTurns n u rs = CountsFew WINDOW ends (λ before v r. killed_by before v r r.turns) n u rs
+  killed_over n u (r ∷ rs) = killed_over (killed_by ends n u r) (left_by_run WINDOW ends u r) rs
 
   module _ (Good : State → Type 0) (kept : State → Option KeptReply) where
     -- a program is a run of its station over what is in flight (`u`): what happens on the line is possible (`AreRuns`), and shows
-    -- the station that run (`AreShownAs`). Where `n` runs in a row were killed before while they synchronized, at most five in a
-    -- row are, counted with those `n` (`AreFewKilledWithTurns`)
+    -- the station that run (`AreShownAs`). At most five runs in a row count as killed while they synchronized, counted with the
+    -- `n` before the program (`AreFewKilled`); one during which none of its null procedures was answered doesn't count
     pub record IsNextProgram (n : ℕ) (u : UnderWay State) (x : Program State) : Type 0 where
       pub runs : Runs x.plan x.commands (opening x.plan x.scope) x.acts
       pub shown : AreShownAs ends u x.runs (program_parts x)
       pub possible : AreRuns WINDOW ends Good kept u x.runs
-      pub few : AreFewKilledWithTurns n u x.runs
+      pub few : AreFewKilled WINDOW ends n u x.runs
 
     -- each of these programs is `IsNextProgram`, over what the one before it left
     abbrev pub AreInARow : ℕ → UnderWay State → List (Program State) → Type 0

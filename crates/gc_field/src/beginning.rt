@@ -44,7 +44,8 @@ pub fn runs_leave_rising_ids<State>()
 
 /// For any instrument: one run after the other, each killed at any time. At the start nothing is in flight, or what a run that
 /// had synchronized may leave (`HasRisingIds`). As long as fewer than six in a row end while they synchronize, each run that has
-/// synchronized has done so cleanly, and all that `answers_are_their_own_once_begun` says holds of it.
+/// synchronized has done so cleanly, and all that `answers_are_their_own_once_begun` says holds of it. A run during which no null
+/// procedure was answered doesn't count.
 pub fn runs_are_their_own<State>()
     ensures { RunsAreTheirOwn State }
 {}
@@ -54,9 +55,9 @@ pub fn simulators_runs_are_their_own()
     ensures { SimulatorsRunsAreTheirOwn }
 {}
 
-/// The premises of [`simulators_runs_are_their_own`] can be met, here by two runs: one is killed while it synchronizes; the
-/// next one starts with two of that one's null procedures in flight, and two requests from before, and sends two commands at
-/// once, both of which are answered.
+/// The premises of [`simulators_runs_are_their_own`] can be met, here by seven runs: the first six are killed while they
+/// synchronize, five of them before any of their null procedures is answered; the last one starts with two of the sixth one's
+/// null procedures in flight, and two requests from before, and sends two commands at once, both of which are answered.
 pub fn some_runs_are_their_own()
     ensures { AreSomeRuns }
 {}

@@ -57,7 +57,7 @@ pub fn runs_are_faithful<State>()
 /// For any instrument: stations run one after the other over a line that outlives them, each with its own plan and commands, and
 /// each killed at any time. At the start nothing is in flight, or what a run that had synchronized may leave (`HasRisingIds`). As
 /// long as fewer than six in a row end while they synchronize, all that `runs_are_faithful` says holds of each, without the
-/// premise on the word.
+/// premise on the word. A synchronization during which no null procedure was answered doesn't count.
 pub fn stations_in_a_row_are_faithful<State>()
     ensures { StationsInARowAreFaithful State }
 {}

@@ -18,8 +18,8 @@ pub record AreRuns (commands : List Task) (old new : List Act) : Type 0 where
   pub told : new ≡ old ++ acts_of_all stations
 
 -- runs of a station with these commands, one after the other, made these acts; and as long as fewer than six runs in a row end
--- while they synchronize, all of them are in the field and faithful: each recorded answer was made on executing the very request
--- of its cycle and place
+-- while they synchronize (`FewEndUnbegun`), there are runs in the field that show all of them what they saw, and in which they are
+-- faithful (`AreRehearsed`): each recorded answer was made on executing the very request of its cycle and place
 pub record AreFaithfulRuns (commands : List Task) (acts : List Act) : Type 0 where
   pub runs : AreRuns commands [] acts
   pub faithful : FewEndUnbegun 0 runs.stations → AreRehearsed runs.stations

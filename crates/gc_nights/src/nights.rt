@@ -71,9 +71,11 @@ pub(crate) struct Rehearsing<K> {
 
 impl<K: Sink> Rehearsing<K> {
     /// Rehearses all nights over a link that is new. However they end, the acts that the link recorded are those of a station, run after
-    /// run. As long as fewer than six runs in a row ended while they synchronized, each run is one in the field: whatever the line lost,
-    /// repeated, held or closed, each answer that it recorded was made on executing the very request of its cycle and place. Runs that
-    /// end before they are done are counted in the book's summary, but not a run at which the rehearsal fails.
+    /// run. As long as fewer than six runs in a row ended while they synchronized, there are runs in the field that show each of them
+    /// what it saw, whatever the line lost, repeated, held or closed: in these each answer that it recorded was made on executing the
+    /// very request of its cycle and place. That they are what happened on the rehearsed line isn't said. A run isn't
+    /// one of those six if no null procedure of its last synchronization was answered. Runs that end before they are done are counted
+    /// in the book's summary, but not a run at which the rehearsal fails.
     ///
     /// It fails with `Untrue` after the first run with a false row, with the fault `Memory` if memory was refused for a claim, a
     /// count or a truth, and with the fault `Output` if a row couldn't be written. The nights that are left aren't rehearsed then. A

@@ -1,6 +1,6 @@
 -- What happens on the line from a synchronization, or from a client that has synchronized, on; and the same with one thing more
 -- before it.
-use Rattle.std.proofs.Common.{◌≡◌, ◌⊎◌, inl, inr, ℕ, ◌+◌, ◌≤◌, Bool, true, false, List, [], ◌∷◌, ◌++◌, map, map-id, refl, sym, ◌∙◌, ap, subst, arith}
+use Rattle.std.proofs.Common.{◌≡◌, ◌⊎◌, inl, inr, ℕ, ◌+◌, ◌≤◌, Bool, true, false, if◌then◌else◌, List, [], ◌∷◌, ◌++◌, map, map-id, nat_eq, refl, sym, ◌∙◌, ap, subst, arith}
 use mathlib.Core.List.{map-map}
 use Rattle.gc_catalogue.specs.declared.asked.Asked.{Asked}
 use Rattle.gc_client.specs.OneForOne as client
@@ -12,11 +12,10 @@ use Rattle.gc_station.specs.Parts.{Part, idle_part}
 use Rattle.gc_world.specs.Clients.{by_ids}
 use Rattle.gc_field.specs.Begin as begin
 use Rattle.gc_field.specs.Begin.{AreTurns, IsTurn, SyncModel, UnderWay, begins, leaves, turned, turns}
-use Rattle.gc_field.specs.Beginnings.{ArePossibleIfBegun, AreRuns, Run, killed_unless_begun, left_by_run, left_by_runs, left_if_begun, under_way_on}
+use Rattle.gc_field.specs.Beginnings.{AreFewKilled, ArePossibleIfBegun, AreRuns, Run, after_turns, killed_by, killed_unless_begun, left_by_run, left_by_runs, left_if_begun, under_way_on}
 use Rattle.gc_field.specs.Begun.{ids_begun}
 use Rattle.gc_field.specs.Field.{Move, ArePossible, IsPossible, moved, moves, seen}
-use Rattle.gc_field.specs.InARow.{AreFewKilledWithTurns, killed_by, killed_over}
-use Rattle.gc_rehearsed.specs.Rehearsals.{unbegun_after}
+use Rattle.gc_field.specs.InARow.{killed_over}
 use Rattle.gc_field.specs.SceneField.{KeptReplyReads, scene_ends, scene_kept}
 use Rattle.gc_field.specs.Shown.{AreShownAs, shown, shows}
 use Rattle.gc_field.specs.World.{Numbered}
@@ -25,7 +24,6 @@ use Rattle.gc_rehearsed.proofs.Sides.{SceneWorld, client_move, is_move, is_turn,
 use Rattle.gc_rehearsed.proofs.Steps.{AreSteps, Holds, Step, all_stepped, under_way}
 use Rattle.gc_field.proofs.InARow.{same_lines, run}
 use Rattle.gc_field.proofs.InTime.{seen_append}
-use Rattle.gc_field.proofs.BeginWords.{cons_not_nil}
 
 -- in the state b of a synchronization these ids are unanswered, and these lines in flight
 abbrev pub BeginIsAt : SyncModel SceneState → List ℕ → Lines → Type 0
@@ -43,31 +41,31 @@ after_move w m = moves scene_ends (by_ids WINDOW scene_ends) w m
 abbrev pub after_moves : List (Move SceneState) → SceneWorld → SceneWorld
 after_moves ms w = moved scene_ends (by_ids WINDOW scene_ends) ms w
 
--- what comes after the part that is going on: the other parts, the lines in flight at the end, and whether the station has
--- synchronized then
+-- what comes after the part that is going on: the other parts, the lines in flight at the end, and the ids that the station's last
+-- synchronization leaves unanswered then, none if it has synchronized
 pub record Sequel : Type 0 where
   pub parts : List Part
   pub lines : Lines
-  pub begun : Bool
+  pub left : List ℕ
 
--- these parts, then these lines in flight, and a station that has synchronized then or not
-abbrev pub sequel : List Part → Lines → (begun : Bool) → Sequel
-sequel ps m begun = record { parts = ps; lines = m; begun = begun }
+-- these parts, then these lines in flight, and these ids unanswered
+abbrev pub sequel : List Part → Lines → (left : List ℕ) → Sequel
+sequel ps m left = record { parts = ps; lines = m; left = left }
 
 -- runs over what is in flight show the parts of the sequel, are possible, and lead to its lines; at most five in a row are killed
--- while they synchronize. At their end none counts as killed in a row if the station has synchronized then, and else at most one
+-- while they synchronize. At their end no more count as killed in a row than the ids that the station leaves unanswered say
 pub record Later (u : UnderWay SceneState) (rs : List (Run SceneState)) (coming : Sequel) : Type 0 where
   pub show : AreShownAs scene_ends u rs coming.parts
   pub may : AreRuns WINDOW scene_ends KeptReplyReads scene_kept u rs
   pub holds : Holds (left_by_runs WINDOW scene_ends u rs) coming.lines
-  pub few : AreFewKilledWithTurns scene_ends 0 u rs
-  pub ends : killed_over scene_ends 0 u rs ≤ unbegun_after 0 coming.begun
+  pub few : AreFewKilled WINDOW scene_ends 0 u rs
+  pub ends : killed_over scene_ends 0 u rs ≤ killed_unless_begun coming.left 0
 
--- if some ids of a run's synchronization aren't answered, no other run (`rs`) follows, and the station hasn't synchronized at
--- the end (`done`)
-abbrev pub IsLastUnlessBegun : List ℕ → Bool → List (Run SceneState) → Type 0
-IsLastUnlessBegun [] done rs = Unit {0}
-IsLastUnlessBegun (asked ∷ word) done rs = (rs ≡ []) × (done ≡ false)
+-- if some ids of a run's synchronization aren't answered, no other run (`rs`) follows, and these are the ids that the station
+-- leaves unanswered at the end (`left`)
+abbrev pub IsLastUnlessBegun : List ℕ → (left : List ℕ) → List (Run SceneState) → Type 0
+IsLastUnlessBegun [] left rs = Unit {0}
+IsLastUnlessBegun (asked ∷ word) left rs = (rs ≡ []) × (left ≡ asked ∷ word)
 
 -- from the state b of a synchronization on: possible turns show `turns`, and possible moves after them `steps`; later runs show
 -- the sequel (`Later`), and there are none if the turns leave ids unanswered
@@ -80,7 +78,7 @@ pub record FromBegin (b : SyncModel SceneState) (turns : List part.SyncStep) (st
   pub are : AreTurns scene_ends KeptReplyReads scene_kept ts b
   pub may : ArePossibleIfBegun WINDOW scene_ends KeptReplyReads scene_kept (turned scene_ends ts b).left (turned scene_ends ts b) ms
   pub later : Later (left_if_begun WINDOW scene_ends (turned scene_ends ts b).left (turned scene_ends ts b) ms) rs coming
-  pub rest : IsLastUnlessBegun (turned scene_ends ts b).left coming.begun rs
+  pub rest : IsLastUnlessBegun (turned scene_ends ts b).left coming.left rs
 
 -- from the world w of a client on: possible moves show `steps`, and later runs show the sequel (`Later`)
 pub record FromClient (w : SceneWorld) (steps : List (client.Step Asked)) (coming : Sequel) : Type 0 where
@@ -165,67 +163,73 @@ begun_from b show steps coming none quiet f = record {
   are = tt;
   may = subst (λ left. ArePossibleIfBegun WINDOW scene_ends KeptReplyReads scene_kept left b f.ms) (sym none) f.may;
   later = subst (λ left. Later (left_if_begun WINDOW scene_ends left b f.ms) f.rs coming) (sym none) f.later;
-  rest = subst (λ left. IsLastUnlessBegun left coming.begun f.rs) (sym none) tt;
+  rest = subst (λ left. IsLastUnlessBegun left coming.left f.rs) (sym none) tt;
 }
 
--- how many are killed in a row once the run r has followed `n` that were: none, if it has synchronized (no id is left); else at
--- most n + 1, and no run follows it, and the station hasn't synchronized at the end (`done`)
-killed_first : (n : ℕ) (u : UnderWay SceneState) (r : Run SceneState) (left : List ℕ) (ts : List (begin.SyncTurn SceneState)) (done : Bool) (rs : List (Run SceneState))
-    → (turned scene_ends ts (begins u)).left ≡ left → r.turns ≡ ts → IsLastUnlessBegun left done rs
-    → ((left ≡ []) × (killed_by scene_ends n u r ts ≡ 0)) ⊎ ((rs ≡ []) × (done ≡ false) × (killed_by scene_ends n u r ts ≤ n + 1))
-killed_first n u r [] [] done rs e same rest = absurd (cons_not_nil _ _ e)
-killed_first n u r [] (t ∷ ts) done rs e same rest = inl (refl, ap (λ l. killed_unless_begun l n) (ap (λ xs. (turned scene_ends xs (begins u)).left) same ∙ e))
-killed_first n u r (asked ∷ word) [] done rs e same rest = inr (rest.0, rest.1, omega arith)
-killed_first n u r (asked ∷ word) (t ∷ ts) done rs e same rest =
-    let one : killed_by scene_ends n u r (t ∷ ts) ≡ n + 1 = ap (λ l. killed_unless_begun l n) (ap (λ xs. (turned scene_ends xs (begins u)).left) same ∙ e) in
-    inr (rest.0, rest.1, omega (arith, one))
+-- where k runs counted as killed before, and not n, no more do after one run more, if k is at most n
+pub killed_more : (k n : ℕ) (left : List ℕ) → k ≤ n → killed_unless_begun left k ≤ killed_unless_begun left n
+killed_more k n [] less = omega arith
+killed_more k n (asked ∷ rest) less = by_first (nat_eq asked 6) where
+  -- the lemma above, by whether no id is answered (`b`)
+  by_first : (b : Bool) → (if b then k else k + 1) ≤ (if b then n else n + 1)
+  by_first true = less
+  by_first false = omega (arith, less)
 
--- where the `n` runs before a synchronization were killed while they synchronized, and `unbegun_after n coming.begun` is at most
--- five: of these and the runs from the synchronization on, at most five in a row are killed so, and at the end at most
--- `unbegun_after n coming.begun`
+-- after the run r, if it has synchronized (no id is left), 0 count as killed in a row; else as many as the ids say that the
+-- station leaves unanswered at the end (`last`), and no run follows it
+killed_first : (n : ℕ) (u : UnderWay SceneState) (r : Run SceneState) (left last : List ℕ) (rs : List (Run SceneState))
+    → (after_turns scene_ends u r).left ≡ left → IsLastUnlessBegun left last rs
+    → (killed_by scene_ends n u r ≡ 0) ⊎ ((rs ≡ []) × (killed_by scene_ends n u r ≡ killed_unless_begun last n))
+killed_first n u r [] last rs e rest = inl (ap (λ l. killed_unless_begun l n) e)
+killed_first n u r (asked ∷ word) last rs e rest = inr (rest.0, ap (λ l. killed_unless_begun l n) (e ∙ sym rest.1))
+
+-- where `n` runs in a row count as killed before a synchronization, and `killed_unless_begun coming.left n`, at most five, once its
+-- station has ended: of these and the runs from the synchronization on, at most five in a row count as killed, and at the end at
+-- most `killed_unless_begun coming.left n`
 pub few_from : (n : ℕ) (u : UnderWay SceneState) (show : List part.SyncStep) (steps : List (client.Step Asked)) (coming : Sequel)
-    → (f : FromBegin (begins u) show steps coming) → unbegun_after n coming.begun ≤ 5
-    → AreFewKilledWithTurns scene_ends n u (run f.ts f.ms ∷ f.rs) × (killed_over scene_ends n u (run f.ts f.ms ∷ f.rs) ≤ unbegun_after n coming.begun)
-few_from n u show steps coming f small = by_end (killed_first n u (run f.ts f.ms) (turned scene_ends f.ts (begins u)).left f.ts coming.begun f.rs refl refl f.rest) where
+    → (f : FromBegin (begins u) show steps coming) → killed_unless_begun coming.left n ≤ 5
+    → AreFewKilled WINDOW scene_ends n u (run f.ts f.ms ∷ f.rs) × (killed_over scene_ends n u (run f.ts f.ms ∷ f.rs) ≤ killed_unless_begun coming.left n)
+few_from n u show steps coming f small = by_end (killed_first n u (run f.ts f.ms) (turned scene_ends f.ts (begins u)).left coming.left f.rs refl f.rest) where
   -- if no run counts as killed in a row after the first run, at most five do
-  none_killed : killed_by scene_ends n u (run f.ts f.ms) f.ts ≡ 0 → killed_by scene_ends n u (run f.ts f.ms) f.ts ≤ 5
+  none_killed : killed_by scene_ends n u (run f.ts f.ms) ≡ 0 → killed_by scene_ends n u (run f.ts f.ms) ≤ 5
   none_killed none = omega (arith, none)
 
-  -- if at the end at most `unbegun_after 0 d` in a row are killed, at most `unbegun_after n d` are
-  by_done : (d : Bool) → killed_over scene_ends 0 (left_by_run WINDOW scene_ends u (run f.ts f.ms)) f.rs ≤ unbegun_after 0 d
-      → killed_over scene_ends 0 (left_by_run WINDOW scene_ends u (run f.ts f.ms)) f.rs ≤ unbegun_after n d
-  by_done true h = h
-  by_done false h = omega (arith, h)
+  -- if `killed_over` counts no more with 0 before than the ids that are left say, it counts no more than they say with n before
+  at_the_end : killed_over scene_ends 0 (left_by_run WINDOW scene_ends u (run f.ts f.ms)) f.rs ≤ killed_unless_begun coming.left n
+  at_the_end = let ends = f.later.ends in let more = killed_more 0 n coming.left (omega arith) in omega (arith, ends, more)
 
   -- the claim of `few_from`, by whether the first run has synchronized
-  by_end : (((turned scene_ends f.ts (begins u)).left ≡ []) × (killed_by scene_ends n u (run f.ts f.ms) f.ts ≡ 0))
-      ⊎ ((f.rs ≡ []) × (coming.begun ≡ false) × (killed_by scene_ends n u (run f.ts f.ms) f.ts ≤ n + 1))
-      → AreFewKilledWithTurns scene_ends n u ((run f.ts f.ms) ∷ f.rs) × (killed_over scene_ends n u ((run f.ts f.ms) ∷ f.rs) ≤ unbegun_after n coming.begun)
-  by_end (inl begun) = (
-    (none_killed begun.1, subst (λ k. AreFewKilledWithTurns scene_ends k (left_by_run WINDOW scene_ends u (run f.ts f.ms)) f.rs) (sym begun.1) f.later.few),
-    subst (λ k. killed_over scene_ends k (left_by_run WINDOW scene_ends u (run f.ts f.ms)) f.rs ≤ unbegun_after n coming.begun) (sym begun.1) (by_done coming.begun f.later.ends),
+  by_end : (killed_by scene_ends n u (run f.ts f.ms) ≡ 0) ⊎ ((f.rs ≡ []) × (killed_by scene_ends n u (run f.ts f.ms) ≡ killed_unless_begun coming.left n))
+      → AreFewKilled WINDOW scene_ends n u ((run f.ts f.ms) ∷ f.rs) × (killed_over scene_ends n u ((run f.ts f.ms) ∷ f.rs) ≤ killed_unless_begun coming.left n)
+  by_end (inl none) = (
+    (none_killed none, subst (λ k. AreFewKilled WINDOW scene_ends k (left_by_run WINDOW scene_ends u (run f.ts f.ms)) f.rs) (sym none) f.later.few),
+    subst (λ k. killed_over scene_ends k (left_by_run WINDOW scene_ends u (run f.ts f.ms)) f.rs ≤ killed_unless_begun coming.left n) (sym none) at_the_end,
   )
   by_end (inr killed) =
-      let count : killed_by scene_ends n u (run f.ts f.ms) f.ts ≤ unbegun_after n coming.begun =
-      subst (λ d. killed_by scene_ends n u (run f.ts f.ms) f.ts ≤ unbegun_after n d) (sym killed.1) killed.2 in (
+      let count = killed.1 in (
         (
           omega (arith, count, small),
-          subst (λ rs. AreFewKilledWithTurns scene_ends (killed_by scene_ends n u (run f.ts f.ms) f.ts) (left_by_run WINDOW scene_ends u (run f.ts f.ms)) rs) (sym killed.0) tt,
+          subst (λ rs. AreFewKilled WINDOW scene_ends (killed_by scene_ends n u (run f.ts f.ms)) (left_by_run WINDOW scene_ends u (run f.ts f.ms)) rs) (sym killed.0) tt,
         ),
-        subst (λ rs. killed_over scene_ends (killed_by scene_ends n u (run f.ts f.ms) f.ts) (left_by_run WINDOW scene_ends u (run f.ts f.ms)) rs ≤ unbegun_after n coming.begun) (sym killed.0) count,
+        subst (λ rs. killed_over scene_ends (killed_by scene_ends n u (run f.ts f.ms)) (left_by_run WINDOW scene_ends u (run f.ts f.ms)) rs ≤ killed_unless_begun coming.left n) (sym killed.0)
+            (omega (arith, count)),
       )
 
 -- one station, killed or not, counts as at most five in a row
-one_station_is_few : (done : Bool) → unbegun_after 0 done ≤ 5
-one_station_is_few true = omega arith
-one_station_is_few false = omega arith
+one_station_is_few : (left : List ℕ) → killed_unless_begun left 0 ≤ 5
+one_station_is_few [] = omega arith
+one_station_is_few (asked ∷ rest) = by_first (nat_eq asked 6) where
+  -- the lemma above, by whether no id is answered (`b`)
+  by_first : (b : Bool) → (if b then 0 else 0 + 1) ≤ 5
+  by_first true = omega arith
+  by_first false = omega arith
 
 -- `FromBegin` of a synchronization over what is in flight in the world w, which shows the part p and then a sequel, gives
 -- `FromClient` from w, with no steps, and with p in front of the sequel's parts
 pub ended_from : (w : SceneWorld) (p : Part) (coming : Sequel) → FromBegin (begins (under_way_on w.wire)) p.sync_steps p.steps coming
-    → FromClient w [] (sequel (p ∷ coming.parts) coming.lines coming.begun)
+    → FromClient w [] (sequel (p ∷ coming.parts) coming.lines coming.left)
 ended_from w p coming f =
-    let few = few_from 0 (under_way_on w.wire) p.sync_steps p.steps coming f (one_station_is_few coming.begun) in
+    let few = few_from 0 (under_way_on w.wire) p.sync_steps p.steps coming f (one_station_is_few coming.left) in
     record {
       ms = [];
       rs = run f.ts f.ms ∷ f.rs;
@@ -234,14 +238,9 @@ ended_from w p coming f =
       later = record { show = (f.show, f.see, f.later.show); may = ((f.are, f.may), f.later.may); holds = f.later.holds; few = few.0; ends = few.1 };
     }
 
--- where no run follows, 0 count as killed in a row, which is at most what `unbegun_after` gives
-none_killed_in_no_runs : (done : Bool) → 0 ≤ unbegun_after 0 done
-none_killed_in_no_runs true = omega arith
-none_killed_in_no_runs false = omega arith
-
 -- where the lines m are in flight, `FromClient` holds with no steps and one further part, in which nothing happens
-pub ends_client_idly : (w : SceneWorld) (m : Lines) (done : Bool) → Holds (under_way_on w.wire) m → FromClient w [] (sequel (idle_part ∷ []) m done)
-ends_client_idly w m done holds =
+pub ends_client_idly : (w : SceneWorld) (m : Lines) (left : List ℕ) → Holds (under_way_on w.wire) m → FromClient w [] (sequel (idle_part ∷ []) m left)
+ends_client_idly w m left holds =
     record {
       ms = [];
       rs = record { turns = []; moves = [] } ∷ [];
@@ -252,20 +251,20 @@ ends_client_idly w m done holds =
         may = ((tt, refl), tt);
         holds = subst (λ u. Holds u m) (sym (begins_in_flight (under_way_on w.wire))) holds;
         few = (omega arith, tt);
-        ends = none_killed_in_no_runs done;
+        ends = omega arith;
       };
     }
 
 -- where the lines m are in flight, `FromClient` holds with no steps and no further parts
-pub ends_client : (w : SceneWorld) (m : Lines) (done : Bool) → Holds (under_way_on w.wire) m → FromClient w [] (sequel [] m done)
-ends_client w m done holds = record { ms = []; rs = []; see = refl; may = tt; later = record { show = tt; may = tt; holds = holds; few = tt; ends = none_killed_in_no_runs done } }
+pub ends_client : (w : SceneWorld) (m : Lines) (left : List ℕ) → Holds (under_way_on w.wire) m → FromClient w [] (sequel [] m left)
+ends_client w m left holds = record { ms = []; rs = []; see = refl; may = tt; later = record { show = tt; may = tt; holds = holds; few = tt; ends = omega arith } }
 
 -- where some ids aren't answered, and the lines m are in flight, `FromBegin` holds with no turns, no steps and no further parts,
--- and with a station that hasn't synchronized at the end
-pub ends_begin : (b : SyncModel SceneState) (m : Lines) → (b.left ≡ [] → ⊥) → Holds (leaves b) m → FromBegin b [] [] (sequel [] m false)
+-- and with these ids unanswered at the end
+pub ends_begin : (b : SyncModel SceneState) (m : Lines) → (b.left ≡ [] → ⊥) → Holds (leaves b) m → FromBegin b [] [] (sequel [] m b.left)
 ends_begin b m some holds = by_left b.left refl where
   -- the lemma above, by the ids that are left
-  by_left : (left : List ℕ) → b.left ≡ left → FromBegin b [] [] (sequel [] m false)
+  by_left : (left : List ℕ) → b.left ≡ left → FromBegin b [] [] (sequel [] m b.left)
   by_left [] e = absurd (some e)
   by_left (asked ∷ rest) e = record {
     ts = [];
@@ -275,6 +274,6 @@ ends_begin b m some holds = by_left b.left refl where
     see = refl;
     are = tt;
     may = subst (λ left. ArePossibleIfBegun WINDOW scene_ends KeptReplyReads scene_kept left b []) (sym e) refl;
-    later = subst (λ left. Later (left_if_begun WINDOW scene_ends left b []) [] (sequel [] m false)) (sym e) (record { show = tt; may = tt; holds = holds; few = tt; ends = omega arith });
-    rest = subst (λ left. IsLastUnlessBegun left false []) (sym e) (refl, refl);
+    later = subst (λ left. Later (left_if_begun WINDOW scene_ends left b []) [] (sequel [] m b.left)) (sym e) (record { show = tt; may = tt; holds = holds; few = tt; ends = omega arith });
+    rest = subst (λ left. IsLastUnlessBegun left b.left []) (sym e) (refl, e);
   }

@@ -1,5 +1,5 @@
 -- Stations one after the other over a rehearsed line are stations in a row in the field.
-use Rattle.std.proofs.Common.{◌≡◌, ℕ, suc, ◌≤◌, Bool, true, false, List, [], ◌∷◌, ◌++◌, length, refl, sym, ◌∙◌, ap, subst, arith}
+use Rattle.std.proofs.Common.{◌≡◌, ℕ, suc, ◌≤◌, List, [], ◌∷◌, ◌++◌, length, refl, sym, ◌∙◌, ap, subst, arith}
 use Rattle.std.specs.List.{AllByRecursion}
 use Rattle.gc_catalogue.specs.declared.asked.Asked.{Asked}
 use Rattle.gc_client.specs.OneForOne as client
@@ -8,13 +8,12 @@ use Rattle.gc_links.specs.Acts.{Act, Put, Gave}
 use Rattle.gc_scenes.specs.SceneState.{SceneState}
 use Rattle.gc_station.proofs.EachRun.{invariant_opening}
 use Rattle.gc_station.proofs.Lists.{cons_head, cons_tail}
-use Rattle.gc_station.specs.Deciding.{has_begun}
 use Rattle.gc_station.specs.Model.{Runs, after_all, opening}
 use Rattle.gc_station.specs.Parts as part
 use Rattle.gc_station.specs.Parts.{parts_of}
 use Rattle.gc_field.specs.Begin as begin
 use Rattle.gc_field.specs.Begin.{UnderWay, begins, leaves, none_under_way}
-use Rattle.gc_field.specs.Beginnings.{HasRisingIds, Run, left_by_runs}
+use Rattle.gc_field.specs.Beginnings.{HasRisingIds, Run, killed_unless_begun, left_by_runs}
 use Rattle.gc_field.specs.InARow.{AreInARow, killed_over}
 use Rattle.gc_field.specs.SceneField.{KeptReplyReads, scene_ends, scene_kept}
 use Rattle.gc_field.specs.Shown.{AreShownAs}
@@ -22,8 +21,8 @@ use Rattle.gc_field.proofs.InARow.{in_a_row, run}
 use Rattle.gc_field.proofs.SceneField.{scene_is_an_instrument}
 use Rattle.gc_field.proofs.BeginJoin.{word_small}
 use Rattle.gc_rehearsal.specs.Carrying.{Lines, Happening, Acts, ActLeads, CarriesNothing, LeadAll, acts_of}
-use Rattle.gc_rehearsed.specs.Rehearsals.{FewEndUnbegun, RunsAndStops, RehearsalsInARowAreFaithful, RehearsedStation, has_begun_at_its_end, programs, acts_of_all, unbegun_after}
-use Rattle.gc_rehearsed.proofs.Courses.{BeginIsAt, FromBegin, Sequel, begins_in_flight, few_from, sequel, steps_turn}
+use Rattle.gc_rehearsed.specs.Rehearsals.{FewEndUnbegun, RunsAndStops, RehearsalsInARowAreFaithful, RehearsedStation, left_at_its_end, programs, acts_of_all}
+use Rattle.gc_rehearsed.proofs.Courses.{BeginIsAt, FromBegin, Sequel, begins_in_flight, few_from, killed_more, sequel, steps_turn}
 use Rattle.gc_rehearsed.proofs.Rehearsed.{OnBegin, first_and_others, first_part, none_kept, other_parts, shows_the_run}
 use Rattle.gc_station.proofs.PartFronts.{some_parts}
 use Rattle.gc_rehearsed.proofs.Steps.{Holds, happens_by_steps}
@@ -93,13 +92,8 @@ record AreInTheField (n : ℕ) (u : UnderWay SceneState) (xs : List RehearsedSta
 -- where k is at most n
 few_end_with_fewer_before : (k n : ℕ) (xs : List RehearsedStation) → k ≤ n → FewEndUnbegun n xs → FewEndUnbegun k xs
 few_end_with_fewer_before k n [] less few = tt
-few_end_with_fewer_before k n (x ∷ xs) less few = let one = fewer_one (has_begun_at_its_end x) in
-    ((let f = few.0 in omega (arith, one, f)), few_end_with_fewer_before (unbegun_after k (has_begun_at_its_end x)) (unbegun_after n (has_begun_at_its_end x)) xs one few.1) where
-      -- after k stations in a row that ended while they synchronized, one station more makes at most as many in a row as after
-      -- n
-      fewer_one : (b : Bool) → unbegun_after k b ≤ unbegun_after n b
-      fewer_one true = omega arith
-      fewer_one false = omega (arith, less)
+few_end_with_fewer_before k n (x ∷ xs) less few = let one = killed_more k n (left_at_its_end x) less in
+    ((let f = few.0 in omega (arith, one, f)), few_end_with_fewer_before (killed_unless_begun (left_at_its_end x) k) (killed_unless_begun (left_at_its_end x) n) xs one few.1)
 
 -- stations one after the other over a rehearsed line, after acts `before` that are quiet, are in the field (`AreInTheField`),
 -- over what is in flight, if each of them is `RunsAndStops`, and `FewEndUnbegun` holds of them with n
@@ -110,20 +104,20 @@ goes_in_a_row n [] hs before u l m quiet holds all told lives few = record { run
 goes_in_a_row n (x ∷ xs) hs before u l m quiet holds all told lives few =
     let s = opening x.plan x.scope in
     let ps = parts_of x.plan x.commands s x.acts in
-    let done = has_begun_at_its_end x in
+    let left = left_at_its_end x in
     let one = cut_after_acts hs before (acts_of_all (x ∷ xs)) l m told all in
     let two = cut_after_acts one.back x.acts (x.after_run ++ acts_of_all xs) one.middle m one.backs one.later in
-    let f : OnBegin (begins u) two.middle ps done =
-    idle_first one.front (begins u) l one.middle (first_part ps).sync_steps (first_part ps).steps (sequel (other_parts ps) two.middle done)
+    let f : OnBegin (begins u) two.middle ps left =
+    idle_first one.front (begins u) l one.middle (first_part ps).sync_steps (first_part ps).steps (sequel (other_parts ps) two.middle left)
     (subst (AllByRecursion CarriesNothing) (sym one.fronts) quiet)
     (subst (λ v. Holds v l) (sym (begins_in_flight u)) holds) one.leads
-    (λ c at. subst (λ acts. OnBegin c two.middle (parts_of x.plan x.commands s acts) (has_begun (after_all x.plan x.commands s acts).progress)) two.fronts
+    (λ c at. subst (λ acts. OnBegin c two.middle (parts_of x.plan x.commands s acts) (after_all x.plan x.commands s acts).progress.word) two.fronts
     ((shows_the_run x.plan x.commands lives.0.askable two.front two.middle).0 s c one.middle (invariant_opening x.plan x.commands x.scope) refl refl at
     word_small two.leads (subst (Runs x.plan x.commands s) (sym two.fronts) lives.0.runs))) in
     let rs = run f.ts f.ms ∷ f.rs in
-    let killed = few_from n u (first_part ps).sync_steps (first_part ps).steps (sequel (other_parts ps) two.middle done) f few.0 in
+    let killed = few_from n u (first_part ps).sync_steps (first_part ps).steps (sequel (other_parts ps) two.middle left) f few.0 in
     let rest = goes_in_a_row (killed_over scene_ends n u rs) xs two.back x.after_run (left_by_runs WINDOW scene_ends u rs) two.middle m lives.0.quiet f.later.holds two.later two.backs lives.1
-    (few_end_with_fewer_before (killed_over scene_ends n u rs) (unbegun_after n done) xs killed.1 few.1) in
+    (few_end_with_fewer_before (killed_over scene_ends n u rs) (killed_unless_begun left n) xs killed.1 few.1) in
     record {
       runs = rs ∷ rest.runs;
       each = ap suc rest.each;

@@ -67,41 +67,41 @@ first_and_others [] some = absurd some
 first_and_others (p ∷ ps) some = refl
 
 -- `FromBegin` by parts: from the state b of a synchronization on, its run shows the first part, and later runs the others
-abbrev pub OnBegin : begin.SyncModel SceneState → Lines → List Part → Bool → Type 0
-OnBegin b m ps done = FromBegin b (first_part ps).sync_steps (first_part ps).steps (sequel (other_parts ps) m done)
+abbrev pub OnBegin : begin.SyncModel SceneState → Lines → List Part → List ℕ → Type 0
+OnBegin b m ps left = FromBegin b (first_part ps).sync_steps (first_part ps).steps (sequel (other_parts ps) m left)
 
 -- `FromClient` by parts: from the world w on, its client's run shows the steps of the first part, and later runs the others
-abbrev pub OnClient : SceneWorld → Lines → List Part → Bool → Type 0
-OnClient w m ps done = FromClient w (first_part ps).steps (sequel (other_parts ps) m done)
+abbrev pub OnClient : SceneWorld → Lines → List Part → List ℕ → Type 0
+OnClient w m ps left = FromClient w (first_part ps).steps (sequel (other_parts ps) m left)
 
 -- if an act comes to the steps of the synchronization in its part p (`TurnsTo`), which has no steps of the client, and `OnBegin`
 -- holds of the later parts from each state that these steps may lead to, it holds from b of the later parts with p as the front
 -- of the first one (`in_front`)
-begin_first : (b : begin.SyncModel SceneState) (p : Part) (word : List ℕ) (n m : Lines) (ps : List Part) (done : Bool) → HasSome ps → p.steps ≡ [] → TurnsTo b p.sync_steps word n
-    → ((c : begin.SyncModel SceneState) → BeginIsAt c word n → OnBegin c m ps done) → OnBegin b m (in_front p false ps) done
-begin_first b p word n m [] done some none to on = absurd some
-begin_first b p word n m (q ∷ ps) done some none to on =
-    subst (λ (ss : List (client.Step Asked)). FromBegin b (p.sync_steps ++ q.sync_steps) (ss ++ q.steps) (sequel ps m done)) (sym none) (to q.sync_steps q.steps (sequel ps m done) on)
+begin_first : (b : begin.SyncModel SceneState) (p : Part) (word : List ℕ) (n m : Lines) (ps : List Part) (left : List ℕ) → HasSome ps → p.steps ≡ [] → TurnsTo b p.sync_steps word n
+    → ((c : begin.SyncModel SceneState) → BeginIsAt c word n → OnBegin c m ps left) → OnBegin b m (in_front p false ps) left
+begin_first b p word n m [] left some none to on = absurd some
+begin_first b p word n m (q ∷ ps) left some none to on =
+    subst (λ (ss : List (client.Step Asked)). FromBegin b (p.sync_steps ++ q.sync_steps) (ss ++ q.steps) (sequel ps m left)) (sym none) (to q.sync_steps q.steps (sequel ps m left) on)
 
 -- if an act comes to the steps of its part p (`MovesTo`), and `OnClient` holds of the later parts from each world that these
 -- steps may lead to, it holds from w of the later parts with p as the front of the first one (`in_front`)
-client_first : (w : SceneWorld) (p : Part) (c : ById Asked) (n m : Lines) (ps : List Part) (done : Bool) → HasSome ps → MovesTo w p.steps c n
-    → ((v : SceneWorld) → WorldIsAt v c n → OnClient v m ps done) → OnClient w m (in_front p false ps) done
-client_first w p c n m [] done some to on = absurd some
-client_first w p c n m (q ∷ ps) done some to on = to q.steps (sequel ps m done) on
+client_first : (w : SceneWorld) (p : Part) (c : ById Asked) (n m : Lines) (ps : List Part) (left : List ℕ) → HasSome ps → MovesTo w p.steps c n
+    → ((v : SceneWorld) → WorldIsAt v c n → OnClient v m ps left) → OnClient w m (in_front p false ps) left
+client_first w p c n m [] left some to on = absurd some
+client_first w p c n m (q ∷ ps) left some to on = to q.steps (sequel ps m left) on
 
 -- if an act comes to the steps of its part p (`MovesTo`), which ends with the act, and `FromClient` holds from each world that
 -- these steps may lead to, with no steps and with the later parts, `OnClient` holds from w of p and then the later parts
-client_last : (w : SceneWorld) (p : Part) (c : ById Asked) (n m : Lines) (ps : List Part) (done : Bool) → MovesTo w p.steps c n
-    → ((v : SceneWorld) → Holds (under_way_on v.wire) n → FromClient v [] (sequel ps m done)) → OnClient w m (in_front p true ps) done
-client_last w p c n m ps done to on =
-    subst (λ (ss : List (client.Step Asked)). FromClient w ss (sequel ps m done)) (append-nil p.steps) (to [] (sequel ps m done) (λ v at. on v at.1))
+client_last : (w : SceneWorld) (p : Part) (c : ById Asked) (n m : Lines) (ps : List Part) (left : List ℕ) → MovesTo w p.steps c n
+    → ((v : SceneWorld) → Holds (under_way_on v.wire) n → FromClient v [] (sequel ps m left)) → OnClient w m (in_front p true ps) left
+client_last w p c n m ps left to on =
+    subst (λ (ss : List (client.Step Asked)). FromClient w ss (sequel ps m left)) (append-nil p.steps) (to [] (sequel ps m left) (λ v at. on v at.1))
 
 -- where a part has ended with the world v, and `OnBegin` holds of the later parts from a synchronization over what is in flight
 -- in v, `FromClient` holds from v with no steps and with the later parts
-client_anew : (v : SceneWorld) (m : Lines) (ps : List Part) (done : Bool) → HasSome ps → OnBegin (begins (under_way_on v.wire)) m ps done → FromClient v [] (sequel ps m done)
-client_anew v m [] done some f = absurd some
-client_anew v m (q ∷ ps) done some f = ended_from v q (sequel ps m done) f
+client_anew : (v : SceneWorld) (m : Lines) (ps : List Part) (left : List ℕ) → HasSome ps → OnBegin (begins (under_way_on v.wire)) m ps left → FromClient v [] (sequel ps m left)
+client_anew v m [] left some f = absurd some
+client_anew v m (q ∷ ps) left some f = ended_from v q (sequel ps m left) f
 
 -- What commands ask.
 
@@ -250,7 +250,7 @@ module _ (plan : Plan) (commands : List Task) (askable : AreAskable commands) wh
   FromBeginOf hs m =
       (s : Model) (b : begin.SyncModel SceneState) (l : Lines) → Invariant plan commands s → s.rest ≡ [] → has_begun s.progress ≡ false → BeginIsAt b s.progress.word l
       → AreSmall s.progress.word → LeadAll l hs m → Runs plan commands s (acts_of hs)
-      → OnBegin b m (parts_of plan commands s (acts_of hs)) (has_begun (after_all plan commands s (acts_of hs)).progress)
+      → OnBegin b m (parts_of plan commands s (acts_of hs)) (after_all plan commands s (acts_of hs)).progress.word
 
   -- from each world w of a client on that agrees with the station's model s, which has synchronized, and with the line: what
   -- happens on the line shows the parts of the station's run by these acts
@@ -258,7 +258,7 @@ module _ (plan : Plan) (commands : List Task) (askable : AreAskable commands) wh
   FromClientOf hs m =
       (s : Model) (w : SceneWorld) (l : Lines) → Invariant plan commands s → s.rest ≡ [] → has_begun s.progress ≡ true → WorldIsAt w s.client l
       → LeadAll l hs m → Runs plan commands s (acts_of hs)
-      → OnClient w m (parts_of plan commands s (acts_of hs)) (has_begun (after_all plan commands s (acts_of hs)).progress)
+      → OnClient w m (parts_of plan commands s (acts_of hs)) (after_all plan commands s (acts_of hs)).progress.word
 
   -- if what happens later is `FromBeginOf` and `FromClientOf`, it is `FromBeginOf` with one more act before it
   act_begin : (act : Act) (hs : List Happening) (m : Lines) → FromBeginOf hs m → FromClientOf hs m → FromBeginOf (Acts act ∷ hs) m
@@ -266,9 +266,9 @@ module _ (plan : Plan) (commands : List Task) (askable : AreAskable commands) wh
       let o = action_at plan s in
       let t = after plan commands s act in
       let p = sync_part s o act in
-      let done = has_begun (after_all plan commands t (acts_of hs)).progress in
-      subst (λ x. OnBegin b m (in_front (if x then client_part plan commands s o act else sync_part s o act) (x && loses_all t.progress) (parts_of plan commands t (acts_of hs))) done) (sym begins)
-      (begin_first b p (unanswered_after s.progress.word (heard_in p.sync_steps)) all.0 m (parts_of plan commands t (acts_of hs)) done (some_parts plan commands t (acts_of hs)) means.0 to.1
+      let left = (after_all plan commands t (acts_of hs)).progress.word in
+      subst (λ x. OnBegin b m (in_front (if x then client_part plan commands s o act else sync_part s o act) (x && loses_all t.progress) (parts_of plan commands t (acts_of hs))) left) (sym begins)
+      (begin_first b p (unanswered_after s.progress.word (heard_in p.sync_steps)) all.0 m (parts_of plan commands t (acts_of hs)) left (some_parts plan commands t (acts_of hs)) means.0 to.1
       (λ c later. next c (subst (λ word. BeginIsAt c word all.0) (sym means.2) later) (has_begun t.progress) refl)) where
         -- the act means its part
         means : IsMeant false s act (sync_part s (action_at plan s) act) (after plan commands s act)
@@ -282,14 +282,14 @@ module _ (plan : Plan) (commands : List Task) (askable : AreAskable commands) wh
 
         -- what happens later, from the state after the act, by whether the station has synchronized then (`x`)
         next : (c : begin.SyncModel SceneState) → BeginIsAt c (after plan commands s act).progress.word all.0 → (x : Bool) → has_begun (after plan commands s act).progress ≡ x
-            → OnBegin c m (parts_of plan commands (after plan commands s act) (acts_of hs)) (has_begun (after_all plan commands (after plan commands s act) (acts_of hs)).progress)
+            → OnBegin c m (parts_of plan commands (after plan commands s act) (acts_of hs)) (after_all plan commands (after plan commands s act) (acts_of hs)).progress.word
         next c later false e =
             later_begin (after plan commands s act) c all.0 (invariant_after plan commands s act fine) to.0 e later
             (subst AreSmall (sym means.2) (left_ids_are_small s.progress.word (heard_in (sync_part s (action_at plan s) act).sync_steps) ids)) all.2 runs.1
         next c later true e =
             let u = after plan commands s act in
             let ps = parts_of plan commands u (acts_of hs) in
-            begun_from c (first_part ps).sync_steps (first_part ps).steps (sequel (other_parts ps) m (has_begun (after_all plan commands u (acts_of hs)).progress))
+            begun_from c (first_part ps).sync_steps (first_part ps).steps (sequel (other_parts ps) m (after_all plan commands u (acts_of hs)).progress.word)
             (later.0 ∙ word_empty u.progress.word e) (first_none ps (first_part_no_sync_steps plan commands u (acts_of hs) e))
             (later_client u (ids_begun (leaves c)) all.0 (invariant_after plan commands s act fine) to.0 e
             (sym (client_new s act fine runs.0 begins), subst (λ v. Holds v all.0) (sym (begun_in_flight (leaves c))) later.1) all.2 runs.1)
@@ -299,8 +299,8 @@ module _ (plan : Plan) (commands : List Task) (askable : AreAskable commands) wh
   act_client act hs m later_begin later_client s w l fine rest begun at all runs =
       let o = action_at plan s in
       let t = after plan commands s act in
-      let done = has_begun (after_all plan commands t (acts_of hs)).progress in
-      subst (λ x. OnClient w m (in_front (if x then client_part plan commands s o act else sync_part s o act) (x && loses_all t.progress) (parts_of plan commands t (acts_of hs))) done) (sym begun)
+      let left = (after_all plan commands t (acts_of hs)).progress.word in
+      subst (λ x. OnClient w m (in_front (if x then client_part plan commands s o act else sync_part s o act) (x && loses_all t.progress) (parts_of plan commands t (acts_of hs))) left) (sym begun)
       (by_loss (loses_all t.progress) refl) where
         -- no bytes of an unfinished line are left, and the act comes to its steps
         to : ((after plan commands s act).rest ≡ [])
@@ -315,43 +315,43 @@ module _ (plan : Plan) (commands : List Task) (askable : AreAskable commands) wh
         -- what happens later, where the part has ended, by whether the station has synchronized after the act (`x`); if it has,
         -- the run is over
         anew : (v : SceneWorld) → Holds (under_way_on v.wire) all.0 → loses_all (after plan commands s act).progress ≡ true → (x : Bool) → has_begun (after plan commands s act).progress ≡ x
-            → FromClient v [] (sequel (parts_of plan commands (after plan commands s act) (acts_of hs)) m (has_begun (after_all plan commands (after plan commands s act) (acts_of hs)).progress))
+            → FromClient v [] (sequel (parts_of plan commands (after plan commands s act) (acts_of hs)) m (after_all plan commands (after plan commands s act) (acts_of hs)).progress.word)
         anew v h lost false e =
             let u = after plan commands s act in
             let word = word_if_resynchronizing plan commands s act runs.0 begun e in
-            client_anew v m (parts_of plan commands u (acts_of hs)) (has_begun (after_all plan commands u (acts_of hs)).progress) (some_parts plan commands u (acts_of hs))
+            client_anew v m (parts_of plan commands u (acts_of hs)) (after_all plan commands u (acts_of hs)).progress.word (some_parts plan commands u (acts_of hs))
             (later_begin u (begins (under_way_on v.wire)) all.0 (invariant_after plan commands s act fine) to.0 e
             (sym word, subst (λ q. Holds q all.0) (sym (begins_in_flight (under_way_on v.wire))) h) (subst AreSmall (sym word) word_small) all.2 runs.1)
         anew v h lost true e =
             let u = after plan commands s act in
             let none = none_over u (acts_of hs) (over_of e lost) runs.1 in
-            subst (λ acts. FromClient v [] (sequel (parts_of plan commands u acts) m (has_begun (after_all plan commands u (acts_of hs)).progress))) (sym none)
-            (goes_idly hs v all.0 m [] (sequel (idle_part ∷ []) m (has_begun (after_all plan commands u (acts_of hs)).progress)) none h all.2
-            (λ x g. ends_client_idly x m (has_begun (after_all plan commands u (acts_of hs)).progress) g))
+            subst (λ acts. FromClient v [] (sequel (parts_of plan commands u acts) m (after_all plan commands u (acts_of hs)).progress.word)) (sym none)
+            (goes_idly hs v all.0 m [] (sequel (idle_part ∷ []) m (after_all plan commands u (acts_of hs)).progress.word) none h all.2
+            (λ x g. ends_client_idly x m (after_all plan commands u (acts_of hs)).progress.word g))
 
         -- `OnClient` holds from w with the act, whether the part ends with it (`x` is true) or goes on
         by_loss : (x : Bool) → loses_all (after plan commands s act).progress ≡ x
             → OnClient w m (in_front (client_part plan commands s (action_at plan s) act) x (parts_of plan commands (after plan commands s act) (acts_of hs)))
-            (has_begun (after_all plan commands (after plan commands s act) (acts_of hs)).progress)
+            (after_all plan commands (after plan commands s act) (acts_of hs)).progress.word
         by_loss false e =
             let u = after plan commands s act in
             let p = client_part plan commands s (action_at plan s) act in
-            client_first w p (client_after s.client p.steps) all.0 m (parts_of plan commands u (acts_of hs)) (has_begun (after_all plan commands u (acts_of hs)).progress)
+            client_first w p (client_after s.client p.steps) all.0 m (parts_of plan commands u (acts_of hs)) (after_all plan commands u (acts_of hs)).progress.word
             (some_parts plan commands u (acts_of hs)) to.1
             (λ v later. later_client u v all.0 (invariant_after plan commands s act fine) to.0 (begun_if_nothing_lost u e)
             (subst (λ c. WorldIsAt v c all.0) (sym (client_on s act fine runs.0 begun e)) later) all.2 runs.1)
         by_loss true e =
             let u = after plan commands s act in
             let p = client_part plan commands s (action_at plan s) act in
-            client_last w p (client_after s.client p.steps) all.0 m (parts_of plan commands u (acts_of hs)) (has_begun (after_all plan commands u (acts_of hs)).progress) to.1
+            client_last w p (client_after s.client p.steps) all.0 m (parts_of plan commands u (acts_of hs)) (after_all plan commands u (acts_of hs)).progress.word to.1
             (λ v h. anew v h e (has_begun u.progress) refl)
 
   -- whatever happens on the line is `FromBeginOf` and `FromClientOf`: it shows what the station sees in a run
   pub shows_the_run : (hs : List Happening) (m : Lines) → FromBeginOf hs m × FromClientOf hs m
   shows_the_run [] m = (
     λ s b l fine rest begins at ids all runs.
-        subst (λ d. FromBegin b [] [] (sequel [] m d)) (sym begins) (ends_begin b m (λ e. some_left s.progress.word begins (sym at.0 ∙ e)) (subst (Holds (leaves b)) (sym all) at.1)),
-    λ s w l fine rest begun at all runs. ends_client w m (has_begun s.progress) (subst (Holds (under_way_on w.wire)) (sym all) at.1),
+        subst (λ left. FromBegin b [] [] (sequel [] m left)) at.0 (ends_begin b m (λ e. some_left s.progress.word begins (sym at.0 ∙ e)) (subst (Holds (leaves b)) (sym all) at.1)),
+    λ s w l fine rest begun at all runs. ends_client w m s.progress.word (subst (Holds (under_way_on w.wire)) (sym all) at.1),
   )
   shows_the_run (Acts act ∷ hs) m = let later = shows_the_run hs m in (act_begin act hs m later.0 later.1, act_client act hs m later.0 later.1)
   shows_the_run (h ∷ hs) m =
@@ -380,7 +380,7 @@ rehearsed_runs_are_faithful x of_line askable runs =
     let s = opening x.plan x.scope in
     let g = (shows_the_run x.plan x.commands askable c.happened of_line.0).0 s (begins u) start (invariant_opening x.plan x.commands x.scope) refl refl
     (refl, record { up = tt; down = refl; one = tt; state = refl; good = good }) word_small c.leads (subst (Runs x.plan x.commands s) (sym c.acts_are) runs) in
-    let f = subst (λ told. OnBegin (begins u) of_line.0 (parts_of x.plan x.commands s told) (has_begun (after_all x.plan x.commands s told).progress)) c.acts_are g in
+    let f = subst (λ told. OnBegin (begins u) of_line.0 (parts_of x.plan x.commands s told) (after_all x.plan x.commands s told).progress.word) c.acts_are g in
     let parts = first_and_others (parts_of x.plan x.commands s x.acts) (some_parts x.plan x.commands s x.acts) in
     let program = as_program x (run f.ts f.ms ∷ f.rs) in
     let field : IsInField scene_ends KeptReplyReads scene_kept u program = record {

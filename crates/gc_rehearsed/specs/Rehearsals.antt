@@ -1,6 +1,6 @@
 -- What holds of a station over a rehearsed line, this project's own. A rehearsed line is one in memory with the instrument of a
 -- scene at its end; nothing is assumed of which lines it loses, repeats and holds.
-use Rattle.std.specs.Prelude.{◌≡◌, ℕ, ◌+◌, ◌≤◌, Bool, true, false, List, [], ◌∷◌, ◌++◌, length}
+use Rattle.std.specs.Prelude.{◌≡◌, ℕ, ◌≤◌, List, [], ◌∷◌, ◌++◌, length}
 use Rattle.std.specs.List.{AllByRecursion}
 use Rattle.gc_catalogue.specs.Asked.{IsAskedFitting}
 use Rattle.gc_links.specs.Acts.{Act}
@@ -9,11 +9,10 @@ use Rattle.gc_texts.specs.Tasks.{call_at}
 use Rattle.gc_texts.specs.declared.tasks.Task.{Task}
 use Rattle.gc_station.specs.declared.plan.Plan.{Plan}
 use Rattle.gc_station.specs.Model.{Runs, opening}
-use Rattle.gc_station.specs.Deciding.{has_begun}
 use Rattle.gc_station.specs.Runs.{state_after}
 use Rattle.gc_station.specs.Scopes.{Scope}
 use Rattle.gc_field.specs.Begin.{UnderWay, none_under_way}
-use Rattle.gc_field.specs.Beginnings.{Run}
+use Rattle.gc_field.specs.Beginnings.{Run, killed_unless_begun}
 use Rattle.gc_field.specs.InARow.{AreFaithful, AreInARow}
 use Rattle.gc_field.specs.Runs.{IsInField, IsRunFaithful, Program}
 use Rattle.gc_field.specs.SceneField.{KeptReplyReads, scene_ends, scene_kept}
@@ -75,21 +74,16 @@ abbrev pub programs : List RehearsedStation → List (List (Run SceneState)) →
 programs (x ∷ xs) (rs ∷ rss) = as_program x rs ∷ programs xs rss
 programs _ _ = []
 
--- how many stations in a row have ended while they synchronized, with one more station after `n` of them: none, if that one had
--- synchronized at its end (`true`), and else one more
-abbrev pub unbegun_after : ℕ → Bool → ℕ
-unbegun_after n true = 0
-unbegun_after n false = n + 1
-
--- whether a station has synchronized at the end of its acts: the eighth null procedure of its last synchronization is answered
-abbrev pub has_begun_at_its_end : RehearsedStation → Bool
-has_begun_at_its_end x = has_begun (state_after x.plan x.commands x.scope x.acts).progress
+-- which ids of its last synchronization's word a station leaves unanswered at the end of its acts; none, if it has synchronized
+abbrev pub left_at_its_end : RehearsedStation → List ℕ
+left_at_its_end x = (state_after x.plan x.commands x.scope x.acts).progress.word
 
 -- fewer than six of these stations in a row end while they synchronize, counted with the `n` that ended so directly before the
--- first
+-- first. One during whose last synchronization no null procedure was answered leaves the count as it was (`killed_unless_begun`),
+-- also if it had synchronized before that
 abbrev pub FewEndUnbegun : ℕ → List RehearsedStation → Type 0
 FewEndUnbegun n [] = Unit {0}
-FewEndUnbegun n (x ∷ xs) = (unbegun_after n (has_begun_at_its_end x) ≤ 5) × FewEndUnbegun (unbegun_after n (has_begun_at_its_end x)) xs
+FewEndUnbegun n (x ∷ xs) = (killed_unless_begun (left_at_its_end x) n ≤ 5) × FewEndUnbegun (killed_unless_begun (left_at_its_end x) n) xs
 
 -- stations in a row are in the field, with nothing in flight before the first: with a list of runs for each, they are programs in
 -- a row (`AreInARow`), and each of them is faithful

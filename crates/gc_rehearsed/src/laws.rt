@@ -2,18 +2,20 @@
 
 ghost use Rattle.gc_rehearsed.specs.Rehearsals.{RehearsalsAreFaithful, RehearsalsInARowAreFaithful};
 
-/// Each run of a station over a rehearsed line is one in the field, and so faithful, if nothing was in flight before and the
-/// instrument kept no reply. Whatever the line loses, repeats, holds or closes, and whenever the instrument restarts, each
-/// recorded answer was made on executing the very request of that cycle and place. Nothing is assumed of the line, of the
-/// station's moments or of its plan; of its commands only that what each asks is allowed (`commands_are_askable`).
+/// For each run of a station over a rehearsed line there are runs in the field that show the station what it saw, and in which it
+/// is faithful, if nothing was in flight before and the instrument kept no reply. In these each recorded answer was made on
+/// executing the very request of that cycle and place. That they are what happened on the rehearsed line isn't said. Nothing is
+/// assumed of what the line loses, repeats, holds or closes, of when the instrument restarts, of the station's moments or of its
+/// plan; of its commands only that what each asks is allowed (`commands_are_askable`).
 pub fn rehearsals_are_faithful()
     ensures { RehearsalsAreFaithful }
 {}
 
-/// Stations that run one after the other over a rehearsed line are stations in a row in the field, where each may be killed at
-/// any moment, and a close loses what is in flight or keeps it. As long as fewer than six in a row end while they synchronize,
-/// each of them is faithful. The first one's line and instrument, and the commands of each, are as in
-/// [`rehearsals_are_faithful`]; and between two stations nothing is sent whole and nothing comes.
+/// For stations that run one after the other over a rehearsed line there are, in the same way, runs in a row in the field, each of
+/// which may be killed at any moment; a close loses what is in flight or keeps it. As long as fewer than six in a row end while
+/// they synchronize, each station is faithful in these. A station doesn't count if no null procedure of its last synchronization
+/// was answered. The first station's line and instrument, and the commands of each, are as in [`rehearsals_are_faithful`]; and
+/// between two stations nothing is sent whole and nothing comes.
 pub fn rehearsals_in_a_row_are_faithful()
     ensures { RehearsalsInARowAreFaithful }
 {}

@@ -39,7 +39,8 @@ pub fn simulators_calls_are_safe()
 
 /// Clients follow each other over one line, and each may end at any time. If the first finds nothing in flight, or what a
 /// client that had synchronized may leave, the ids 6 5 4 3 2 1 0 7 are never in flight in this order when the next one begins,
-/// as long as fewer than six in a row end while they synchronize.
+/// as long as fewer than six in a row end while they synchronize. A client doesn't count if none of its null procedures was
+/// answered.
 pub fn few_killed_may_begin<State>()
     ensures { FewKilledMayBegin State }
 {}
