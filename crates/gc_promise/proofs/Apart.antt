@@ -13,13 +13,13 @@ use Rattle.gc_catalogue.specs.declared.answer.Answer.TheVariants.{Nothing, Short
 use Rattle.gc_catalogue.specs.declared.asked.Asked.{Asked}
 use Rattle.gc_catalogue.specs.declared.asked.Asked.TheVariants.{Table, Raw}
 use Rattle.gc_catalogue.specs.declared.call.Call.{Call}
-use Rattle.gc_catalogue.specs.declared.call.Call.TheVariants.{GetFace, GetPrism}
+use Rattle.gc_catalogue.specs.declared.call.Call.TheVariants.{GetFace, GetPrism, GetPrecision, InstrumentNo}
 use Rattle.gc_texts.specs.Endings.{End, Answered, Unreadable, Elsewhere, Late, Lost, Skipped, Missed, word_of, line_of, quality_text}
 use Rattle.gc_texts.specs.Logs.{escaped}
 use Rattle.gc_texts.specs.declared.wish.Wish.{Wish}
 use Rattle.gc_texts.specs.declared.quality.Quality.{Quality}
 use Rattle.gc_texts.specs.declared.quality.Quality.TheVariants as quality
-use Rattle.gc_rows.specs.JsonLines.{Member, Text, Number, Texts, ending_members, item_members, answer_members, quantity_members, attempt_members, sent_members, values_members, command_members, without_zeros, quality_members}
+use Rattle.gc_rows.specs.JsonLines.{Member, Text, Number, Texts, ending_members, item_members, answer_members, quantity_members, attempt_members, sent_members, members_from, command_members, without_zeros, quality_members}
 use Rattle.gc_rows.specs.Items.{split_items}
 use Rattle.gc_rows.specs.Laws.{members_read, texts_read}
 use Rattle.gc_rows.specs.Quantities.{column_of, quantity_names}
@@ -78,18 +78,28 @@ early_or_quality = codes "quality" ∷ early_names
 -- no member for a quantity of this answer has one of the names of `early_or_quality`. `came` are the parameters of the reply, as
 -- its line has them
 abbrev IsApart : Call → Answer → List ℕ → Type 0
-IsApart call answer came = LacksAll (values_members (column_of call answer) (answer_fields answer).values came) early_or_quality
+IsApart call answer came = LacksAll (members_from (column_of call answer) (answer_fields answer).values came) early_or_quality
 
--- `IsApart` holds of an answer that is a whole number
+-- `IsApart` holds of an answer that is a short whole number
+short_apart : (call : Call) (n : ℤ) (came : List ℕ) → IsApart call (Short n) came
+short_apart GetFace n came = (refl, (refl, (refl, (refl, (refl, (refl, (refl, (refl, (refl, (refl, tt))))))))))
+short_apart GetPrism n came = (refl, (refl, (refl, (refl, (refl, (refl, (refl, (refl, (refl, (refl, tt))))))))))
+short_apart GetPrecision n came = (refl, (refl, (refl, (refl, (refl, (refl, (refl, (refl, (refl, (refl, tt))))))))))
+short_apart InstrumentNo n came = (refl, (refl, (refl, (refl, (refl, (refl, (refl, (refl, (refl, (refl, tt))))))))))
+short_apart call n came = (refl, (refl, (refl, (refl, (refl, (refl, (refl, (refl, (refl, (refl, tt))))))))))
+
+-- `IsApart` holds of an answer that is a long whole number
 long_apart : (call : Call) (n : ℤ) (came : List ℕ) → IsApart call (Long n) came
 long_apart GetFace n came = (refl, (refl, (refl, (refl, (refl, (refl, (refl, (refl, (refl, (refl, tt))))))))))
 long_apart GetPrism n came = (refl, (refl, (refl, (refl, (refl, (refl, (refl, (refl, (refl, (refl, tt))))))))))
+long_apart GetPrecision n came = (refl, (refl, (refl, (refl, (refl, (refl, (refl, (refl, (refl, (refl, tt))))))))))
+long_apart InstrumentNo n came = (refl, (refl, (refl, (refl, (refl, (refl, (refl, (refl, (refl, (refl, tt))))))))))
 long_apart call n came = (refl, (refl, (refl, (refl, (refl, (refl, (refl, (refl, (refl, (refl, tt))))))))))
 
 -- `IsApart` holds of each answer
 answer_apart : (call : Call) (answer : Answer) (came : List ℕ) → IsApart call answer came
 answer_apart call Nothing came = (refl, (refl, (refl, (refl, (refl, (refl, (refl, (refl, (refl, (refl, tt))))))))))
-answer_apart call (Short n) came = (refl, (refl, (refl, (refl, (refl, (refl, (refl, (refl, (refl, (refl, tt))))))))))
+answer_apart call (Short n) came = short_apart call n came
 answer_apart call (Version release version subversion) came = (refl, (refl, (refl, (refl, (refl, (refl, (refl, (refl, (refl, (refl, tt))))))))))
 answer_apart call (Long n) came = long_apart call n came
 answer_apart call (Name name) came = (refl, (refl, (refl, (refl, (refl, (refl, (refl, (refl, (refl, (refl, tt))))))))))

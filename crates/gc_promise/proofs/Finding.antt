@@ -24,18 +24,18 @@ use Rattle.gc_catalogue.specs.declared.answer.Reading.TheVariants.{Value as Answ
 use Rattle.gc_catalogue.specs.declared.asked.Asked.{Asked}
 use Rattle.gc_catalogue.specs.declared.asked.Asked.TheVariants.{Table, Raw}
 use Rattle.gc_catalogue.specs.declared.call.Call.{Call}
-use Rattle.gc_catalogue.specs.declared.call.Call.TheVariants.{GetFace, GetPrism}
+use Rattle.gc_catalogue.specs.declared.call.Call.TheVariants.{GetFace, GetPrism, GetPrecision, InstrumentNo}
 use Rattle.gc_texts.specs.Endings.{End, Answered, word_of, line_of, quality_of, quality_text}
 use Rattle.gc_texts.specs.Logs.{escaped}
 use Rattle.gc_texts.specs.Stamps.{stamp_text}
 use Rattle.gc_texts.specs.declared.wish.Wish.{Wish}
 use Rattle.gc_texts.specs.declared.quality.Quality.{Quality}
-use Rattle.gc_rows.specs.JsonLines.{Member, Text, ending_members, item_members, members_after_run, last_members, members_after_ending, quantity_members, attempt_members, values_members, command_members, when_members, without_zeros, quality_members}
+use Rattle.gc_rows.specs.JsonLines.{Member, Text, ending_members, item_members, members_after_run, last_members, members_after_ending, quantity_members, attempt_members, values_members, members_from, command_members, when_members, without_zeros, quality_members}
 use Rattle.gc_rows.specs.Items.{split_items}
 use Rattle.gc_rows.specs.Laws.{record_read}
 use Rattle.gc_rows.specs.Quantities.{column_of, quantity_names, quantity_text}
 use Rattle.gc_rows.specs.Rows.{code_of, com_of, moment_text, procedure_of, value_texts, values_of}
-use Rattle.gc_rows.specs.ProcedureQuantities.{names_from}
+use Rattle.gc_rows.specs.ProcedureQuantities.{names_if}
 use Rattle.gc_rows.specs.declared.when.When.{When}
 use Rattle.gc_rows.proofs.ProcedureQuantities.{quantities_under_their_names}
 use Rattle.gc_promise.specs.Fields.{IsQuantity, quantity_in, under}
@@ -104,13 +104,30 @@ under_plain name (n ∷ names) (t ∷ texts) are =
 -- parameters of the reply, as its line has them
 abbrev IsUnderPlain : Call → Answer → (came name : List ℕ) → Type 0
 IsUnderPlain call answer came name =
-    text_of (find name (values_members (column_of call answer) (answer_fields answer).values came)) ≡ under name (names_from (column_of call answer) (answer_fields answer).values) (value_texts answer)
+    text_of (find name (members_from (column_of call answer) (answer_fields answer).values came)) ≡ under name (names_if (column_of call answer) (answer_fields answer).values) (value_texts answer)
 
--- `IsUnderPlain` holds of a whole number, under each name of a quantity
+-- `IsUnderPlain` holds of a short whole number, under each name of a quantity
+short_under : (call : Call) (n : ℤ) (came : List ℕ) → AllByRecursion (IsUnderPlain call (Short n) came) quantity_names
+short_under GetFace n came =
+    (refl, (refl, (refl, (refl, (refl, (refl, (refl, (refl, (refl, (refl, (refl, (refl, (refl, (refl, (refl, (refl, (refl, (refl, (refl, (refl, (refl, (refl, (refl, (refl, tt))))))))))))))))))))))))
+short_under GetPrism n came =
+    (refl, (refl, (refl, (refl, (refl, (refl, (refl, (refl, (refl, (refl, (refl, (refl, (refl, (refl, (refl, (refl, (refl, (refl, (refl, (refl, (refl, (refl, (refl, (refl, tt))))))))))))))))))))))))
+short_under GetPrecision n came =
+    (refl, (refl, (refl, (refl, (refl, (refl, (refl, (refl, (refl, (refl, (refl, (refl, (refl, (refl, (refl, (refl, (refl, (refl, (refl, (refl, (refl, (refl, (refl, (refl, tt))))))))))))))))))))))))
+short_under InstrumentNo n came =
+    (refl, (refl, (refl, (refl, (refl, (refl, (refl, (refl, (refl, (refl, (refl, (refl, (refl, (refl, (refl, (refl, (refl, (refl, (refl, (refl, (refl, (refl, (refl, (refl, tt))))))))))))))))))))))))
+short_under call n came =
+    (refl, (refl, (refl, (refl, (refl, (refl, (refl, (refl, (refl, (refl, (refl, (refl, (refl, (refl, (refl, (refl, (refl, (refl, (refl, (refl, (refl, (refl, (refl, (refl, tt))))))))))))))))))))))))
+
+-- `IsUnderPlain` holds of a long whole number, under each name of a quantity
 long_under : (call : Call) (n : ℤ) (came : List ℕ) → AllByRecursion (IsUnderPlain call (Long n) came) quantity_names
 long_under GetFace n came =
     (refl, (refl, (refl, (refl, (refl, (refl, (refl, (refl, (refl, (refl, (refl, (refl, (refl, (refl, (refl, (refl, (refl, (refl, (refl, (refl, (refl, (refl, (refl, (refl, tt))))))))))))))))))))))))
 long_under GetPrism n came =
+    (refl, (refl, (refl, (refl, (refl, (refl, (refl, (refl, (refl, (refl, (refl, (refl, (refl, (refl, (refl, (refl, (refl, (refl, (refl, (refl, (refl, (refl, (refl, (refl, tt))))))))))))))))))))))))
+long_under GetPrecision n came =
+    (refl, (refl, (refl, (refl, (refl, (refl, (refl, (refl, (refl, (refl, (refl, (refl, (refl, (refl, (refl, (refl, (refl, (refl, (refl, (refl, (refl, (refl, (refl, (refl, tt))))))))))))))))))))))))
+long_under InstrumentNo n came =
     (refl, (refl, (refl, (refl, (refl, (refl, (refl, (refl, (refl, (refl, (refl, (refl, (refl, (refl, (refl, (refl, (refl, (refl, (refl, (refl, (refl, (refl, (refl, (refl, tt))))))))))))))))))))))))
 long_under call n came =
     (refl, (refl, (refl, (refl, (refl, (refl, (refl, (refl, (refl, (refl, (refl, (refl, (refl, (refl, (refl, (refl, (refl, (refl, (refl, (refl, (refl, (refl, (refl, (refl, tt))))))))))))))))))))))))
@@ -121,8 +138,7 @@ answer_under call Nothing came other =
     (refl, (refl, (refl, (refl, (refl, (refl, (refl, (refl, (refl, (refl, (refl, (refl, (refl, (refl, (refl, (refl, (refl, (refl, (refl, (refl, (refl, (refl, (refl, (refl, tt))))))))))))))))))))))))
 answer_under call (Long n) came other = long_under call n came
 answer_under call (Name name) came other = absurd (other name refl)
-answer_under call (Short n) came other =
-    (refl, (refl, (refl, (refl, (refl, (refl, (refl, (refl, (refl, (refl, (refl, (refl, (refl, (refl, (refl, (refl, (refl, (refl, (refl, (refl, (refl, (refl, (refl, (refl, tt))))))))))))))))))))))))
+answer_under call (Short n) came other = short_under call n came
 answer_under call (Version release version subversion) came other =
     (refl, (refl, (refl, (refl, (refl, (refl, (refl, (refl, (refl, (refl, (refl, (refl, (refl, (refl, (refl, (refl, (refl, (refl, (refl, (refl, (refl, (refl, (refl, (refl, tt))))))))))))))))))))))))
 answer_under call (Date d) came other =
@@ -168,14 +184,14 @@ module _ (call : Call) (name : List ℕ) (is : IsQuantity name) where
   -- the reply, as its line has them
   abbrev IsUnderEscaped : Answer → List ℕ → Type 0
   IsUnderEscaped answer came =
-      text_of (find name (values_members (column_of call answer) (answer_fields answer).values came))
-      ≡ escaped (under name (names_from (column_of call answer) (answer_fields answer).values) (value_texts answer))
+      text_of (find name (members_from (column_of call answer) (answer_fields answer).values came))
+      ≡ escaped (under name (names_if (column_of call answer) (answer_fields answer).values) (value_texts answer))
 
   -- `IsUnderEscaped` holds of each answer that isn't an instrument's name
   escaped_unless_name : (answer : Answer) (came : List ℕ) → ((bytes : List ℕ) → answer ≡ Name bytes → ⊥) → IsUnderEscaped answer came
   escaped_unless_name answer came other =
       of_quantity (IsUnderPlain call answer came) (answer_under call answer came other) name is
-      ∙ under_plain name (names_from (column_of call answer) (answer_fields answer).values) (value_texts answer) (texts_plain answer other)
+      ∙ under_plain name (names_if (column_of call answer) (answer_fields answer).values) (value_texts answer) (texts_plain answer other)
 
   -- `IsUnderEscaped` holds of each answer
   each_escaped : (answer : Answer) (came : List ℕ) → IsUnderEscaped answer came

@@ -14,18 +14,20 @@ use Rattle.gc_catalogue.specs.declared.asked.Asked.TheVariants.{Table, Raw}
 use Rattle.gc_catalogue.specs.Asked.{IsAskedReading}
 use Rattle.gc_lines.specs.Replies.{ReplyFields}
 use Rattle.gc_catalogue.specs.declared.call.Call.{Call}
-use Rattle.gc_catalogue.specs.declared.call.Call.TheVariants.{GetFace, GetPrism}
+use Rattle.gc_catalogue.specs.declared.call.Call.TheVariants.{GetFace, GetPrism, GetPrecision, InstrumentNo}
 use Rattle.gc_values.specs.ValueFault.{value_fault_number}
+use Rattle.gc_values.specs.declared.value.Value.{Value as Parameter}
+use Rattle.gc_values.specs.declared.value.Value.TheVariants as value
 use Rattle.gc_texts.specs.Endings.{End, Answered, Unreadable, Elsewhere, Late, Lost, Skipped, Missed, word_of, fault_of, line_of, quality_of, quality_text}
 use Rattle.gc_texts.specs.Logs.{escaped}
 use Rattle.gc_texts.specs.Stamps.{stamp_text}
 use Rattle.gc_texts.specs.declared.wish.Wish.{Wish}
 use Rattle.gc_texts.specs.declared.quality.Quality.{Quality}
 use Rattle.gc_texts.specs.declared.quality.Quality.TheVariants as quality
-use Rattle.gc_rows.specs.Quantities.{column_of, quantity_names}
+use Rattle.gc_rows.specs.Quantities.{column_of, column_of_whole, quantity_names, quantity_text}
 use Rattle.gc_rows.specs.Records.{header, last_names}
-use Rattle.gc_rows.specs.Rows.{row_fields, moment_text, when_fields, command_fields, fault_field, reply_fields, fields_after_ending, quantity_fields, last_fields, com_of, code_of, values_of, spread, value_texts, answer_columns, procedure_of}
-use Rattle.gc_rows.specs.ProcedureQuantities.{names_from}
+use Rattle.gc_rows.specs.Rows.{row_fields, moment_text, when_fields, command_fields, fault_field, reply_fields, fields_after_ending, quantity_fields, last_fields, com_of, code_of, values_of, columns_from, value_texts, answer_columns, procedure_of}
+use Rattle.gc_rows.specs.ProcedureQuantities.{names_if}
 use Rattle.gc_rows.specs.declared.when.When.{When}
 use Rattle.gc_rows.proofs.ProcedureQuantities.{quantities_under_their_names, quantities_fill}
 use Rattle.gc_station.proofs.Lists.{all_at}
@@ -232,27 +234,33 @@ module _ (when : When) (text : List ℕ) (command : Wish) where
 -- that has this name among the answer's quantities; it is empty if none has
 abbrev IsUnderItsName : Call → Answer → (name : List ℕ) → Type 0
 IsUnderItsName call answer name =
-    under name quantity_names (map escaped (spread (column_of call answer) (value_texts answer)))
-    ≡ escaped (under name (names_from (column_of call answer) (answer_fields answer).values) (value_texts answer))
+    under name quantity_names (map escaped (columns_from (column_of call answer) (value_texts answer)))
+    ≡ escaped (under name (names_if (column_of call answer) (answer_fields answer).values) (value_texts answer))
 
--- `IsUnderItsName` holds of a whole number that answers this call, with each name of a quantity
-long_under_its_name : (call : Call) (n : ℤ) → AllByRecursion (IsUnderItsName call (Long n)) quantity_names
-long_under_its_name GetFace n =
+-- the texts of a whole number that answers this call are put into the columns as `IsUnderItsName` has it, with each name of a
+-- quantity
+whole_under_its_name : (call : Call) (v : Parameter) → AllByRecursion (λ (name : List ℕ).
+    under name quantity_names (map escaped (columns_from (column_of_whole call) (quantity_text v ∷ [])))
+    ≡ escaped (under name (names_if (column_of_whole call) (v ∷ [])) (quantity_text v ∷ []))) quantity_names
+whole_under_its_name GetFace v =
     (refl, (refl, (refl, (refl, (refl, (refl, (refl, (refl, (refl, (refl, (refl, (refl, (refl, (refl, (refl, (refl, (refl, (refl, (refl, (refl, (refl, (refl, (refl, (refl, tt))))))))))))))))))))))))
-long_under_its_name GetPrism n =
+whole_under_its_name GetPrism v =
     (refl, (refl, (refl, (refl, (refl, (refl, (refl, (refl, (refl, (refl, (refl, (refl, (refl, (refl, (refl, (refl, (refl, (refl, (refl, (refl, (refl, (refl, (refl, (refl, tt))))))))))))))))))))))))
-long_under_its_name call n =
+whole_under_its_name GetPrecision v =
+    (refl, (refl, (refl, (refl, (refl, (refl, (refl, (refl, (refl, (refl, (refl, (refl, (refl, (refl, (refl, (refl, (refl, (refl, (refl, (refl, (refl, (refl, (refl, (refl, tt))))))))))))))))))))))))
+whole_under_its_name InstrumentNo v =
+    (refl, (refl, (refl, (refl, (refl, (refl, (refl, (refl, (refl, (refl, (refl, (refl, (refl, (refl, (refl, (refl, (refl, (refl, (refl, (refl, (refl, (refl, (refl, (refl, tt))))))))))))))))))))))))
+whole_under_its_name call v =
     (refl, (refl, (refl, (refl, (refl, (refl, (refl, (refl, (refl, (refl, (refl, (refl, (refl, (refl, (refl, (refl, (refl, (refl, (refl, (refl, (refl, (refl, (refl, (refl, tt))))))))))))))))))))))))
 
 -- `IsUnderItsName` holds of each answer to each call, with each name of a quantity
 answer_under_its_names : (call : Call) (answer : Answer) → AllByRecursion (IsUnderItsName call answer) quantity_names
 answer_under_its_names call Nothing =
     (refl, (refl, (refl, (refl, (refl, (refl, (refl, (refl, (refl, (refl, (refl, (refl, (refl, (refl, (refl, (refl, (refl, (refl, (refl, (refl, (refl, (refl, (refl, (refl, tt))))))))))))))))))))))))
-answer_under_its_names call (Short n) =
-    (refl, (refl, (refl, (refl, (refl, (refl, (refl, (refl, (refl, (refl, (refl, (refl, (refl, (refl, (refl, (refl, (refl, (refl, (refl, (refl, (refl, (refl, (refl, (refl, tt))))))))))))))))))))))))
+answer_under_its_names call (Short n) = whole_under_its_name call (value.Short n)
 answer_under_its_names call (Version release version subversion) =
     (refl, (refl, (refl, (refl, (refl, (refl, (refl, (refl, (refl, (refl, (refl, (refl, (refl, (refl, (refl, (refl, (refl, (refl, (refl, (refl, (refl, (refl, (refl, (refl, tt))))))))))))))))))))))))
-answer_under_its_names call (Long n) = long_under_its_name call n
+answer_under_its_names call (Long n) = whole_under_its_name call (value.Long n)
 answer_under_its_names call (Name name) =
     (refl, (refl, (refl, (refl, (refl, (refl, (refl, (refl, (refl, (refl, (refl, (refl, (refl, (refl, (refl, (refl, (refl, (refl, (refl, (refl, (refl, (refl, (refl, (refl, tt))))))))))))))))))))))))
 answer_under_its_names call (Date d) =

@@ -15,7 +15,7 @@ use Rattle.gc_texts.specs.Endings.{End, Answered, Unreadable, Elsewhere, Late, L
 use Rattle.gc_texts.specs.Logs.{escape, escaped, hex_digit, is_unescaped}
 use Rattle.gc_texts.specs.Stamps.{stamp_text}
 use Rattle.gc_texts.specs.declared.wish.Wish.{Wish}
-use Rattle.gc_rows.specs.JsonLines.{Member, Text, Number, Texts, behind_backslash, comma_where, ending_members, item_members, members_after_run, last_members, list_text, member_text, members_text, members_after_ending, answer_members, attempt_members, quantity_members, reply_members, sent_members, string_text, strings_text, value_members, values_members, command_members, when_members, without_zeros, quality_members}
+use Rattle.gc_rows.specs.JsonLines.{Member, Text, Number, Texts, behind_backslash, comma_where, ending_members, item_members, members_after_run, last_members, list_text, member_text, members_text, members_after_ending, answer_members, attempt_members, quantity_members, reply_members, sent_members, string_text, strings_text, value_members, values_members, members_from, command_members, when_members, without_zeros, quality_members}
 use Rattle.gc_rows.specs.Items.{split_items}
 use Rattle.gc_rows.specs.Laws.{ArePlainMembers, IsEndOfBytes, IsPlainName, IsReplyOfBytes}
 use Rattle.gc_rows.specs.Quantities.{column_of, quantity_name, quantity_text}
@@ -173,6 +173,11 @@ values_plain column (v ∷ vs) came =
     all_append HasPlainDigits (value_members (quantity_name column) v (before 44 came)) (values_members (column + 1) vs (behind 44 came)) (value_plain (quantity_name column) v (before 44 came))
     (values_plain (column + 1) vs (behind 44 came))
 
+-- the members for values, from a column on if there is one, have plain digits
+from_plain : (column : Option ℕ) (vs : List Value) (came : List ℕ) → AllByRecursion HasPlainDigits (members_from column vs came)
+from_plain (Some first) vs came = values_plain first vs came
+from_plain None vs came = tt
+
 -- the member for a reply's items has no digits
 items_plain : (items : Option (List (List ℕ))) → AllByRecursion HasPlainDigits (item_members items)
 items_plain None = tt
@@ -180,7 +185,7 @@ items_plain (Some texts) = (tt, tt)
 
 -- the members for an answer's quantities or items have plain digits
 columns_plain : (asked : Asked) (answer : Answer) (line : List ℕ) → AllByRecursion HasPlainDigits (answer_members asked answer line)
-columns_plain (Table call) answer line = values_plain (column_of call answer) (answer_fields answer).values (values_of line)
+columns_plain (Table call) answer line = from_plain (column_of call answer) (answer_fields answer).values (values_of line)
 columns_plain (Raw raw) answer line = items_plain (split_items (values_of line))
 
 -- the members for quantities or items have plain digits

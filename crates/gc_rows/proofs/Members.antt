@@ -32,7 +32,7 @@ use Rattle.gc_values.specs.declared.value.Value.TheVariants as value
 use Rattle.gc_values.proofs.OneText.{whole_text_once, decimal_text_once}
 use Rattle.gc_texts.specs.Logs.{AreBytes}
 use Rattle.gc_texts.specs.Endings.{End, Answered, Unreadable, Elsewhere, Late, Lost, Skipped, Missed, quality_of, quality_text}
-use Rattle.gc_rows.specs.JsonLines.{Text, Number, without_zeros, sent_members, when_members, name_members, command_members, reply_members, ending_members, value_members, values_members, item_members, answer_members, quantity_members, quality_members, attempt_members, last_members}
+use Rattle.gc_rows.specs.JsonLines.{Text, Number, without_zeros, sent_members, when_members, name_members, command_members, reply_members, ending_members, value_members, values_members, members_from, item_members, answer_members, quantity_members, quality_members, attempt_members, last_members}
 use Rattle.gc_rows.specs.Laws.{IsPlainName, IsPlainMember, ArePlainMembers, IsReplyOfBytes, IsAnswerOfBytes, IsEndOfBytes, FitsIn64Bits, ColumnsGiveReply, RecordsHavePlainMembers}
 use Rattle.gc_rows.specs.Quantities.{column_of, quantity_name, quantity_names}
 use Rattle.gc_texts.specs.declared.quality.Quality.TheVariants.{Fine, Warning, Refused}
@@ -300,6 +300,11 @@ values_members_plain column (v ∷ vs) came hold bytes =
     (value_members_plain (quantity_name column) v (before 44 came) (quantity_name_plain column) hold.0 (before_bytes 44 came bytes))
     (values_members_plain (column + 1) vs (behind 44 came) hold.1 (behind_bytes 44 came bytes))
 
+-- the members of values from a column on, if there is one, are plain, if the values hold bytes, and what came is of bytes
+members_from_plain : (column : Option ℕ) (vs : List Value) (came : List ℕ) → AllByRecursion HoldsBytes vs → IsOfBytes came → ArePlainMembers (members_from column vs came)
+members_from_plain (Some first) vs came hold bytes = values_members_plain first vs came hold bytes
+members_from_plain None vs came hold bytes = tt
+
 -- the values of an answer of bytes hold bytes
 answer_holds_bytes : (answer : Answer) → IsAnswerOfBytes answer → AllByRecursion HoldsBytes (answer_fields answer).values
 answer_holds_bytes Nothing is = tt
@@ -333,7 +338,7 @@ item_members_plain text are = plain_if (quotes text % 2 == 0) (items_of text) (i
 answer_members_plain : (asked : Asked) (answer : Answer) (line : List ℕ) → IsReplyOfBytes line → IsAnswerOfBytes answer
     → ArePlainMembers (answer_members asked answer line)
 answer_members_plain (Table call) answer line is fits =
-    values_members_plain (column_of call answer) (answer_fields answer).values (values_of line) (answer_holds_bytes answer fits) (values_bytes line is.2)
+    members_from_plain (column_of call answer) (answer_fields answer).values (values_of line) (answer_holds_bytes answer fits) (values_bytes line is.2)
 answer_members_plain (Raw raw) answer line is fits = item_members_plain (values_of line) (values_bytes line is.2)
 
 -- the members of a command's quantities or items are plain, if its line and answer are of bytes (`IsEndOfBytes`)

@@ -1,8 +1,7 @@
 -- The values of an answer are under their names, and a row has as many fields as its header. Quantities are the values of
 -- answers; a row has 24 columns for them, of which an answer fills those from its own column on.
-use Rattle.std.proofs.Common.{◌≡◌, ◌≤◌, ℕ, suc, ◌+◌, ◌-◌, true, false, List, [], ◌++◌, length, map, replicate, Some, refl, ap, arith, ◌∙◌}
-use Rattle.std.proofs.lemmas.List.{length-append, length-map, length-replicate}
-use Rattle.gc_catalogue.specs.Answers.{answer_fields}
+use Rattle.std.proofs.Common.{◌≡◌, ◌≤◌, ℕ, suc, ◌+◌, ◌-◌, true, false, List, [], ◌++◌, length, replicate, Option, Some, None, IfSome, refl, ap, arith, ◌∙◌}
+use Rattle.std.proofs.lemmas.List.{length-append, length-replicate}
 use Rattle.gc_catalogue.specs.declared.answer.Answer.{Answer}
 use Rattle.gc_catalogue.specs.declared.answer.Answer.TheVariants.{Nothing, Short, Version, Long, Name, Date, Temperature, Place, Height, Angles, Measured, MeasuredMode}
 use Rattle.gc_catalogue.specs.declared.asked.Asked.{Asked}
@@ -10,9 +9,9 @@ use Rattle.gc_catalogue.specs.declared.asked.Asked.TheVariants.{Table, Raw}
 use Rattle.gc_catalogue.specs.declared.call.Call.{Call}
 use Rattle.gc_catalogue.specs.declared.call.Call.TheVariants.{NullProc, SetPrecision, GetPrecision, ComVersion, InstrumentNo, InstrumentName, SetDate, GetDate, IntTemp, CsvVersion, DoMeasure, GetStation, SetStation, GetHeight, SetHeight, GetFace, GetAngle, SimpleMea, QuickDist, SetPrism, GetPrism, MeasDistance, Position, ChangeFace, FineAdjust}
 use Rattle.gc_texts.specs.Endings.{End, Answered}
-use Rattle.gc_rows.specs.Quantities.{column_of, column_of_long, quantity_text}
-use Rattle.gc_rows.specs.Rows.{spread, answer_columns, quantity_fields, last_fields}
-use Rattle.gc_rows.specs.ProcedureQuantities.{QuantitiesHaveTheirNames, RowsFillTheirColumns}
+use Rattle.gc_rows.specs.Quantities.{column_of, column_of_whole}
+use Rattle.gc_rows.specs.Rows.{spread, columns_from, value_texts, answer_columns, quantity_fields, last_fields}
+use Rattle.gc_rows.specs.ProcedureQuantities.{QuantitiesHaveTheirNames, WholesHaveTheirNames, RowsFillTheirColumns}
 use Rattle.gc_rows.specs.declared.when.When.{When}
 
 -- the law: the values of an answer are under the names of the quantities that its procedure returns
@@ -44,18 +43,28 @@ quantities_under_their_names (ChangeFace pos_mode atr_mode dummy) Nothing is = r
 quantities_under_their_names (FineAdjust area_hz area_v dummy) Nothing is = refl
 quantities_under_their_names call answer is = cc
 
--- the column of a lone whole number is one of the 24
-long_fits : (call : Call) → column_of_long call + 1 ≤ 24
-long_fits GetFace = omega arith
-long_fits GetPrism = omega arith
-long_fits call = omega arith
+-- the law: an answer that is one whole number has a column only if its name is the one that the call's procedure returns
+pub wholes_under_their_names : WholesHaveTheirNames
+wholes_under_their_names GetFace = refl
+wholes_under_their_names GetPrism = refl
+wholes_under_their_names GetPrecision = refl
+wholes_under_their_names InstrumentNo = refl
+wholes_under_their_names call = tt
 
--- the values of an answer, from its column on, fit the 24 columns
-answer_fits : (call : Call) (answer : Answer) → column_of call answer + length (answer_fields answer).values ≤ 24
-answer_fits call Nothing = omega arith
-answer_fits call (Short n) = omega arith
+-- the column of an answer that is one whole number, if it has one, is one of the 24
+whole_fits : (call : Call) → IfSome (column_of_whole call) (λ column. column + 1 ≤ 24)
+whole_fits GetFace = omega arith
+whole_fits GetPrism = omega arith
+whole_fits GetPrecision = omega arith
+whole_fits InstrumentNo = omega arith
+whole_fits call = tt
+
+-- the texts of an answer's values, from its column on, fit the 24 columns
+answer_fits : (call : Call) (answer : Answer) → IfSome (column_of call answer) (λ first. first + length (value_texts answer) ≤ 24)
+answer_fits call Nothing = tt
+answer_fits call (Short n) = whole_fits call
 answer_fits call (Version release version subversion) = omega arith
-answer_fits call (Long n) = long_fits call
+answer_fits call (Long n) = whole_fits call
 answer_fits call (Name name) = omega arith
 answer_fits call (Date d) = omega arith
 answer_fits call (Temperature t) = omega arith
@@ -75,13 +84,14 @@ spread_fills first texts fits =
     let d = length-replicate (24 - first - length texts) none in
     omega (arith, a, b, c, d, fits)
 
+-- texts that fit the 24 columns from a column on, if there is one, fill them together with the empty fields
+from_fills : (column : Option ℕ) (texts : List (List ℕ)) → IfSome column (λ first. first + length texts ≤ 24) → length (columns_from column texts) ≡ 24
+from_fills (Some first) texts fits = spread_fills first texts fits
+from_fills None texts fits = refl
+
 -- an answer's quantities have 24 fields
 columns_filled : (asked : Asked) (answer : Answer) → length (answer_columns asked answer) ≡ 24
-columns_filled (Table call) answer =
-    let texts = map quantity_text (answer_fields answer).values in
-    let few = answer_fits call answer in
-    let same = length-map (answer_fields answer).values quantity_text in
-    spread_fills (column_of call answer) texts (omega (arith, few, same))
+columns_filled (Table call) answer = from_fills (column_of call answer) (value_texts answer) (answer_fits call answer)
 columns_filled (Raw raw) answer = refl
 
 -- however a command ended, its quantities have 24 fields

@@ -1,6 +1,6 @@
 -- Rows: the fields of one, and what a reader of comma-separated values makes of it. The writer and the reader of
 -- comma-separated values are the library's.
-use Rattle.std.proofs.Common.{◌≡◌, ◌==◌, ◌<◌, ◌++◌, ◌∷◌, ◌∙◌, [], ℕ, zero, suc, ◌-◌, List, Bool, Some, true, false, inl, inr, refl, sym, ap, arith, append_assoc, length, map, replicate}
+use Rattle.std.proofs.Common.{◌≡◌, ◌==◌, ◌<◌, ◌++◌, ◌∷◌, ◌∙◌, [], ℕ, zero, suc, ◌-◌, List, Bool, true, false, inl, inr, refl, sym, ap, arith, append_assoc, length, map, replicate}
 use Rattle.std.specs.Prelude.{◌||◌}
 use Rattle.std.specs.List.{All, AllByRecursion, flat_map, list_any}
 use Rattle.std.proofs.lemmas.Grind.{flat_map-append}

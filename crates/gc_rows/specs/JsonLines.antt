@@ -146,6 +146,11 @@ values_members column [] came = []
 values_members column (v ∷ vs) came =
     value_members (quantity_name column) v (before 44 came) ++ values_members (column + 1) vs (behind 44 came)
 
+-- the members of values from this column on (`values_members`); none if there is no column
+abbrev pub members_from : Option ℕ → List Value → (came : List ℕ) → List Member
+members_from (Some first) values came = values_members first values came
+members_from None values came = []
+
 -- the member of the items into which a reply's values split; none if they don't split
 abbrev pub item_members : Option (List (List ℕ)) → List Member
 item_members None = []
@@ -154,7 +159,7 @@ item_members (Some items) = Texts (codes "items") items ∷ []
 -- the members of an answer to `asked`, which came in this line: of a call of the table they are the answer's quantities, and of any
 -- other procedure the items of the line's values
 abbrev pub answer_members : Asked → Answer → List ℕ → List Member
-answer_members (Table call) answer line = values_members (column_of call answer) (answer_fields answer).values (values_of line)
+answer_members (Table call) answer line = members_from (column_of call answer) (answer_fields answer).values (values_of line)
 answer_members (Raw raw) answer line = item_members (split_items (values_of line))
 
 -- the members of the answer that an ending has: its quantities or its items; none if the ending isn't `Answered`, or has no

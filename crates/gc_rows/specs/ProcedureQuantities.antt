@@ -1,13 +1,13 @@
 -- Which quantities a procedure returns, and how many fields a row has. A procedure's number and what it returns are those of the manual's
 -- procedure tables; the names are this project's own.
-use Rattle.std.specs.Prelude.{◌≡◌, ℕ, ◌+◌, ◌==◌, ◌||◌, Bool, List, [], ◌∷◌, ◌++◌, length, if◌then◌else◌, codes}
+use Rattle.std.specs.Prelude.{◌≡◌, ℕ, ◌+◌, ◌==◌, ◌||◌, Bool, List, [], ◌∷◌, ◌++◌, length, Option, Some, None, IfSome, if◌then◌else◌, codes}
 use Rattle.gc_catalogue.specs.Answers.{answer_fields, IsAnswerOf}
 use Rattle.gc_catalogue.specs.Calls.{call_fields}
 use Rattle.gc_catalogue.specs.declared.answer.Answer.{Answer}
 use Rattle.gc_catalogue.specs.declared.call.Call.{Call}
 use Rattle.gc_values.specs.declared.value.Value.{Value}
 use Rattle.gc_texts.specs.Endings.{End}
-use Rattle.gc_rows.specs.Quantities.{column_of, quantity_name}
+use Rattle.gc_rows.specs.Quantities.{column_of, column_of_whole, quantity_name}
 use Rattle.gc_rows.specs.Records.{header}
 use Rattle.gc_rows.specs.Rows.{row_fields}
 use Rattle.gc_texts.specs.declared.wish.Wish.{Wish}
@@ -58,11 +58,23 @@ abbrev pub names_from : (column : ℕ) → List Value → List (List ℕ)
 names_from column [] = []
 names_from column (v ∷ vs) = quantity_name column ∷ names_from (column + 1) vs
 
--- the values of an answer are under the names of the quantities that its procedure returns, in that order
+-- the names of as many columns as there are values, from this column on (`names_from`); none if there is no column
+abbrev pub names_if : Option ℕ → List Value → List (List ℕ)
+names_if (Some first) values = names_from first values
+names_if None values = []
+
+-- the values of an answer are under the names of the quantities that its procedure returns, in that order; under none, if it
+-- returns no quantity
 abbrev pub QuantitiesHaveTheirNames : Type 0
 QuantitiesHaveTheirNames =
     (call : Call) (answer : Answer) → IsAnswerOf call answer
-    → names_from (column_of call answer) (answer_fields answer).values ≡ quantities_returned (call_fields call).number
+    → names_if (column_of call answer) (answer_fields answer).values ≡ quantities_returned (call_fields call).number
+
+-- an answer that is one whole number has a column only if the column's name is the one quantity that the call's procedure returns.
+-- So the number has none, if the procedure isn't listed
+abbrev pub WholesHaveTheirNames : Type 0
+WholesHaveTheirNames =
+    (call : Call) → IfSome (column_of_whole call) (λ column. quantities_returned (call_fields call).number ≡ quantity_name column ∷ [])
 
 -- however a command ended, its row has a field for each name of the header, and no other
 abbrev pub RowsFillTheirColumns : Type 0

@@ -111,9 +111,15 @@ spread first texts = replicate first [] ++ (texts ++ replicate (24 - first - len
 abbrev pub value_texts : Answer → List (List ℕ)
 value_texts answer = map quantity_text (answer_fields answer).values
 
--- the quantities of an answer to `asked`, each in its column; all columns are empty if the procedure isn't in the table
+-- the texts in 24 columns from this column on (`spread`); all columns are empty if there is none
+abbrev pub columns_from : Option ℕ → (texts : List (List ℕ)) → List (List ℕ)
+columns_from (Some first) texts = spread first texts
+columns_from None texts = replicate 24 []
+
+-- the quantities of an answer to `asked`, each in its column; all columns are empty if the answer has no quantity, or the procedure
+-- isn't in the table
 abbrev pub answer_columns : Asked → Answer → List (List ℕ)
-answer_columns (Table call) answer = spread (column_of call answer) (value_texts answer)
+answer_columns (Table call) answer = columns_from (column_of call answer) (value_texts answer)
 answer_columns (Raw raw) answer = replicate 24 []
 
 -- the quantities of the answer that an ending has, each in its column; all columns are empty if the ending isn't `Answered`, or

@@ -4,12 +4,14 @@
 ghost use Rattle.std.specs.Prelude.{◌≡◌, ℕ, ◌+◌, ◌*◌, ◌≤◌, ◌<◌, ◌++◌, codes, false, length, option_map, Some};
 ghost use Rattle.std.specs.List.{flat_map};
 ghost use Rattle.arrayvec.specs.ArrayVec.{array_vec_len};
+ghost use Rattle.gc_catalogue.specs.Answers.{answer_fields};
 ghost use Rattle.gc_rows.specs.Items.{split_items};
 ghost use Rattle.gc_values.specs.Params.{total_length};
 ghost use Rattle.gc_texts.specs.Endings.{ending_seen};
 ghost use Rattle.gc_texts.specs.Logs.{escaped};
 ghost use Rattle.gc_rows.specs.declared.json_line.TheConstants.{NAME_ROOM, TEXT_ROOM, NUMBER_ROOM, SENT_ROOM, WHEN_ROOM, COMMAND_ROOM, REPLY_ROOM, ENDING_ROOM, OWN_ROOM, VALUE_ROOM, STRINGS_ROOM, LIST_ROOM, ANSWER_ROOM, LAST_ROOM, AFTER_ENDING_ROOM};
-ghost use Rattle.gc_rows.specs.JsonLines.{behind_backslash, member_front, string_text, text_member, number_member, comma_where, strings_text, texts_member, item_members, members_text, without_zeros, sent_members, when_members, text_if_any, command_members, fault_members, reply_members, ending_members, value_members, values_members, answer_members, quantity_members, attempt_members, last_members, members_after_ending};
+ghost use Rattle.gc_rows.specs.JsonLines.{behind_backslash, member_front, string_text, text_member, number_member, comma_where, strings_text, texts_member, item_members, members_text, without_zeros, sent_members, when_members, text_if_any, command_members, fault_members, reply_members, ending_members, value_members, values_members, members_from, answer_members, quantity_members, attempt_members, last_members, members_after_ending};
+ghost use Rattle.gc_rows.specs.Quantities.{column_of};
 ghost use Rattle.gc_rows.specs.Records.{record_of};
 ghost use Rattle.gc_rows.specs.Rows.{Adds};
 ghost use Rattle.gc_rows.specs.declared.record.Form.TheVariants.{Json};
@@ -21,7 +23,7 @@ use crate::record::EndedCommand;
 use crate::row::texts_of;
 use crate::when::When;
 use arrayvec::ArrayVec;
-use gc_catalogue::{Answer, Asked};
+use gc_catalogue::{Answer, Asked, Call};
 use gc_lines::{Line, append};
 use gc_texts::{Ending, STAMP_ROOM, Wish, before, behind, escaped, stamp_text};
 use gc_values::{Items, Value, ValueFault, split};
@@ -342,6 +344,23 @@ fn append_items<const N: usize>(line: &mut ArrayVec<u8, N>, values: &[u8])
     }
 }
 
+// Appends the members of an answer to a call, which are its quantities; nothing if it has none. `came` are the answer's values as the
+// reply's line has them, with the commas between them.
+fn append_columns<const N: usize>(
+    line: &mut ArrayVec<u8, N>,
+    call: &Call,
+    answer: &Answer,
+    came: &[u8],
+)
+    requires short { length came.now ≤ 512 }
+    requires room { array_vec_len line.old + ANSWER_ROOM ≤ N }
+    ensures { Adds line.old.items line.new.items (members_text (members_from (column_of call.now answer.now) (answer_fields answer.now).values came.now)) ANSWER_ROOM }
+{
+    if let Some(first) = column_of(call, answer) {
+        append_values(line, first, &answer_values(answer), came);
+    }
+}
+
 // Appends the members of an answer to `asked`; `reply` is the line in which the answer came. Of a call of the table they are the answer's
 // quantities, and of any other procedure the items of the line's values.
 fn append_answer<const N: usize>(
@@ -354,12 +373,7 @@ fn append_answer<const N: usize>(
     ensures { Adds line.old.items line.new.items (members_text (answer_members asked.now answer.now reply.now.items)) ANSWER_ROOM }
 {
     match asked {
-        Asked::Table(call) => append_values(
-            line,
-            column_of(call, answer),
-            &answer_values(answer),
-            texts_of(reply).values,
-        ),
+        Asked::Table(call) => append_columns(line, call, answer, texts_of(reply).values),
         Asked::Raw(_) => append_items(line, texts_of(reply).values),
     }
 }

@@ -1,6 +1,6 @@
 //! What is proved of the definitions themselves. The functions have no effect: their contracts are the laws.
 
-ghost use Rattle.gc_rows.specs.ProcedureQuantities.{QuantitiesHaveTheirNames, RowsFillTheirColumns};
+ghost use Rattle.gc_rows.specs.ProcedureQuantities.{QuantitiesHaveTheirNames, WholesHaveTheirNames, RowsFillTheirColumns};
 ghost use Rattle.gc_rows.specs.Laws.{ColumnsAreFields, ItemsAreTheGrammars, RowsReadBack, RowsArePrintable, JsonLinesReadBack, RecordsHavePlainMembers};
 
 /// The columns `rc_com`, `rc` and `values` of a record are the fields of the reply's line: its communication code, its return
@@ -39,9 +39,11 @@ pub fn records_have_plain_members()
 {}
 
 /// The values of an answer are under the names of the quantities that its procedure returns by the manual's tables. The columns
-/// of a row and the members of an object have these names.
+/// of a row and the members of an object have these names. A whole number is under no name, if its procedure isn't listed as one
+/// that returns it.
 pub fn quantities_have_their_names()
-    ensures { QuantitiesHaveTheirNames }
+    ensures values { QuantitiesHaveTheirNames }
+    ensures wholes { WholesHaveTheirNames }
 {}
 
 /// However a command ended, its row has as many fields as the header has names.

@@ -1,9 +1,9 @@
 //! Quantities: the values of an answer, each as a text, and the columns in which they are.
 
-ghost use Rattle.std.specs.Prelude.{◌≡◌, ◌+◌, ◌≤◌, length};
+ghost use Rattle.std.specs.Prelude.{◌≡◌, ◌+◌, ◌≤◌, length, IfSome};
 ghost use Rattle.gc_catalogue.specs.Answers.{answer_fields};
 ghost use Rattle.gc_catalogue.specs.Structs.{date_values, station_values};
-ghost use Rattle.gc_rows.specs.Quantities.{column_of, column_of_long, quantity_name, quantity_text};
+ghost use Rattle.gc_rows.specs.Quantities.{column_of, column_of_whole, quantity_name, quantity_text};
 
 use arrayvec::ArrayVec;
 use gc_catalogue::{Answer, Call, DateTime, Station};
@@ -124,37 +124,36 @@ fn station_values(station: &Station) -> ArrayVec<Value, MOST_VALUES>
 }
 
 /// The column of the first value of a call's answer, counted from 0; the other values have the columns directly after it, in
-/// order. 0 if there is no value.
-pub(crate) fn column_of(call: &Call, answer: &Answer) -> usize
+/// order. `None` if the answer has no quantity.
+pub(crate) fn column_of(call: &Call, answer: &Answer) -> Option<usize>
     ensures is { result ≡ column_of call.now answer.now }
-    ensures fits { column_of call.now answer.now + length (answer_fields answer.now).values ≤ 24 }
+    ensures fits { IfSome result (λ first. first + length (answer_fields answer.now).values ≤ 24) }
 {
     match answer {
-        Answer::Nothing
-        | Answer::Angles { .. }
-        | Answer::Measured { .. }
-        | Answer::MeasuredMode { .. } => 0,
-        Answer::Place(_) => 4,
-        Answer::Height(_) => 8,
-        Answer::Long(_) => column_of_long(call),
-        Answer::Temperature(_) => 11,
-        Answer::Short(_) => 12,
-        Answer::Version(..) => 13,
-        Answer::Name(_) => 17,
-        Answer::Date(_) => 18,
+        Answer::Nothing => None,
+        Answer::Angles { .. } | Answer::Measured { .. } | Answer::MeasuredMode { .. } => Some(0),
+        Answer::Place(_) => Some(4),
+        Answer::Height(_) => Some(8),
+        Answer::Temperature(_) => Some(11),
+        Answer::Version(..) => Some(13),
+        Answer::Name(_) => Some(17),
+        Answer::Date(_) => Some(18),
+        Answer::Short(_) | Answer::Long(_) => column_of_whole(call),
     }
 }
 
-// The column of an answer that is one long number (`Answer::Long`), by the call: that of a face, of a type of prism, or, for any
-// other call, of a serial number.
-fn column_of_long(call: &Call) -> usize
-    ensures is { result ≡ column_of_long call.now }
-    ensures fits { column_of_long call.now + 1 ≤ 24 }
+// The column of an answer that is one whole number (`Answer::Short`, `Answer::Long`), by the call: that of a face, of a type of
+// prism, of a number of places, or of a serial number. `None` for any other call: its number is no quantity.
+fn column_of_whole(call: &Call) -> Option<usize>
+    ensures is { result ≡ column_of_whole call.now }
+    ensures fits { IfSome result (λ column. column + 1 ≤ 24) }
 {
     match call {
-        Call::GetFace => 9,
-        Call::GetPrism => 10,
-        _ => 16,
+        Call::GetFace => Some(9),
+        Call::GetPrism => Some(10),
+        Call::GetPrecision => Some(12),
+        Call::InstrumentNo => Some(16),
+        _ => None,
     }
 }
 

@@ -239,19 +239,31 @@ fn append_values<const N: usize>(row: &mut ArrayVec<u8, N>, values: &[Value])
     }
 }
 
-// Appends the quantities of an answer to a call, each in its column; the other columns are empty.
+// Appends values as quantities, each in its column, of which that of the first is `first`; the other columns are empty.
+fn append_spread<const N: usize>(row: &mut ArrayVec<u8, N>, first: usize, values: &[Value])
+    requires few { length values.now ≤ 6 }
+    requires fits { first + length values.now ≤ 24 }
+    requires room { array_vec_len row.old + QUANTITIES_ROOM ≤ N }
+    ensures { Adds row.old.items row.new.items (fields_behind_commas (spread first (map quantity_text values.now))) QUANTITIES_ROOM }
+{
+    append_blanks(row, first);
+    append_values(row, values);
+    append_blanks(row, QUANTITIES - first - values.len());
+}
+
+// Appends the quantities of an answer to a call, each in its column. All columns are empty if the answer has no quantity.
 fn append_columns<const N: usize>(row: &mut ArrayVec<u8, N>, call: &Call, answer: &Answer)
     requires { array_vec_len row.old + QUANTITIES_ROOM ≤ N }
     ensures { Adds row.old.items row.new.items (fields_behind_commas (answer_columns (Table call.now) answer.now)) QUANTITIES_ROOM }
 {
-    let values = answer_values(answer);
-    let first = column_of(call, answer);
-    append_blanks(row, first);
-    append_values(row, &values);
-    append_blanks(row, QUANTITIES - first - values.len());
+    match column_of(call, answer) {
+        Some(first) => append_spread(row, first, &answer_values(answer)),
+        None => append_blanks(row, QUANTITIES),
+    }
 }
 
-// Appends the quantities of an answer to `asked`, each in its column. All columns are empty if the procedure isn't in the table.
+// Appends the quantities of an answer to `asked`, each in its column. All columns are empty if the answer has no quantity, or the
+// procedure isn't in the table.
 fn append_answer<const N: usize>(row: &mut ArrayVec<u8, N>, asked: &Asked, answer: &Answer)
     requires { array_vec_len row.old + QUANTITIES_ROOM ≤ N }
     ensures { Adds row.old.items row.new.items (fields_behind_commas (answer_columns asked.now answer.now)) QUANTITIES_ROOM }

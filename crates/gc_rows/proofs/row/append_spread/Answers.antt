@@ -1,16 +1,14 @@
 use Rattle.std.proofs.Common.{◌≡◌, ◌++◌, ◌-◌, ap, rules, length, replicate, ◌∙◌}
 use Rattle.std.specs.List.{flat_map}
-use Rattle.gc_catalogue.specs.Answers.{answer_fields}
-use Rattle.gc_rows.specs.Quantities.{column_of}
 use Rattle.gc_rows.specs.Rows.{value_behind_comma}
 use Rattle.gc_rows.proofs.Rows.{spread_text}
-use Rattle.gc_rows.proofs.row.append_columns.Goals as goal
+use Rattle.gc_rows.proofs.row.append_spread.Goals as goal
 
 pub returns : goal.returns
 returns g c =
     let old = c.args.row.now.items in
-    let first = column_of c.args.call.now c.args.answer.now in
-    let values = (answer_fields c.args.answer.now).values in
+    let first = c.args.first in
+    let values = c.args.values.now in
     let front : c.append_blanks.new.row.items ≡ old ++ replicate first 44 = search rules in
     let some : c.append_values.new.row.items ≡ c.append_blanks.new.row.items ++ flat_map value_behind_comma values = search rules in
     let back : c.append_blanks-2.new.row.items ≡ c.append_values.new.row.items ++ replicate (24 - first - length values) 44 = search rules in
