@@ -11,9 +11,8 @@ ghost use Rattle.gc_texts.specs.declared.fault.RunFault.{RunFault};
 use crate::address::Address;
 use crate::ask::ask_all;
 use crate::caller::Connection;
-use crate::instrument_end::InstrumentEnd;
 use crate::link::Remote;
-use crate::looped::Loop;
+use crate::looped::ask_looped;
 use crate::simulated::Simulates;
 use gc_instrument::Instrument;
 use gc_lines::{Answers, FromReader, Sink, Source, ToWriter};
@@ -65,7 +64,7 @@ pub fn loop_tcp_on<
 }
 
 // Asks commands over a connection that was just made: `near` is the client's end, and at `far` the instrument answers. At
-// most `max_reads` reads of both ends together are made, and the faults are those of `ask_all`.
+// most `max_reads` reads of both ends together are made, and the faults are those of `ask_looped`.
 fn loop_over<K: Sink, T: Answers + Drop>(
     commands: &[Command],
     instrument: T,
@@ -80,15 +79,16 @@ fn loop_over<K: Sink, T: Answers + Drop>(
     let mut client_out = ToWriter::new(near);
     let mut instrument_in = FromReader::new(far);
     let mut instrument_out = ToWriter::new(far);
-    let mut answering = InstrumentEnd::new(instrument);
-    let mut link = Loop {
-        client_in: &mut client_in,
-        client_out: &mut client_out,
-        instrument: &mut answering,
-        instrument_in: &mut instrument_in,
-        instrument_out: &mut instrument_out,
-    };
-    ask_all(commands, &mut link, sink, max_reads)
+    ask_looped(
+        commands,
+        instrument,
+        &mut client_in,
+        &mut client_out,
+        &mut instrument_in,
+        &mut instrument_out,
+        sink,
+        max_reads,
+    )
 }
 
 /// Asks the commands of a source as `loop_tcp_on` does, with the simulator as the instrument. The faults are the same.

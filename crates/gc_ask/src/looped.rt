@@ -1,16 +1,17 @@
 //! A loop: commands are asked over a link at whose other end this program answers them itself, in one thread.
 
+ghost use Rattle.std.specs.Prelude.{false};
 ghost use Rattle.gc_lines.specs.Answering.{ports_of};
-ghost use Rattle.gc_ask.specs.Looping.{LoopRuns, seen_of, seen_over};
+ghost use Rattle.gc_ask.specs.Looping.{AsksAtBoth, LoopRuns, seen_of, seen_over};
 ghost use Rattle.gc_texts.specs.WholeTexts.{input_of};
 
-use crate::ask::run_over;
+use crate::ask::ask_all;
 use crate::instrument_end::InstrumentEnd;
 use crate::link::{AskedLink, send_line};
 use crate::unused::Unused;
 use gc_instrument::Instrument;
 use gc_lines::{Answers, Line, Sink, Source};
-use gc_texts::RunFault;
+use gc_texts::{Command, RunFault, read_command_text};
 use std::alloc::Global;
 
 /// Reads the whole command text of a source, and asks its commands over a link with a simulator at its other end, in at most
@@ -37,15 +38,17 @@ pub fn run_loop<S: Source, A: Source, B: Sink, C: Source, D: Sink, K: Sink>(
         (seen_of A.Source client_in.new B.Sink client_out.new C.Source instrument_in.new D.Sink instrument_out.new K.Sink sink.new)
         result }
 {
-    let mut answering = InstrumentEnd::new(Instrument::simulator());
-    let mut link = Loop {
+    run_looped(
+        alloc,
+        Instrument::simulator(),
+        commands,
         client_in,
         client_out,
-        instrument: &mut answering,
         instrument_in,
         instrument_out,
-    };
-    run_over(alloc, commands, &mut link, sink, max_reads)
+        sink,
+        max_reads,
+    )
 }
 
 /// Both directions of one end of a link.
@@ -73,25 +76,86 @@ pub fn run_loop_on<S: Source, A: Source, B: Sink, C: Source, D: Sink, K: Sink, T
         (seen_over A.Source B.Sink client.new C.Source D.Sink instrument_end.new K.Sink sink.new)
         result }
 {
-    let mut answering = InstrumentEnd::new(instrument);
-    let mut link = Loop {
-        client_in: &mut client.source,
-        client_out: &mut client.sink,
-        instrument: &mut answering,
-        instrument_in: &mut instrument_end.source,
-        instrument_out: &mut instrument_end.sink,
-    };
-    run_over(alloc, commands, &mut link, sink, max_reads)
+    run_looped(
+        alloc,
+        instrument,
+        commands,
+        &mut client.source,
+        &mut client.sink,
+        &mut instrument_end.source,
+        &mut instrument_end.sink,
+        sink,
+        max_reads,
+    )
 }
 
-/// A link with an instrument at its other end, which answers each request once it is sent.
+// Reads the whole command text of a source, and asks its commands over a link with this instrument at its other end. The faults and the
+// clause are those of `run_loop`.
+fn run_looped<S: Source, A: Source, B: Sink, C: Source, D: Sink, K: Sink, T: Answers + Drop>(
+    alloc: Global,
+    instrument: T,
+    commands: &mut S,
+    client_in: &mut A,
+    client_out: &mut B,
+    instrument_in: &mut C,
+    instrument_out: &mut D,
+    sink: &mut K,
+    max_reads: u32,
+) -> Result<(), RunFault>
+    ensures loops { LoopRuns (input_of S.Source commands.old) (input_of S.Source commands.new) max_reads
+        (seen_of A.Source client_in.old B.Sink client_out.old C.Source instrument_in.old D.Sink instrument_out.old K.Sink sink.old)
+        (seen_of A.Source client_in.new B.Sink client_out.new C.Source instrument_in.new D.Sink instrument_out.new K.Sink sink.new)
+        result }
+{
+    let commands = read_command_text(alloc, commands)?;
+    ask_looped(
+        commands.as_slice(),
+        instrument,
+        client_in,
+        client_out,
+        instrument_in,
+        instrument_out,
+        sink,
+        max_reads,
+    )
+}
+
+/// Asks commands over a link with this instrument at its other end, in at most `max_reads` reads of both ends together. The faults are
+/// those of `ask_all`. `run_loop` asks so over any link, and `loop_tcp` over a connection.
+pub(crate) fn ask_looped<A: Source, B: Sink, C: Source, D: Sink, K: Sink, T: Answers + Drop>(
+    commands: &[Command],
+    instrument: T,
+    client_in: &mut A,
+    client_out: &mut B,
+    instrument_in: &mut C,
+    instrument_out: &mut D,
+    sink: &mut K,
+    max_reads: u32,
+) -> Result<(), RunFault>
+    ensures asks { AsksAtBoth false commands.now max_reads
+        (seen_of A.Source client_in.old B.Sink client_out.old C.Source instrument_in.old D.Sink instrument_out.old K.Sink sink.old)
+        (seen_of A.Source client_in.new B.Sink client_out.new C.Source instrument_in.new D.Sink instrument_out.new K.Sink sink.new)
+        result }
+{
+    let mut answering = InstrumentEnd::new(instrument);
+    let mut link = Loop {
+        client_in,
+        client_out,
+        instrument: &mut answering,
+        instrument_in,
+        instrument_out,
+    };
+    ask_all(commands, &mut link, sink, max_reads)
+}
+
+// A link with an instrument at its other end, which answers each request once it is sent.
 #[derive(Drop)]
-pub(crate) struct Loop<'a, 'b, 'c, 'd, 'e, A, B, C, D, T> {
-    pub(crate) client_in: &'a mut A,
-    pub(crate) client_out: &'b mut B,
-    pub(crate) instrument: &'e mut InstrumentEnd<T>,
-    pub(crate) instrument_in: &'c mut C,
-    pub(crate) instrument_out: &'d mut D,
+struct Loop<'a, 'b, 'c, 'd, 'e, A, B, C, D, T> {
+    client_in: &'a mut A,
+    client_out: &'b mut B,
+    instrument: &'e mut InstrumentEnd<T>,
+    instrument_in: &'c mut C,
+    instrument_out: &'d mut D,
 }
 
 impl<'a, 'b, 'c, 'd, 'e, A: Source, B: Sink, C: Source, D: Sink, T: Answers> AskedLink

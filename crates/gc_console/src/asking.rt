@@ -7,7 +7,7 @@ ghost use Rattle.gc_messages.specs.Statuses.{IsStatusUpTo};
 
 use crate::system::System;
 use gc_lines::{Durable, Source};
-use gc_measuring::{Appended, Spot, append_at, check_task_text, measure_at};
+use gc_measuring::{Appended, Spot, append_text_at, check_task_text, measure_at};
 use gc_messages::{Lossy, Noticed, Noting, Streams};
 use gc_station::Kept;
 use gc_subcommands::ClientJob;
@@ -22,11 +22,10 @@ use std::process::ExitCode;
 use std::rt::Files;
 use std::time::Clock;
 
-impl<
+impl<'a, R: Net<Listener = TcpListener, Stream = TcpStream> + Clock + Files<File = File>> System<
     'a,
-    'b,
-    R: Net<Listener = TcpListener, Stream = TcpStream> + Clock + Files<File = File>,
-> System<'a, Noting<'b, R>> {
+    R,
+> {
     /// Runs the subcommand `loop`, `ask` or `station`, as `job` says, and reports how that ended; or only reports that a standard
     /// stream is closed. The streams are handed back.
     pub(crate) fn run_asking<S: Source, K: Durable + Drop, E: Write>(
@@ -65,11 +64,39 @@ impl<
                 recording,
             } => {
                 let station = station.with_status_line(self.standard.terminal);
-                self.measure_site(site, station, recording, streams)
+                self.measure(site, station, recording, streams)
             }
         }
     }
 
+    // Measures at a site, and reports how that ended; after a fault also what the system refused last, and why, if that is noted. The
+    // streams are handed back.
+    fn measure<S: Source, K: Durable + Drop, E: Write>(
+        &self,
+        site: Site<'_>,
+        station: Settings,
+        recording: Option<Recording<'_>>,
+        streams: Streams<S, K, E>,
+    ) -> (Streams<S, K, E>, io::Result<ExitCode>)
+        ensures { IsStatusUpTo 1 result.1 }
+    {
+        let noting = Noting::new(self.rt);
+        let system = System {
+            rt: &noting,
+            alloc: self.alloc,
+            standard: self.standard,
+        };
+        let (mut streams, ended) = system.measure_site(site, station, recording, streams);
+        let ended = noting.report(self.standard, ended, &mut streams.messages);
+        (streams, ended)
+    }
+}
+
+impl<
+    'a,
+    'b,
+    R: Net<Listener = TcpListener, Stream = TcpStream> + Clock + Files<File = File>,
+> System<'a, Noting<'b, R>> {
     // Measures at a site, and reports how that ended. A message that can't be written is lost, which doesn't change the status.
     // If the system's last error doesn't explain the fault, `rt` forgets it. The streams are handed back.
     fn measure_site<S: Source, K: Durable + Drop, E: Write>(
@@ -114,7 +141,7 @@ impl<
                 (streams, ended)
             }
             Some(recording) => {
-                let (streams, ended, appended) = append_at(
+                let (streams, ended, appended) = append_text_at(
                     self.rt, self.alloc, spot, recording, streams, &mut kept,
                 );
                 end_appending(appended);

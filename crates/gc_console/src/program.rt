@@ -161,7 +161,7 @@ impl<'a, R: Net<Listener = TcpListener, Stream = TcpStream> + Clock + Files<File
         noting.report(self.standard, ended, &mut ports.messages)
     }
 
-    // Serves a simulator, and reports how that ended; after a fault also what the system refused last, and why, if that is noted.
+    // Serves a simulator, and reports how that ended.
     fn run_serve_job<I: Drop, O: Drop, E: Write + Drop>(
         &self,
         serving: Serving<'_>,
@@ -169,19 +169,16 @@ impl<'a, R: Net<Listener = TcpListener, Stream = TcpStream> + Clock + Files<File
     ) -> io::Result<ExitCode>
         ensures { IsStatusUpTo 2 result }
     {
-        let noting = Noting::new(self.rt);
-        let ended = serve_with_places_filled(
-            &noting,
+        serve_with_places_filled(
+            self.rt,
             self.alloc,
             self.standard,
             serving,
             &mut streams.messages,
-        );
-        noting.report(self.standard, ended, &mut streams.messages)
+        )
     }
 
-    // Runs `loop`, `ask` or `station`, and reports how that ended; after a fault also what the system refused last, and why, if
-    // that is noted.
+    // Runs `loop`, `ask` or `station`, and reports how that ended.
     fn run_client_job<I: Read + Drop, O: Write + Drop, E: Write + Drop>(
         &self,
         job: ClientJob<'_>,
@@ -189,14 +186,9 @@ impl<'a, R: Net<Listener = TcpListener, Stream = TcpStream> + Clock + Files<File
     ) -> io::Result<ExitCode>
         ensures { IsStatusUpTo 2 result }
     {
-        let noting = Noting::new(self.rt);
-        let system = System {
-            rt: &noting,
-            alloc: self.alloc,
-            standard: self.standard,
-        };
-        let (mut ports, ended) = system.run_asking(job, as_ports(streams));
-        noting.report(self.standard, ended, &mut ports.messages)
+        let (ports, ended) = self.run_asking(job, as_ports(streams));
+        drop(ports);
+        ended
     }
 }
 

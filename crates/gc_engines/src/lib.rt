@@ -1,6 +1,7 @@
 //! The engines over a source and a sink alone: requests served, frames judged, schedules read and played, scenes read.
 #![tactic(auto)]
 
+mod answerer;
 mod check;
 mod check_log;
 mod drill;
@@ -19,6 +20,7 @@ mod timed_line;
 mod timed_scene;
 mod verdict;
 
+pub use answerer::Answerer;
 pub use check::run_check;
 pub use check_log::run_check_log;
 pub use drill::{Playable, run_drill, run_drill_on, run_drill_width};

@@ -21,7 +21,7 @@ pub use checking::{check_task_text, write_target};
 pub use counts::{write_main_counts, write_other_counts};
 pub use measure::run_station_text;
 pub use plan::{commands_per_cycle, plan_of};
-pub use recording::{Appended, append_at};
+pub use recording::{Appended, append_at, append_text_at};
 pub use row::write_station_row;
 pub use spot::Spot;
 pub use station::measure_at;

@@ -15,8 +15,9 @@ use crate::counts::report_end_of_run;
 use crate::spot::Spot;
 use crate::station::measure_at;
 use crate::stop::Stop;
+use crate::task_text::read_task_text;
 use gc_files::{RowsFile, RowsOptions, SystemFile, Unfit, open_at};
-use gc_lines::{Durable, Sink, Source};
+use gc_lines::{Durable, FromReader, Sink, Source};
 use gc_links::{PlacedLink, Telling, Watched};
 use gc_messages::{Followed, Streams, report_copied, report_torn};
 use gc_rows::{head, sign};
@@ -172,6 +173,62 @@ pub fn append_at<
             (streams, ended, None)
         }
     }
+}
+
+/// As [`append_at`], but the text is read first: if it is refused, that is reported with status 1, and no log and no file is opened or
+/// made. A text that can be measured is held until the run ends.
+pub fn append_text_at<
+    'a,
+    R: Net<Listener = TcpListener, Stream = TcpStream> + Clock + Files<File = File>,
+    S: Source,
+    K: Durable,
+    E: Write,
+>(
+    rt: &'a R,
+    alloc: Global,
+    spot: Spot<'a>,
+    recording: Recording<'a>,
+    mut streams: Streams<S, K, E>,
+    kept: &mut Kept,
+) -> (
+    Streams<S, K, E>,
+    io::Result<ExitCode>,
+    Option<Appended<'a, R>>,
+)
+    // Nothing is written on the output.
+    ensures output { result.0.output ≡ streams.output }
+    ensures bound { IsStatusUpTo 1 result.1 }
+{
+    let text = match read_task_text(alloc, &mut streams.input, &spot.station.choice) {
+        Ok((_, text)) => text,
+        Err(stop) => {
+            spot.note_fault(stop.fault());
+            let ended = report_end_of_run(Err(stop), &mut streams.messages);
+            return (streams, ended, None);
+        }
+    };
+    let Streams {
+        input,
+        output,
+        messages,
+    } = streams;
+    let read = Streams {
+        input: FromReader::new(text.as_slice()),
+        output,
+        messages,
+    };
+    let (left, ended, appended) = append_at(rt, alloc, spot, recording, read, kept);
+    let Streams {
+        input: _,
+        output,
+        messages,
+    } = left;
+    let streams = Streams {
+        input,
+        output,
+        messages,
+    };
+    (streams, ended, appended)
 }
 
 // Reports with status 1 why a file of records can't be had and, for one that doesn't begin as this station's rows do, how to

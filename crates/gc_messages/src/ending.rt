@@ -1,12 +1,14 @@
 //! How an end is reported: the exit status, and a line for a refusal or a fault.
 
-ghost use Rattle.std.specs.Prelude.{IfOk};
+ghost use Rattle.std.specs.Prelude.{◌≡◌, true, IfOk};
 ghost use Rattle.std.specs.Process.{exit_status};
 ghost use Rattle.gc_lines.specs.Answering.{serve_fault_text};
 ghost use Rattle.gc_texts.specs.Faults.{run_fault_text, Tells};
+ghost use Rattle.gc_messages.specs.Ends.{is_port};
 ghost use Rattle.gc_messages.specs.Refusals.{Refuses, refusal_line, range_line, stale_line, place_line};
 ghost use Rattle.gc_messages.specs.Statuses.{IsStatusUpTo};
 
+use crate::noting::Noting;
 use gc_lines::{ServeFault, Served};
 use gc_links::Place;
 use gc_texts::{RunFault, end_of_serving};
@@ -71,19 +73,41 @@ pub fn report_end<E: Write>(end: Result<(), RunFault>, messages: &mut E) -> io::
     }
 }
 
-/// Reports as `report_end` does how a run over a connection to this place ended, and writes after the line of some faults a line with
-/// the place and the reason (`tell_place`). `Err`: the line of the fault couldn't be written.
-pub fn report_end_at<E: Write>(
+/// Reports as `report_end` does how a run over a connection to this place ended. For a port of 127.0.0.1 that is all. For a host or a
+/// device a second line follows that of some faults, with the place and the reason (`tell_place`), or with what the system refused last,
+/// and why, if `rt` has noted that. `Err`: the line of the fault couldn't be written.
+pub fn report_end_at<R, E: Write>(
     place: Place<'_>,
     end: Result<(), RunFault>,
+    rt: &Noting<'_, R>,
+    messages: &mut E,
+) -> io::Result<ExitCode>
+    // For a port the messages are exactly the line of the fault, if there was one.
+    ensures port { is_port place.entry ≡ true
+        → IfOk result (λ status. Tells run_fault_text end (exit_status status) (E.contents messages.old) (E.contents messages.new)) }
+    ensures bound { IsStatusUpTo 1 result }
+{
+    match place {
+        Place::Port(_) => report_end(end, messages),
+        Place::Host(_) | Place::Device(_) => report_with_reason(place, end, rt, messages),
+    }
+}
+
+// Reports as `report_end` does how a run over a connection to this place ended, and writes the second line that some faults have. `Err`:
+// the line of the fault couldn't be written.
+fn report_with_reason<R, E: Write>(
+    place: Place<'_>,
+    end: Result<(), RunFault>,
+    rt: &Noting<'_, R>,
     messages: &mut E,
 ) -> io::Result<ExitCode>
     ensures { IsStatusUpTo 1 result }
 {
     let ended = report_end(end, messages);
     if let Err(fault) = end {
-        // If this line can't be written, the fault's line is written all the same.
+        // If the second line can't be written, the fault's line is written all the same.
         let _ = tell_place(place, fault, messages);
+        let _ = rt.tell_last(messages);
     }
     ended
 }

@@ -81,8 +81,9 @@ impl<'a, R> Noting<'a, R> {
         Ok(status)
     }
 
-    // Writes the line of what was refused last, if anything is noted, and clears the note, also if the line can't be written.
-    fn tell_last<E: Write>(&self, messages: &mut E) -> io::Result<()> {
+    /// Writes a line with what the system refused last, and why, if anything is noted, and clears the note. `Err`: that line couldn't be
+    /// written; the note is cleared all the same.
+    pub fn tell_last<E: Write>(&self, messages: &mut E) -> io::Result<()> {
         match self.last.take() {
             Some(refusal) => {
                 let why = refusal.why;

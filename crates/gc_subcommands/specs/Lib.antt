@@ -1,3 +1,4 @@
+pub mod Asked
 pub mod Drills
 pub mod Refusing
 pub mod Scenes

@@ -1,13 +1,19 @@
 //! `geocom ask`: its words, and commands that are asked at a place.
 
+ghost use Rattle.std.specs.Prelude.{◌≡◌, true, IfOk};
+ghost use Rattle.std.specs.Process.{exit_status};
+ghost use Rattle.gc_subcommands.specs.Asked.{TellsAsk};
+ghost use Rattle.gc_subcommands.specs.Refusing.{end_seen};
+ghost use Rattle.gc_lines.specs.Answering.{ports_of};
+ghost use Rattle.gc_messages.specs.Ends.{is_port};
 ghost use Rattle.gc_messages.specs.Statuses.{IsStatusUpTo};
 
-use crate::answerer::MOST_READS;
+use crate::reads::MOST_READS;
 use clap::Command;
 use gc_ask::ask_at;
 use gc_lines::{Sink, Source};
 use gc_links::Place;
-use gc_messages::{Streams, report_end_at};
+use gc_messages::{Noting, Streams, report_end_at};
 use gc_words::help::COMMANDS;
 use gc_words::{Argument, PLACE, command_of};
 use std::alloc::{AllocError, Global};
@@ -35,8 +41,7 @@ pub fn ask_command<'a>(alloc: Global, name: &'a str) -> Result<Command<'a>, Allo
 /// Asks the commands of the input at a place, writes a line for each settlement on the output, and reports how that ended, with
 /// status 0 or 1. `Err`: the line of the fault couldn't be written. The streams are handed back.
 ///
-/// The clause has only the range of the status. What is asked and written `ask_at` promises; that the status and the messages
-/// report its result no clause says.
+/// After some faults a second line gives the place and the reason, unless the place is a port of 127.0.0.1 (`report_end_at`).
 pub fn ask_place<
     R: Net<Listener = TcpListener, Stream = TcpStream> + Files<File = File> + Clock,
     S: Source,
@@ -48,16 +53,23 @@ pub fn ask_place<
     place: Place<'_>,
     mut streams: Streams<S, K, E>,
 ) -> (Streams<S, K, E>, io::Result<ExitCode>)
-    ensures { IsStatusUpTo 1 result.1 }
+    // At a port the status and the messages tell how the asking ended: the messages have the line of the fault, if there was one, and
+    // nothing else.
+    ensures port { is_port place.entry ≡ true → IfOk result.1 (λ status. TellsAsk (end_seen
+        (ports_of S.Source streams.input K.Sink streams.output)
+        (ports_of S.Source result.0.input K.Sink result.0.output)
+        (exit_status status) (E.contents streams.messages) (E.contents result.0.messages))) }
+    ensures bound { IsStatusUpTo 1 result.1 }
 {
+    let noting = Noting::new(rt);
     let end = ask_at(
-        rt,
+        &noting,
         alloc,
         place,
         &mut streams.input,
         &mut streams.output,
         MOST_READS,
     );
-    let ended = report_end_at(place, end, &mut streams.messages);
+    let ended = report_end_at(place, end, &noting, &mut streams.messages);
     (streams, ended)
 }

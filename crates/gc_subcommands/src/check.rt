@@ -4,11 +4,11 @@ ghost use Rattle.std.specs.Prelude.{IfOk};
 ghost use Rattle.std.specs.Process.{exit_status};
 ghost use Rattle.gc_subcommands.specs.Serves.{ChecksInput, TellsChecking, IsDoneAtEnd};
 ghost use Rattle.gc_subcommands.specs.Refusing.{end_seen};
-ghost use Rattle.gc_subcommands.specs.declared.answerer.TheConstants.{MOST_READS};
+ghost use Rattle.gc_subcommands.specs.declared.reads.TheConstants.{MOST_READS};
 ghost use Rattle.gc_lines.specs.Answering.{ports_of, HasEnded};
 ghost use Rattle.gc_messages.specs.Statuses.{IsStatusUpTo};
 
-use crate::answerer::MOST_READS;
+use crate::reads::MOST_READS;
 use clap::Command;
 use gc_engines::{run_check, run_check_log};
 use gc_lines::{ServeFault, Served, Sink, Source};

@@ -7,9 +7,10 @@ ghost use Rattle.gc_subcommands.specs.Refusing.{end_seen};
 ghost use Rattle.gc_lines.specs.Answering.{ports_of};
 ghost use Rattle.gc_messages.specs.Statuses.{IsStatusUpTo};
 
-use crate::answerer::Answerer;
+use crate::reads::MOST_READS;
 use crate::scene::{Staged, instrument_of};
 use clap::Command;
+use gc_engines::Answerer;
 use gc_lines::{Sink, Source};
 use gc_messages::report_served;
 use gc_words::help::REQUESTS;
@@ -67,10 +68,10 @@ pub fn exec_scene<R: Files, S: Source, K: Sink, E: Write>(
 {
     match instrument_of::<Staged, R>(rt, alloc, scene) {
         Ok(Staged::Plain(mut instrument)) => {
-            report_served(instrument.answer_all(source, sink), messages)
+            report_served(instrument.answer_all(source, sink, MOST_READS), messages)
         }
         Ok(Staged::Ruled(mut instrument)) => {
-            report_served(instrument.answer_all(source, sink), messages)
+            report_served(instrument.answer_all(source, sink, MOST_READS), messages)
         }
         Err(refusal) => refusal.tell(messages),
     }

@@ -2,12 +2,12 @@
 //! function that runs it.
 #![tactic(auto)]
 
-mod answerer;
 pub mod ask;
 pub mod check;
 pub mod drill;
 pub mod exec;
 pub mod looped;
+mod reads;
 mod refusal;
 mod scene;
 pub mod serve;

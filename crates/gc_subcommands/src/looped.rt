@@ -1,14 +1,18 @@
 //! `geocom loop`: its words, and commands that are asked over a connection to a simulator in this program.
 
+ghost use Rattle.std.specs.Prelude.{IfOk};
+ghost use Rattle.std.specs.Process.{exit_status};
+ghost use Rattle.gc_subcommands.specs.Asked.{TellsLoop, TellsLooped};
+ghost use Rattle.gc_subcommands.specs.Refusing.{end_seen};
+ghost use Rattle.gc_lines.specs.Answering.{ports_of};
 ghost use Rattle.gc_messages.specs.Statuses.{IsStatusUpTo};
 
-use crate::answerer::MOST_READS;
+use crate::reads::MOST_READS;
 use crate::scene::{Staged, instrument_of};
 use clap::Command;
 use gc_ask::loop_tcp_on;
 use gc_lines::{Answers, Sink, Source};
-use gc_messages::{Streams, report_end};
-use gc_texts::RunFault;
+use gc_messages::{Noting, Streams, report_end};
 use gc_words::help::COMMANDS;
 use gc_words::{Argument, SCENE, command_of};
 use std::alloc::{AllocError, Global};
@@ -35,8 +39,8 @@ pub fn loop_command<'a>(alloc: Global, name: &'a str) -> Result<Command<'a>, All
 /// no scene is named; writes a line for each settlement on the output, and reports how that ended, with status 0 or 1. `Err`: the
 /// line of the fault couldn't be written, or the line after it on what is at fault in the scene. The streams are handed back.
 ///
-/// The clause has only the range of the status. What is asked and written `loop_tcp_on` promises; which instrument the scene sets
-/// up, and that the status and the messages report the result, no clause says.
+/// Where a scene is refused, further lines say what is at fault in it, in which file, and what the system refused. Any other fault has
+/// its line alone, also one of the commands' text. No clause says which instrument a scene sets up.
 pub fn loop_scene<
     R: Net<Listener = TcpListener, Stream = TcpStream> + Files,
     S: Source,
@@ -48,21 +52,21 @@ pub fn loop_scene<
     scene: Option<&str>,
     mut streams: Streams<S, K, E>,
 ) -> (Streams<S, K, E>, io::Result<ExitCode>)
-    ensures { IsStatusUpTo 1 result.1 }
+    // Either the scene was refused, and input and output weren't used; or the commands were asked, and the status and the messages
+    // tell how that ended.
+    ensures told { IfOk result.1 (λ status. TellsLoop scene.entry (end_seen
+        (ports_of S.Source streams.input K.Sink streams.output)
+        (ports_of S.Source result.0.input K.Sink result.0.output)
+        (exit_status status) (E.contents streams.messages) (E.contents result.0.messages))) }
+    ensures bound { IsStatusUpTo 1 result.1 }
 {
-    let ended = match instrument_of::<Staged, R>(rt, alloc, scene) {
-        Ok(Staged::Plain(instrument)) => loop_on(rt, alloc, scene, instrument, &mut streams),
-        Ok(Staged::Ruled(instrument)) => loop_on(rt, alloc, scene, instrument, &mut streams),
-        Err(refusal) => refusal.tell_with_file(scene, &mut streams.messages),
-    };
+    let ended = loop_over_streams(rt, alloc, scene, &mut streams);
     (streams, ended)
 }
 
-// Asks the commands of the input over a connection to an instrument, that of the scene if one is named, and reports how that
-// ended, with status 0 or 1. `Err`: the line of the fault couldn't be written.
-fn loop_on<
-    R: Net<Listener = TcpListener, Stream = TcpStream>,
-    T: Answers + Drop,
+// Asks the commands of the input as `loop_scene` says, and reports how that ended. `Err`: as `loop_scene` says.
+fn loop_over_streams<
+    R: Net<Listener = TcpListener, Stream = TcpStream> + Files,
     S: Source,
     K: Sink,
     E: Write,
@@ -70,10 +74,36 @@ fn loop_on<
     rt: &R,
     alloc: Global,
     scene: Option<&str>,
-    instrument: T,
     streams: &mut Streams<S, K, E>,
 ) -> io::Result<ExitCode>
-    ensures { IsStatusUpTo 1 result }
+    ensures told { IfOk result (λ status. TellsLoop scene.entry (end_seen
+        (ports_of S.Source streams.old.input K.Sink streams.old.output)
+        (ports_of S.Source streams.new.input K.Sink streams.new.output)
+        (exit_status status) (E.contents streams.old.messages) (E.contents streams.new.messages))) }
+    ensures bound { IsStatusUpTo 1 result }
+{
+    let noting = Noting::new(rt);
+    match instrument_of::<Staged, Noting<'_, R>>(&noting, alloc, scene) {
+        Ok(Staged::Plain(instrument)) => loop_on(rt, alloc, instrument, streams),
+        Ok(Staged::Ruled(instrument)) => loop_on(rt, alloc, instrument, streams),
+        Err(refusal) => refusal.tell_with_file(scene, &noting, &mut streams.messages),
+    }
+}
+
+// Asks the commands of the input over a connection to an instrument, and reports how that ended, with status 0 or 1. `Err`: the
+// line of the fault couldn't be written.
+fn loop_on<
+    R: Net<Listener = TcpListener, Stream = TcpStream>,
+    T: Answers + Drop,
+    S: Source,
+    K: Sink,
+    E: Write,
+>(rt: &R, alloc: Global, instrument: T, streams: &mut Streams<S, K, E>) -> io::Result<ExitCode>
+    ensures told { IfOk result (λ status. TellsLooped (end_seen
+        (ports_of S.Source streams.old.input K.Sink streams.old.output)
+        (ports_of S.Source streams.new.input K.Sink streams.new.output)
+        (exit_status status) (E.contents streams.old.messages) (E.contents streams.new.messages))) }
+    ensures bound { IsStatusUpTo 1 result }
 {
     let end = loop_tcp_on(
         rt,
@@ -83,23 +113,5 @@ fn loop_on<
         &mut streams.output,
         MOST_READS,
     );
-    report_loop(scene, end, &mut streams.messages)
-}
-
-// Reports how commands were asked of an instrument, that of the scene if one is named, with status 0 or 1. If a scene is named,
-// and so two texts were read, and the fault is one of the commands' text (`Schedule`, `InputTooLong`), a further line says that
-// the fault is of standard input. `Err`: the line of the fault couldn't be written.
-fn report_loop<E: Write>(
-    scene: Option<&str>,
-    end: Result<(), RunFault>,
-    messages: &mut E,
-) -> io::Result<ExitCode>
-    ensures { IsStatusUpTo 1 result }
-{
-    let ended = report_end(end, messages);
-    if scene.is_some() && matches!(end, Err(RunFault::Schedule { .. } | RunFault::InputTooLong)) {
-        // If this line can't be written, the fault's line is written all the same.
-        let _ = writeln!(messages, "geocom: of the commands of standard input");
-    }
-    ended
+    report_end(end, &mut streams.messages)
 }

@@ -5,7 +5,7 @@ ghost use Rattle.std.specs.Process.{exit_status};
 ghost use Rattle.gc_subcommands.specs.Refusing.{TellsRefusal, refusal_fault};
 
 use gc_engines::{SceneTrouble, scene_trouble_of};
-use gc_messages::report_end;
+use gc_messages::{Noting, report_end};
 use gc_texts::{RunFault, line_at};
 use std::io::{self, Write};
 use std::process::ExitCode;
@@ -49,17 +49,20 @@ impl Refusal {
     }
 
     /// Reports the refusal as `tell` does, with status 1, and then writes a line with the path of the scene's file (`scene`), if
-    /// one is named. `Err`: what `tell` writes couldn't be written.
-    pub(crate) fn tell_with_file<E: Write>(
+    /// one is named, and a line with what the system refused of it, and why, if `rt` has noted that. `Err`: what `tell` writes
+    /// couldn't be written.
+    pub(crate) fn tell_with_file<R, E: Write>(
         self,
         scene: Option<&str>,
+        rt: &Noting<'_, R>,
         messages: &mut E,
     ) -> io::Result<ExitCode>
         ensures { IfOk result (λ status. exit_status status ≡ 1) }
     {
         let ended = self.tell(messages);
-        // If this line can't be written, the fault's line is written all the same.
+        // If these lines can't be written, the fault's line is written all the same.
         let _ = tell_file(scene, messages);
+        let _ = rt.tell_last(messages);
         ended
     }
 }

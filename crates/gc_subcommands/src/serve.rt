@@ -1,10 +1,14 @@
 //! `geocom serve`: its words, and an instrument on a port or on a device. The places of standard streams that are closed (file
 //! descriptors 0 to 2) are filled first, so that no socket or device takes one.
 
-ghost use Rattle.std.specs.Prelude.{◌≡◌, ◌≤◌, true};
+ghost use Rattle.std.specs.Prelude.{◌≡◌, ◌≤◌, true, None, IfOk};
+ghost use Rattle.std.specs.Process.{exit_status};
+ghost use Rattle.gc_subcommands.specs.Asked.{TellsServed};
+ghost use Rattle.gc_messages.specs.Ends.{is_port};
 ghost use Rattle.gc_messages.specs.Statuses.{IsStatusUpTo};
+ghost use Rattle.gc_messages.specs.Streams.{ReportsClosed};
 
-use crate::answerer::MOST_READS;
+use crate::reads::MOST_READS;
 use crate::scene::{Staged, Timed, instrument_of};
 use clap::{ArgMatches, Command};
 use gc_ask::{
@@ -12,7 +16,7 @@ use gc_ask::{
     serve_device, serve_tcp,
 };
 use gc_links::Place;
-use gc_messages::{Standard, refuse_numbers, report_end, report_end_at};
+use gc_messages::{Noting, Standard, refuse_numbers, report_end, report_end_at};
 use gc_scenes::SlowInstrument;
 use gc_texts::RunFault;
 use gc_words::help::CONNECTIONS;
@@ -117,7 +121,9 @@ fn idle_of(words: &ArgMatches) -> Option<u32> {
 /// if one is named, and after that a port is bound or a device opened. `Err`: the line of the fault, that on what is at fault in
 /// the scene, or that of a number out of its range couldn't be written.
 ///
-/// The clause has only the range of the status: what is served, and which lines are written, no clause says.
+/// Where a scene is refused, further lines say what is at fault in it, in which file, and what the system refused; and after some
+/// faults a second line gives the place and the reason, unless the place is a port of 127.0.0.1 (`report_end_at`). No clause says
+/// what is served.
 pub fn serve_with_places_filled<
     R: Net<Listener = TcpListener, Stream = TcpStream> + Clock + Files<File = File>,
     E: Write,
@@ -128,14 +134,37 @@ pub fn serve_with_places_filled<
     serving: Serving<'_>,
     messages: &mut E,
 ) -> io::Result<ExitCode>
-    ensures { IsStatusUpTo 2 result }
+    // On a port, without a scene and without `--keep`, open messages have the line of the fault, if there was one, or that of a number
+    // out of its range, and nothing else.
+    ensures port { is_port serving.entry.place ≡ true → serving.entry.scene ≡ None → serving.entry.idle ≡ None → standard.messages ≡ true
+        → IfOk result (λ status. TellsServed (exit_status status) (E.contents messages.old) (E.contents messages.new)) }
+    ensures bound { IsStatusUpTo 2 result }
 {
-    let Ok(places) = standard.fill(rt) else {
-        return standard.report_closed(messages);
+    let noting = Noting::new(rt);
+    let Ok(places) = standard.fill(&noting) else {
+        return report_unfilled(standard, serving.place, &noting, messages);
     };
-    let ended = serve_with_scene(rt, alloc, serving, messages);
+    let ended = serve_with_scene(&noting, alloc, serving, messages);
     drop(places);
     ended
+}
+
+// Reports that the place of a closed stream couldn't be filled, with status 1: by no line if the messages are closed. `Err`: the line of
+// the fault couldn't be written.
+fn report_unfilled<R, E: Write>(
+    standard: Standard,
+    place: Place<'_>,
+    rt: &Noting<'_, R>,
+    messages: &mut E,
+) -> io::Result<ExitCode>
+    ensures port { is_port place.entry ≡ true
+        → IfOk result (λ status. ReportsClosed standard (exit_status status) (E.contents messages.old) (E.contents messages.new)) }
+    ensures bound { IsStatusUpTo 1 result }
+{
+    if standard.messages {
+        return report_end_at(place, Err(RunFault::StreamClosed), rt, messages);
+    }
+    Ok(ExitCode::from(1))
 }
 
 // Reads the scene, and serves or keeps a place with its instrument. A scene that is refused is reported with its file, with
@@ -143,10 +172,12 @@ pub fn serve_with_places_filled<
 fn serve_with_scene<
     R: Net<Listener = TcpListener, Stream = TcpStream> + Clock + Files<File = File>,
     E: Write,
->(rt: &R, alloc: Global, serving: Serving<'_>, messages: &mut E) -> io::Result<ExitCode>
-    ensures { IsStatusUpTo 2 result }
+>(rt: &Noting<'_, R>, alloc: Global, serving: Serving<'_>, messages: &mut E) -> io::Result<ExitCode>
+    ensures port { is_port serving.entry.place ≡ true → serving.entry.scene ≡ None → serving.entry.idle ≡ None
+        → IfOk result (λ status. TellsServed (exit_status status) (E.contents messages.old) (E.contents messages.new)) }
+    ensures bound { IsStatusUpTo 2 result }
 {
-    match instrument_of::<Timed, R>(rt, alloc, serving.scene) {
+    match instrument_of::<Timed, Noting<'_, R>>(rt, alloc, serving.scene) {
         Ok(Timed::Still(Staged::Plain(instrument))) => {
             serve_or_keep(rt, serving, instrument, messages)
         }
@@ -154,7 +185,7 @@ fn serve_with_scene<
             serve_or_keep(rt, serving, instrument, messages)
         }
         Ok(Timed::Slow(slow)) => serve_slow(rt, serving, slow, messages),
-        Err(refusal) => refusal.tell_with_file(serving.scene, messages),
+        Err(refusal) => refusal.tell_with_file(serving.scene, rt, messages),
     }
 }
 
@@ -163,8 +194,15 @@ fn serve_with_scene<
 fn serve_slow<
     R: Net<Listener = TcpListener, Stream = TcpStream> + Clock + Files<File = File>,
     E: Write,
->(rt: &R, serving: Serving<'_>, slow: SlowInstrument, messages: &mut E) -> io::Result<ExitCode>
-    ensures { IsStatusUpTo 2 result }
+>(
+    rt: &Noting<'_, R>,
+    serving: Serving<'_>,
+    slow: SlowInstrument,
+    messages: &mut E,
+) -> io::Result<ExitCode>
+    ensures port { is_port serving.entry.place ≡ true → serving.entry.idle ≡ None
+        → IfOk result (λ status. TellsServed (exit_status status) (E.contents messages.old) (E.contents messages.new)) }
+    ensures bound { IsStatusUpTo 2 result }
 {
     let Ok(clock) = BusyClock::new(rt, &slow) else {
         return report_end(Err(RunFault::Clock), messages);
@@ -179,8 +217,15 @@ fn serve_or_keep<
     R: Net<Listener = TcpListener, Stream = TcpStream> + Clock + Files<File = File>,
     I: Simulates<'c> + Drop,
     E: Write,
->(rt: &'c R, serving: Serving<'_>, mut instrument: I, messages: &mut E) -> io::Result<ExitCode>
-    ensures { IsStatusUpTo 2 result }
+>(
+    rt: &'c Noting<'_, R>,
+    serving: Serving<'_>,
+    mut instrument: I,
+    messages: &mut E,
+) -> io::Result<ExitCode>
+    ensures port { is_port serving.entry.place ≡ true → serving.entry.idle ≡ None
+        → IfOk result (λ status. TellsServed (exit_status status) (E.contents messages.old) (E.contents messages.new)) }
+    ensures bound { IsStatusUpTo 2 result }
 {
     let Serving {
         scene: _,
@@ -232,13 +277,15 @@ fn serve_place<
     I: Simulates<'c>,
     E: Write,
 >(
-    rt: &R,
+    rt: &Noting<'_, R>,
     place: Place<'_>,
     connections: u32,
     instrument: &mut I,
     messages: &mut E,
 ) -> io::Result<ExitCode>
-    ensures { IsStatusUpTo 2 result }
+    ensures port { is_port place.entry ≡ true
+        → IfOk result (λ status. TellsServed (exit_status status) (E.contents messages.old) (E.contents messages.new)) }
+    ensures bound { IsStatusUpTo 2 result }
 {
     if !is_in_range(connections) {
         return refuse_numbers(messages);
@@ -247,11 +294,11 @@ fn serve_place<
         None => refuse_numbers(messages),
         Some(Endpoint::Address(address)) => {
             let end = serve_tcp(rt, address, connections, instrument, MOST_READS);
-            report_end(end, messages)
+            report_end_at(place, end, rt, messages)
         }
         Some(Endpoint::Device(path)) => {
             let end = serve_device(rt, path, connections, instrument, MOST_READS);
-            report_end_at(place, end, messages)
+            report_end_at(place, end, rt, messages)
         }
     }
 }
@@ -266,7 +313,7 @@ fn keep_place<
     I: Simulates<'c>,
     E: Write,
 >(
-    rt: &'c R,
+    rt: &'c Noting<'_, R>,
     place: Place<'_>,
     keeping: Keeping,
     instrument: &mut I,
@@ -285,7 +332,7 @@ fn keep_place<
     };
     match kept {
         Ok(_) => Ok(ExitCode::SUCCESS),
-        Err(fault) => report_end_at(place, Err(fault), messages),
+        Err(fault) => report_end_at(place, Err(fault), rt, messages),
     }
 }
 

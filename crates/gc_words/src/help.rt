@@ -2,7 +2,7 @@
 
 /// What the help of the program as a whole, `geocom --help`, ends with.
 pub const SCENES_AND_FAULTS: &str =
-    "The simulated instrument of `exec`, `drill`, `loop` and `serve` has the serial number 123456, the name GEOCOM SIM, and the targets
+    "The simulated instrument of `exec`, `drill`, `loop`, `serve` and `rehearse` has the serial number 123456, the name GEOCOM SIM, and the targets
   target 0.5 1.5 25.125
   target 2.25 1.625 110.0625
   target 4.0 1.5 48.5
@@ -18,15 +18,17 @@ A scene may have rules, too:
   noise HZ V D SEED                        adds noise to measured values, at most these amounts
   repeats no                               keeps no reply: a repeated request is executed again
   behave faces|aims|takes|values           behaves as real instruments do in this respect
-A scene for `serve`, which has a clock, may also have:
+A scene for `serve` and `rehearse`, which have a clock, may also have:
   behave clock|real                        runs the instrument's clock; `real` means all five words
+One for `serve` may also have:
   delay RPC MS                             sends the reply to a procedure MS milliseconds later, at most 3600000
   busy queue, busy drop                    what arrives meanwhile waits in order (default), or gets no reply
 
 Exit status: 0 on success, 1 after a fault, 2 for a command line that doesn't parse.
 
-A fault is one line on standard error, `geocom: fault N`. For a place, a file, a station's text or a scene a second line gives the reason:
-  41  a scene has more than 32 targets, 32 faults or 16 replies
+A fault is one line on standard error, `geocom: fault N`. For a place, a file, a station's text or a scene a second line gives the reason
+(at a port of this machine only for `station`):
+  41  a scene has more than 32 targets, 32 faults, 16 replies or 32 delays
   42  the input, the connection or the scene file could not be read
   43  the output or the connection could not be written: R complete lines were written, and B bytes of the next
   44  the limit on reads, or on a station's actions, was reached before the end of the input

@@ -8,5 +8,5 @@ returns g c = record {
   instrument_after = _;
   client = (c.new-client_in.ensures.reads, c.new-client_in.ensures.failed, c.new-client_out.ensures.failed);
   instrument = (c.new-instrument_in.ensures.reads, c.new-instrument_in.ensures.failed, c.new-instrument_out.ensures.failed);
-  asks = c.ask_all.ensures.asks;
+  asks = c.ask_looped.ensures.asks;
 }

@@ -4,35 +4,32 @@ ghost use Rattle.std.specs.Prelude.{ℕ, Result};
 ghost use Rattle.gc_lines.specs.Answering.{HasEnded, Ports, ports_of};
 ghost use Rattle.gc_lines.specs.declared.served.Served.{Served};
 ghost use Rattle.gc_lines.specs.declared.served.ServeFault.{ServeFault};
-ghost use Rattle.gc_subcommands.specs.declared.answerer.TheConstants.{MOST_READS};
 
 use gc_instrument::{Instrument, serve};
 use gc_lines::{ServeFault, Served, Sink, Source};
 use gc_scenes::{SceneInstrument, serve_scene};
 
-/// The most reads of an input or a link: as many as a `u32` counts.
-pub(crate) const MOST_READS: u32 = 4294967295;
-
 /// An instrument that answers requests.
-pub(crate) trait Answerer: Drop {
+pub trait Answerer: Drop {
     /// What serving may do: the instrument before and after it, the ports before and after it, the most reads, and how it ended.
     ghost serving: { Self → Self → Ports → Ports → ℕ → Result Served ServeFault → Type 0 };
 
-    /// Answers the requests of a source until its end, in at most `MOST_READS` reads. The faults are those of `serve`; the
+    /// Answers the requests of a source until its end, in at most `max_reads` reads. The faults are those of `serve`; the
     /// replies that were written before a fault stay written.
     fn answer_all<S: Source, K: Sink>(
         &mut self,
         source: &mut S,
         sink: &mut K,
+        max_reads: u32,
     ) -> Result<Served, ServeFault>
         ensures serves { serving self.old self.new
             (ports_of S.Source source.old K.Sink sink.old)
             (ports_of S.Source source.new K.Sink sink.new)
-            MOST_READS result }
+            max_reads result }
         ensures ended { HasEnded
             (ports_of S.Source source.old K.Sink sink.old)
             (ports_of S.Source source.new K.Sink sink.new)
-            MOST_READS result };
+            max_reads result };
 }
 
 impl Answerer for Instrument {
@@ -45,8 +42,9 @@ impl Answerer for Instrument {
         &mut self,
         source: &mut S,
         sink: &mut K,
+        max_reads: u32,
     ) -> Result<Served, ServeFault> {
-        serve(self, source, sink, MOST_READS)
+        serve(self, source, sink, max_reads)
     }
 }
 
@@ -60,7 +58,8 @@ impl Answerer for SceneInstrument {
         &mut self,
         source: &mut S,
         sink: &mut K,
+        max_reads: u32,
     ) -> Result<Served, ServeFault> {
-        serve_scene(self, source, sink, MOST_READS)
+        serve_scene(self, source, sink, max_reads)
     }
 }

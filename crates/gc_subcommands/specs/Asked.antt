@@ -1,0 +1,48 @@
+-- How `ask`, `loop` and `serve` report how they ended: this project's own.
+use Rattle.std.specs.Prelude.{◌≡◌, ◌⊎◌, ℕ, List, Option, None, Result}
+use Rattle.gc_ask.specs.AskRuns.{AskRunsConnected}
+use Rattle.gc_ask.specs.Looping.{LoopRunsConnected}
+use Rattle.gc_ask.specs.Places.{IsFaultOfPlace}
+use Rattle.gc_lines.specs.Answering.{Ports, Taken}
+use Rattle.gc_messages.specs.Refusals.{Refuses, range_line}
+use Rattle.gc_subcommands.specs.Refusing.{EndSeen, TellsEnd}
+use Rattle.gc_subcommands.specs.Scenes.{AreUnused}
+use Rattle.gc_subcommands.specs.Serves.{most_reads}
+use Rattle.gc_texts.specs.Faults.{run_fault_text, Tells}
+use Rattle.gc_texts.specs.WholeTexts.{source_of}
+use Rattle.gc_texts.specs.declared.fault.RunFault.{RunFault}
+
+-- what is seen of the sink of these ports
+abbrev pub sink_of : Ports → Taken
+sink_of ports = record { bytes = ports.taken; failed = ports.sink_failed }
+
+-- commands were asked over a connection to a place (`AskRunsConnected`), and the status and the messages tell how that ended (`TellsEnd`):
+-- the messages by the line of the fault, if there was one, and by nothing else
+abbrev pub TellsAsk : EndSeen → Type 0
+TellsAsk seen =
+    TellsEnd run_fault_text (λ end. AskRunsConnected IsFaultOfPlace (source_of seen.old) (source_of seen.new) most_reads (sink_of seen.old) (sink_of seen.new) end) seen
+
+-- commands were asked over a connection with an instrument of this program at its other end (`LoopRunsConnected`), and the status and the
+-- messages tell how that ended, as in `TellsAsk`
+abbrev pub TellsLooped : EndSeen → Type 0
+TellsLooped seen =
+    TellsEnd run_fault_text (λ end. LoopRunsConnected (source_of seen.old) (source_of seen.new) most_reads (sink_of seen.old) (sink_of seen.new) end) seen
+
+-- a scene was named and refused, with status 1, and source and sink weren't used (`AreUnused`)
+pub record RefusesNamed {Name : Type 0} (scene : Option Name) (seen : EndSeen) : Type 0 where
+  pub status : seen.status ≡ 1
+  pub unused : AreUnused seen.old seen.new
+  pub named : scene ≡ None → ⊥
+
+-- the scene was refused, or commands were asked of an instrument of this program, and how that ended is reported
+abbrev pub TellsLoop : {Name : Type 0} → (scene : Option Name) → EndSeen → Type 0
+TellsLoop scene seen = RefusesNamed scene seen ⊎ TellsLooped seen
+
+-- something ended, and the status and the messages tell how (`Tells`): the messages by the line of a fault, if there was one, and by nothing
+-- else
+abbrev pub TellsSomeEnd : (status : ℕ) → (old new : Option (List ℕ)) → Type 0
+TellsSomeEnd status old new = (end : Result (Unit {0}) RunFault) × Tells run_fault_text end status old new
+
+-- a number of the command line was refused, or something ended, and the messages have one line or none
+abbrev pub TellsServed : (status : ℕ) → (old new : Option (List ℕ)) → Type 0
+TellsServed status old new = Refuses range_line status old new ⊎ TellsSomeEnd status old new
