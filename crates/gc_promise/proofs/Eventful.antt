@@ -75,7 +75,7 @@ part_of_cycle cycle sync_steps steps sent =
 abbrev all_parts : List Part
 all_parts =
     part_of_cycle 1 sync_shown (seen first_moves) (Some (0, 40) ∷ None ∷ (map (λ place. Some (place, 95)) (2 ∷ 3 ∷ 4 ∷ 5 ∷ 6 ∷ []) ++ None ∷ None ∷ []))
-    ∷ part_of_cycle 3 anew_shown (seen last_moves) (Some (0, 385) ∷ (map (λ place. Some (place, 390)) (1 ∷ 2 ∷ 3 ∷ 4 ∷ 5 ∷ 6 ∷ []) ++ None ∷ []))
+    ∷ part_of_cycle 3 anew_shown (seen last_moves) (Some (0, 405) ∷ (map (λ place. Some (place, 410)) (1 ∷ 2 ∷ 3 ∷ 4 ∷ 5 ∷ 6 ∷ []) ++ None ∷ []))
     ∷ idle_part
     ∷ []
 
@@ -114,7 +114,7 @@ possible_append w (m ∷ earlier) later h g = (h.0, possible_append (moves repor
 -- the moves of the first cycle are possible
 first_possible : PossibleFrom (ids_begun first_stretch.from) first_moves
 unfolding is_elsewhere is_near header_at reply_at digits rounded
-first_possible = (tt, (tt, (tt, (tt, (tt, (tt, (tt, (tt, (tt, (tt, ((9, _, refl), (tt, ((tt, refl), units 28)))))))))))))
+first_possible = (tt, (tt, (tt, (tt, (tt, (tt, (tt, (tt, (tt, (tt, ((9, _, refl), (tt, ((tt, refl), units 27)))))))))))))
 
 -- the moves of the third cycle are possible
 last_possible : PossibleFrom (ids_begun last_stretch.from) last_moves
@@ -191,7 +191,7 @@ module _ (reads : Asked → List ℕ → Reading) where
   gives_up_runs : RunsAfter (sync_acts ++ take 8 first_acts) (drop 8 first_acts)
   unfolding is_elsewhere is_near header_at reply_at digits rounded
   gives_up_runs =
-      (refl, (tt, (refl, (tt, (refl, (tt, (refl, (tt, (refl, (tt, (tt, (refl, (tt, (tt, (refl, (tt, (tt, (refl, (tt, (tt, (tt, (refl, (tt, (tt, (tt, tt)))))))))))))))))))))))))
+      (refl, (tt, (refl, (tt, (refl, (tt, (refl, (tt, (refl, (tt, (tt, (refl, (tt, (tt, (refl, (tt, (tt, (refl, (tt, (tt, (tt, (refl, (tt, (tt, tt))))))))))))))))))))))))
 
   -- after the acts until seven requests have timed out, those until the fourth connection is made are a run
   anew_runs : RunsAfter acts_until_anew (take 16 anew_acts)
@@ -243,11 +243,11 @@ module _ (reads : Asked → List ℕ → Reading) where
   unfolding is_elsewhere is_near header_at reply_at digits rounded
   written = refl
 
-  -- after the acts `acts_until_anew`, by which seven requests have timed out, the next act, which reads the moment 345, makes the
+  -- after the acts `acts_until_anew`, by which seven requests have timed out, the next act, which reads the moment 365, makes the
   -- station resynchronize
-  begins_anew : SynchronizesAnew plan commands patched_scope acts_until_anew (Told (at 345))
+  begins_anew : SynchronizesAnew plan commands patched_scope acts_until_anew (Told (at 365))
   unfolding is_elsewhere is_near header_at reply_at digits rounded
-  begins_anew = record { resynchronizes = record { renews = refl; moment = at 345; told = refl; seven = refl; given_up = refl }; word = refl; client = refl }
+  begins_anew = record { resynchronizes = record { renews = refl; moment = at 365; told = refl; seven = refl; given_up = refl }; word = refl; client = refl }
 
   -- with the patched readings the run is eventful
   patched_is_eventful : IsEventful (patched reads)

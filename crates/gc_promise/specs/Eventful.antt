@@ -192,8 +192,8 @@ sync_turns =
 
 -- the acts: command 0 is sent, and no reply to it comes until its deadline. A null procedure is sent, and its reply settles
 -- command 0 as lost. Command 1, which is chained to command 0, is skipped. Commands 2 to 6 are sent. After their deadline a null
--- procedure is sent, and after its deadline another one. No reply comes to any of these seven requests, and the line is dead. The
--- second connection is closed, and the third is made. The last of the seven requests times out
+-- procedure is sent, and after its deadline another one. No reply comes to any of these seven requests. Once the last of them has
+-- timed out, the line is dead: the second connection is closed, and the third is made
 abbrev pub first_acts : List Act
 first_acts =
     Told (at 40)
@@ -207,10 +207,9 @@ first_acts =
     ∷ puts 145 (null_line 7 ∷ [])
     ++ Silent (at 245)
     ∷ puts 245 (null_line 0 ∷ [])
-    ++ Silent (at 295)
-    ∷ connects_again 295 305
-    ++ Silent (at 315)
-    ∷ Silent (at 345)
+    ++ Silent (at 345)
+    ∷ connects_again 345 355
+    ++ Silent (at 365)
     ∷ []
 
 -- what happens meanwhile: command 0 is executed, and its reply is lost. Command 2 is executed, and its reply stays in flight. The
@@ -245,7 +244,7 @@ first_moves =
     ∷ Tells 245
     ∷ Sends 0 (Table NullProc) 345
     ∷ Tells 245
-    ∷ map Tells (295 ∷ 295 ∷ 305 ∷ 305 ∷ 315 ∷ 345 ∷ 345 ∷ [])
+    ∷ map Tells (345 ∷ 345 ∷ 355 ∷ 355 ∷ 365 ∷ 365 ∷ [])
 
 -- The station resynchronizes.
 
@@ -255,15 +254,15 @@ first_moves =
 -- made, over which the null procedures from the third on are sent and answered
 abbrev pub anew_acts : List Act
 anew_acts =
-    Told (at 345)
-    ∷ puts 345 (null_line 6 ∷ [])
-    ++ gave 350 (codes "%R1P,0,2:0,27" ∷ codes "%R1P,0,6:0,27" ∷ [])
-    ∷ puts 350 (null_line 5 ∷ [])
-    ++ gave 355 (codes "%R1P,0,0:0" ∷ codes "%R1P,0,6:0" ∷ codes "%R1P,0,5:0" ∷ [])
-    ∷ puts 355 (null_line 4 ∷ [])
+    Told (at 365)
+    ∷ puts 365 (null_line 6 ∷ [])
+    ++ gave 370 (codes "%R1P,0,2:0,27" ∷ codes "%R1P,0,6:0,27" ∷ [])
+    ∷ puts 370 (null_line 5 ∷ [])
+    ++ gave 375 (codes "%R1P,0,0:0" ∷ codes "%R1P,0,6:0" ∷ codes "%R1P,0,5:0" ∷ [])
+    ∷ puts 375 (null_line 4 ∷ [])
     ++ Ended
-    ∷ connects_again 355 375
-    ++ exchanged 380 (drop 2 null_lines) (drop 2 replies) []
+    ∷ connects_again 375 395
+    ++ exchanged 400 (drop 2 null_lines) (drop 2 replies) []
 
 -- what happens meanwhile: both requests of before reach the instrument. The request of the third null procedure is lost, and is
 -- sent again
@@ -287,10 +286,10 @@ anew_turns =
 -- third cycle begins. Command 0 is sent and answered. Commands 1 to 6 are sent; the request of command 6 is cut after five bytes
 abbrev pub sent_acts : List Act
 sent_acts =
-    map (λ now. Told (at now)) (replicate 9 385)
-    ++ puts 385 (point_line ∷ [])
-    ++ gave 390 (pointed_reply ∷ [])
-    ∷ puts 390 (measure_line ∷ four_lines)
+    map (λ now. Told (at now)) (replicate 9 405)
+    ++ puts 405 (point_line ∷ [])
+    ++ gave 410 (pointed_reply ∷ [])
+    ∷ puts 410 (measure_line ∷ four_lines)
     ++ Cut (with_end last_line) 5
     ∷ []
 
@@ -300,12 +299,12 @@ sent_acts =
 -- closed
 abbrev pub heard_acts : List Act
 heard_acts =
-    connects_again 390 400
-    ++ Silent (at 410)
-    ∷ gave 415 (codes "?" ∷ pointed_reply ∷ measured_reply ∷ elsewhere_reply ∷ numbered_reply ∷ numbered_reply ∷ empty_reply ∷ [])
-    ∷ Silent (at 440)
-    ∷ puts 440 (null_line 7 ∷ [])
-    ++ gave 445 (codes "%R1P,0,5:0,31" ∷ codes "%R1P,0,7:0,31" ∷ [])
+    connects_again 410 420
+    ++ Silent (at 430)
+    ∷ gave 435 (codes "?" ∷ pointed_reply ∷ measured_reply ∷ elsewhere_reply ∷ numbered_reply ∷ numbered_reply ∷ empty_reply ∷ [])
+    ∷ Silent (at 460)
+    ∷ puts 460 (null_line 7 ∷ [])
+    ++ gave 465 (codes "%R1P,0,5:0,31" ∷ codes "%R1P,0,7:0,31" ∷ [])
     ∷ Closed
     ∷ []
 
@@ -316,18 +315,18 @@ last_acts = sent_acts ++ heard_acts
 -- what happens meanwhile, first: the seven commands are sent; the line repeats the request of command 0, which is executed twice
 abbrev pub sent_moves : List (Move (List ℕ))
 sent_moves =
-    map Tells (replicate 9 385)
-    ++ Sends 7 points 435
-    ∷ Tells 385
+    map Tells (replicate 9 405)
+    ++ Sends 7 points 455
+    ∷ Tells 405
     ∷ map OnLine (Up_repeat 0 ∷ Up_deliver ∷ Up_deliver ∷ [])
-    ++ Tells 390
+    ++ Tells 410
     ∷ Comes pointed_reply
-    ∷ Sends 7 reads_all 440
-    ∷ Tells 390
-    ∷ Sends 8 reads_all 440
-    ∷ Tells 390
-    ∷ sends_all 390 440 (1 ∷ 2 ∷ 3 ∷ [])
-    ++ Sends 4 (Table InstrumentNo) 440
+    ∷ Sends 7 reads_all 460
+    ∷ Tells 410
+    ∷ Sends 8 reads_all 460
+    ∷ Tells 410
+    ∷ sends_all 410 460 (1 ∷ 2 ∷ 3 ∷ [])
+    ++ Sends 4 (Table InstrumentNo) 460
     ∷ []
 
 -- then: the instrument changes by itself before it executes commands 1, 2 and 3, as by a hand that turns it, and starts again
@@ -338,7 +337,7 @@ executed_moves =
     ++ OnLine (Down_repeat 3)
     ∷ Anew
     ∷ OnLine Up_deliver
-    ∷ map Tells (390 ∷ 400 ∷ 400 ∷ 410 ∷ 415 ∷ [])
+    ∷ map Tells (410 ∷ 420 ∷ 420 ∷ 430 ∷ 435 ∷ [])
 
 -- and at last: the replies come, behind a line that is none; a null procedure is sent. The instrument changes before it executes
 -- command 5, and the line loses the request of command 6
@@ -346,12 +345,12 @@ abbrev pub heard_moves : List (Move (List ℕ))
 heard_moves =
     Foreign (codes "?")
     ∷ map Comes (pointed_reply ∷ measured_reply ∷ elsewhere_reply ∷ numbered_reply ∷ numbered_reply ∷ empty_reply ∷ [])
-    ++ Tells 440
-    ∷ Sends 0 (Table NullProc) 540
-    ∷ Tells 440
+    ++ Tells 460
+    ∷ Sends 0 (Table NullProc) 560
+    ∷ Tells 460
     ∷ Changes (codes "31")
     ∷ map OnLine (Up_deliver ∷ Up_lose 0 ∷ Up_deliver ∷ [])
-    ++ Tells 445
+    ++ Tells 465
     ∷ map Comes (codes "%R1P,0,5:0,31" ∷ codes "%R1P,0,7:0,31" ∷ [])
 
 -- all that happens during `last_acts`
@@ -414,34 +413,34 @@ at_target = Measured hz v (decimal (pos 1100625) 4 refl)
 
 -- the record of command 0 in the third cycle: answered, without values
 abbrev pub points_record : Record
-points_record = ended_record (Some 385) 390 3 0 7 points (end.Answered Fine (Some Nothing) pointed_reply)
+points_record = ended_record (Some 405) 410 3 0 7 points (end.Answered Fine (Some Nothing) pointed_reply)
 
 -- the record of command 1 in the third cycle: answered, with what was measured at target 7
 abbrev pub chained_record : Record
-chained_record = ended_record (Some 390) 415 3 1 7 reads_all (end.Answered Fine (Some at_target) measured_reply)
+chained_record = ended_record (Some 410) 435 3 1 7 reads_all (end.Answered Fine (Some at_target) measured_reply)
 
 -- the record of command 2 in the third cycle: elsewhere
 abbrev pub elsewhere_record : Record
-elsewhere_record = ended_record (Some 390) 415 3 2 8 reads_all (end.Elsewhere elsewhere_reply)
+elsewhere_record = ended_record (Some 410) 435 3 2 8 reads_all (end.Elsewhere elsewhere_reply)
 
 -- the record of command 3 in the third cycle: answered, with a number
 abbrev pub number_record : Record
-number_record = ended_record (Some 390) 415 3 3 1 (Table InstrumentNo) (end.Answered Fine (Some (Long (pos 31))) numbered_reply)
+number_record = ended_record (Some 410) 435 3 3 1 (Table InstrumentNo) (end.Answered Fine (Some (Long (pos 31))) numbered_reply)
 
 -- the record of command 4 in the third cycle: unreadable
 abbrev pub unreadable_record : Record
-unreadable_record = ended_record (Some 390) 415 3 4 2 (Table InstrumentNo) (end.Unreadable empty_reply Count)
+unreadable_record = ended_record (Some 410) 435 3 4 2 (Table InstrumentNo) (end.Unreadable empty_reply Count)
 
 -- all records of the run, in order
 abbrev pub records : List Record
 records =
     ended_record (Some 40) 95 1 0 7 points end.Lost
     ∷ ended_record None 95 1 1 7 reads_all end.Skipped
-    ∷ ended_record (Some 95) 345 1 2 8 reads_all end.Lost
-    ∷ ended_record (Some 95) 345 1 3 1 (Table InstrumentNo) end.Lost
-    ∷ ended_record (Some 95) 345 1 4 2 (Table InstrumentNo) end.Lost
-    ∷ ended_record (Some 95) 345 1 5 3 (Table InstrumentNo) end.Lost
-    ∷ ended_record (Some 95) 345 1 6 4 (Table InstrumentNo) end.Lost
+    ∷ ended_record (Some 95) 365 1 2 8 reads_all end.Lost
+    ∷ ended_record (Some 95) 365 1 3 1 (Table InstrumentNo) end.Lost
+    ∷ ended_record (Some 95) 365 1 4 2 (Table InstrumentNo) end.Lost
+    ∷ ended_record (Some 95) 365 1 5 3 (Table InstrumentNo) end.Lost
+    ∷ ended_record (Some 95) 365 1 6 4 (Table InstrumentNo) end.Lost
     ∷ ended_record None 190 2 0 7 points end.Missed
     ∷ ended_record None 190 2 1 7 reads_all end.Missed
     ∷ ended_record None 190 2 2 8 reads_all end.Missed
@@ -454,8 +453,8 @@ records =
     ∷ elsewhere_record
     ∷ number_record
     ∷ unreadable_record
-    ∷ ended_record (Some 390) 445 3 5 3 (Table InstrumentNo) end.Late
-    ∷ ended_record (Some 390) 445 3 6 4 (Table InstrumentNo) end.Lost
+    ∷ ended_record (Some 410) 465 3 5 3 (Table InstrumentNo) end.Late
+    ∷ ended_record (Some 410) 465 3 6 4 (Table InstrumentNo) end.Lost
     ∷ []
 
 -- how many commands ended in each of the seven ways; no chain is sent again
@@ -484,7 +483,7 @@ pub record IsEventful (reads : Asked → List ℕ → Reading) : Type 0 where
   -- a reply is lost: in the first cycle, too, the instrument made this line on executing the request of command 0
   pub made : WasMadeOn WINDOW reporting first_stretch.from first_stretch.moves 8 points pointed_reply
   -- the station resynchronizes where seven requests wait that have all timed out. Two requests and a reply are in flight then
-  pub begins_anew : SynchronizesAnew plan commands (scope reads) acts_until_anew (Told (at 345))
+  pub begins_anew : SynchronizesAnew plan commands (scope reads) acts_until_anew (Told (at 365))
   pub up : left_by_first.up ≡ record { id = 6; call = Table InstrumentNo } ∷ record { id = 0; call = Table NullProc } ∷ []
   pub down : left_by_first.down ≡ codes "%R1P,0,2:0,27" ∷ []
   -- the instrument starts again in the third cycle, after five executions

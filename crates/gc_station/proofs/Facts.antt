@@ -14,8 +14,8 @@ use Rattle.gc_station.specs.declared.progress.Action.TheVariants as action
 use Rattle.gc_station.specs.declared.progress.Progress.{Progress}
 use Rattle.gc_station.specs.declared.progress.Until.TheVariants.{Limit, Due}
 use Rattle.gc_station.specs.declared.progress.Waiting.{Waiting}
-use Rattle.gc_station.specs.Reasons.{HoldsBefore, IsBetweenChains, IsFinished, IsHeld, HasRoomToAsk, MayGo, MayRetry, NothingMayGo, IsResting, StaysInItsChain, HasConnectionFor, MayPrepare, WantsNull}
-use Rattle.gc_station.specs.Deciding.{width_of, has_begun, is_up, is_dead, is_due, is_idle, is_finished, has_room_to_ask, action_of, action_in, action_on, action_of_phase, may_go, waits_for_all, action_again, action_ready, action_begun, action_beginning, action_held, action_settled, action_done, action_to_send, action_room, action_waiting, action_without_turns, is_stale, is_between_chains, is_resting, is_stopping, is_held_back, action_cycle, action_to_prepare, action_preparing, is_preparing}
+use Rattle.gc_station.specs.Reasons.{HoldsBefore, IsBetweenChains, IsFinished, IsHeld, HasRoomToAsk, MayGo, MayRetry, IsAtItsEnd, IsResting, StaysInItsChain, HasConnectionFor, MayPrepare, WantsNull}
+use Rattle.gc_station.specs.Deciding.{width_of, has_begun, is_up, is_unquiet, is_silent, is_dead, is_due, is_idle, is_finished, has_room_to_ask, action_of, action_in, action_on, action_of_phase, may_go, waits_for_all, action_again, action_ready, action_begun, action_beginning, action_held, action_settled, action_done, action_to_send, action_room, action_waiting, action_without_turns, is_stale, is_between_chains, is_resting, is_cut, is_stopping, is_held_back, action_cycle, action_to_prepare, action_preparing, is_preparing}
 use Rattle.gc_station.specs.Stations.{SuitsAction}
 
 -- Tests.
@@ -56,10 +56,9 @@ room_by_test plan w e = let it = and_parts (nat_lt w.current (width_of plan)) (n
 abbrev LacksRoom : Plan → Waiting → Type 0
 LacksRoom plan w = (nat_lt w.current (width_of plan) ≡ false) ⊎ (nat_lt w.all WINDOW ≡ false)
 
--- if there is no room, no command may be sent
-no_room : (plan : Plan) (p : Progress) (w : Waiting) → LacksRoom plan w → NothingMayGo plan p w
-no_room plan p w (inl e) = inr (inl (ltb-false w.current (width_of plan) e))
-no_room plan p w (inr e) = inr (inr (inl (ltb-false w.all WINDOW e)))
+-- if the line is dead, it is silent, and all outstanding requests have timed out
+dead_parts : (plan : Plan) (p : Progress) (w : Waiting) → is_dead plan p w ≡ true → (is_silent plan p w ≡ true) × (w.current ≡ 0)
+dead_parts plan p w dead = let it = and_parts (nat_eq w.current 0) (is_silent plan p w) dead in (it.1, eqb-true w.current 0 it.0)
 
 -- The moment is read again after each act that makes it out of date (`clock_due`); and nothing is read before a new connection
 -- was cleared.
@@ -122,15 +121,22 @@ awake_reads p (now, is) = (now, λ c. let other : Ready ≡ Clearing = sym is �
 abbrev SevenIfAllTimedOut : Waiting → Type 0
 SevenIfAllTimedOut w = w.current ≡ 0 → WINDOW ≤ w.all
 
--- for a station at work, `Holds` is true of `action_waiting`, if nothing may be sent
--- (`NothingMayGo`), and seven requests are outstanding if all have timed out
-waiting_for : (plan : Plan) (p : Progress) (w : Waiting) → IsAtWork p → NothingMayGo plan p w → SevenIfAllTimedOut w → Holds plan p w (action_waiting plan p w)
-waiting_for plan p w work nothing full =
+-- for a station at work, `Holds` is true of `action_waiting`, if seven requests are outstanding where all have timed out and the
+-- line isn't dead
+waiting_for : (plan : Plan) (p : Progress) (w : Waiting) → IsAtWork p → (is_dead plan p w ≡ false → SevenIfAllTimedOut w) → Holds plan p w (action_waiting plan p w)
+waiting_for plan p w work full =
     let P = Holds plan p w in
     let up = awake_up p work.awake in
-    cond_both (is_dead plan p w) (action.Close cause.Dead) _ P (λ d. ((up, inr (nothing, d)), tt, inr work.awake))
+    cond_both (is_dead plan p w) (action.Close cause.Dead) _ P (λ d. ((up, inr (closes d)), tt, inr work.awake))
     (λ d. cond_both (nat_eq w.current 0) action.Renew (action.Read Limit) P
-    (λ e. let none = eqb-true w.current 0 e in ((work.awake.1, work.begun, none, full none), tt, work.awake)) (λ e. (tt, awake_reads p work.awake, tt)))
+    (λ e. let none = eqb-true w.current 0 e in ((work.awake.1, work.begun, none, full d none), tt, work.awake)) (λ e. (tt, awake_reads p work.awake, tt))) where
+      -- a dead line is closed, since the station has synchronized
+      closes : is_dead plan p w ≡ true → IsAtItsEnd plan p w cause.Dead
+      closes d = let it = dead_parts plan p w d in (it.0, it.1, λ not_begun. let both : true ≡ false = sym work.begun ∙ not_begun in cc)
+
+-- for a station at work, `Holds` is true of `action_waiting` if a request is outstanding that hasn't timed out
+waiting_for_reply : (plan : Plan) (p : Progress) (w : Waiting) → IsAtWork p → 0 < w.current → Holds plan p w (action_waiting plan p w)
+waiting_for_reply plan p w work some = waiting_for plan p w work (λ alive none. absurd (omega (arith, none, some)))
 
 -- at least one request may be in flight
 width_above_zero : (plan : Plan) → 0 < width_of plan
@@ -141,30 +147,37 @@ seven_if_no_room : (plan : Plan) (w : Waiting) → LacksRoom plan w → SevenIfA
 seven_if_no_room plan w (inl e) none = let few : width_of plan ≤ w.current = ltb-false w.current (width_of plan) e in absurd (omega (arith, none, few, width_above_zero plan))
 seven_if_no_room plan w (inr e) none = ltb-false w.all WINDOW e
 
--- `action_room` is the action o if there is room for a request, and the action of a station that waits if there is none. For a
--- station at work, `Holds` is true of it, if `Holds` is true of o where there is room
-room_for : (plan : Plan) (p : Progress) (w : Waiting) (o : Action) → IsAtWork p → (HasRoomToAsk plan w → Holds plan p w o) → Holds plan p w (action_room plan p w o)
+-- if there is no room, or the line is dead, and it isn't dead, seven are outstanding if all outstanding requests have timed out
+seven_if_alive : (plan : Plan) (p : Progress) (w : Waiting) → (has_room_to_ask plan w ≡ false) ⊎ (not (is_dead plan p w) ≡ false) → is_dead plan p w ≡ false → SevenIfAllTimedOut w
+seven_if_alive plan p w (inl none) alive = seven_if_no_room plan w (and_cases (nat_lt w.current (width_of plan)) (nat_lt w.all WINDOW) none)
+seven_if_alive plan p w (inr dead) alive = let both : true ≡ false = sym (not-false (is_dead plan p w) dead) ∙ alive in cc
+
+-- `action_room` is the action o if there is room for a request and the line isn't dead, and else the action of a station that
+-- waits. For a station at work, `Holds` is true of it, if `Holds` is true of o where there is room and the line isn't dead
+room_for : (plan : Plan) (p : Progress) (w : Waiting) (o : Action) → IsAtWork p → (HasRoomToAsk plan w → is_dead plan p w ≡ false → Holds plan p w o)
+    → Holds plan p w (action_room plan p w o)
 room_for plan p w o work step =
-    cond_both (has_room_to_ask plan w) o _ (Holds plan p w) (λ e. step (room_by_test plan w e))
-    (λ e. let none = and_cases (nat_lt w.current (width_of plan)) (nat_lt w.all WINDOW) e in waiting_for plan p w work (no_room plan p w none) (seven_if_no_room plan w none))
+    cond_both (has_room_to_ask plan w && not (is_dead plan p w)) o _ (Holds plan p w)
+    (λ e. let it = and_parts (has_room_to_ask plan w) (not (is_dead plan p w)) e in step (room_by_test plan w it.0) (not-true (is_dead plan p w) it.1))
+    (λ e. waiting_for plan p w work (seven_if_alive plan p w (and_cases (has_room_to_ask plan w) (not (is_dead plan p w)) e)))
 
 -- for a station at work, `Holds` is true of `action_to_send` with the action o, if it is true of o
--- where there is room and the count `behind` is below seven, and a null procedure is wanted where that count isn't
-to_send_for : (plan : Plan) (p : Progress) (w : Waiting) (o : Action) → (work : IsAtWork p) → (near : p.behind < WINDOW → HasRoomToAsk plan w → Holds plan p w o)
+-- where there is room, the line isn't dead and the count `behind` is below seven, and a null procedure is wanted where that
+-- count isn't
+to_send_for : (plan : Plan) (p : Progress) (w : Waiting) (o : Action) → (work : IsAtWork p) → (near : p.behind < WINDOW → HasRoomToAsk plan w → is_dead plan p w ≡ false → Holds plan p w o)
     → (far : WINDOW ≤ p.behind → WantsNull plan p w) → Holds plan p w (action_to_send plan p w o)
 to_send_for plan p w o work near far =
     let P = Holds plan p w in
     cond_both (nat_lt p.behind WINDOW) _ _ P (λ below. room_for plan p w o work (near (ltb-true p.behind WINDOW below)))
     (λ above. let many = ltb-false p.behind WINDOW above in cond_both (nat_eq w.current 0) _ _ P
-    (λ given. room_for plan p w action.Flush work (λ room. ((work.awake.1, work.begun, far many, eqb-true w.current 0 given, room), tt, work.awake)))
-    (λ current. let under = above_zero w.current current in
-    waiting_for plan p w work (inr (inr (inr (inr (inl (many, under)))))) (λ none. absurd (omega (arith, none, under)))))
+    (λ given. room_for plan p w action.Flush work (λ room alive. ((work.awake.1, work.begun, far many, eqb-true w.current 0 given, room, alive), tt, work.awake)))
+    (λ current. waiting_for_reply plan p w work (above_zero w.current current)))
 
 -- for a station in its cycles (`IsMeasuring`), `Holds` is true of `action_to_send` with `Send` if a command is unsent, it may be
 -- sent (`MayGo`, `MayRetry`), and it goes on with its chain if the end of the run was asked for
 send_for : (plan : Plan) (p : Progress) (w : Waiting) → IsMeasuring plan p w → 0 < p.unsent → MayGo p w → MayRetry p w → StaysInItsChain p → Holds plan p w (action_to_send plan p w action.Send)
 send_for plan p w m some may retry stays =
-    to_send_for plan p w action.Send m.work (λ near room. ((m.work.awake.1, m.work.begun, some, room, may, near, retry, stays, m.set_up), tt, m.work.awake)) (λ many. inr (inl (some, may), many))
+    to_send_for plan p w action.Send m.work (λ near room alive. ((m.work.awake.1, m.work.begun, some, room, may, near, retry, stays, m.set_up, alive), tt, m.work.awake)) (λ many. inr (inl (some, may), many))
 
 -- If the end of the run was asked for.
 
@@ -203,12 +216,21 @@ in_chain_by_test p e = by_test (nat_eq p.unsent 0) p.next_is_chained p.preparing
   by_test false true true is f = cc
   by_test false false b is f = cc
 
+-- if the run doesn't end, it doesn't end between two chains either: `cut` is why it could end besides
+not_between_either : (stops down none between cut : Bool) → (stops && (down || (none && (between || cut)))) ≡ false → (stops && (down || (none && between))) ≡ false
+not_between_either false down none between cut e = refl
+not_between_either true true none between cut e = cc
+not_between_either true false false between cut e = refl
+not_between_either true false true true cut e = cc
+not_between_either true false true false cut e = refl
+
 -- if there is a connection, the station has synchronized, the run doesn't end, and no further chain is held back,
 -- `IsInChainIfStopping` holds
 in_chain_if_stopping : (p : Progress) (w : Waiting) → is_up p.phase ≡ true → has_begun p ≡ true → is_stopping p w ≡ false → is_held_back p w ≡ false → IsInChainIfStopping p
 in_chain_if_stopping p w up begun goes free stops =
     in_chain_by_test p
-    (not_between p.stops (is_up p.phase) (has_begun p) (nat_eq w.current 0) (is_between_chains p) (nat_lt 0 w.current) up begun goes free (test_above_zero w.current) stops)
+    (not_between p.stops (is_up p.phase) (has_begun p) (nat_eq w.current 0) (is_between_chains p) (nat_lt 0 w.current) up begun
+    (not_between_either p.stops (not (is_up p.phase) || not (has_begun p)) (nat_eq w.current 0) (is_between_chains p) (is_cut p) goes) free (test_above_zero w.current) stops)
 
 -- if the test says that the station is between two chains, it is
 between_by_test : (p : Progress) → is_between_chains p ≡ true → IsBetweenChains p
@@ -225,11 +247,14 @@ resting_by_test : (p : Progress) (w : Waiting) → is_resting p w ≡ true → I
 resting_by_test p w e = by_tests (is_up p.phase) (has_begun p) (nat_eq w.current 0) (is_between_chains p) refl refl refl refl e where
   -- the lemma above, by each of its four tests
   by_tests : (up begun none between : Bool) → (up_is : is_up p.phase ≡ up) → (begun_is : has_begun p ≡ begun) → (none_is : nat_eq w.current 0 ≡ none) → (between_is : is_between_chains p ≡ between)
-      → ((not up || not begun) || (none && between)) ≡ true → IsResting p w
+      → ((not up || not begun) || (none && (between || is_cut p))) ≡ true → IsResting p w
   by_tests false begun none between u b n t f = inl u
   by_tests true false none between u b n t f = inr (inl b)
-  by_tests true true true true u b n t f = inr (inr (eqb-true w.current 0 n, between_by_test p t))
-  by_tests true true true false u b n t f = cc
+  by_tests true true true true u b n t f = inr (inr (eqb-true w.current 0 n, inl (between_by_test p t)))
+  by_tests true true true false u b n t f =
+      let it = and_parts (is_unquiet p.phase && not p.chain_unbroken) (not p.missed) f in
+      let cut = and_parts (is_unquiet p.phase) (not p.chain_unbroken) it.0 in
+      inr (inr (eqb-true w.current 0 n, inr (cut.0, not-true p.chain_unbroken cut.1, not-true p.missed it.1)))
   by_tests true true false between u b n t f = cc
 
 -- if there is a connection, there is one to be closed for any cause
@@ -241,10 +266,7 @@ has_connection_for why p up = up
 -- for a station at work, `Holds` is true of `action_waiting`, if a further chain is held back
 held_back_for : (plan : Plan) (p : Progress) (w : Waiting) → IsAtWork p → is_held_back p w ≡ true → Holds plan p w (action_waiting plan p w)
 held_back_for plan p w work held =
-    let it = and_parts (p.stops && is_between_chains p) (nat_lt 0 w.current) held in
-    let asked = and_parts p.stops (is_between_chains p) it.0 in
-    let under : 0 < w.current = ltb-true 0 w.current it.1 in
-    waiting_for plan p w work (inr (inr (inr (inr (inr (asked.0, between_by_test p asked.1, under)))))) (λ none. absurd (omega (arith, none, under)))
+    let it = and_parts (p.stops && is_between_chains p) (nat_lt 0 w.current) held in waiting_for_reply plan p w work (ltb-true 0 w.current it.1)
 
 -- for a station in its cycles (`IsMeasuring`), `Holds` is true of `action_done` if no command of the cycle is unsent or
 -- outstanding, and the end of the run wasn't asked for
@@ -295,9 +317,9 @@ held_for plan p w m held only =
     let P = Holds plan p w in
     cond_both (nat_eq w.commands 0) _ _ P (λ e. settled_for plan p w m held (eqb-true w.commands 0 e) only)
     (λ e. cond_both (nat_eq w.current 0) _ _ P
-    (λ given. room_for plan p w action.Flush m.work (λ room. ((m.work.awake.1, m.work.begun, inl (inl held, above_zero w.commands e), eqb-true w.current 0 given, room), tt, m.work.awake)))
-    (λ some. let many = above_zero w.current some in
-    waiting_for plan p w m.work (inr (inr (inr (inl (inl held, above_zero w.commands e, many))))) (λ none. absurd (omega (arith, none, many)))))
+    (λ given. room_for plan p w action.Flush m.work (λ room alive.
+    ((m.work.awake.1, m.work.begun, inl (inl held, above_zero w.commands e), eqb-true w.current 0 given, room, alive), tt, m.work.awake)))
+    (λ some. waiting_for_reply plan p w m.work (above_zero w.current some)))
 
 -- if no command is left, or the next one is sent only once all are settled, `IsHeld` holds
 held_by_test : (p : Progress) → (nat_lt 0 p.unsent && not (waits_for_all p)) ≡ false → IsHeld p
@@ -344,7 +366,7 @@ finished_by_test count p e =
 -- setup may be sent (`MayPrepare`), and the end of the run wasn't asked for
 prepare_for : (plan : Plan) (p : Progress) (w : Waiting) → IsAtWork p → p.stops ≡ false → MayPrepare plan p w → Holds plan p w (action_to_send plan p w action.Prepare)
 prepare_for plan p w work unasked may =
-    to_send_for plan p w action.Prepare work (λ near room. ((work.awake.1, work.begun, may, room, near, unasked), tt, work.awake)) (λ many. inr (inr may, many))
+    to_send_for plan p w action.Prepare work (λ near room alive. ((work.awake.1, work.begun, may, room, near, unasked, alive), tt, work.awake)) (λ many. inr (inr may, many))
 
 -- for a station at work, `Holds` is true of `action_to_prepare`, if it is preparing, the next
 -- command of the setup is the first or those before it are settled and answered well, and the end of the run wasn't asked for
@@ -367,10 +389,9 @@ preparing_for plan p w work unasked on =
     (λ e. cond_both w.well _ (action.Close cause.SetUp) P (λ well. to_prepare_for plan p w work unasked on (inr (eqb-true w.commands 0 e, well)))
     (λ ill. ((awake_up p work.awake, inr (on, above_zero p.prepared sent, eqb-true w.commands 0 e, ill)), tt, tt)))
     (λ waiting. cond_both (nat_eq w.current 0) _ _ P
-    (λ given. room_for plan p w action.Flush work (λ room.
-    ((work.awake.1, work.begun, inl (inr (on, above_zero p.prepared sent), above_zero w.commands waiting), eqb-true w.current 0 given, room), tt, work.awake)))
-    (λ some. let many = above_zero w.current some in
-    waiting_for plan p w work (inr (inr (inr (inl (inr (on, above_zero p.prepared sent), above_zero w.commands waiting, many))))) (λ none. absurd (omega (arith, none, many))))))))
+    (λ given. room_for plan p w action.Flush work (λ room alive.
+    ((work.awake.1, work.begun, inl (inr (on, above_zero p.prepared sent), above_zero w.commands waiting), eqb-true w.current 0 given, room, alive), tt, work.awake)))
+    (λ some. waiting_for_reply plan p w work (above_zero w.current some))))))
 
 -- for a station at work, `Holds` is true of `action_begun`, unless the run ends because that was
 -- asked for (`is_stopping`)
@@ -389,9 +410,11 @@ beginning_for plan p w awake begun =
     let P = Holds plan p w in
     cond_both (is_finished w.commands p) (action.Close cause.Done) _ P (λ none. ((awake_up p awake, inr (finished_by_test w.commands p none)), tt, tt))
     (λ more. cond_both (is_idle plan p) (action.Read Due) _ P (λ idle. (tt, awake_reads p awake, tt))
-    (λ busy. cond_both (is_dead plan p w) (action.Close cause.Dead) _ P (λ d. ((awake_up p awake, inr (inl begun, d)), tt, inr awake))
-    (λ d. cond_both (nat_le p.again p.moment.elapsed) action.Ask (action.Read Limit) P
-    (λ e. ((awake.1, begun, leb-true p.again p.moment.elapsed e, busy), tt, awake)) (λ e. (tt, awake_reads p awake, tt)))))
+    (λ busy. cond_both (nat_le p.again p.moment.elapsed) _ (action.Read Limit) P
+    (λ past. cond_both (is_dead plan p w) (action.Close cause.Dead) action.Ask P
+    (λ d. let it = dead_parts plan p w d in ((awake_up p awake, inr (it.0, it.1, λ not_begun. leb-true p.again p.moment.elapsed past)), tt, inr awake))
+    (λ alive. ((awake.1, begun, leb-true p.again p.moment.elapsed past, busy, alive), tt, awake)))
+    (λ e. (tt, awake_reads p awake, tt))))
 
 -- for a station that is `Awake`, `Holds` is true of `action_ready`, unless the run ends because that was asked for
 -- (`is_stopping`)

@@ -1,7 +1,7 @@
 -- A text without raw commands is never held up: if each command is a call of the table, the requests sent after the last call of
 -- the table that a reply ended are as many as the outstanding ones. An act is one call on the link, with its result; steps of the
 -- client are to send, to hear a line, to read the clock and to restart.
-use Rattle.std.proofs.Common.{◌≡◌, ℕ, zero, suc, ◌+◌, ◌-◌, ◌<◌, ◌≤◌, Bool, true, false, List, [], ◌∷◌, length, map, drop, Option, Some, None, refl, sym, ap, ◌∙◌, subst, arith, if◌then◌else◌, nat_lt, nat_eq, length-drop}
+use Rattle.std.proofs.Common.{◌≡◌, ℕ, zero, suc, ◌+◌, ◌-◌, ◌<◌, ◌≤◌, ◌&&◌, Bool, true, false, not, List, [], ◌∷◌, length, map, drop, Option, Some, None, refl, sym, ap, ◌∙◌, subst, arith, if◌then◌else◌, nat_lt, nat_eq, length-drop}
 use Rattle.std.specs.Prelude.{slice_get}
 use Rattle.std.specs.List.{AllByRecursion}
 use Rattle.std.proofs.lemmas.Bool.{ltb-true, lt-ltb, eqb-true, both_ways, and_right, cond-true}
@@ -27,7 +27,7 @@ use Rattle.gc_station.specs.declared.progress.Action.TheVariants as action
 use Rattle.gc_station.specs.declared.progress.Progress.{Progress}
 use Rattle.gc_station.specs.declared.progress.Waiting.{Waiting}
 use Rattle.gc_station.specs.Behind.{AreOfTable, TheTableIsNeverHeldUp}
-use Rattle.gc_station.specs.Deciding.{has_begun, is_none_left, action_to_send, action_room, action_waiting, width_of}
+use Rattle.gc_station.specs.Deciding.{has_begun, has_room_to_ask, is_dead, is_none_left, action_to_send, action_room, action_waiting, width_of}
 use Rattle.gc_station.specs.Parts.{put_part, request_part, first_request_part, client_part, sync_part, part_of_act, client_stepped, client_after, course_at}
 use Rattle.gc_station.specs.Progressing.{one_more_in_window, turned, time_passed, is_over, loses_all}
 use Rattle.gc_station.specs.Reasons.{HoldsBefore}
@@ -297,7 +297,9 @@ module _ (plan : Plan) (commands : List Task) (all : AreOfTable commands) where
 
 -- if the window is full, `action_room` is the action of a station that waits
 full_waits : (plan : Plan) (p : Progress) (w : Waiting) (o : Action) → nat_lt w.all WINDOW ≡ false → action_room plan p w o ≡ action_waiting plan p w
-full_waits plan p w o full = ap (λ (b : Bool). if b then o else action_waiting plan p w) (and_right (nat_lt w.current (width_of plan)) (nat_lt w.all WINDOW) full)
+full_waits plan p w o full =
+    let lacks : has_room_to_ask plan w ≡ false = and_right (nat_lt w.current (width_of plan)) (nat_lt w.all WINDOW) full in
+    ap (λ (b : Bool). if b && not (is_dead plan p w) then o else action_waiting plan p w) lacks
 
 -- if as many requests were sent after the last call of the table that a reply ended (`behind`) as are outstanding,
 -- `action_to_send` is the action o as soon as there is room (`action_room`)

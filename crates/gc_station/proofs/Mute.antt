@@ -5,11 +5,12 @@
 use Rattle.std.proofs.Common.{◌≡◌, ℕ, ◌-◌, ◌<◌, ◌≤◌, ◌⊎◌, inl, inr, ◌&&◌, ◌||◌, Bool, true, false, List, [], ◌∷◌, ◌++◌, length, drop, if◌then◌else◌, nat_lt, nat_le, min, refl, sym, ap, ◌∙◌, subst, arith, append_assoc}
 use Rattle.std.specs.List.{AllByRecursion}
 use Rattle.std.proofs.Math.Nat.{min-eq_left, min-eq_right}
+use Rattle.std.proofs.lemmas.List.{nil_from_length}
 use Rattle.std.proofs.lemmas.Bool.{leb-true, leb-false, ltb-true, and_parts, both_ways, or_right}
 use Rattle.gc_lines.specs.Frames.{rest_behind}
 use Rattle.gc_catalogue.specs.declared.asked.Asked.{Asked}
 use Rattle.gc_client.specs.Beginning.{the_word}
-use Rattle.gc_client.specs.Rule.{ById}
+use Rattle.gc_client.specs.Rule.{ById, deadlines}
 use Rattle.gc_catalogue.specs.declared.asked.Asked.TheVariants.{Table}
 use Rattle.gc_catalogue.specs.declared.call.Call.TheVariants.{NullProc}
 use Rattle.gc_texts.specs.declared.tasks.Task.{Task}
@@ -27,7 +28,7 @@ use Rattle.gc_station.specs.Progressing.{turned, moment_noted, lines_synchronizi
 use Rattle.gc_station.specs.Quiet.{TellsMoment, IsListening, StaysConnected}
 use Rattle.gc_station.specs.Reasons.{HoldsBefore}
 use Rattle.gc_station.specs.Runs.{state_after}
-use Rattle.gc_station.specs.Silences.{latest, IsNoReply, BringsNoReply, IsMute, WentBack, PutsFirst, IsMuteFor}
+use Rattle.gc_station.specs.Silences.{HasAllTimedOut, latest, IsNoReply, BringsNoReply, IsMute, WentBack, PutsFirst, IsMuteFor}
 use Rattle.gc_station.specs.Model.{Model, next_request_text, null_text, first_text, opening, action_at, waiting_of, with_progress, with_moment, with_rest, lines_came, lines_completed, after_piece, is_heard, after, after_all, Runs, text_or_null}
 use Rattle.gc_station.specs.NextCommand.{place_next}
 use Rattle.gc_station.proofs.Closings.{came_phase}
@@ -456,9 +457,19 @@ module _ (plan : Plan) (commands : List Task) (scope : Scope) where
 
     -- a reply line is waited for, and for long enough none came
     dead : ((nat_lt 0 (length s.client.waiting) || nat_lt 0 s.progress.again) ≡ true) × (nat_le (dead_after plan) (s.progress.moment.elapsed - s.progress.alive) ≡ true)
-    dead = and_parts (nat_lt 0 (length s.client.waiting) || nat_lt 0 s.progress.again)
-        (nat_le (dead_after plan) (s.progress.moment.elapsed - s.progress.alive)) (closes_at_its_end plan s cause.Dead is never).1
+    dead =
+        let long : Bool = nat_le (dead_after plan) (s.progress.moment.elapsed - s.progress.alive) in
+        let sought : Bool = nat_lt 0 (length s.client.waiting) || nat_lt 0 s.progress.again in
+        and_parts sought long (and_parts s.progress.asked (sought && long) (closes_at_its_end plan s cause.Dead is never).0).1
 
     -- a silence has lasted since `alive`
     q : IsMutedAt s.progress acts
     q = in_phase s.progress phase.Ready acts awake.1 (mute_holds acts runs) (outstanding_is_sought s (invariant_holds plan commands scope acts) dead.0)
+
+-- a connection is closed for a dead line only once all that is outstanding has timed out
+pub dead_after_deadlines : (plan : Plan) (commands : List Task) (scope : Scope) (acts : List Act) → Runs plan commands (opening plan scope) acts
+    → action_at plan (state_after plan commands scope acts) ≡ actions.Close cause.Dead → HasAllTimedOut (state_after plan commands scope acts)
+dead_after_deadlines plan commands scope acts runs is =
+    let s = state_after plan commands scope acts in
+    let ends = closes_at_its_end plan s cause.Dead is (not_closing plan commands scope acts cause.Dead runs (λ act shows. shows)) in
+    (nil_from_length (deadlines s.client.waiting) ends.1, ends.2)

@@ -164,6 +164,7 @@ resting_sends_no_chained p w on rests some chained = false_from_ne_true (may_go 
   by_rest : p.chain_unbroken ≡ true → IsResting p w → ⊥
   by_rest c (inl down) = both_ways (is_up p.phase) down (on c).0
   by_rest c (inr (inl begins)) = both_ways (has_begun p) begins (on c).1
-  by_rest c (inr (inr (none, inl all))) = omega (arith, all, some)
-  by_rest c (inr (inr (none, inr (inl free)))) = both_ways p.next_is_chained free chained
-  by_rest c (inr (inr (none, inr (inr prepares)))) = both_ways p.preparing (on c).2 prepares
+  by_rest c (inr (inr (none, inl (inl all)))) = omega (arith, all, some)
+  by_rest c (inr (inr (none, inl (inr (inl free))))) = both_ways p.next_is_chained free chained
+  by_rest c (inr (inr (none, inl (inr (inr prepares))))) = both_ways p.preparing (on c).2 prepares
+  by_rest c (inr (inr (none, inr cut))) = both_ways p.chain_unbroken cut.1 c

@@ -51,8 +51,9 @@ CommandsAreSentNearTheTable =
 abbrev pub AreOfTable : List Task → Type 0
 AreOfTable tasks = AllByRecursion (λ task. is_of_table task.command.call ≡ true) tasks
 
--- a station with the model `s` sends a command that may be sent as soon as there is room: as many requests are outstanding as
--- were sent after the last call of the table that a reply ended (`behind`), so no null procedure has to be sent first
+-- a station with the model `s` sends a command that may be sent as soon as there is room, unless the line is dead: as many requests
+-- are outstanding as were sent after the last call of the table that a reply ended (`behind`), so no null procedure has to be sent
+-- first
 abbrev pub IsNotHeldUp : Plan → Model → Type 0
 IsNotHeldUp plan s =
     (s.progress.behind ≡ length s.client.waiting)

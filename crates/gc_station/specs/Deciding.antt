@@ -31,6 +31,16 @@ is_up phase.Ready = true
 is_up (phase.Closing cause) = true
 is_up (phase.Over cause) = false
 
+-- whether a connection was made in this phase that isn't quiet yet: it is being cleared, or drained
+abbrev pub is_unquiet : Phase → Bool
+is_unquiet phase.Down = false
+is_unquiet phase.Pausing = false
+is_unquiet phase.Clearing = true
+is_unquiet phase.Draining = true
+is_unquiet phase.Ready = false
+is_unquiet (phase.Closing cause) = false
+is_unquiet (phase.Over cause) = false
+
 -- whether at least `wait` milliseconds lie between `since`, from when a pause or a quiet time counts, and the moment read last
 abbrev pub is_past : (wait : ℕ) → Progress → Bool
 is_past wait p = nat_le wait (p.moment.elapsed - p.since)
@@ -48,14 +58,19 @@ is_none_left (asked ∷ others) = false
 abbrev pub has_begun : Progress → Bool
 has_begun p = is_none_left p.word
 
--- after how many milliseconds without a reply line the line is dead: twice the longest deadline, at most the greatest `u64`
+-- after how many milliseconds without a reply line the line is silent (`is_silent`): twice the longest deadline, at most the
+-- greatest `u64`
 abbrev pub dead_after : Plan → ℕ
 dead_after plan = later plan.deadline plan.deadline
 
--- whether the line is dead: a request is outstanding, or a null procedure of the synchronization has a deadline (`again`) other
--- than 0; and no reply line came for `dead_after`, counted from `alive`
+-- whether the line is silent: a request was sent on it, and since then no reply line came (`asked`); a request is outstanding, or a
+-- null procedure of the synchronization has a deadline (`again`) other than 0; and `dead_after` has passed since `alive`
+abbrev pub is_silent : Plan → Progress → Waiting → Bool
+is_silent plan p w = p.asked && ((nat_lt 0 w.all || nat_lt 0 p.again) && nat_le (dead_after plan) (p.moment.elapsed - p.alive))
+
+-- whether the line is dead: it is silent, and all outstanding requests have timed out
 abbrev pub is_dead : Plan → Progress → Waiting → Bool
-is_dead plan p w = (nat_lt 0 w.all || nat_lt 0 p.again) && nat_le (dead_after plan) (p.moment.elapsed - p.alive)
+is_dead plan p w = nat_eq w.current 0 && is_silent plan p w
 
 -- whether the run is stale: no answer of a good quality was recorded for as long as the plan allows, counted from `fresh`; false
 -- if the plan sets no limit (`stale` is 0)
@@ -66,9 +81,13 @@ is_stale plan p w = nat_lt 0 plan.stale && nat_le plan.stale (p.moment.elapsed -
 abbrev pub is_between_chains : Progress → Bool
 is_between_chains p = (nat_eq p.unsent 0 || not p.next_is_chained) || p.preparing
 
+-- whether a close cut the chain, in a cycle that isn't missed, and the new connection isn't quiet yet
+abbrev pub is_cut : Progress → Bool
+is_cut p = is_unquiet p.phase && not p.chain_unbroken && not p.missed
+
 -- whether the run may end here if that is asked for: the test of `IsResting`
 abbrev pub is_resting : Progress → Waiting → Bool
-is_resting p w = (not (is_up p.phase) || not (has_begun p)) || (nat_eq w.current 0 && is_between_chains p)
+is_resting p w = (not (is_up p.phase) || not (has_begun p)) || (nat_eq w.current 0 && (is_between_chains p || is_cut p))
 
 -- whether the run ends now because its end was asked for: it was asked for, and the run may end here (`is_resting`)
 abbrev pub is_stopping : Progress → Waiting → Bool
@@ -107,12 +126,12 @@ is_finished count p = nat_eq p.left 0 && nat_eq p.unsent 0 && nat_eq count 0
 abbrev pub action_unless_idle : Plan → Progress → Waiting → Action → Action
 action_unless_idle plan p w action = if is_finished w.commands p then Close Done else if is_idle plan p then Read Due else action
 
--- the next action while the station synchronizes, unless the run is done or the station idle (`action_unless_idle`): to close
--- the connection if the line is dead; and else to send the null procedure of the first id that isn't answered, for the first time
--- or again at its deadline, and to read until then
+-- the next action while the station synchronizes, unless the run is done or the station idle (`action_unless_idle`): to read until
+-- the deadline of the null procedure that was sent last; and else to close the connection if the line is dead, and to send the
+-- null procedure of the first id that isn't answered if it isn't
 abbrev pub action_beginning : Plan → Progress → Waiting → Action
 action_beginning plan p w =
-    action_unless_idle plan p w (if is_dead plan p w then Close Dead else if nat_le p.again p.moment.elapsed then Ask else Read Limit)
+    action_unless_idle plan p w (if nat_le p.again p.moment.elapsed then (if is_dead plan p w then Close Dead else Ask) else Read Limit)
 
 -- the next action if each command of the cycle is settled: to close the connection if no cycle is left, to begin the next cycle
 -- if it is due, and else to read until it is
@@ -123,9 +142,9 @@ action_done plan p = if nat_eq p.left 0 then Close Done else if is_due plan p th
 abbrev pub has_room_to_ask : Plan → Waiting → Bool
 has_room_to_ask plan w = nat_lt w.current (width_of plan) && nat_lt w.all WINDOW
 
--- `action`, which sends a request, if there is room for one; otherwise the action of a station that waits
+-- `action`, which sends a request, if there is room for one and the line isn't dead; otherwise the action of a station that waits
 abbrev pub action_room : Plan → Progress → Waiting → Action → Action
-action_room plan p w action = if has_room_to_ask plan w then action else action_waiting plan p w
+action_room plan p w action = if has_room_to_ask plan w && not (is_dead plan p w) then action else action_waiting plan p w
 
 -- the next action if nothing but a null procedure may be sent: to send one, if all outstanding requests have timed out or none is
 -- outstanding, and there is room; its reply settles them. Otherwise it is the action of a station that waits

@@ -7,13 +7,9 @@ use Rattle.gc_station.specs.declared.progress.Phase.TheVariants as phase
 use Rattle.gc_station.specs.declared.progress.Progress.{Progress}
 use Rattle.gc_station.specs.declared.progress.Until.{Until}
 use Rattle.gc_station.specs.declared.progress.Until.TheVariants.{Limit, Due}
-use Rattle.gc_station.specs.Deciding.{later, has_begun, dead_after, is_due}
+use Rattle.gc_station.specs.Deciding.{later, has_begun, is_due}
 use Rattle.gc_station.specs.NextCommand.{cycles_begun}
 use Rattle.gc_station.specs.Progressing.{is_idle, due_at}
-
--- the moment from which on the line is dead, if no reply line comes until then and something is outstanding (`is_dead`)
-abbrev pub dead_at : Plan → Progress → ℕ
-dead_at plan p = later p.alive (dead_after plan)
 
 -- the moment of the next attempt to connect: the end of the pause, or, if no connection is wanted before the next cycle is due,
 -- that due moment if it is later
@@ -31,12 +27,12 @@ abbrev pub longest_timeout : Plan → ℕ
 longest_timeout plan = if plan.watched then 1000 else 60000
 
 -- the moment at which a read in this phase ends if nothing comes, leaving out the deadlines of the outstanding requests: at the
--- next attempt to connect (`retry_at`), or at the end of a drain; otherwise when the line is dead, or, while the station
--- synchronizes, when the null procedure is sent again, if that is earlier
+-- next attempt to connect (`retry_at`), at the end of a drain, or, while the station synchronizes, at the deadline of its null
+-- procedure; otherwise the greatest `u64`, since only the deadlines of requests matter
 abbrev pub read_end_in : Phase → Plan → Progress → ℕ
 read_end_in phase.Pausing plan p = retry_at plan p
 read_end_in phase.Draining plan p = later p.since plan.quiet
-read_end_in _ plan p = if has_begun p then dead_at plan p else min p.again (dead_at plan p)
+read_end_in _ plan p = if has_begun p then 18446744073709551615 else p.again
 
 -- as `read_end_in` in the phase of `p`, except that a read that only waits for the next cycle ends when that cycle is due
 abbrev pub read_end_without_deadline : Plan → Progress → Until → ℕ

@@ -10,7 +10,7 @@ use Rattle.gc_station.specs.declared.progress.Action.{Action}
 use Rattle.gc_station.specs.declared.progress.Action.TheVariants as action
 use Rattle.gc_station.specs.declared.progress.Progress.{Progress}
 use Rattle.gc_station.specs.declared.progress.Waiting.{Waiting}
-use Rattle.gc_station.specs.Deciding.{width_of, has_begun, is_up, is_idle, is_dead, is_stale, may_go, is_preparing}
+use Rattle.gc_station.specs.Deciding.{width_of, has_begun, is_up, is_unquiet, is_idle, is_silent, is_dead, is_stale, may_go, is_preparing}
 
 -- another request may be sent: fewer that haven't timed out are in flight than `width_of` allows, and fewer are outstanding in
 -- all than the window has places
@@ -28,10 +28,14 @@ IsHeld p = (p.unsent ≡ 0) ⊎ ((p.next_is_chained ≡ true) ⊎ (0 < p.next_ot
 abbrev pub IsBetweenChains : Progress → Type 0
 IsBetweenChains p = (p.unsent ≡ 0) ⊎ ((p.next_is_chained ≡ false) ⊎ (p.preparing ≡ true))
 
--- the run may end here if that is asked for: there is no connection, or the station synchronizes, or it is between two chains
--- and nothing is in flight that hasn't timed out
+-- a close cut the chain, in a cycle that isn't missed, and the new connection isn't quiet yet
+abbrev pub IsCut : Progress → Type 0
+IsCut p = (is_unquiet p.phase ≡ true) × (p.chain_unbroken ≡ false) × (p.missed ≡ false)
+
+-- the run may end here if that is asked for: there is no connection, or the station synchronizes, or nothing is in flight that
+-- hasn't timed out, and the station is between two chains or a close cut its chain (`IsCut`)
 abbrev pub IsResting : Progress → Waiting → Type 0
-IsResting p w = (is_up p.phase ≡ false) ⊎ ((has_begun p ≡ false) ⊎ ((w.current ≡ 0) × IsBetweenChains p))
+IsResting p w = (is_up p.phase ≡ false) ⊎ ((has_begun p ≡ false) ⊎ ((w.current ≡ 0) × (IsBetweenChains p ⊎ IsCut p)))
 
 -- if the end of the run was asked for, the next command goes on with a chain (`next_is_chained`)
 abbrev pub StaysInItsChain : Progress → Type 0
@@ -44,20 +48,6 @@ SetUpHasBegun plan p w = (is_preparing plan p w ≡ true) × (0 < p.prepared)
 -- the next command, of a cycle (`IsHeld`) or of the setup (`SetUpHasBegun`), isn't sent before all that were sent are settled
 abbrev pub AwaitsSettlements : Plan → Progress → Waiting → Type 0
 AwaitsSettlements plan p w = IsHeld p ⊎ SetUpHasBegun plan p w
-
--- some request hasn't timed out, and because of it no command may be sent, for one of three reasons: commands are outstanding,
--- and the next one waits until they are settled; or none of the last seven requests is a call of the table that a reply ended;
--- or the end of the run was asked for, and the station is between two chains
-abbrev pub WaitsForWhatIsInFlight : Plan → Progress → Waiting → Type 0
-WaitsForWhatIsInFlight plan p w =
-    (AwaitsSettlements plan p w × (0 < w.commands) × (0 < w.current))
-    ⊎ (((WINDOW ≤ p.behind) × (0 < w.current)) ⊎ ((p.stops ≡ true) × IsBetweenChains p × (0 < w.current)))
-
--- no command may be sent: the station hasn't synchronized; or there is no room for a request (`HasRoomToAsk`); or the station
--- waits for what is in flight
-abbrev pub NothingMayGo : Plan → Progress → Waiting → Type 0
-NothingMayGo plan p w =
-    (has_begun p ≡ false) ⊎ ((width_of plan ≤ w.current) ⊎ ((WINDOW ≤ w.all) ⊎ WaitsForWhatIsInFlight plan p w))
 
 -- the next command may be sent, as far as its chain goes: it is the first of its chain, or of a further attempt, of which
 -- `MayRetry` says more; or all that were sent are settled, the one before it was answered well, and since that was sent no
@@ -85,12 +75,13 @@ WantsNull plan p w =
 abbrev pub IsFinished : (count : ℕ) → Progress → Type 0
 IsFinished count p = (p.left ≡ 0) × (p.unsent ≡ 0) × (count ≡ 0)
 
--- the connection is to be closed though no call of the link failed: all is done; all turns are used up; no command may be sent,
--- and the line is dead; a command of the setup wasn't answered well; the run is stale; or its end was asked for, and it may end
--- here
+-- the connection is to be closed though no call of the link failed: all is done; all turns are used up; the line is silent, and
+-- nothing is in flight that hasn't timed out; a command of the setup wasn't answered well; the run is stale; or its end was asked
+-- for, and it may end here
 abbrev pub IsAtItsEnd : Plan → Progress → Waiting → Cause → Type 0
 IsAtItsEnd plan p w Done = IsFinished w.commands p
-IsAtItsEnd plan p w Dead = NothingMayGo plan p w × (is_dead plan p w ≡ true)
+-- the line is silent, and each request has timed out, a null procedure of the synchronization too
+IsAtItsEnd plan p w Dead = (is_silent plan p w ≡ true) × (w.current ≡ 0) × ((has_begun p ≡ false) → p.again ≤ p.moment.elapsed)
 -- the last command of the setup that was sent is settled, and wasn't answered well
 IsAtItsEnd plan p w SetUp = (is_preparing plan p w ≡ true) × (0 < p.prepared) × (w.commands ≡ 0) × (w.well ≡ false)
 IsAtItsEnd plan p w Turns = p.turns ≡ 0
@@ -105,7 +96,7 @@ HasConnectionFor Stopped p = Unit {0}
 HasConnectionFor _ p = is_up p.phase ≡ true
 
 -- what holds at the progress `p` with the outstanding requests `w` if this action is the next one; nothing is said of reading
--- the clock and of a read
+-- the clock and of a read. No request is sent over a dead line
 abbrev pub HoldsBefore : Plan → Progress → Waiting → Action → Type 0
 HoldsBefore plan p w action.ReadClock = Unit {0}
 -- the station resynchronizes where seven are outstanding, which have all timed out
@@ -117,13 +108,15 @@ HoldsBefore plan p w action.Open = p.phase ≡ phase.Down
 HoldsBefore plan p w action.Clear = p.phase ≡ phase.Clearing
 -- the null procedure of a synchronization is sent, and again at its deadline, unless the cycle is done and the next isn't due
 HoldsBefore plan p w action.Ask = (p.phase ≡ phase.Ready) × (has_begun p ≡ false) × (p.again ≤ p.moment.elapsed) × (is_idle plan p ≡ false)
+    × (is_dead plan p w ≡ false)
 -- no command of the setup is sent if the end of the run was asked for
 HoldsBefore plan p w action.Prepare =
     (p.phase ≡ phase.Ready) × (has_begun p ≡ true) × MayPrepare plan p w × HasRoomToAsk plan w × (p.behind < WINDOW) × (p.stops ≡ false)
+    × (is_dead plan p w ≡ false)
 -- a command of a cycle has its turn only once the setup is done
 HoldsBefore plan p w action.Send =
     (p.phase ≡ phase.Ready) × (has_begun p ≡ true) × (0 < p.unsent) × HasRoomToAsk plan w × MayGo p w × (p.behind < WINDOW) × MayRetry p w
-    × StaysInItsChain p × (is_preparing plan p w ≡ false)
+    × StaysInItsChain p × (is_preparing plan p w ≡ false) × (is_dead plan p w ≡ false)
 HoldsBefore plan p w action.Skip =
     (p.phase ≡ phase.Ready) × (has_begun p ≡ true) × (0 < p.unsent) × (w.commands ≡ 0) × (p.next_is_chained ≡ true)
     × (may_go p w ≡ false) × (is_preparing plan p w ≡ false)
@@ -133,6 +126,7 @@ HoldsBefore plan p w action.Pass =
     (p.phase ≡ phase.Ready) × (has_begun p ≡ true) × (0 < p.unsent) × (w.commands ≡ 0) × (0 < p.next_others)
     × ((w.listed ≡ false) ⊎ (p.next_is_chained ≡ true)) × (is_preparing plan p w ≡ false)
 HoldsBefore plan p w action.Flush = (p.phase ≡ phase.Ready) × (has_begun p ≡ true) × WantsNull plan p w × (w.current ≡ 0) × HasRoomToAsk plan w
+    × (is_dead plan p w ≡ false)
 HoldsBefore plan p w (action.Read until) = Unit {0}
 HoldsBefore plan p w (action.Close cause) = HasConnectionFor cause p × ((p.phase ≡ phase.Closing cause) ⊎ IsAtItsEnd plan p w cause)
 HoldsBefore plan p w (action.Stop cause) = (is_up p.phase ≡ false) × ((p.phase ≡ phase.Over cause) ⊎ ((cause ≡ Turns) × (p.turns ≡ 0)))

@@ -10,8 +10,8 @@ use gc_texts::RunFault;
 pub enum Cause {
     /// No command of any cycle is left to be sent, and none is outstanding.
     Done,
-    /// No command may be sent, and no reply line came for twice the longest deadline. This time counts from the latest of: the
-    /// last reply line; the first request after that line, on this connection, or after a resynchronization between two cycles;
+    /// All that is outstanding has timed out, and no reply line came for twice the longest deadline. This time counts from the
+    /// latest of: the last reply line; the first request after that line, on this connection, or after a resynchronization between two cycles;
     /// and the end of this connection's draining.
     Dead,
     /// A read failed.

@@ -18,19 +18,19 @@
 //! | `Draining` | | `Read(Limit)` | discards what comes | `Ready`, once nothing came for the quiet time |
 //! | `Ready`: the station synchronizes | no command is unsent, and no cycle is left | `Close(Done)` | closes the connection | `Over(Done)` |
 //! | | the cycle is done, and the next isn't due | `Read(Due)` | hears what comes | `Ready` |
+//! | | the null procedure that was sent last hasn't timed out | `Read(Limit)` | hears what comes | `Ready`; the station has synchronized once the eighth is answered |
 //! | | the line is dead | `Close(Dead)` | closes the connection | as below |
-//! | | the null procedure of the first id that isn't answered is to be sent, for the first time or again at its deadline | `Ask` | sends it | `Ready` |
-//! | | else | `Read(Limit)` | hears what comes | `Ready`; the station has synchronized once the eighth is answered |
+//! | | else | `Ask` | sends the null procedure of the first id that isn't answered, for the first time or again at its deadline | `Ready` |
 //! | `Ready`: the station has synchronized | the end of the run was asked for, the station is between two chains, and something hasn't timed out | as if the station waits | | |
 //! | | the setup isn't done, no command is unsent, none is outstanding, and no cycle is left | `Close(Done)` | closes the connection | `Over(Done)` |
 //! | | the setup isn't done, the cycle is done, and the next isn't due | `Read(Due)` | hears what comes | `Ready` |
 //! | | the setup isn't done, and nothing of it was sent | as if the next command may be sent, with `Prepare` for `Send` | | |
-//! | | the setup isn't done, commands are outstanding, and all outstanding requests have timed out | with room `Flush`, else as if the station waits | sends a null procedure after them | `Ready` |
+//! | | the setup isn't done, commands are outstanding, and all outstanding requests have timed out | with room, unless the line is dead, `Flush`, else as if the station waits | sends a null procedure after them | `Ready` |
 //! | | the setup isn't done, commands are outstanding, and something hasn't timed out | as if the station waits | | |
 //! | | the setup isn't done, no command is outstanding, and the last one was answered well | as if the next command may be sent, with `Prepare` for `Send` | | |
 //! | | the setup isn't done, no command is outstanding, and the last one wasn't answered well | `Close(SetUp)` | closes the connection | as below |
 //! | | the setup is done, a command is unsent, and the next one isn't chained and begins no further attempt | as if the next command may be sent | | |
-//! | | commands are outstanding, and all outstanding requests have timed out | with room `Flush`, else as if the station waits | sends a null procedure after them | `Ready` |
+//! | | commands are outstanding, and all outstanding requests have timed out | with room, unless the line is dead, `Flush`, else as if the station waits | sends a null procedure after them | `Ready` |
 //! | | commands are outstanding, and something hasn't timed out | as if the station waits | | |
 //! | | no command is outstanding, the next one begins a further attempt of its chain, and a command of the attempt before ended as its rule names | as if the next command may be sent | | |
 //! | | no command is outstanding, and the next one begins a further attempt otherwise, or in a missed cycle | `Pass` | reads the clock, and leaves out this attempt and those after it | `Ready` |
@@ -39,8 +39,8 @@
 //! | | no command is outstanding or unsent, and no cycle is left | `Close(Done)` | closes the connection | `Over(Done)` |
 //! | | no command is outstanding or unsent, and the next cycle is due | `Begin` | reads the clock, and begins the cycle | `Ready` |
 //! | | no command is outstanding or unsent, and the next cycle isn't due | `Read(Due)` | hears what comes | `Ready` |
-//! | the next command may be sent | one of the seven requests before it is a call of the table that a reply ended | with room `Send`, else as if the station waits | sends the next command | `Ready` |
-//! | | else, if all outstanding requests have timed out, or nothing is outstanding | with room `Flush`, else as if the station waits | sends a null procedure before it | `Ready` |
+//! | the next command may be sent | one of the seven requests before it is a call of the table that a reply ended | with room, unless the line is dead, `Send`, else as if the station waits | sends the next command | `Ready` |
+//! | | else, if all outstanding requests have timed out, or nothing is outstanding | with room, unless the line is dead, `Flush`, else as if the station waits | sends a null procedure before it | `Ready` |
 //! | | else | as if the station waits | | |
 //! | the station waits | the line is dead | `Close(Dead)` | closes the connection | as below |
 //! | | all outstanding requests have timed out | `Renew` | reads the clock, and resynchronizes: all outstanding requests are lost | the same |
@@ -56,7 +56,7 @@
 //! follows, and without a connection `Over`.
 
 ghost use Rattle.std.specs.Prelude.{◌≡◌};
-ghost use Rattle.gc_station.specs.Deciding.{is_dead, is_due, goes_on, is_finished, has_room_to_ask, may_go, waits_for_all, action_again, action_of, action_on, action_ready, action_begun, action_beginning, action_to_send, action_room, action_flush, action_held, action_settled, action_done, action_waiting, is_stale, is_between_chains, is_resting, is_stopping, is_held_back, action_cycle, action_to_prepare, action_preparing, is_preparing};
+ghost use Rattle.gc_station.specs.Deciding.{is_silent, is_dead, is_due, goes_on, is_finished, has_room_to_ask, may_go, waits_for_all, action_again, action_of, action_on, action_ready, action_begun, action_beginning, action_to_send, action_room, action_flush, action_held, action_settled, action_done, action_waiting, is_stale, is_between_chains, is_cut, is_resting, is_stopping, is_held_back, action_cycle, action_to_prepare, action_preparing, is_preparing};
 
 use crate::cause::Cause;
 use crate::plan::Plan;
@@ -64,13 +64,23 @@ use crate::progress::{Action, Phase, Progress, Until, Waiting, dead_after, width
 use gc_client::WINDOW;
 
 impl Progress {
-    // Whether the line is dead: a request is outstanding, or the null procedure of the first id that isn't answered was sent on this
-    // connection (`again`); and no reply line came for `dead_after`, counted from `alive`.
+    // Whether the line is silent: a request was sent on this connection, and since then no reply line came (`asked`); a request is
+    // outstanding, or the null procedure of the first id that isn't answered was sent on this connection (`again`); and `dead_after`
+    // has passed since `alive`.
+    fn is_silent(&self, plan: &Plan, waiting: Waiting) -> bool
+        ensures { result ≡ is_silent plan.now self.now waiting }
+    {
+        self.asked
+            && (waiting.all > 0 || self.again > 0)
+            && dead_after(plan) <= self.moment.elapsed.saturating_sub(self.alive)
+    }
+
+    // Whether the line is dead: it is silent, and all outstanding requests have timed out. A request that was just sent still has
+    // its deadline, so that the close loses no reply in time.
     fn is_dead(&self, plan: &Plan, waiting: Waiting) -> bool
         ensures { result ≡ is_dead plan.now self.now waiting }
     {
-        (waiting.all > 0 || self.again > 0)
-            && dead_after(plan) <= self.moment.elapsed.saturating_sub(self.alive)
+        waiting.current == 0 && self.is_silent(plan, waiting)
     }
 
     // Whether no answer of a good quality was recorded for as long as the plan allows; `false` if it sets no limit (`stale` is 0).
@@ -89,14 +99,22 @@ impl Progress {
         self.unsent == 0 || !self.next_is_chained || self.preparing
     }
 
-    // Whether the run may end here if that is asked for: there is no connection, or the station synchronizes, or it is between
-    // two chains and nothing is in flight that hasn't timed out.
+    // Whether a close cut the chain, in a cycle that isn't missed, and the new connection isn't quiet yet.
+    fn is_cut(&self) -> bool
+        ensures { result ≡ is_cut self.now }
+    {
+        self.phase.is_unquiet() && !self.chain_unbroken && !self.missed
+    }
+
+    // Whether the run may end here if that is asked for: there is no connection, or the station synchronizes, or nothing is in
+    // flight that hasn't timed out, and it is between two chains, or a close cut its chain: then it needn't wait for the new
+    // connection to be quiet.
     fn is_resting(&self, waiting: Waiting) -> bool
         ensures { result ≡ is_resting self.now waiting }
     {
         !self.phase.is_up()
             || !self.has_begun()
-            || (waiting.current == 0 && self.is_between_chains())
+            || (waiting.current == 0 && (self.is_between_chains() || self.is_cut()))
     }
 
     // Whether the run ends now because its end was asked for: it was asked for, and the run may end here.
@@ -199,7 +217,7 @@ impl Progress {
     // The next action while the station synchronizes: to send the null procedure of the first id that isn't answered, for the
     // first time or again at its deadline, and to read until then. Nothing is sent if no command is left to be sent and none is outstanding
     // (the connection is closed: the run is done), nor between cycles (it reads until the next is due), nor over a dead line (the
-    // connection is closed).
+    // connection is closed, but not before the deadline of the null procedure that was sent last).
     fn action_beginning(&self, plan: &Plan, waiting: Waiting) -> Action
         ensures { result ≡ action_beginning plan.now self.now waiting }
     {
@@ -207,12 +225,12 @@ impl Progress {
             Action::Close(Cause::Done)
         } else if self.is_idle(plan) {
             Action::Read(Until::Due)
+        } else if self.again > self.moment.elapsed {
+            Action::Read(Until::Limit)
         } else if self.is_dead(plan, waiting) {
             Action::Close(Cause::Dead)
-        } else if self.again <= self.moment.elapsed {
-            Action::Ask
         } else {
-            Action::Read(Until::Limit)
+            Action::Ask
         }
     }
 
@@ -371,11 +389,12 @@ impl Progress {
         }
     }
 
-    // `action`, which sends a request, if there is room for one; otherwise the action of a station that waits.
+    // `action`, which sends a request, if there is room for one and the line isn't dead; otherwise the action of a station that
+    // waits.
     fn action_room(&self, plan: &Plan, waiting: Waiting, action: Action) -> Action
         ensures { result ≡ action_room plan.now self.now waiting action }
     {
-        if waiting.has_room_to_ask(plan) {
+        if waiting.has_room_to_ask(plan) && !self.is_dead(plan, waiting) {
             action
         } else {
             self.action_waiting(plan, waiting)

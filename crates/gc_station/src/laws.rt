@@ -35,7 +35,7 @@ ghost use Rattle.gc_station.specs.Quiet.{SendsRequest};
 ghost use Rattle.gc_station.specs.Runs.{state_after, OfAnyActs, OfEachRun, WhereNext, OfEachAct, OfEachRecord};
 ghost use Rattle.gc_station.specs.Scopes.{Scope, OneReadingForALine, SomeReadings};
 ghost use Rattle.gc_station.specs.Setups.{EachSetUpOnce, SetUpsGoOn, NoneBeforeTheSetUp, SetUpInOrder};
-ghost use Rattle.gc_station.specs.Silences.{IsMuteFor};
+ghost use Rattle.gc_station.specs.Silences.{HasAllTimedOut, IsMuteFor};
 ghost use Rattle.gc_station.specs.Stopping.{ClosesStale, StopsAtItsClose, EndsOnceStale, GoesOnInItsChain, ClosesBetweenChains};
 ghost use Rattle.gc_station.specs.Tasked.{EachRecordIsOfItsTask};
 ghost use Rattle.gc_station.specs.Model.{action_at};
@@ -82,19 +82,20 @@ pub fn some_function_says_what_each_reply_says()
     ensures { SomeReadings }
 {}
 
-/// Each act of a run performs the action that was next, and the conditions of that action held. When a command was sent, fewer
-/// requests were in flight and not timed out than the plan's width (taken as 1 to 7), fewer than seven were outstanding in all, and
-/// the bytes are the line of the next command, of the cycle or of the setup. A command of a cycle was sent only if the setup was
-/// done on that connection and since the station synchronized: each of its commands was sent, and the last one was answered well.
-/// When a null procedure of a synchronization was sent, nothing was outstanding, the client was new, and the bytes are the line of
-/// the null procedure with the first id that wasn't answered. When the station resynchronized, seven requests were outstanding, all
-/// timed out.
+/// Each act of a run performs the action that was next, and the conditions of that action held; for an action that only reads the
+/// clock or the link there are none. When a request was sent, the line wasn't dead. When a command was sent, fewer requests were in
+/// flight and not timed out than the plan's width (taken as 1 to 7), fewer than seven were outstanding in all, and the bytes are
+/// the line of the next command, of the cycle or of the setup. A command of a cycle was sent only if the setup was done on that
+/// connection and since the station synchronized: each of its commands was sent, and the last one was answered well. When a null
+/// procedure of a synchronization was sent, nothing was outstanding, the client was new, and the bytes are the line of the null
+/// procedure with the first id that wasn't answered. When the station resynchronized, seven requests were outstanding, all timed
+/// out.
 pub fn each_act_is_due()
     ensures { OfEachAct (λ plan commands scope earlier act. IsReasoned plan commands (state_after plan commands scope earlier) act) }
 {}
 
-/// A connection is closed only for a cause: nothing was left to be done; or no command could be sent, and the line was dead; or
-/// a command of the setup wasn't answered well; or all turns were used up; or the run was stale; or its end was asked for, and
+/// A connection is closed only for a cause: nothing was left to be done; or the line was dead; or a command of the setup wasn't
+/// answered well; or all turns were used up; or the run was stale; or its end was asked for, and
 /// it could end there; or the act before it shows that a call failed or that the other end closed.
 pub fn closes_for_a_cause()
     ensures { OfEachAct (λ plan commands scope earlier act. act ≡ Closed → ClosesForACause plan commands scope earlier) }
@@ -105,6 +106,12 @@ pub fn closes_for_a_cause()
 /// while; or the clock went back when that time was read.
 pub fn closes_a_dead_line_only_after_silence()
     ensures { WhereNext (Close cause.Dead) (λ plan commands scope acts. IsMuteFor (dead_after plan) plan commands scope acts) }
+{}
+
+/// If a connection is closed for a dead line, each request that is outstanding has timed out, and while the station synchronizes so
+/// has the null procedure that was sent last. So the close loses no reply that could still answer in time.
+pub fn closes_a_dead_line_only_after_the_deadlines()
+    ensures { WhereNext (Close cause.Dead) (λ plan commands scope acts. HasAllTimedOut (state_after plan commands scope acts)) }
 {}
 
 /// After a command of a cycle was sent, whatever acts follow, the next one of a cycle has a later place in the same cycle, or
@@ -313,8 +320,9 @@ pub fn each_command_is_sent_near_the_table()
     ensures { CommandsAreSentNearTheTable }
 {}
 
-/// A text without raw commands is never held up: if all commands are calls of the table, one that may be sent is sent as soon
-/// as there is room.
+/// The rule on raw commands never holds up a text without them: if all commands are calls of the table, no null procedure has to
+/// be sent before a command for that rule's sake, once a run has synchronized and until it is over. What comes next where a
+/// command may be sent then depends on the room for it and on whether the line is dead; that it is sent isn't said.
 pub fn the_table_is_never_held_up()
     ensures { TheTableIsNeverHeldUp }
 {}
@@ -332,8 +340,8 @@ pub fn ends_stale_only_without_a_good_answer()
 /// Once a moment was read at which the end of the run was asked for, no cycle, no chain and no further attempt of one begins, and
 /// no command of the setup is sent. The run ends for that by a close, which is its last act. It does so only where no command of
 /// an attempt that has begun is left that may be sent, and where one of these holds: there is no connection; the station
-/// synchronizes, so that nothing is outstanding; or it is between two chains, or two attempts of one, and nothing is in flight
-/// that hasn't timed out.
+/// synchronizes, so that nothing is outstanding; or nothing is in flight that hasn't timed out, and it is between two chains, or
+/// two attempts of one, or a close cut its chain and the new connection isn't quiet yet.
 pub fn stops_between_chains()
     ensures goes { GoesOnInItsChain }
     ensures closes { ClosesBetweenChains }

@@ -7,12 +7,12 @@ ghost use Rattle.std.specs.Option.{option_to_list};
 ghost use Rattle.std.specs.Io.KnownBytes.{Appends};
 ghost use Rattle.gc_client.specs.Rule.{IsEarliest, deadlines};
 ghost use Rattle.gc_station.specs.NextCommand.{cycles_begun};
-ghost use Rattle.gc_station.specs.Pace.{dead_at, retry_at, stale_at, longest_timeout, read_end_in, read_end_without_deadline, read_end, read_timeout, overrun};
+ghost use Rattle.gc_station.specs.Pace.{retry_at, stale_at, longest_timeout, read_end_in, read_end_without_deadline, read_end, read_timeout, overrun};
 ghost use Rattle.gc_station.specs.Progressing.{due_at};
 
 use crate::book::{Book, LinkHealth};
 use crate::plan::Plan;
-use crate::progress::{Phase, Progress, Until, dead_after};
+use crate::progress::{Phase, Progress, Until};
 use crate::progressing::later;
 use crate::station::Station;
 
@@ -36,13 +36,6 @@ fn longest_timeout(plan: &Plan) -> u64
 }
 
 impl Progress {
-    // The moment from which on the line counts as dead, if no reply line comes until then and something is outstanding (`is_dead`).
-    fn dead_at(&self, plan: &Plan) -> u64
-        ensures { result ≡ dead_at plan.now self.now }
-    {
-        later(self.alive, dead_after(plan))
-    }
-
     // The moment at which the next cycle is due. It isn't that of the first cycle, which is due at once.
     pub(crate) fn due_at(&self, plan: &Plan) -> u64
         ensures { result ≡ due_at plan.now self.now }
@@ -64,8 +57,8 @@ impl Progress {
     }
 
     // The moment at which a read in this phase ends if nothing comes, leaving out the deadlines of the outstanding requests: at
-    // the next attempt to connect (`retry_at`), or at the end of a drain; otherwise when the line is dead, or, while the station
-    // synchronizes, when the null procedure is sent again, if that is earlier.
+    // the next attempt to connect (`retry_at`), at the end of a drain, or, while the station synchronizes, at the deadline of its
+    // null procedure; otherwise `u64::MAX`, since only the deadlines of requests matter.
     fn read_end_in_phase(&self, plan: &Plan) -> u64
         ensures { result ≡ read_end_in self.now.phase plan.now self.now }
     {
@@ -74,9 +67,9 @@ impl Progress {
             Phase::Draining => later(self.since, plan.quiet),
             _ => {
                 if self.has_begun() {
-                    self.dead_at(plan)
+                    u64::MAX
                 } else {
-                    self.again.min(self.dead_at(plan))
+                    self.again
                 }
             }
         }

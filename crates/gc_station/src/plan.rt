@@ -6,8 +6,8 @@ pub struct Plan {
     /// How many requests that haven't timed out may be in flight: 1 to 7. A number outside counts as the nearest of these.
     pub width: u8,
     /// The longest deadline: after this time a null procedure times out; a command does after the time of its task. A null
-    /// procedure of a synchronization is sent again after this time. While a reply is awaited, a line is dead after twice this
-    /// time without a reply line.
+    /// procedure of a synchronization is sent again after this time. After twice this time without a reply line a line is
+    /// dead, once all outstanding requests have timed out.
     pub deadline: u64,
     /// How far apart the cycles are due, counted from when the first one begins. 0: each begins when the one before it is done.
     /// A cycle that can't begin before the next is due is missed.

@@ -1,7 +1,7 @@
 //! Progress: how far a station is. What it does next is decided in `deciding.rt`, by looking at nothing else.
 
 ghost use Rattle.std.specs.Prelude.{◌≡◌};
-ghost use Rattle.gc_station.specs.Deciding.{width_of, is_up, is_past, is_quiet, has_begun, dead_after};
+ghost use Rattle.gc_station.specs.Deciding.{width_of, is_up, is_unquiet, is_past, is_quiet, has_begun, dead_after};
 ghost use Rattle.gc_station.specs.Progressing.{at_start};
 ghost use Rattle.gc_station.specs.Model.{is_heard};
 
@@ -67,8 +67,8 @@ pub(crate) enum Action {
 /// When a read that brings nothing ends. It ends earlier if the run becomes stale, or the longest time-out of a read is over.
 #[derive(Clone, Copy)]
 pub(crate) enum Until {
-    /// Until something may have to be done: a deadline is reached, a pause or a drain is over, the line is dead, or a null
-    /// procedure of a synchronization is sent again.
+    /// Until something may have to be done: a deadline is reached, a pause or a drain is over, or the null procedure of a
+    /// synchronization times out.
     Limit,
     /// Until the next cycle is due, or a null procedure times out: no command of this cycle is left, and none is outstanding.
     Due,
@@ -175,7 +175,8 @@ pub(crate) fn width(plan: &Plan) -> u8
     plan.width.max(1).min(7)
 }
 
-// After how many milliseconds without a reply line the line is dead: twice the longest deadline, at most the greatest `u64`.
+// After how many milliseconds without a reply line the line is silent (`is_silent`): twice the longest deadline, at most the greatest
+// `u64`.
 pub(crate) fn dead_after(plan: &Plan) -> u64
     ensures { result ≡ dead_after plan.now }
 {
@@ -194,6 +195,21 @@ impl Phase {
             Phase::Draining => true,
             Phase::Ready => true,
             Phase::Closing(_) => true,
+            Phase::Over(_) => false,
+        }
+    }
+
+    // Whether a connection was made that isn't quiet yet: it is being cleared, or drained.
+    pub(crate) fn is_unquiet(self) -> bool
+        ensures { result ≡ is_unquiet self }
+    {
+        match self {
+            Phase::Down => false,
+            Phase::Pausing => false,
+            Phase::Clearing => true,
+            Phase::Draining => true,
+            Phase::Ready => false,
+            Phase::Closing(_) => false,
             Phase::Over(_) => false,
         }
     }

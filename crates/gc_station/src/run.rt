@@ -93,7 +93,8 @@ pub(crate) fn run<L: Link, B: Book>(
 /// `Ok`: each command of each cycle is settled, was written as skipped or missed, or was left out, and the tally counts how
 /// they ended; or the end of the run was asked for, and each command that was sent is settled or lost. Between two chains, or two
 /// attempts of one, nothing more is sent then: what is in flight is waited for until it is settled or timed out, the connection
-/// is closed, and commands that had no turn aren't written.
+/// is closed, and commands that had no turn aren't written. So it is on a new connection that isn't quiet yet, if a close cut
+/// the chain.
 ///
 /// `Err`: for each fault but `Output` no connection is left open, and the outstanding commands are written as lost.
 /// - `Clock`: the clock couldn't be read; no try is made after that.
