@@ -1,5 +1,6 @@
 //! The cases, played: tests that are data. Each file of a folder is played by the player of its ending.
 
+mod counting;
 mod engines;
 mod failing;
 mod outcome;

@@ -6,8 +6,8 @@ use crate::calls::call_of;
 use arrayvec::ArrayVec;
 use gc_cases::{Case, Row, Rows, Told, cut_word, play_rows};
 use gc_catalogue::{Call, Reading};
-use gc_client::{Client, Hearing, Outcome, Ring, Settlement, Slots, WINDOW, Window};
-use gc_lines::Line;
+use gc_client::{Client, Heard, Hearing, Outcome, Ring, Settlement, Slots, WINDOW, Window};
+use gc_lines::{Line, LineFault};
 
 // What plays these rows: a client; the call that it sends; and the line and the list of settlements into which all rows write.
 #[derive(Drop)]
@@ -57,7 +57,7 @@ impl<W: Window<Asked = Call>> Rows for Clients<W> {
 
 impl<W: Window<Asked = Call>> Clients<W> {
     // Does with the client what the row's word says, and reports what that gives: `call` or `hear` with a line, `send` with a
-    // target and a deadline, `expire` with a moment, `restart` or `deadline`; or that the word is unknown.
+    // target and a deadline, `expire` with a moment, `restart`, `deadline` or `single_bytes`; or that the word is unknown.
     fn play_word(&mut self, row: Row<'_>, came: &mut Told) {
         match row.word {
             "call" => self.take_call(row.bytes, came),
@@ -66,6 +66,7 @@ impl<W: Window<Asked = Call>> Clients<W> {
             "expire" => self.expire(row.what, came),
             "restart" => tell_settled(self.client.restart().as_slice(), came),
             "deadline" => came.debug(&self.client.next_deadline()),
+            "single_bytes" => self.hear_single_bytes(came),
             _ => came.text("an unknown word"),
         }
     }
@@ -99,6 +100,32 @@ impl<W: Window<Asked = Call>> Clients<W> {
             Hearing::Unread(fault) => came.titled("unread ", &fault.number()),
         }
         tell_settled(self.settled.as_slice(), came)
+    }
+
+    // Hears the 256 lines of one byte each, and reports how many of them changed nothing (`ignores`).
+    fn hear_single_bytes(&mut self, came: &mut Told) {
+        let mut ignored = 0u16;
+        for byte in 0..=255 {
+            if self.ignores(byte) {
+                ignored = ignored.saturating_add(1);
+            }
+        }
+        came.counted(&ignored, " unread 1");
+    }
+
+    // Hears a line of this byte alone, and returns whether it is unread, because it doesn't begin as a reply, and leaves how many
+    // requests wait, the next id and the next deadline as they were.
+    fn ignores(&mut self, byte: u8) -> bool {
+        let (waiting, next) = (self.client.waiting(), self.client.next_id());
+        let deadline = self.client.next_deadline();
+        let mut line = Line::new();
+        let _ = line.try_push(byte);
+        matches!(
+            self.client.on_line(&line),
+            Heard::Unread(LineFault::Signature)
+        ) && self.client.waiting() == waiting
+            && self.client.next_id() == next
+            && self.client.next_deadline() == deadline
     }
 
     // Hands the client the moment that `now` writes, and reports the targets of the requests that it times out.

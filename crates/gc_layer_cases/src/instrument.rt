@@ -61,13 +61,33 @@ impl Instruments {
         came.debug(&answer);
     }
 
-    // Plays a row of one word: restarts the instrument, or reports a part of its state.
+    // Hands in the 256 lines of one byte each, and reports how many of them got no reply, with the same id stored as before.
+    fn take_single_bytes(&mut self, came: &mut Told) {
+        let mut ignored = 0u16;
+        for byte in 0..=255 {
+            if self.ignores(byte) {
+                ignored = ignored.saturating_add(1);
+            }
+        }
+        came.counted(&ignored, " without a reply");
+    }
+
+    // Hands in a line of this byte alone, and returns whether it gets no reply, and the id whose reply is stored stays.
+    fn ignores(&mut self, byte: u8) -> bool {
+        let kept = self.instrument.kept_id();
+        let mut line = Line::new();
+        let _ = line.try_push(byte);
+        self.instrument.on_line(&line).is_none() && self.instrument.kept_id() == kept
+    }
+
+    // Plays a row of one word: restarts the instrument, reports a part of its state, or hands in lines of one byte.
     fn play_word(&mut self, word: &str, came: &mut Told) {
         match word {
             "restart" => self.instrument.restart(),
             "settings" => self.tell_settings(came),
             "face" => came.debug(&self.instrument.face()),
             "pointing" => self.tell_pointing(came),
+            "single_bytes" => self.take_single_bytes(came),
             _ => came.text("an unknown word"),
         }
     }

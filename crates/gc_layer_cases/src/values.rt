@@ -5,7 +5,7 @@ ghost use Rattle.std.specs.Prelude.{◌≤◌};
 use gc_cases::{Row, Rows, Told, cut_word};
 use gc_values::{
     Decimal, Items, Kind, Text, Value, ValueFault, read_bool, read_byte, read_long, read_text,
-    read_whole, split,
+    read_whole, split, write_byte, write_text,
 };
 use std::fmt;
 
@@ -25,6 +25,8 @@ impl Rows for Values {
             "within" => within(row.what, came),
             "whole" => read_whole_number(row.what, came),
             "long" => tell_read(read_long(row.bytes), came),
+            "write_byte" => tell_byte_item(row.what, came),
+            "write_text" => tell_text_item(row.bytes, came),
             word => play_item(word, row.bytes, came),
         }
     }
@@ -134,6 +136,31 @@ fn read_whole_number(words: &str, came: &mut Told) {
     let (most, item) = cut_word(words);
     let most = came.number_in(most);
     tell_read(read_whole(item.as_bytes(), most), came);
+}
+
+// Reports the item that is written of the byte whose number this word writes, and then the byte that is read of that item.
+fn tell_byte_item(word: &str, came: &mut Told) {
+    let item = write_byte(came.number_in(word));
+    came.bytes(item.as_slice());
+    came.text(" ");
+    tell_read(read_byte(item.as_slice()), came);
+}
+
+// Reports the item that is written of a string of these bytes, and then the string that is read of that item; or the fault for
+// which they are no string.
+fn tell_text_item(bytes: &[u8], came: &mut Told) {
+    match Text::new(bytes) {
+        Ok(text) => tell_written_text(&text, came),
+        Err(fault) => came.debug(&fault),
+    }
+}
+
+// Reports the item that is written of a string, and then the string that is read of that item.
+fn tell_written_text(text: &Text, came: &mut Told) {
+    let item = write_text(text);
+    came.bytes(item.as_slice());
+    came.text(" ");
+    tell_text(read_text(item.as_slice()), came);
 }
 
 // Reports the string that was read, or the fault.

@@ -17,6 +17,9 @@
 //!     do at [::1]              a text without commands is asked there
 //!     do port 7                a text without commands is asked at this port, by its number and as a place, and the port is
 //!                              served
+//!     do closed 7 5003\n       these commands, or none, are asked at a port at which somebody listened, and nobody does any more
+//!     do bound                 the port at which the case listens is served, as if it were free
+//!     do loop 9 7 5003\n       these commands are asked over a connection with the simulator at its other end, in that many reads
 //!     do ends, cut_ends        in ends.rt
 
 ghost use Rattle.std.specs.Prelude.{◌≤◌};
@@ -24,7 +27,9 @@ ghost use Rattle.std.specs.Prelude.{◌≤◌};
 use crate::ends::{tell_cut_ends, tell_ends, written_word};
 use crate::streams::{accepted, bounded, hear, listener_at_1024, tell_end_behind};
 use arrayvec::ArrayVec;
-use gc_ask::{Address, BusyClock, Keeping, Slow, ask_at, ask_tcp, keep_on, serve_on, serve_tcp};
+use gc_ask::{
+    Address, BusyClock, Keeping, Slow, ask_at, ask_tcp, keep_on, loop_tcp, serve_on, serve_tcp,
+};
 use gc_cases::{Case, Player, Row, Rows, Told, cut_word, play_rows, port_of, text_of};
 use gc_instrument::Instrument;
 use gc_links::{Place, listen};
@@ -72,7 +77,7 @@ struct PortRows<'a> {
 }
 
 impl<'a> Rows for PortRows<'a> {
-    // Plays a row by its word: here if something is served, asked or heard, otherwise in `prepare`.
+    // Plays a row by its word: here if something is served, asked or heard, otherwise in `play_alone`.
     fn play(&mut self, row: Row<'_>, came: &mut Told) {
         match row.word {
             "serve" => self.serve(row.what, came),
@@ -82,9 +87,7 @@ impl<'a> Rows for PortRows<'a> {
             "ask" => self.ask(row, came),
             "at" => self.ask_at(row.what, came),
             "port" => self.ask_port(row.what, came),
-            "ends" => tell_ends(came),
-            "cut_ends" => tell_cut_ends(came),
-            _ => self.prepare(row, came),
+            _ => self.play_alone(row, came),
         }
     }
 }
@@ -113,6 +116,18 @@ fn tell_uncounted(lines: &str, came: &mut Told) {
 }
 
 impl<'a> PortRows<'a> {
+    // Plays a row that needs no caller; any other in `prepare`.
+    fn play_alone(&mut self, row: Row<'_>, came: &mut Told) {
+        match row.word {
+            "closed" => self.ask_closed(row.bytes, came),
+            "bound" => self.serve_bound(came),
+            "loop" => self.ask_in_a_loop(row, came),
+            "ends" => tell_ends(came),
+            "cut_ends" => tell_cut_ends(came),
+            _ => self.prepare(row, came),
+        }
+    }
+
     // Plays a row in which a caller does something, or in which another port is listened at, and reports what can't be done, or
     // that the word is unknown.
     fn prepare(&mut self, row: Row<'_>, came: &mut Told) {
@@ -310,6 +325,39 @@ impl<'a> PortRows<'a> {
         tell_end(end, came)
     }
 
+    // Asks these commands at a port that is closed (`closed_port`), and reports what was written and how asking ended; or `no port`
+    // if there is none.
+    fn ask_closed(&self, commands: &[u8], came: &mut Told) {
+        let port = closed_port(self.rt);
+        if port == 0 {
+            return came.text("no port");
+        }
+        self.tell_asked(port, commands, 9, came);
+    }
+
+    // Serves the port at which the case listens itself, and reports how that ended; or `no port` if the system doesn't say which
+    // port it is, as any free one would be served for 0.
+    fn serve_bound(&mut self, came: &mut Told) {
+        let port = port_of(&self.listener);
+        if port == 0 {
+            return came.text("no port");
+        }
+        let end = serve_tcp(self.rt, Address::Here(port), 1, &mut self.instrument, 9);
+        tell_end(end, came)
+    }
+
+    // Asks the commands that the row has after a number (`Row::cut_bytes`) over a connection with the simulator at its other end,
+    // in at most as many reads of both ends as the number says, and reports what was written and how it ended.
+    fn ask_in_a_loop(&self, row: Row<'_>, came: &mut Told) {
+        let (reads, commands) = row.cut_bytes();
+        let most = came.number_in(reads);
+        let mut source = PieceSource::new(commands, &[], u64::MAX);
+        let mut sink = PieceSink::new(self.rt.alloc(), 1000, u64::MAX);
+        let end = loop_tcp(self.rt, self.rt.alloc(), &mut source, &mut sink, most);
+        came.bytes(sink.taken());
+        tell_end(end, came)
+    }
+
     // Asks a text without commands at a place, in at most nine reads, and returns how that ended.
     fn ask_place(&self, place: Place<'_>) -> Result<(), RunFault> {
         let mut none = PieceSource::new(b"", &[], u64::MAX);
@@ -333,6 +381,14 @@ impl<'a> PortRows<'a> {
         );
         came.bytes(sink.taken());
         tell_end(end, came)
+    }
+}
+
+// A port of this machine that was listened at, and is closed again; 0 if none could be listened at.
+fn closed_port(rt: &HostRuntime) -> u16 {
+    match listen(rt, 0) {
+        Ok(listener) => port_of(&listener),
+        Err(_) => 0,
     }
 }
 

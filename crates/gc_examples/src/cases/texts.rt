@@ -260,7 +260,8 @@ fn append_named_fault(case: &Case<'_>, came: &mut Told) {
     }
 }
 
-// Appends a fault's number and what `Display` prints of it, each with a line feed, and the line that `tell` writes.
+// Appends a fault's number and what `Display` prints of it, each with a line feed, and the line that `tell` writes. The two texts
+// have different sources, and no clause has the first.
 fn append_fault(fault: RunFault, came: &mut Told) {
     came.counted(&fault.number(), "\n");
     came.counted(&fault, "\n");

@@ -1,6 +1,7 @@
 //! Rows of the world: events as a schedule has them, and what they lead to on the simulator. What a row with an arrow comes to is
 //! appended to `came`.
 
+use crate::cases::counting::Counting;
 use crate::cases::setup::width_of;
 use crate::cases::single_bytes::in_single_bytes;
 use gc_cases::{Case, Player, Row, Rows, Told, play_rows};
@@ -10,6 +11,7 @@ use gc_engines::read_schedule;
 use gc_instrument::Instrument;
 use gc_world::{Event, Report, play_width};
 use std::alloc::{AllocError, Global};
+use std::cell::RefCell;
 use std::{fs, io};
 
 // A part of a report.
@@ -32,6 +34,8 @@ enum Wanted {
     End,
     // A part of the report.
     Part(Part),
+    // How many sends were accepted, and how many requests waited at each push into the window.
+    Pushes,
 }
 
 // What a word asks for. `None`: it asks for nothing.
@@ -42,6 +46,7 @@ fn wanted_by(word: &str) -> Option<Wanted> {
         "starts" => Some(Wanted::Part(Part::Starts)),
         "kept" => Some(Wanted::Part(Part::Kept)),
         "lines" => Some(Wanted::Part(Part::Lines)),
+        "pushes" => Some(Wanted::Pushes),
         _ => None,
     }
 }
@@ -126,8 +131,22 @@ impl WorldRows {
         Ok(())
     }
 
-    // Plays events, and appends what is wanted of what they lead to: all of it (`append_end`), or a part of the report over
-    // places. `Err`: memory ran out, and nothing was appended.
+    // Plays events over a window that notes its pushes, and appends how many sends were accepted, and how many requests waited at
+    // each push. If the window were filled only once all is played, requests that were settled wouldn't be pushed. `Err`: memory ran
+    // out, and nothing was appended.
+    fn append_pushes(&self, events: &[Event], came: &mut Told) -> Result<(), AllocError> {
+        let notes = RefCell::new(Told::new(self.alloc));
+        let (report, _) = self.play_events(Counting::new(&notes), events)?;
+        came.counted(&report.sent.len(), " accepted, pushed at");
+        match notes.try_borrow() {
+            Ok(notes) => came.append(&notes),
+            Err(_) => came.lack(),
+        }
+        Ok(())
+    }
+
+    // Plays events, and appends what is wanted of what they lead to: all of it (`append_end`), a part of the report over places,
+    // or the pushes (`append_pushes`). `Err`: memory ran out, and nothing was appended.
     fn append_wanted_of(
         &self,
         wanted: Wanted,
@@ -141,6 +160,7 @@ impl WorldRows {
                 append_part(&report, part, came);
                 Ok(())
             }
+            Wanted::Pushes => self.append_pushes(events, came),
         }
     }
 

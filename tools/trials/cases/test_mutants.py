@@ -1,0 +1,32 @@
+"""Mutants that break no clause: the case that is there for one fails with it, and passes without."""
+
+import subprocess
+from pathlib import Path
+
+import pytest
+
+from mutants import apply, copy_crates
+
+HERE = Path(__file__).resolve().parent
+# A mutant, with its crate; the crate that plays the case; the case's file; and the beginning of its name.
+MUTANTS = [("gc_world/fills_the_window_only_at_the_end", "gc_examples", "cases/pushes.world", "eight sends and a restart")]
+
+
+def played(player, file):
+    """The status and the lines of a player that plays one file of cases. It is built without proofs."""
+    ran = subprocess.run(["rt", "try", "--data", f"{file}=data/{file}"], cwd=player, stdin=subprocess.DEVNULL, capture_output=True, text=True, timeout=1800, check=False)
+    return ran.returncode, ran.stdout + ran.stderr
+
+
+@pytest.mark.title("{mutant}: a case fails with it, and passes without")
+@pytest.mark.parametrize(("mutant", "player", "file", "case"), MUTANTS)
+def test_a_case_fails(folder, mutant, player, file, case):
+    crates = copy_crates(folder)
+    name = Path(file).name
+    status, said = played(crates / player, file)
+    assert status == 0 and f"{name}: " in said, f"without it, a case fails: {said[-1000:]}"
+    apply(HERE / f"{mutant}.edit", crates / Path(mutant).parent)
+    status, said = played(crates / player, file)
+    assert f"{name}: " in said, f"with it, no case is played: {said[-1000:]}"
+    assert any(line.startswith(case) and ": do is " in line for line in said.splitlines()), f"with it, the case passes: {said[-1000:]}"
+    assert status == 1
