@@ -1,4 +1,4 @@
-# find_package(geocom 1), and then the target geocom::geocom, or geocom::static.
+# find_package(geocom @ABI@), and then the target geocom::geocom, or geocom::static.
 get_filename_component(_geocom_lib "${CMAKE_CURRENT_LIST_DIR}/../.." ABSOLUTE)
 get_filename_component(_geocom_include "${CMAKE_CURRENT_LIST_DIR}/@UP@/include" ABSOLUTE)
 if(NOT TARGET geocom::geocom)

@@ -9,7 +9,7 @@ _geocom() {
         return
     fi
     case $prev in
-    --scene | --line | --log | --append)
+    --scene | --line | --log | --append | --until)
         # `check --log` takes no file.
         if [ "$command" != check ]; then
             _filedir

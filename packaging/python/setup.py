@@ -1,6 +1,6 @@
 """The wheel: the package, with the library in it. `tools/package` fills the folder, and names by GEOCOM_GLIBC the oldest glibc that the
-library needs, as 2_14, and by GEOCOM_HOMEPAGE the project's address. The version is that of geocom/_version.py. The wheel is of no
-version of Python, but of this machine's processor. There is no source distribution: what is in the wheel is proved and built by `rt`. The
+library needs, as 2_14, by GEOCOM_HOMEPAGE the project's address, and by GEOCOM_LICENCE the licences of all that is in it. The
+version is that of geocom/_version.py. The wheel is of no version of Python, but of this machine's processor. There is no source distribution: what is in the wheel is proved and built by `rt`. The
 licence's expression is in the field `License`: that of metadata 2.4 is refused by Debian's twine, which reads them up to 2.2."""
 
 import os
@@ -45,7 +45,7 @@ setup(
         "Source": HOMEPAGE,
         "Issues": f"{HOMEPAGE}/issues",
     },
-    license="MIT",
+    license=os.environ["GEOCOM_LICENCE"],
     license_files=["LICENSE", "copyright"],
     keywords=["GeoCOM", "Leica", "total station", "surveying", "monitoring", "serial"],
     python_requires=">=3.9",
