@@ -22,12 +22,24 @@ PLAIN = {
     "horizontal direction": "hz",
     "vertical angle": "v",
     "slope distance": "distance",
+    "temperature inside the instrument": "temperature",
     "serial number": "serial",
     "name": "instrument",
 }
 # What would have the name of another thing: of the class of a station, and of two enums.
 RENAMED = {"TMC_GetStation": "StationPoint", "TMC_GetFace": "TelescopeFace", "BAP_GetPrismType": "Prism"}
 REWORDED = {18: "the battery is nearly empty, and the instrument goes off soon"}
+# What a caller has to know of a procedure besides: from memory, not from the manual.
+NOTES = {2117: " It measures in tracking mode: not for monitoring (from memory)."}
+# The enums of modes, in `modes.py`, of the procedures' parameters.
+MODES = {
+    (2008, "command"): "MeasureCommand",
+    (2008, "mode"): "InclinationMode",
+    (2107, "mode"): "InclinationMode",
+    (2108, "mode"): "InclinationMode",
+    (17017, "mode"): "DistanceMode",
+} | {(number, f"{name}_mode"): enum for number in (9027, 9028)
+     for name, enum in [("positioning", "PositioningMode"), ("target_recognition", "RecognitionMode")]}
 WARNINGS = {1283, 1284, 1285, 1288, 1289}
 DATE = "year month day hour minute second".split()
 NUMBER = "Decimal"
@@ -159,6 +171,9 @@ def method(each, is_async):
             one = f"{head}\n" + "".join(f"        {part},\n" for part in parts) + f"    ) -> {each.result}:"
     takes = "" if each.takes == "none" else f" Takes {each.takes}."
     gives = "" if each.gives == "none" else f" Answers {each.gives}."
+    gives += NOTES.get(each.number, "")
+    if modes := [f"`{MODES[each.number, name]}`" for name, _ in each.parameters if (each.number, name) in MODES]:
+        takes += f" Modes: {', '.join(modes)}."
     values = "date_parts(moment)" if each.number == 5007 else f"({', '.join(names)}{',' if len(names) == 1 else ''})"
     call = f"{'await ' if is_async else ''}self._value({each.number}, {values}, target, timeout)"
     body = f"        {call}" if each.result == "None" else f"        return cast({each.result}, {call})"

@@ -1,5 +1,6 @@
 /* Measures each target once over a serial port that stty has set up (raw), angles in radians: station DEVICE NUMBER:HZ,V.. */
 #define _POSIX_C_SOURCE 200809L
+#include <errno.h>
 #include <fcntl.h>
 #include <poll.h>
 #include <stdio.h>
@@ -10,7 +11,8 @@
 static int put(void *fd, const uint8_t *bytes, size_t length) { return write(*(int *)fd, bytes, length) == (ssize_t)length ? 0 : -1; }
 static int get(void *fd, uint8_t *bytes, size_t room, uint64_t milliseconds) {
     struct pollfd ready = {*(int *)fd, POLLIN, 0};
-    if (poll(&ready, 1, (int)milliseconds) == 0) return 0;
+    int told = poll(&ready, 1, (int)milliseconds);
+    if (told <= 0) return told == 0 || errno == EINTR ? 0 : -1; /* a signal: nothing came yet */
     ssize_t came = read(*(int *)fd, bytes, room);
     return came > 0 ? (int)came : -1;
 }
@@ -31,7 +33,7 @@ int main(int count, char **words) {
         const struct { uint16_t procedure; const char *params; } chain[] = {{9027, position}, {2008, "1,1"}, {2108, "5000,1"}};
         geocom_settlement s = {0};
         for (int c = 0; c < 3 && (c == 0 || s.reading == GEOCOM_VALUE); c++) {
-            if (geocom_ask(&client, &port, target, chain[c].procedure, chain[c].params, 30000, &s, (uint8_t *)text) != 0) return 1;
+            if (geocom_ask(&client, &port, target, chain[c].procedure, chain[c].params, 35000, &s, (uint8_t *)text) != 0) return 1;
             printf("%u,%u,%u,%u", s.target, s.procedure, s.outcome, s.code);
             for (int i = 0; i < s.items; i++) printf(",%.*s", s.places[i].length, text + s.places[i].offset);
             puts("");

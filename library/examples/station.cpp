@@ -1,4 +1,5 @@
 // Measures each target once over a serial port that stty has set up (raw), angles in radians: station DEVICE NUMBER:HZ,V..
+#include <cerrno>
 #include <cstdio>
 #include <stdexcept>
 #include <string>
@@ -13,7 +14,8 @@ int main(int count, char **words) {
     geocom::station station(
         [fd](std::uint64_t milliseconds) {
             pollfd ready{fd, POLLIN, 0};
-            if (poll(&ready, 1, static_cast<int>(milliseconds)) == 0) return std::string();
+            const int told = poll(&ready, 1, static_cast<int>(milliseconds));
+            if (told == 0 || (told < 0 && errno == EINTR)) return std::string(); // a signal: nothing came yet
             char bytes[256];
             const ssize_t came = read(fd, bytes, sizeof bytes);
             if (came <= 0) throw std::runtime_error("the connection ended");
@@ -25,7 +27,7 @@ int main(int count, char **words) {
     for (int k = 2; k < count; ++k) {
         const std::string word = words[k], angles = word.substr(word.find(':') + 1);
         const auto target = static_cast<std::uint32_t>(std::stoul(word));
-        for (const auto &s : station.measure(target, {{9027, angles + ",0,1,0"}, {2008, "1,1"}, {2108, "5000,1"}}, 30000)) {
+        for (const auto &s : station.measure(target, {{9027, angles + ",0,1,0"}, {2008, "1,1"}, {2108, "5000,1"}}, 35000)) {
             std::printf("%u,%u,%d,%u", s.target, s.procedure, static_cast<int>(s.outcome), s.code);
             for (const auto &item : s.items) std::printf(",%s", item.c_str());
             std::puts("");

@@ -295,12 +295,12 @@ typedef struct geocom_port {
     uint64_t (*now)(void *context);
 } geocom_port;
 
-/* What these calls return besides 0 and a fault: the connection failed; a null procedure was sent three times, and never answered. */
+/* What these calls return besides 0 and a fault: the connection failed; or the instrument isn't ready: a null procedure was sent three
+ * times, and never answered, or a new connection never was quiet. */
 enum geocom_trouble { GEOCOM_FAILED = -1, GEOCOM_SILENT = -2 };
 
-/* Synchronizes over a new connection: sends a line feed, and eight null procedures, each again if nothing answered it for `patience`
- * milliseconds. Returns 0, GEOCOM_FAILED, GEOCOM_SILENT, or 63. Call it again to continue where it was. */
-static inline int geocom_begin(geocom_client *state, const geocom_port *port, uint64_t patience) {
+/* As geocom_begin, until the moment `limit` at the latest: GEOCOM_SILENT then. */
+static inline int geocom_begin_by(geocom_client *state, const geocom_port *port, uint64_t patience, uint64_t limit) {
     uint8_t bytes[256], line[GEOCOM_LINE_ROOM];
     uint64_t now, end = 0;
     int came = 0, unanswered = 0;
@@ -310,51 +310,68 @@ static inline int geocom_begin(geocom_client *state, const geocom_port *port, ui
         begun = geocom_client_begin(state, bytes, (size_t)came, line, sizeof line);
         if (begun.fault != 0 || begun.has_begun) return (int)begun.fault;
         now = port->now(port->context);
+        if (now >= limit) return GEOCOM_SILENT;
         if (begun.count > 0) {
             unanswered = came > 0 ? 1 : unanswered + 1;
             if (unanswered > 3) return GEOCOM_SILENT;
             if (port->write(port->context, line, begun.count) < 0) return GEOCOM_FAILED;
-            end = now + patience;
+            end = now + patience < limit ? now + patience : limit;
         }
         came = now < end ? port->read(port->context, bytes, sizeof bytes, end - now) : 0;
         if (came < 0) return GEOCOM_FAILED;
     }
 }
 
+/* Synchronizes over a new connection: sends a line feed, and eight null procedures, each again if nothing answered it for `patience`
+ * milliseconds. Returns 0, GEOCOM_FAILED, GEOCOM_SILENT, or 63. Call it again to continue where it was. */
+static inline int geocom_begin(geocom_client *state, const geocom_port *port, uint64_t patience) {
+    return geocom_begin_by(state, port, patience, UINT64_MAX);
+}
+
 /* Continues over a new connection within a run, once the client has synchronized: sends a line feed, and discards what comes until
- * nothing came for `quiet` milliseconds. Returns 0, GEOCOM_FAILED, or a fault. */
+ * nothing came for `quiet` milliseconds. Returns 0, GEOCOM_FAILED, or a fault; GEOCOM_SILENT if the line wasn't quiet after ten times as
+ * long: call it again before any request, or open a new connection. */
 static inline int geocom_reconnect(geocom_client *state, const geocom_port *port, uint64_t quiet) {
     uint8_t bytes[256], text[GEOCOM_TEXT_ROOM];
     geocom_settlement records[GEOCOM_WINDOW];
-    int came = 1;
+    const uint64_t begun = port->now(port->context);
+    uint64_t since = begun, now = begun;
+    int came;
     if (port->write(port->context, (const uint8_t *)"\n", 1) < 0) return GEOCOM_FAILED;
-    while (came > 0) came = port->read(port->context, bytes, sizeof bytes, quiet);
-    if (came < 0) return GEOCOM_FAILED;
+    do {
+        came = port->read(port->context, bytes, sizeof bytes, quiet - (now - since));
+        if (came < 0) return GEOCOM_FAILED;
+        now = port->now(port->context);
+        if (came > 0) since = now;
+        if (now - since < quiet && now - begun >= 10 * quiet) return GEOCOM_SILENT;
+    } while (now - since < quiet);
     return (int)geocom_client_feed(state, (const uint8_t *)"\n", 1, records, GEOCOM_WINDOW, text, sizeof text).fault;
 }
 
-/* Requests a procedure of the table, and reads until the request is settled, or until its deadline, `patience` milliseconds from now:
- * one that isn't settled by then is reported as lost, as no answer will be taken for it. `text` has room for GEOCOM_TEXT_ROOM bytes. If
- * seven requests are outstanding that have all timed out, it restarts and synchronizes first. It is for one request at a time. Returns 0
- * with the settlement; GEOCOM_FAILED or GEOCOM_SILENT, and then nothing is known of this request; or a fault, and then it wasn't sent. */
+/* Requests a procedure of the table, and reads until the request is settled, or until the deadline, `patience` milliseconds after the call:
+ * one that isn't settled by then is reported as lost, as no answer will be taken for it. `text` has room for GEOCOM_TEXT_ROOM bytes. If as
+ * many requests are outstanding as the width allows, they are lost, and it restarts; a client that hasn't synchronized does so first, until
+ * the deadline at the latest. It is for one request at a time. Returns 0 with the settlement; GEOCOM_FAILED, and then nothing is known of
+ * this request; or GEOCOM_SILENT or a fault, and then it wasn't sent. Call it again after GEOCOM_SILENT: it continues where it was. */
 static inline int geocom_ask(geocom_client *state, const geocom_port *port, uint32_t target, uint16_t procedure, const char *params,
                              uint64_t patience, geocom_settlement *settlement, uint8_t *text) {
     const geocom_settlement lost = {target, procedure, 0, 0, 0, {{0, 0}}, GEOCOM_LOST, GEOCOM_NONE};
     uint8_t bytes[256], line[GEOCOM_LINE_ROOM];
     geocom_settlement records[GEOCOM_WINDOW];
     uint32_t targets[GEOCOM_WINDOW];
-    uint64_t now, end;
-    geocom_count sent;
+    uint64_t now = port->now(port->context);
+    const uint64_t end = now + patience;
+    geocom_count sent = geocom_client_waiting(state);
     geocom_heard heard;
     int came, trouble;
     size_t used;
-    if (geocom_client_waiting(state).count == GEOCOM_WINDOW && geocom_client_current(state) == 0) {
-        geocom_client_restart(state, records, GEOCOM_WINDOW);
-        trouble = geocom_begin(state, port, patience);
+    if (sent.fault != 0) return (int)sent.fault;
+    if (sent.count >= state->width) geocom_client_restart(state, records, GEOCOM_WINDOW);
+    if (state->answered < 8) {
+        trouble = geocom_begin_by(state, port, patience, end);
         if (trouble != 0) return trouble;
+        now = port->now(port->context);
     }
-    now = port->now(port->context);
-    end = now + patience;
     sent = geocom_client_send(state, target, end, procedure, (const uint8_t *)params, strlen(params), line, sizeof line);
     if (sent.fault != 0) return (int)sent.fault;
     if (port->write(port->context, line, sent.count) < 0) return GEOCOM_FAILED;

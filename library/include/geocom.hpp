@@ -3,12 +3,14 @@
 #ifndef GEOCOM_HPP
 #define GEOCOM_HPP
 
+#include <algorithm>
 #include <array>
 #include <chrono>
 #include <cstddef>
 #include <cstdint>
 #include <deque>
 #include <functional>
+#include <limits>
 #include <memory>
 #include <optional>
 #include <stdexcept>
@@ -24,7 +26,7 @@ namespace geocom {
 // A fault of a call, by its number (geocom.h lists them). Nothing has changed then.
 class fault : public std::runtime_error {
 public:
-    explicit fault(std::uint32_t number) : std::runtime_error("geocom: fault " + std::to_string(number)), number(number) {}
+    explicit fault(std::uint32_t which) : std::runtime_error("geocom: fault " + std::to_string(which)), number(which) {}
     const std::uint32_t number;
 };
 
@@ -166,7 +168,7 @@ private:
 // is 51; otherwise 0.
 class bad_scene : public fault {
 public:
-    bad_scene(std::uint32_t number, std::uint32_t line) : fault(number), line(line) {}
+    bad_scene(std::uint32_t which, std::uint32_t where) : fault(which), line(where) {}
     const std::uint32_t line;
 };
 
@@ -218,16 +220,17 @@ private:
     std::unique_ptr<std::max_align_t[]> room_;
 };
 
-// A null procedure of the synchronization was sent three times, and never answered in time. Try again, or open a new connection.
+// The instrument wasn't ready in time, and the request wasn't sent: no null procedure was answered, or a new connection never was quiet.
+// Try again, which continues where it was, or open a new connection.
 class silent : public std::runtime_error {
 public:
-    silent() : std::runtime_error("geocom: no null procedure is answered") {}
+    explicit silent(const char *why = "geocom: no null procedure is answered") : std::runtime_error(why) {}
 };
 
 // A station over two callables and a clock, by the rules of docs/OPERATING.md: it synchronizes, sends requests, and waits for each until
-// its deadline. If seven requests are outstanding that have all timed out, it restarts and synchronizes again; it sends a null procedure
-// where the rule of `send_raw` asks for one. What the callables throw passes through: open a new connection then, and call
-// `reconnected`. One thread at a time.
+// its deadline. If seven requests are outstanding, it restarts and synchronizes again; it sends a null procedure where the rule of
+// `send_raw` asks for one. What the callables throw passes through: open a new connection then, and call `reconnected`. One thread at a
+// time.
 class station {
 public:
     // Returns what came within `milliseconds`, an empty string if nothing did. It throws if the connection ended or failed.
@@ -243,26 +246,16 @@ public:
     station(reader read, writer write, std::uint64_t timeout = 10000, clock now = steady)
         : read_(std::move(read)), write_(std::move(write)), now_(std::move(now)), timeout_(timeout) {}
 
-    // Synchronizes, unless it has. The first request does this by itself.
+    // Synchronizes, unless it has. The first request does this by itself. Throws `silent` if a null procedure was sent three times, and
+    // never answered, or if a new connection wasn't quiet within three times the timeout and the quiet time.
     void begin() {
-        if (!is_clear_) clear();
-        std::string came;
-        for (int unanswered = 0; !client_.has_begun();) {
-            const std::string line = client_.begin(came);
-            if (client_.has_begun()) break;
-            if (!line.empty()) {
-                unanswered = came.empty() ? unanswered + 1 : 1;
-                if (unanswered > 3) throw silent();
-                write_(line);
-                end_ = now_() + timeout_;
-            }
-            const std::uint64_t now = now_();
-            came = now < end_ ? read_(end_ - now) : "";
-        }
+        if (!is_clear_) clear(now_() + 3 * timeout_ + quiet_);
+        synchronize(std::numeric_limits<std::uint64_t>::max());
     }
 
-    // Requests a procedure of the table, and returns the settlement, at the deadline at the latest: a request that isn't settled by then
-    // is returned as lost, as no answer will be taken for it.
+    // Requests a procedure of the table, and returns the settlement, at the deadline at the latest, `timeout` milliseconds after the call:
+    // a request that isn't settled by then is returned as lost, as no answer will be taken for it. Throws `silent` if it couldn't be sent
+    // by then, and the fault of one that can't be sent.
     settlement ask(std::uint32_t target, std::uint16_t procedure, std::string_view params = "", std::uint64_t timeout = 0) {
         return ask(false, target, procedure, params, timeout);
     }
@@ -272,11 +265,16 @@ public:
         return ask(true, target, procedure, params, timeout);
     }
 
-    // Runs a chain: each command is sent once the one before it was answered with a value. It ends after the first that wasn't.
-    std::vector<settlement> measure(std::uint32_t target, const std::vector<command> &chain, std::uint64_t timeout = 0) {
+    // Runs a chain: each command is sent once the one before it was answered with a value. It ends after the first that wasn't. A
+    // procedure that isn't in the table is requested as by `ask_raw`. An answer whose return code is in `accept` is a value, with this
+    // code, if its items can be read. Throws the fault of any command that can't be sent before the first one is.
+    std::vector<settlement> measure(std::uint32_t target, const std::vector<command> &chain, std::uint64_t timeout = 0,
+                                    const std::vector<std::uint16_t> &accept = {}) {
+        for (const command &each : chain) tried(each);
         std::vector<settlement> all;
-        for (const auto &[procedure, params] : chain) {
-            all.push_back(ask(target, procedure, params, timeout));
+        for (const command &each : chain) {
+            all.push_back(ask(tried(each).is_raw, target, each.first, each.second, timeout));
+            if (std::find(accept.begin(), accept.end(), all.back().code) != accept.end()) read_values(all.back(), each);
             if (all.back().reading != reading::value) break;
         }
         return all;
@@ -285,7 +283,7 @@ public:
     // The callables use a new connection from now on. Outstanding requests stay so. If the client has synchronized, what comes is
     // discarded until nothing came for `quiet` milliseconds.
     void reconnected(std::uint64_t quiet = 2000) {
-        is_clear_ = false;
+        is_clear_ = is_discarding_ = false;
         quiet_ = quiet;
     }
 
@@ -295,39 +293,106 @@ public:
     }
 
 private:
-    // A line feed discards half a request at the instrument, and half a line here.
-    void clear() {
-        write_("\n");
+    // A client of its own to which a command was sent, and whether its procedure isn't in the table.
+    struct trial {
+        geocom::client client;
+        bool is_raw;
+    };
+
+    // Throws the fault of a command that can't be sent.
+    static trial tried(const command &each) {
+        trial made{geocom::client(1), false};
+        made.client.begin("%R1P,0,6:0\r\n%R1P,0,5:0\r\n%R1P,0,4:0\r\n%R1P,0,3:0\r\n%R1P,0,2:0\r\n%R1P,0,1:0\r\n%R1P,0,0:0\r\n%R1P,0,7:0\r\n");
+        try {
+            made.client.send(0, 0, each.first, each.second);
+        } catch (const fault &refused) {
+            if (refused.number != 21) throw;
+            made.client.send_raw(0, 0, each.first, each.second);
+            made.is_raw = true;
+        }
+        return made;
+    }
+
+    // Reads a refusal's line as that of a value: the same line with return code 0.
+    static void read_values(settlement &s, const command &asked) {
+        if (s.reading != reading::refused) return;
+        const std::size_t end = s.line.find_first_not_of("0123456789", s.line.find(':') + 1);
+        const std::string items = end == std::string::npos ? "" : s.line.substr(end);
+        const std::vector<settlement> done = tried(asked).client.feed("%R1P,0,0:0" + items + "\r\n");
+        if (done.size() != 1 || done[0].reading != reading::value) return;
+        s.reading = reading::value;
+        s.items = done[0].items;
+    }
+
+    // A line feed discards half a request at the instrument, and half a line here. Throws `silent` if what came didn't end by `end`; the
+    // next call continues.
+    void clear(std::uint64_t end) {
+        std::uint64_t now = now_();
+        if (!is_discarding_) {
+            write_("\n");
+            since_ = now;
+            is_discarding_ = true;
+        }
+        while (client_.has_begun() && is_discarding_) {
+            const std::uint64_t until = std::min(since_ + quiet_, end);
+            const bool is_quiet = read_(until > now ? until - now : 0).empty();
+            now = now_();
+            if (!is_quiet) since_ = now;
+            is_discarding_ = now < since_ + quiet_;
+            if (is_discarding_ && now >= end) throw silent("geocom: a new connection isn't quiet");
+        }
         if (client_.has_begun()) {
-            while (!read_(quiet_).empty()) {}
-            client_.expire(now_());
+            client_.expire(now);
             hear("\n");
         } else {
             client_.begin("\n");
         }
         is_clear_ = true;
+        is_discarding_ = false;
+        again_ = unanswered_ = 0;
     }
 
-    bool is_full() const { return client_.waiting() == GEOCOM_WINDOW; }
+    // Null procedures, each again after the timeout, until all eight are answered, or the moment `end`.
+    void synchronize(std::uint64_t end) {
+        while (!client_.has_begun()) {
+            const std::uint64_t now = now_();
+            if (now >= end) throw silent();
+            const std::string came = now < again_ ? read_(std::min(again_, end) - now) : "";
+            if (now < again_ && came.empty()) continue;
+            if (came.empty() && unanswered_ == 3) {
+                unanswered_ = 0;
+                throw silent();
+            }
+            const std::string line = client_.begin(came);
+            if (line.empty()) continue;
+            unanswered_ = came.empty() ? unanswered_ + 1 : 1;
+            write_(line);
+            again_ = now_() + timeout_;
+        }
+    }
 
-    // Restarts the client if its window is full: all outstanding requests have timed out then, because one at a time is sent.
-    void begin_anew() {
-        if (is_full()) {
+    // Makes ready for a request: a client whose window is full restarts, as one request at a time is waited for.
+    void begin_anew(std::uint64_t end) {
+        if (client_.waiting() == GEOCOM_WINDOW) {
             client_.restart();
             raws_.clear();
             behind_ = 0;
+            again_ = unanswered_ = 0;
         }
-        begin();
+        if (!is_clear_) clear(end);
+        synchronize(end);
     }
 
     settlement ask(bool is_raw, std::uint32_t target, std::uint16_t procedure, std::string_view params, std::uint64_t timeout) {
-        begin_anew();
+        const std::uint64_t end = now_() + (timeout != 0 ? timeout : timeout_);
+        begin_anew(end);
         // One of the seven requests before each is a call of the table that was answered: else a null procedure goes out first.
         while (behind_ >= GEOCOM_WINDOW) {
-            exchange(false, 0, 0, "", timeout_);
-            begin_anew();
+            exchange(false, 0, 0, "", std::min(end, now_() + timeout_));
+            begin_anew(end);
+            if (now_() >= end) throw silent();
         }
-        return exchange(is_raw, target, procedure, params, timeout != 0 ? timeout : timeout_);
+        return exchange(is_raw, target, procedure, params, end);
     }
 
     // What these bytes settle. After a call of the table that a reply ended, as many requests were sent as are still outstanding.
@@ -341,9 +406,8 @@ private:
         return all;
     }
 
-    settlement exchange(bool is_raw, std::uint32_t target, std::uint16_t procedure, std::string_view params, std::uint64_t timeout) {
+    settlement exchange(bool is_raw, std::uint32_t target, std::uint16_t procedure, std::string_view params, std::uint64_t end) {
         std::uint64_t now = now_();
-        const std::uint64_t end = now + timeout;
         const std::string line = is_raw ? client_.send_raw(target, end, procedure, params) : client_.send(target, end, procedure, params);
         raws_.push_back(is_raw);
         behind_ += behind_ < GEOCOM_WINDOW ? 1 : 0;
@@ -364,11 +428,13 @@ private:
     reader read_;
     writer write_;
     clock now_;
-    std::uint64_t timeout_, quiet_ = 2000, end_ = 0;
+    std::uint64_t timeout_, quiet_ = 2000;
+    // From when the quiet time counts; when the null procedure is sent again, and how often it wasn't answered.
+    std::uint64_t since_ = 0, again_ = 0, unanswered_ = 0;
     // Which of the outstanding requests are raw, and how many requests were sent after the last call of the table that a reply ended.
     std::deque<bool> raws_;
     std::uint32_t behind_ = 0;
-    bool is_clear_ = false;
+    bool is_clear_ = false, is_discarding_ = false;
 };
 
 } // namespace geocom

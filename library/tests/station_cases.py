@@ -14,65 +14,9 @@ from decimal import Decimal
 
 import geocom
 import geocom.aio
+import station_troubles
 from geocom import RC, Face, Outcome, PrismType
-
-
-class Scripted:
-    """A port whose instrument answers as it is told: to a procedure's number what stands behind the colon, or nothing."""
-
-    def __init__(self, answers, clock):
-        self.answers, self.clock, self.timeout, self.came, self.written, self.is_ended = answers, clock, 0.0, b"", [], False
-
-    def write(self, data):
-        for line in data.split(b"\r\n"):
-            if line := line.lstrip(b"\n"):
-                head, _, _ = line.partition(b":")
-                procedure, id = head[5:].split(b",")
-                self.written.append(int(procedure))
-                answer = self.answers.get(int(procedure), b"0")
-                if isinstance(answer, list):
-                    answer = answer.pop(0) if answer else None
-                if answer is not None:
-                    com, _, rest = answer.rpartition(b"|")
-                    self.came += b"%%R1P,%s,%s:%s\r\n" % (com or b"0", id, rest)
-
-    def read(self, size=1):
-        if self.is_ended:
-            raise OSError("ended")
-        data, self.came = self.came, b""
-        if not data:
-            self.clock.now += self.timeout
-        return data
-
-    def open(self):
-        self.is_ended = False
-
-    def close(self):
-        self.is_ended = True
-
-
-class Clock:
-    now = 1000.0
-
-    def __call__(self):
-        return self.now
-
-    def sleep(self, seconds):
-        self.now += seconds
-
-
-def scripted(answers=None, **options):
-    clock = Clock()
-    port = Scripted(answers or {}, clock)
-    return port, geocom.Station(port, clock=clock, sleep=clock.sleep, **options)
-
-
-def raised(kind, call, *words, **options):
-    try:
-        call(*words, **options)
-    except kind as it:
-        return it
-    raise AssertionError(f"{kind.__name__} was not raised")
+from station_scripted import raised, scripted
 
 
 def each_procedure_by_its_name():
@@ -281,6 +225,8 @@ def what_is_public():
 
 
 CASES = [it for name, it in list(globals().items()) if isinstance(it, types.FunctionType) and name not in ("scripted", "raised")]
-for case in CASES:
-    case()
-print(f"station cases: {len(CASES)} hold")
+CASES += station_troubles.CASES
+if __name__ == "__main__":  # a process that a case starts reads this file, too
+    for case in CASES:
+        case()
+    print(f"station cases: {len(CASES)} hold")

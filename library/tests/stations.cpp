@@ -1,14 +1,18 @@
-// Random schedules through geocom::station, and through geocom_ask, over a line in memory with a clock of the trial's own:
-// stations COUNT. Each request has a number of its own, which its answer has; the line delays, loses, repeats and cuts, and outlives
-// the runs; the instrument keeps its reply over raw requests. An answer has to be its own request's.
+// Cases of geocom::station and of geocom_ask on a bad line, and random schedules through both, over a line in memory with a clock of the
+// trial's own: stations COUNT. Each request has a number of its own, which its answer has; the line delays, loses, repeats and cuts, breaks
+// in the middle of requests, and outlives the runs; the instrument keeps its reply over raw requests. An answer has to be its own
+// request's, and each call has to end by its deadline.
 #include <cstdio>
 #include <cstdlib>
 #include <deque>
 #include <memory>
 #include <random>
+#include <stdexcept>
 #include <string>
 
+#pragma GCC diagnostic error "-Wshadow" // a build with this warning takes the headers
 #include "geocom.hpp"
+#pragma GCC diagnostic ignored "-Wshadow"
 
 namespace {
 
@@ -24,6 +28,7 @@ struct line {
     std::deque<under_way> up, down;
     std::string cut, half, kept;
     int kept_id = -1;
+    bool is_broken = false;
 
     line(std::uint32_t seed) : chance(seed), odd(pick({0, 1, 5, 20})), is_first(pick({0, 1}) == 1) {}
 
@@ -60,6 +65,10 @@ struct line {
     }
 
     std::string read(std::uint64_t milliseconds) {
+        if (is_broken || (odd != 0 && chance() % 200 == 0)) {
+            is_broken = true;
+            throw std::runtime_error("broken");
+        }
         for (const std::uint64_t end = now + milliseconds;;) {
             arrive();
             for (; !down.empty() && down.front().at <= now; down.pop_front()) half += down.front().text;
@@ -80,23 +89,179 @@ struct line {
     }
 };
 
-int put(void *at, const std::uint8_t *bytes, std::size_t length) {
-    static_cast<line *>(at)->write({reinterpret_cast<const char *>(bytes), length});
+template <typename Line> int put(void *at, const std::uint8_t *bytes, std::size_t length) {
+    static_cast<Line *>(at)->write({reinterpret_cast<const char *>(bytes), length});
     return 0;
 }
 
-int get(void *at, std::uint8_t *bytes, std::size_t room, std::uint64_t milliseconds) {
-    const std::string came = static_cast<line *>(at)->read(milliseconds);
-    if (came.size() > room) std::abort();
-    std::copy(came.begin(), came.end(), bytes);
-    return static_cast<int>(came.size());
+template <typename Line> int get(void *at, std::uint8_t *bytes, std::size_t room, std::uint64_t milliseconds) {
+    try {
+        const std::string came = static_cast<Line *>(at)->read(milliseconds);
+        if (came.size() > room) std::abort();
+        std::copy(came.begin(), came.end(), bytes);
+        return static_cast<int>(came.size());
+    } catch (const std::runtime_error &) {
+        return -1;
+    }
 }
 
-std::uint64_t moment(void *at) { return static_cast<line *>(at)->now; }
+template <typename Line> std::uint64_t moment(void *at) { return static_cast<Line *>(at)->now; }
+
+// An instrument that answers at once, unless its line is told to be silent or to break, and noise every so often. It keeps what it was sent.
+struct scripted {
+    std::uint64_t now = 1000, noise_every = 0, noise_at = 0;
+    bool is_silent = false, breaks = false;
+    int warned = 0; // the procedure that is answered with 1284
+    std::string cut, came;
+    std::vector<int> executed;
+
+    void write(std::string_view bytes) {
+        cut += bytes;
+        for (std::size_t end; (end = cut.find('\n')) != std::string::npos; cut.erase(0, end + 1)) {
+            if (end == 0 || is_silent) continue;
+            const std::size_t comma = cut.find(',', 5), colon = cut.find(':');
+            const int procedure = std::atoi(cut.c_str() + 5);
+            if (procedure != 0) executed.push_back(procedure);
+            if (!breaks || procedure == 0)
+                came += "%R1P,0," + cut.substr(comma + 1, colon - comma - 1) + ":" + (procedure == warned && warned != 0 ? "1284" : "0") +
+                        (procedure == 2107 ? ",1.5,0.5" : procedure == 2167 ? ",7" : "") + "\r\n";
+        }
+    }
+
+    std::string read(std::uint64_t milliseconds) {
+        if (breaks && came.empty()) throw std::runtime_error("broken");
+        std::string all;
+        all.swap(came);
+        if (all.empty() && noise_every != 0 && noise_at <= now + milliseconds) {
+            now = std::max(now, noise_at);
+            noise_at = now + noise_every;
+            return "noise\r\n";
+        }
+        if (all.empty()) now += milliseconds;
+        return all;
+    }
+};
+
+const char *not_so = nullptr;
+#define SEE(E) if (!(E) && not_so == nullptr) not_so = #E
+
+// What the call throws: a fault's number, -2 if it is silent, -1 if the connection breaks, 0 if nothing is.
+template <typename Call> int thrown(Call call) {
+    try {
+        call();
+        return 0;
+    } catch (const geocom::fault &fault) {
+        return static_cast<int>(fault.number);
+    } catch (const geocom::silent &) {
+        return GEOCOM_SILENT;
+    } catch (const std::runtime_error &) {
+        return GEOCOM_FAILED;
+    }
+}
+
+struct fixture {
+    scripted line;
+    geocom::station station{[this](std::uint64_t ms) { return line.read(ms); }, [this](std::string_view bytes) { line.write(bytes); }, 10000,
+                            [this] { return line.now; }};
+    geocom_port port{&line, put<scripted>, get<scripted>, moment<scripted>};
+    geocom_client client;
+    geocom_settlement settled;
+    std::uint8_t text[GEOCOM_TEXT_ROOM];
+
+    explicit fixture(std::uint8_t width = GEOCOM_WINDOW) {
+        geocom_client_init(&client, width);
+        SEE(geocom_begin(&client, &port, 10000) == 0);
+        station.begin();
+    }
+    int ask_c(std::uint64_t patience) { return geocom_ask(&client, &port, 7, 2107, "1", patience, &settled, text); }
+    int ask(std::uint64_t timeout) { return thrown([&] { station.ask(7, 2107, "1", timeout); }); }
+    int ask_raw(std::uint64_t timeout) { return thrown([&] { station.ask_raw(7, 2167, "1", timeout); }); }
+};
+
+// Connections that broke in the middle of a request fill the window: the next request is answered none the less.
+void broken_connections() {
+    for (std::uint8_t width = 1; width <= GEOCOM_WINDOW; ++width) {
+        fixture f(width);
+        f.line.breaks = true;
+        for (int k = 0; k < GEOCOM_WINDOW + 1; ++k) {
+            SEE(f.ask_c(60000) == GEOCOM_FAILED);
+            SEE(f.ask(60000) == GEOCOM_FAILED);
+            f.line.breaks = false;
+            SEE(geocom_reconnect(&f.client, &f.port, 500) == 0);
+            f.station.reconnected(500);
+            f.line.breaks = k < GEOCOM_WINDOW;
+        }
+        SEE(f.ask_c(10000) == 0 && f.settled.outcome == GEOCOM_ANSWERED);
+        SEE(f.ask(10000) == 0);
+    }
+}
+
+// A new connection that never is quiet, and an instrument that falls silent: each call ends by its deadline, and the next ones are answered
+// once the line is well.
+void deadlines() {
+    fixture f;
+    f.line.noise_every = 500;
+    f.station.reconnected(2000);
+    for (std::uint64_t timeout : {1000, 1, 5000}) {
+        const std::uint64_t end = f.line.now + timeout;
+        SEE(f.ask(timeout) == GEOCOM_SILENT && f.line.now <= end);
+    }
+    std::uint64_t begun = f.line.now;
+    SEE(thrown([&] { f.station.begin(); }) == GEOCOM_SILENT && f.line.now <= begun + 32000);
+    f.line.noise_every = 0;
+    for (int k = 0; k < 3; ++k) SEE(f.ask(1000) == (k < 1 ? GEOCOM_SILENT : 0));
+    f.line.noise_every = 500;
+    begun = f.line.now;
+    SEE(geocom_reconnect(&f.client, &f.port, 2000) == GEOCOM_SILENT && f.line.now <= begun + 22000);
+    f.line.noise_every = 0;
+    SEE(geocom_reconnect(&f.client, &f.port, 2000) == 0 && f.ask_c(1000) == 0);
+
+    for (int k = 0; k < 7; ++k) SEE(f.ask_raw(1000) == 0);
+    f.line.is_silent = true;
+    for (int k = 0; k < 40; ++k) {
+        const std::uint64_t end = f.line.now + 1000;
+        SEE(f.ask_raw(1000) == GEOCOM_SILENT && f.line.now <= end);
+        const std::uint64_t end_c = f.line.now + 1000;
+        const int told = f.ask_c(1000);
+        SEE((told == 0 || told == GEOCOM_SILENT) && f.line.now <= end_c);
+    }
+    f.line.is_silent = false;
+    for (int k = 0; k < 2; ++k) SEE((f.ask_raw(12000) == 0 && f.ask_c(12000) == 0) || k == 0);
+}
+
+// A chain's commands are looked at before the first is sent; raw ones are sent as such, and accepted codes are values.
+void chains() {
+    fixture f;
+    const auto measured = [&](const std::vector<geocom::station::command> &chain) { return thrown([&] { f.station.measure(7, chain); }); };
+    SEE(measured({{9027, "1,1,0,1,0"}, {2008, "1,1"}, {2108, "5000"}}) == 15);
+    SEE(measured({{9027, "1,1,0,1,0"}, {2008, "1,x"}}) == 11);
+    SEE(measured({{2107, "1"}, {2167, "1\n"}}) == 11);
+    SEE(f.line.executed.empty());
+    auto all = f.station.measure(7, {{2107, "1"}, {2167, "\"a,b\""}, {2107, "1"}});
+    SEE(all.size() == 3 && all[1].items.size() == 1 && all[1].items[0] == "7" && all[2].items.size() == 2);
+    f.line.warned = 2107;
+    all = f.station.measure(7, {{2107, "1"}, {2167, ""}});
+    SEE(all.size() == 1 && all[0].reading == geocom::reading::refused && all[0].code == 1284);
+    all = f.station.measure(7, {{2107, "1"}, {2167, ""}}, 0, {1284});
+    SEE(all.size() == 2 && all[0].reading == geocom::reading::value && all[0].code == 1284 && all[0].items[1] == "0.5");
+    f.line.warned = 9027; // which has no values: nothing can be read, or all
+    all = f.station.measure(7, {{9027, "1,1,0,1,0"}, {2107, "1"}}, 0, {1283, 1284});
+    SEE(all.size() == 2 && all[1].items[0] == "1.5");
+    f.line.warned = 2108; // whose values are missing
+    all = f.station.measure(7, {{2108, "5000,1"}, {2107, "1"}}, 0, {1284});
+    SEE(all.size() == 1 && all[0].reading == geocom::reading::refused);
+}
 
 } // namespace
 
 int main(int, char **words) {
+    broken_connections();
+    deadlines();
+    chains();
+    if (not_so != nullptr) {
+        std::printf("stations: not so: %s\n", not_so);
+        return 1;
+    }
     unsigned long count = std::strtoul(words[1], nullptr, 10), answered = 0, lost = 0, wrong = 0, silent = 0;
     const auto judge = [&](unsigned number, unsigned target, bool is_answered, bool has_value, const std::string &item) {
         (is_answered ? answered : lost) += 1;
@@ -108,28 +273,30 @@ int main(int, char **words) {
         for (int run = 0; run < 2; ++run) {
             geocom::station station([&](std::uint64_t ms) { return l.read(ms); }, [&](std::string_view bytes) { l.write(bytes); }, 10000,
                                     [&] { return l.now; });
-            geocom_port port = {&l, put, get, moment};
+            geocom_port port = {&l, put<line>, get<line>, moment<line>};
             geocom_client client;
             geocom_client_init(&client, GEOCOM_WINDOW);
-            bool is_c = place % 2 == 1, has_begun = !is_c || geocom_begin(&client, &port, 10000) == 0;
-            silent += !has_begun;
-            for (unsigned asked = l.chance() % 30; has_begun && asked > 0; --asked) {
+            const bool is_c = place % 2 == 1;
+            for (unsigned asked = l.chance() % 30; asked > 0; --asked) {
                 const std::uint64_t timeout = l.pick({500, 500, 10000, 30000});
                 const bool is_raw = !is_c && l.happens(run == 0 ? 90 : 10);
                 const std::string params = std::to_string(++number);
-                if (l.happens(3)) {
+                if (l.is_broken || l.happens(3)) {
                     l.half.clear();
                     l.cut.clear();
+                    l.is_broken = false;
                     if (!is_c) station.reconnected(500);
-                    else if (geocom_client_waiting(&client).count < GEOCOM_WINDOW && geocom_reconnect(&client, &port, 500) != 0) ++wrong;
+                    else if (geocom_reconnect(&client, &port, 500) != 0) continue;
                 }
+                const std::uint64_t end = l.now + timeout;
                 if (is_c) {
                     geocom_settlement s;
                     std::uint8_t text[GEOCOM_TEXT_ROOM];
                     const int told = geocom_ask(&client, &port, number, 2107, params.c_str(), timeout, &s, text);
                     if (told == GEOCOM_SILENT) {
                         ++silent;
-                        has_begun = geocom_begin(&client, &port, 10000) == 0;
+                    } else if (told == GEOCOM_FAILED) {
+                        ++lost;
                     } else if (told != 0) {
                         ++wrong;
                     } else {
@@ -143,12 +310,15 @@ int main(int, char **words) {
                         judge(number, s.target, s.outcome == geocom::outcome::answered, s.reading == geocom::reading::value, s.items.empty() ? "" : s.items[0]);
                     } catch (const geocom::silent &) {
                         ++silent;
+                    } catch (const std::runtime_error &) {
+                        ++lost;
                     }
                 }
+                if (l.now > end) ++wrong;
                 if (l.happens(5)) l.now += 100000;
             }
         }
     }
-    std::printf("stations in C++ and C: %lu schedules: %lu answered, %lu late or lost, %lu times silent; %lu wrong\n", count, answered, lost, silent, wrong);
+    std::printf("stations in C++ and C: their cases hold; %lu schedules: %lu answered, %lu late or lost, %lu times silent; %lu wrong\n", count, answered, lost, silent, wrong);
     return wrong != 0 || answered == 0;
 }

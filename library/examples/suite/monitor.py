@@ -9,7 +9,7 @@ from geocom.ports import Where
 class Monitor:
     """Measures prisms over a connection: a device, "HOST:PORT", or any port."""
 
-    def __init__(self, port: Where, patience: float = 10.0):
+    def __init__(self, port: Where, patience: float = 35.0):
         self.station = geocom.Station(port, timeout=patience)
 
     def distance(self, hz: float, v: float) -> float | str:

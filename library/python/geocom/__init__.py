@@ -27,8 +27,8 @@ How it is made:
 - `Client` is the library's client (`libgeocom.so`, proved): which reply is whose, ids, deadlines,
   what a reply says. It opens no port and reads no clock; deadlines and moments are milliseconds of
   a count of yours.
-- `rules` decides what is done next, over one client: the rules of `docs/OPERATING.md`, and nothing of
-  ports or clocks.
+- `rules` decides what is done next, over one client: the rules of `docs/OPERATING.md`, and nothing
+  of ports or clocks.
 - `Station` and `aio.Station` do it, over `ports`.
 - `codes`, `results` and `named` are written of the tables of `docs/PROTOCOL.md`.
 
@@ -45,6 +45,7 @@ from ._library import STRUCTURES as STRUCTURES
 from ._library import TEXT_ROOM as TEXT_ROOM
 from ._library import VERSION, WINDOW
 from ._version import __version__
+from .angles import degrees_to_rad, gon_to_rad, rad_to_degrees, rad_to_gon
 from .chains import Chain, Cycle, Row
 from .client import Client, Kind
 from .codes import RC
@@ -60,6 +61,7 @@ from .errors import NotBegun as NotBegun
 from .errors import UnknownProcedure as UnknownProcedure
 from .errors import WindowFull as WindowFull
 from .instrument import SIMULATOR, Instrument, Reply
+from .modes import DistanceMode, InclinationMode, MeasureCommand, PositioningMode, RecognitionMode
 from .program import Program as Program
 from .settlement import Outcome, Reading, Settlement
 from .station import Station
@@ -72,18 +74,23 @@ __all__ = [
     "Chain",
     "Client",
     "Cycle",
+    "DistanceMode",
     "Face",
     "Fault",
+    "InclinationMode",
     "Instrument",
     "Kind",
     "Late",
     "Lost",
+    "MeasureCommand",
     "NoValue",
     "NotReady",
     "Outcome",
+    "PositioningMode",
     "PrismType",
     "RC",
     "Reading",
+    "RecognitionMode",
     "Refused",
     "Reply",
     "Row",
@@ -94,4 +101,8 @@ __all__ = [
     "VERSION",
     "WINDOW",
     "__version__",
+    "degrees_to_rad",
+    "gon_to_rad",
+    "rad_to_degrees",
+    "rad_to_gon",
 ]

@@ -3,15 +3,16 @@
 from __future__ import annotations
 
 import datetime
+import math
 from collections.abc import Iterable
 from dataclasses import dataclass
 from typing import Optional
 
-from .client import begun
+from .client import refuse
 from .errors import NoValue
 from .results import TABLE
 from .settlement import Outcome, Request, Settlement
-from .values import Parameter, line
+from .values import Parameter, line, milliseconds, whole
 
 #: A command of a chain: the procedure's number, and its parameters.
 Command = tuple[int, tuple[Parameter, ...]]
@@ -22,7 +23,7 @@ class Chain:
     """Commands for one target: each goes out only once the one before it was answered well, over
     the same connection.
 
-    >>> Chain.of(7, (9027, "2.25", "1.625", 0, 1, False), (2008, 1, 1), timeout=30).commands
+    >>> Chain.of(7, (9027, "2.25", "1.625", 0, 1, False), (2008, 1, 1), timeout=35).commands
     ((9027, ('2.25', '1.625', 0, 1, False)), (2008, (1, 1)))
     """
 
@@ -42,7 +43,9 @@ class Chain:
         accept: Iterable[int] = (),
     ) -> Chain:
         """A chain of commands, each a procedure's number with its parameters."""
-        return cls(target, tuple((int(c[0]), c[1:]) for c in commands), timeout, tuple(accept))
+        numbers = [int(c[0]) if isinstance(c[0], str) else whole(c[0]) for c in commands]
+        made = tuple((number, c[1:]) for number, c in zip(numbers, commands))
+        return cls(target, made, timeout, tuple(accept))
 
     @classmethod
     def measuring(
@@ -51,7 +54,7 @@ class Chain:
         hz_rad: Parameter,
         v_rad: Parameter,
         *,
-        timeout: float = 30.0,
+        timeout: float = 35.0,
         accept: Iterable[int] = (),
     ) -> Chain:
         """Points the telescope at a prism, aims at it, measures, and reads both angles and the
@@ -121,19 +124,23 @@ def is_good(settlement: Settlement, accept: tuple[int, ...]) -> bool:
     return True
 
 
-def requests(chain: Chain, timeout: int) -> list[Request]:
+def make_request(
+    procedure: int, parameters: tuple[Parameter, ...], target: int, timeout: float, is_raw: bool
+) -> Request:
+    """A request of a station. Raises what the library refuses of it, before anything is asked."""
+    procedure = whole(procedure)
+    kinds = () if is_raw or procedure not in TABLE else TABLE[procedure].kinds
+    text = line(kinds, parameters)
+    refuse(procedure, text, is_raw)
+    return Request(procedure, text, target, milliseconds(timeout), is_raw)
+
+
+def requests(chain: Chain, timeout: float) -> list[Request]:
     """The requests of a chain. Raises what the library refuses of any, before one goes out."""
-    made = []
-    for procedure, parameters in chain.commands:
-        is_raw = procedure not in TABLE
-        text = line(() if is_raw else TABLE[procedure].kinds, parameters)
-        made.append(Request(procedure, text, chain.target, timeout, is_raw))
-        client = begun()
-        if is_raw:
-            client.send_raw(procedure, text, target=0, deadline=0)
-        else:
-            client.send(0, 0, procedure, text)
-    return made
+    return [
+        make_request(procedure, parameters, chain.target, timeout, procedure not in TABLE)
+        for procedure, parameters in chain.commands
+    ]
 
 
 def ended(place: int, request: Request, settlement: Settlement, accept: tuple[int, ...]) -> Row:
@@ -157,6 +164,8 @@ class Pace:
     """When cycles are due: each `every` seconds behind the beginning of the one before it."""
 
     def __init__(self, every: float):
+        if not 0 <= every < math.inf:
+            raise ValueError(f"{every} s is no period")
         self.every, self.number, self._began = every, 0, 0.0
 
     def due(self, now: float) -> float:

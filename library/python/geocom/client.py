@@ -7,6 +7,7 @@ from __future__ import annotations
 import collections
 import ctypes
 import enum
+import functools
 import threading
 from collections.abc import Callable
 from typing import Any
@@ -16,8 +17,9 @@ from .errors import check
 from .settlement import Outcome, Reading, Settlement
 from .values import Listed
 
-# The replies to the null procedures of a beginning.
-_ANSWERS = b"".join(b"%%R1P,0,%d:0\r\n" % id for id in (6, 5, 4, 3, 2, 1, 0, 7))
+# The ids of the null procedures of a beginning, and the replies to them.
+_IDS = (6, 5, 4, 3, 2, 1, 0, 7)
+_ANSWERS = b"".join(b"%%R1P,0,%d:0\r\n" % id for id in _IDS)
 
 
 class Kind(enum.IntEnum, metaclass=Listed):
@@ -52,14 +54,13 @@ class Client:
         self._line = ctypes.create_string_buffer(LINE_ROOM)
         self._text = ctypes.create_string_buffer(TEXT_ROOM)
         self._due = (ctypes.c_uint32 * WINDOW)()
-        self._lock = threading.Lock()
+        self._lock = threading.RLock()  # a signal's handler can leave one held
         #: how many feeds ended with which kind of line
         self.counts: collections.Counter[Kind] = collections.Counter()
         #: how many lines that are no replies had which first faulty field, 1 to 5
         self.line_faults: collections.Counter[int] = collections.Counter()
         #: how many replies came, those that no request waited for among them
         self.replies = 0
-        self._has_begun = False
         check(self._calls.geocom_client_init(self._state, width if 0 <= width < 256 else 0))
 
     def begin(self, data: bytes = b"") -> bytes:
@@ -76,13 +77,12 @@ class Client:
                 self._state, came, len(came), self._line, LINE_ROOM
             )
             check(begun.fault)
-            self._has_begun = begun.has_begun == 1
             return self._line.raw[: begun.count]
 
     @property
     def has_begun(self) -> bool:
         """Whether all eight null procedures were answered, so that requests go out."""
-        return self._has_begun
+        return bool(self._state.answered == len(_IDS))
 
     def send(self, target: int, deadline: int, procedure: int, params: str | bytes = b"") -> bytes:
         """Sends a request, and gives the line to write on the connection, with its CR LF.
@@ -182,7 +182,6 @@ class Client:
         with self._lock:
             lost = self._calls.geocom_client_restart(self._state, self._records, WINDOW)
             check(lost.fault)
-            self._has_begun = False
             return self._settled(lost.count)
 
     @property
@@ -224,6 +223,24 @@ def begun() -> Client:
     client = Client(1)
     client.begin(_ANSWERS)
     return client
+
+
+@functools.lru_cache(maxsize=None)
+def _fresh() -> bytes:
+    """The state of a client that has begun."""
+    return bytes(begun()._state)
+
+
+@functools.lru_cache(maxsize=256)
+def refuse(procedure: int, params: str, is_raw: bool) -> None:
+    """Raises what the library refuses of a request, before anything is asked."""
+    text = params.encode("latin-1")
+    _within(procedure, 16)
+    line = ctypes.create_string_buffer(LINE_ROOM)
+    calls = load()
+    send = calls.geocom_client_send_raw if is_raw else calls.geocom_client_send
+    state = _Client.from_buffer_copy(_fresh())
+    check(send(state, 0, 0, procedure, text, len(text), line, LINE_ROOM).fault)
 
 
 def _within(number: int, bits: int) -> None:

@@ -4,7 +4,8 @@ request that gave no value.
 
 from __future__ import annotations
 
-from typing import TYPE_CHECKING
+import copyreg
+from typing import TYPE_CHECKING, Any
 
 from .codes import RC
 
@@ -12,7 +13,15 @@ if TYPE_CHECKING:
     from .settlement import Settlement
 
 
-class Fault(Exception):
+class _Kept(Exception):
+    """An exception that is copied and pickled as it is, without the arguments that made it."""
+
+    def __reduce__(self) -> Any:
+        made = (type(self), *self.args)
+        return copyreg.__newobj__, made, vars(self)  # type: ignore[attr-defined]
+
+
+class Fault(_Kept):
     """A refusal, by its number. Nothing has changed then."""
 
     text = "refused"
@@ -152,7 +161,13 @@ class NotReady(TimeoutError):
     """There was no connection to an instrument that answers, in time: the request was not sent."""
 
 
-class NoValue(Exception):
+def not_ready(failure: Exception | None) -> NotReady:
+    """That a request wasn't sent in time, and what the connection failed of."""
+    why = f": {failure}" if failure else ""
+    return NotReady(f"no instrument was ready for it in time{why}")
+
+
+class NoValue(_Kept):
     """A request ended without a value. `settlement` is its end."""
 
     def __init__(self, settlement: Settlement, why: str):

@@ -8,16 +8,20 @@ b'%R1P,0,0:0\\r\\n%R1P,0,1:0,0.5,1.5,10.0,2\\r\\n'
 
 from __future__ import annotations
 
-import asyncio
 import ctypes
 import threading
 import time
 from collections import deque
 from collections.abc import Callable
-from typing import NamedTuple, Union
+from typing import TYPE_CHECKING, NamedTuple, Union
 
 from . import _library
 from .errors import BadScene, check
+
+if TYPE_CHECKING:
+    import asyncio
+
+    from .aio.instrument import Connected
 
 #: The scene of the simulator: three targets.
 SIMULATOR = "target 0.5 1.5 25.125\ntarget 2.25 1.625 110.0625\ntarget 4.0 1.5 48.5\n"
@@ -159,9 +163,11 @@ class Instrument:
         """A connection to it, as `asyncio.open_connection` gives one. The instrument is restarted,
         as for each connection.
         """
+        # Only here, so that `import geocom` doesn't import asyncio.
+        from .aio.instrument import connected
+
         self.restart()
-        reader = asyncio.StreamReader()
-        return reader, Connected(self, reader)
+        return connected(self)
 
     def _now(self) -> int:
         return round(self._clock() * 1000)
@@ -172,32 +178,3 @@ class Instrument:
         if size < len(first.data):
             self._waiting.appendleft(first._replace(data=first.data[size:]))
         return first.data[:size]
-
-
-class Connected:
-    """What is written to an instrument within the process, for asyncio."""
-
-    def __init__(self, instrument: Instrument, reader: asyncio.StreamReader):
-        self._instrument, self._reader = instrument, reader
-        self._loop = asyncio.get_running_loop()
-        self._waiting: deque[bytes] = deque()
-
-    def write(self, data: bytes) -> None:
-        """Takes all of it, now. Each reply comes when it is due, in order."""
-        now = self._loop.time()
-        for reply in self._instrument.hear(data, round(now * 1000)):
-            self._waiting.append(reply.data)
-            self._loop.call_at(reply.due / 1000, self._send)
-
-    async def drain(self) -> None:
-        """Nothing waits to be written."""
-
-    def close(self) -> None:
-        """Ends the connection: what is still to go out doesn't come."""
-        self._waiting.clear()
-        self._reader.feed_eof()
-
-    def _send(self) -> None:
-        """The first reply goes out: as many times as there are replies, at their moments."""
-        if self._waiting:
-            self._reader.feed_data(self._waiting.popleft())

@@ -95,7 +95,9 @@ class Csv(_Group):
         return cast(DateTime, self._value(5008, (), target, timeout))
 
     def get_int_temp(self, *, target: int = 0, timeout: Optional[float] = None) -> IntTemp:
-        """5011 CSV_GetIntTemp. Answers temperature in degrees Celsius (Double)."""
+        """5011 CSV_GetIntTemp. Answers temperature inside the instrument in degrees Celsius
+        (Double).
+        """
         return cast(IntTemp, self._value(5011, (), target, timeout))
 
     def get_sw_version(self, *, target: int = 0, timeout: Optional[float] = None) -> SWVersion:
@@ -109,7 +111,9 @@ class Tmc(_Group):
     def do_measure(
         self, command: int, mode: int, *, target: int = 0, timeout: Optional[float] = None
     ) -> None:
-        """2008 TMC_DoMeasure. Takes command, mode (2 Longs)."""
+        """2008 TMC_DoMeasure. Takes command, mode (2 Longs). Modes: `MeasureCommand`,
+        `InclinationMode`.
+        """
         self._value(2008, (command, mode), target, timeout)
 
     def get_station(self, *, target: int = 0, timeout: Optional[float] = None) -> StationPoint:
@@ -148,22 +152,24 @@ class Tmc(_Group):
         return cast(TelescopeFace, self._value(2026, (), target, timeout))
 
     def get_angle(self, mode: int, *, target: int = 0, timeout: Optional[float] = None) -> Angle:
-        """2107 TMC_GetAngle. Takes mode (Long). Answers horizontal direction, vertical angle in
-        radians (2 Doubles).
+        """2107 TMC_GetAngle. Takes mode (Long). Modes: `InclinationMode`. Answers horizontal
+        direction, vertical angle in radians (2 Doubles).
         """
         return cast(Angle, self._value(2107, (mode,), target, timeout))
 
     def get_simple_mea(
         self, wait_ms: int, mode: int, *, target: int = 0, timeout: Optional[float] = None
     ) -> SimpleMea:
-        """2108 TMC_GetSimpleMea. Takes wait in milliseconds, mode (2 Longs). Answers horizontal
-        direction, vertical angle in radians, slope distance in metres (3 Doubles).
+        """2108 TMC_GetSimpleMea. Takes wait in milliseconds, mode (2 Longs). Modes:
+        `InclinationMode`. Answers horizontal direction, vertical angle in radians, slope
+        distance in metres (3 Doubles).
         """
         return cast(SimpleMea, self._value(2108, (wait_ms, mode), target, timeout))
 
     def quick_dist(self, *, target: int = 0, timeout: Optional[float] = None) -> QuickDist:
         """2117 TMC_QuickDist. Answers horizontal direction, vertical angle in radians, slope
-        distance in metres (3 Doubles).
+        distance in metres (3 Doubles). It measures in tracking mode: not for monitoring (from
+        memory).
         """
         return cast(QuickDist, self._value(2117, (), target, timeout))
 
@@ -184,8 +190,9 @@ class Bap(_Group):
     def meas_distance_angle(
         self, mode: int, *, target: int = 0, timeout: Optional[float] = None
     ) -> MeasDistanceAngle:
-        """17017 BAP_MeasDistanceAngle. Takes mode (Long). Answers horizontal direction, vertical
-        angle in radians, slope distance in metres (3 Doubles), mode (Long).
+        """17017 BAP_MeasDistanceAngle. Takes mode (Long). Modes: `DistanceMode`. Answers
+        horizontal direction, vertical angle in radians, slope distance in metres (3 Doubles),
+        mode (Long).
         """
         return cast(MeasDistanceAngle, self._value(17017, (mode,), target, timeout))
 
@@ -205,7 +212,8 @@ class Aut(_Group):
         timeout: Optional[float] = None,
     ) -> None:
         """9027 AUT_MakePositioning. Takes horizontal direction, vertical angle in radians (2
-        Doubles), positioning mode, target recognition mode (2 Longs), dummy (Boolean).
+        Doubles), positioning mode, target recognition mode (2 Longs), dummy (Boolean). Modes:
+        `PositioningMode`, `RecognitionMode`.
         """
         self._value(
             9027, (hz_rad, v_rad, positioning_mode, target_recognition_mode, dummy), target, timeout
@@ -221,7 +229,7 @@ class Aut(_Group):
         timeout: Optional[float] = None,
     ) -> None:
         """9028 AUT_ChangeFace. Takes positioning mode, target recognition mode (2 Longs), dummy
-        (Boolean).
+        (Boolean). Modes: `PositioningMode`, `RecognitionMode`.
         """
         self._value(9028, (positioning_mode, target_recognition_mode, dummy), target, timeout)
 

@@ -13,10 +13,12 @@ import socket
 from collections.abc import Callable
 from typing import Any, Protocol, Union
 
+from .values import LONGEST
+
 PIECE = 4096
 # How long a write or a connect may take, in seconds.
 PATIENCE = 10.0
-_ADDRESS = re.compile(r"(?:(?:\[([0-9A-Fa-f:.]*:[0-9A-Fa-f:.]*)\]|([^:\[\]]+)):)?([0-9]{1,5})")
+_ADDRESS = re.compile(r"(?:(?:\[([0-9A-Fa-f:.]*:[0-9A-Fa-f:.]*)\]|([^:\[\]\s]+)):)?([0-9]{1,5})")
 
 
 class Port(Protocol):
@@ -47,10 +49,10 @@ class Link(Protocol):
         """Ends it."""
 
 
-#: A path with a `/`, "HOST:PORT", a port of this machine, an open socket or port, or a call that
-#: opens one.
+#: A path with a `/`, "HOST:PORT", a port of this machine as "4001" or 4001, an open socket or port,
+#: or a call that opens one.
 Where = Union[
-    str, "os.PathLike[str]", socket.socket, Port, Callable[[], Union[socket.socket, Port]]
+    str, int, "os.PathLike[str]", socket.socket, Port, Callable[[], Union[socket.socket, Port]]
 ]
 
 
@@ -66,7 +68,7 @@ class SocketLink:
         self._poll.register(connection, select.POLLIN)
 
     def read(self, seconds: float) -> bytes:
-        if not self._poll.poll(math.ceil(seconds * 1000)):
+        if not self._poll.poll(min(math.ceil(seconds * 1000), LONGEST)):
             return b""
         data = self._socket.recv(PIECE)
         if not data:
@@ -109,6 +111,8 @@ def address(where: str) -> tuple[str, int] | None:
     >>> address("4001"), address("/dev/ttyUSB0")
     (('127.0.0.1', 4001), None)
     """
+    if "://" in where:
+        raise ValueError(f"{where!r}: HOST:PORT has nothing before it")
     if "/" in where:
         return None
     found = _ADDRESS.fullmatch(where)
@@ -128,8 +132,10 @@ def serial_port(path: str, baud: int) -> Any:
 
 def opener(where: Where, baud: int) -> Callable[[], Link]:
     """A call that opens this connection, again and again. What can't be opened again raises OSError
-    then.
+    then. Raises ValueError or TypeError for what can't be opened at all.
     """
+    if isinstance(where, int):
+        where = str(where)
     if isinstance(where, (str, os.PathLike)):
         path = os.fspath(where)
         place = address(path) if isinstance(where, str) else None
@@ -137,10 +143,14 @@ def opener(where: Where, baud: int) -> Callable[[], Link]:
             host, number = place
             return lambda: SocketLink(socket.create_connection((host, number), PATIENCE))
         return lambda: PortLink(serial_port(path, baud))
-    if isinstance(where, socket.socket) or not callable(where):
+    if isinstance(where, socket.socket):
         return _Reopened(where)
-    call: Callable[[], socket.socket | Port] = where
-    return lambda: _link(call())
+    if callable(where):
+        call: Callable[[], socket.socket | Port] = where
+        return lambda: _link(call())
+    if not all(hasattr(where, name) for name in ("read", "write", "close")):
+        raise TypeError(f"{where!r} is no path, address, socket or port, and opens none")
+    return _Reopened(where)
 
 
 class _Reopened:
@@ -153,6 +163,8 @@ class _Reopened:
         if not self._is_new:
             if not (again := getattr(self._port, "open", None)):
                 raise ConnectionError("the connection ended, and can't be made again")
+            with contextlib.suppress(OSError):
+                self._port.close()  # it may be open, if an exception broke a close off
             again()
         self._is_new = False
         return _link(self._port)

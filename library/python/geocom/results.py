@@ -46,7 +46,7 @@ class DateTime(NamedTuple):
 
 
 class IntTemp(NamedTuple):
-    """5011 CSV_GetIntTemp: temperature in degrees Celsius (Double)."""
+    """5011 CSV_GetIntTemp: temperature inside the instrument in degrees Celsius (Double)."""
 
     temperature_c: Decimal
 

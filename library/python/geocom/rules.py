@@ -108,6 +108,25 @@ class Rules:
         """Whether it may go out no more: its chain's stretch is over."""
         return request.stretch is None and request.within not in (None, self.stretch)
 
+    def delay(self, now: int) -> int:
+        """What remains of a pause, and the quiet time behind it."""
+        paused = self._since + self._pause - now if self.phase is Phase.PAUSING else 0
+        return max(0, paused) + (self.quiet if self.client.has_begun else 0)
+
+    def broken_off(self, is_connected: bool, now: int) -> None:
+        """An exception left something half done. All that waits is lost, and the client begins anew
+        behind a line feed. Nothing is logged: that may be what raised.
+        """
+        self.client.restart()
+        for request in self.waiting.values():
+            request.give_up()
+        self.waiting.clear()
+        self._again = self._behind = 0
+        self._is_asked, self._idle = False, None
+        self.stretch += 1
+        self.phase = Phase.CLEARING if is_connected else Phase.PAUSING
+        self._since, self._pause = now, max(self._pause, self.quiet)
+
     def next(self, now: int) -> Step:
         """What is to be done now."""
         if self.phase is Phase.PAUSING and now - self._since >= self._pause:
@@ -142,6 +161,8 @@ class Rules:
         """Bytes were read, or none within the time."""
         if data:
             log.debug("< %r", data)
+        if self.phase is Phase.CLEARING:
+            return  # it was under way when something was broken off
         if self.phase is Phase.DRAINING:
             self._drain(data, now)
         elif self.client.has_begun:
@@ -182,7 +203,8 @@ class Rules:
 
     def _settle(self, settlement: Settlement) -> None:
         """The library's settlement is that of the request with its number."""
-        request = self.waiting.pop(settlement.target)
+        if not (request := self.waiting.pop(settlement.target, None)):
+            return  # it was given up already
         vars(settlement)["target"] = request.target  # nobody else has it yet
         request.settlement = settlement
         if settlement.outcome != Outcome.LOST and not request.is_raw:
@@ -201,10 +223,10 @@ class Rules:
 
     def _begin(self, now: int) -> Step:
         """The null procedure of the first id that isn't answered, and again at its deadline."""
+        if self._again > now:
+            return Step(Act.READ, until=self._again)
         if self._is_dead(now):
             return Step(Act.CLOSE)
-        if self._again > now:
-            return Step(Act.READ, until=min(self._again, self._alive + self._patience()))
         self._ask(now)
         self._again, self._behind = now + self.timeout, 0
         return self._write(self.client.begin())
@@ -213,15 +235,15 @@ class Rules:
         """The next command, if it may go out: behind a call of the table that was answered, of the
         seven before it.
         """
-        if not self.wanted:
-            return self._read(now)
-        if not self._has_room():
-            return self._wait(now)
-        if self._behind < WINDOW:
-            return self._send(self.wanted.popleft(), now) or self._command(now)
-        if self.client.current == 0:
-            return self._send(Request(NULL, "", 0, self.timeout), now) or self._wait(now)
-        return self._wait(now)
+        while self.wanted and self._has_room() and not self._is_dead(now):
+            if self._behind < WINDOW:
+                if step := self._send(self.wanted.popleft(), now):
+                    return step
+            elif self.client.current == 0:
+                return self._send(Request(NULL, "", 0, self.timeout), now) or self._wait(now)
+            else:
+                break
+        return self._wait(now) if self.wanted else self._read(now)
 
     def _has_room(self) -> bool:
         return len(self.waiting) < WINDOW and self.client.current < self.width
@@ -240,17 +262,16 @@ class Rules:
         return self._begin(now)
 
     def _read(self, now: int) -> Step:
-        deadline = self.client.next_deadline()
-        if deadline is not None and now < self._alive + 2 * self.timeout >= deadline:
-            return Step(Act.READ, b"", deadline)  # it comes before any line is dead
-        if self._is_dead(now):
+        deadline = self.client.next_deadline()  # before the last one no line is closed as dead
+        if deadline is None and self._is_dead(now):
             return Step(Act.CLOSE)
-        until = self._alive + self._patience()
-        return Step(Act.READ, b"", until if deadline is None else min(until, deadline))
+        return Step(Act.READ, b"", deadline or self._alive + self._patience())
 
     def _send(self, request: Request, now: int) -> Step | None:
         """A request goes out, once; None where the library refuses it, and nothing has changed."""
         number, deadline = self._number, now + request.timeout
+        self._number = (number + 1) % (1 << 32)  # first, so that no other request gets it
+        self.waiting[number] = request
         try:
             if request.is_raw:
                 sent = self.client.send_raw(
@@ -259,10 +280,9 @@ class Rules:
             else:
                 sent = self.client.send(number, deadline, request.procedure, request.parameters)
         except (Fault, ValueError) as fault:
+            del self.waiting[number]
             request.fault = fault
             return None
-        self._number = (number + 1) % (1 << 32)
-        self.waiting[number] = request
         request.stretch, request.deadline = self.stretch, deadline
         request.sent = datetime.datetime.now(datetime.timezone.utc)
         self._ask(now)

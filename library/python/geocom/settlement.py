@@ -69,7 +69,7 @@ class Settlement:
         raw one its items.
 
         `accept` has return codes whose answer is taken as one with 0, as
-        `RC.GRC_TMC_NO_FULL_CORRECTION`. Raises Late, Lost, Unreadable, and Refused for each other
+        `RC.GRC_TMC_ACCURACY_GUARANTEE`. Raises Late, Lost, Unreadable, and Refused for each other
         code.
         """
         if self.outcome != Outcome.ANSWERED:
@@ -136,6 +136,11 @@ class Request:
         """Its settlement; one that is given up is lost: no answer will be taken for it."""
         if self.fault:
             raise self.fault
-        return self.settlement or Settlement(
+        return self.settlement or self.give_up()
+
+    def give_up(self) -> Settlement:
+        """It is lost: no answer will be taken for it."""
+        self.settlement = Settlement(
             self.target, self.procedure, Outcome.LOST, Reading.NONE, 0, None, ()
         )
+        return self.settlement

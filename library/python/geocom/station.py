@@ -4,19 +4,19 @@ each is settled.
 
 from __future__ import annotations
 
+import os
 import threading
 import time
 from collections.abc import Callable, Iterable, Iterator
 from typing import Any, Optional
 
-from .chains import Chain, Cycle, Pace, Row, ended, is_good, requests, skipped
-from .errors import NotReady
+from .chains import Chain, Cycle, Pace, Row, ended, is_good, make_request, requests, skipped
+from .errors import NotReady, not_ready
 from .named import Aut, Bap, Com, Csv, Tmc
 from .ports import Link, Where, opener
-from .results import TABLE
-from .rules import Act, Rules, log
+from .rules import Act, Rules, Step, log
 from .settlement import Request, Settlement
-from .values import Parameter, line
+from .values import Parameter, milliseconds
 
 
 class Station:
@@ -26,7 +26,7 @@ class Station:
     `timeout` is how long an answer may take, in seconds, where a call says nothing else: longer
     than the slowest answer when all is well. `quiet` is how long a new connection within a run has
     to be silent before a request goes out on it. `baud` is the speed of a device. `accept` has
-    return codes that are taken as 0, as `RC.GRC_TMC_NO_FULL_CORRECTION`. Threads may share a
+    return codes that are taken as 0, as `RC.GRC_TMC_ACCURACY_GUARANTEE`. Threads may share a
     station: it asks one request at a time.
 
     As a context manager it connects and begins at once: eight null procedures are answered, by
@@ -48,10 +48,12 @@ class Station:
         self.timeout, self.accept = timeout, tuple(accept)
         self._open = opener(port, baud)
         self._clock, self._sleep = clock, sleep
-        self._rules = Rules(1, round(timeout * 1000), round(quiet * 1000))
+        self._rules = Rules(1, milliseconds(timeout), milliseconds(quiet, 0))
         self._link: Optional[Link] = None
         self._failure: Optional[Exception] = None
-        self._lock = threading.RLock()
+        self._lock, self._process = threading.RLock(), os.getpid()
+        # Whether a call is under way; where the next one finds it so, an exception broke it off.
+        self._is_under_way = False
         #: The procedures by their names.
         self.aut, self.bap, self.com = Aut(self), Bap(self), Com(self)
         self.csv, self.tmc = Csv(self), Tmc(self)
@@ -70,25 +72,32 @@ class Station:
     def begin(self, timeout: Optional[float] = None) -> None:
         """Connects, and begins. Raises OSError where no connection is made, and NotReady where the
         instrument doesn't answer in time: three times the station's timeout, where nothing else is
-        said.
+        said, and the pause and the quiet time of a connection that isn't the first.
         """
+        patience = milliseconds(3 * self.timeout if timeout is None else timeout)
+        self._refuse_fork()
         with self._lock:
-            now = self._now()
-            end = now + self._milliseconds(timeout, 3 * self.timeout)
+            now = self._enter()
+            end = now + patience + (self._rules.delay(now) if timeout is None else 0)
             self._failure = None
-            while not self._rules.is_ready:
-                if self._failure:
-                    raise self._failure
-                if now >= end:
-                    raise NotReady("the instrument answers no null procedure in time")
+            while not self._rules.is_ready and not self._failure and now < end:
                 now = self._turn(now, end)
-            self._rules.rest(now)
+            is_ready, failure = self._rules.is_ready, self._failure
+            self._leave(now)
+        if not is_ready:
+            raise failure or NotReady("the instrument answers no null procedure in time")
 
     def close(self) -> None:
-        """Closes the connection. A later request makes it anew."""
+        """Closes the connection, once no other thread's call is under way. A later request makes it
+        anew, over an open socket excepted, which can't be made again.
+        """
+        if os.getpid() != self._process:
+            return  # the connection is the other process's
         with self._lock:
+            now = self._enter()
             if self._link:
                 self._drop()
+            self._leave(now)
 
     def ask(
         self,
@@ -108,8 +117,8 @@ class Station:
         Raises NotReady where the request could not go out within `timeout`; BadParameters and
         UnknownProcedure as `Client.send` does. Nothing was asked then.
         """
-        kinds = TABLE[procedure].kinds if procedure in TABLE else ()
-        return self._ask(self._request(procedure, line(kinds, parameters), target, timeout))
+        timeout = self._patience(timeout)
+        return self._ask(make_request(procedure, parameters, target, timeout, is_raw=False))
 
     def raw(
         self,
@@ -124,7 +133,8 @@ class Station:
         Behind seven of these in a row a null procedure goes out first. Raises InTable and
         LineTooLong, too.
         """
-        return self._ask(self._request(procedure, line((), parameters), target, timeout, True))
+        timeout = self._patience(timeout)
+        return self._ask(make_request(procedure, parameters, target, timeout, is_raw=True))
 
     def value_of(
         self,
@@ -147,8 +157,9 @@ class Station:
         """
         rows: list[Row] = []
         accept = (*self.accept, *chain.accept)
-        asked = requests(chain, self._milliseconds(chain.timeout, self.timeout))
+        asked = requests(chain, self._patience(chain.timeout))
         within = None
+        self._refuse_fork()
         with self._lock:
             for place, request in enumerate(asked):
                 request.within = within
@@ -179,38 +190,50 @@ class Station:
             else:
                 yield Cycle(pace.number, [], is_missed=True)
 
-    def _request(
-        self, procedure: int, text: str, target: int, timeout: Optional[float], is_raw: bool = False
-    ) -> Request:
-        return Request(procedure, text, target, self._milliseconds(timeout, self.timeout), is_raw)
-
-    @staticmethod
-    def _milliseconds(timeout: Optional[float], otherwise: float) -> int:
-        milliseconds = round((otherwise if timeout is None else timeout) * 1000)
-        if milliseconds <= 0:
-            raise ValueError("a timeout is longer than nothing")
-        return milliseconds
+    def _patience(self, timeout: Optional[float]) -> float:
+        return self.timeout if timeout is None else timeout
 
     def _now(self) -> int:
         return round(self._clock() * 1000)
 
+    def _refuse_fork(self) -> None:
+        """Two processes can't share a connection; and the lock may be held in the second."""
+        if os.getpid() != self._process:
+            raise RuntimeError("a station belongs to the process that made it: make one in each")
+
+    def _enter(self) -> int:
+        """A call begins, behind one that an exception may have broken off. The moment."""
+        now = self._now()
+        if self._is_under_way:
+            self._rules.wanted.clear()
+            self._rules.broken_off(self._link is not None, now)
+        self._is_under_way = True
+        return now
+
+    def _leave(self, now: int) -> None:
+        """A call ended, and nothing is half done."""
+        self._rules.rest(now)
+        self._is_under_way = False
+
     def _ask(self, request: Request) -> Settlement:
         rules = self._rules
+        self._refuse_fork()
         with self._lock:
-            now = self._look(self._now())
+            now = self._look(self._enter())
             limit = now + request.timeout
             rules.wanted.append(request)
-            try:
-                while not request.is_over(now):
-                    is_sent = request.stretch is not None
-                    if not is_sent and (now >= limit or rules.is_skipped(request)):
-                        raise NotReady("no instrument was ready for it in time") from self._failure
-                    now = self._turn(now, request.deadline if is_sent else limit)
-                return request.end()
-            finally:
-                if request in rules.wanted:
-                    rules.wanted.remove(request)
-                rules.rest(now)
+            while not request.is_over(now):
+                is_sent = request.stretch is not None
+                if not is_sent and (now >= limit or rules.is_skipped(request)):
+                    break
+                now = self._turn(now, request.deadline if is_sent else limit)
+            is_over, failure = request.is_over(now), self._failure
+            if request in rules.wanted:
+                rules.wanted.remove(request)
+            self._leave(now)
+        if not is_over:
+            raise not_ready(failure) from failure
+        return request.end()
 
     def _look(self, now: int) -> int:
         """Takes what came while nobody read, so that a connection which ended is seen before a
@@ -218,44 +241,60 @@ class Station:
         self._rules.resume(now)
         if self._link:
             try:
-                if data := self._link.read(0.0):
-                    now = self._now()
-                    self._rules.came(data, now)
+                data = self._link.read(0.0)
             except OSError as failure:
                 self._drop(failure)
+            else:
+                now = self._now()
+                if data:
+                    self._rules.came(data, now)
         return now
 
     def _turn(self, now: int, end: int) -> int:
         """One act, which ends at `end` at the latest. The moment after it."""
         step = self._rules.next(now)
         wait = max(0, min(step.until, end) - now) / 1000
-        try:
-            if step.act is Act.OPEN:
-                self._link = self._open()
-                self._rules.opened(self._now())
-            elif step.act is Act.CLOSE:
-                self._drop()
-            elif step.act is Act.WAIT:
-                self._sleep(wait)
-            elif self._link and step.act is Act.WRITE:
-                self._link.write(step.data)
-            elif self._link:
-                data = self._link.read(wait)
-                now = self._now()
-                self._rules.came(data, now)
-                return now
-        except OSError as failure:
-            self._drop(failure)
+        if step.act is Act.CLOSE:
+            self._drop()
+        elif step.act is Act.WAIT:
+            self._sleep(wait)
+        elif self._link or step.act is Act.OPEN:
+            try:
+                data = self._do(step, wait)
+            except OSError as failure:
+                self._drop(failure)
+            else:
+                self._did(step.act, data)
         return self._now()
+
+    def _do(self, step: Step, wait: float) -> bytes:
+        """What is done to a connection; what was read. Raises OSError if it failed."""
+        if step.act is Act.OPEN:
+            self._link = self._open()
+        elif self._link and step.act is Act.WRITE:
+            self._link.write(step.data)
+        elif self._link:
+            return self._link.read(wait)
+        return b""
+
+    def _did(self, act: Act, data: bytes) -> None:
+        if act is Act.OPEN:
+            self._rules.opened(self._now())
+        elif act is Act.READ:
+            self._rules.came(data, self._now())
 
     def _drop(self, failure: Optional[Exception] = None) -> None:
         """The connection is no more."""
-        link, self._link, self._failure = self._link, None, failure
-        if failure:
-            log.info("the connection failed: %s", failure)
+        self._failure = failure
         try:
-            if link:
-                link.close()
+            if self._link:
+                self._link.close()
         except OSError as failed:
             log.info("the close failed: %s", failed)
+        except Exception:  # of a port of the caller's own
+            self._link = None
+            raise
+        self._link = None
         self._rules.closed(self._now())
+        if failure:
+            log.info("the connection failed: %s", failure)

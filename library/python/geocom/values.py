@@ -6,12 +6,16 @@ from __future__ import annotations
 
 import datetime
 import enum
+import operator
 from collections.abc import Callable, Sequence
 from decimal import Decimal
-from typing import Any, TypeVar, Union
+from typing import Any, SupportsFloat, TypeVar, Union
 
-#: What a parameter may be. A text goes out as it stands, as "2.25"; a Decimal with all its digits.
-Parameter = Union[str, int, float, Decimal]
+#: What a parameter may be. A text goes out as it stands, as "2.25"; a Decimal with all its digits;
+#: any other number, as one of numpy or a Fraction, by its value.
+Parameter = Union[str, int, float, Decimal, SupportsFloat]
+#: The longest time-out, in milliseconds: what the poll of a socket takes.
+LONGEST = (1 << 31) - 1
 
 
 class Listed(enum.EnumMeta):
@@ -32,6 +36,9 @@ class OpenEnum(enum.IntEnum, metaclass=Listed):
         unknown = int.__new__(cls, value)
         unknown._name_, unknown._value_ = f"UNKNOWN_{value}", value
         return unknown
+
+    def __reduce_ex__(self, protocol: Any) -> Any:
+        return type(self), (int(self),)  # by its number: not each has a name in the class
 
     def __str__(self) -> str:
         return self.name
@@ -71,9 +78,45 @@ def parameter(kind: str, value: Parameter) -> str:
         return value
     if isinstance(value, Decimal):
         return format(value, "f")
-    if isinstance(value, float):
-        return repr(float(value))
-    return f"'{int(value):02x}'" if kind == "Byte" else str(int(value))
+    if kind == "Boolean" and value in (False, True):
+        return str(int(bool(value)))
+    given = number(value)
+    if isinstance(given, float):
+        return repr(given)
+    return f"'{given:02x}'" if kind == "Byte" else str(given)
+
+
+def number(value: Any) -> int | float:
+    """A number by its value: whole if its type is, else a float. Raises TypeError for what is no
+    number.
+
+    >>> from fractions import Fraction
+    >>> number(True), number(Fraction(9, 4))
+    (1, 2.25)
+    """
+    try:
+        return int(operator.index(value))
+    except TypeError:
+        if not isinstance(value, SupportsFloat) or isinstance(value, complex):
+            raise TypeError(f"{value!r} is no number") from None
+    given = float(value)
+    if getattr(value, "imag", 0) != 0:
+        raise TypeError(f"{value!r} is no real number")
+    return given
+
+
+def whole(value: Any) -> int:
+    """A whole number, which isn't cut. Raises TypeError for any other."""
+    return int(operator.index(value))
+
+
+def milliseconds(seconds: float, least: int = 1) -> int:
+    """A time-out in milliseconds, at least so many. Raises ValueError for one that is shorter, or
+    longer than 24 days.
+    """
+    if not 0 <= seconds <= LONGEST / 1000 or round(seconds * 1000) < least:
+        raise ValueError(f"{seconds} s: a timeout is longer than nothing, and at most 24 days")
+    return round(seconds * 1000)
 
 
 def line(kinds: Sequence[str], values: Sequence[Parameter]) -> str:

@@ -97,7 +97,9 @@ class Csv(_Group):
         return cast(DateTime, await self._value(5008, (), target, timeout))
 
     async def get_int_temp(self, *, target: int = 0, timeout: Optional[float] = None) -> IntTemp:
-        """5011 CSV_GetIntTemp. Answers temperature in degrees Celsius (Double)."""
+        """5011 CSV_GetIntTemp. Answers temperature inside the instrument in degrees Celsius
+        (Double).
+        """
         return cast(IntTemp, await self._value(5011, (), target, timeout))
 
     async def get_sw_version(
@@ -113,7 +115,9 @@ class Tmc(_Group):
     async def do_measure(
         self, command: int, mode: int, *, target: int = 0, timeout: Optional[float] = None
     ) -> None:
-        """2008 TMC_DoMeasure. Takes command, mode (2 Longs)."""
+        """2008 TMC_DoMeasure. Takes command, mode (2 Longs). Modes: `MeasureCommand`,
+        `InclinationMode`.
+        """
         await self._value(2008, (command, mode), target, timeout)
 
     async def get_station(
@@ -158,22 +162,24 @@ class Tmc(_Group):
     async def get_angle(
         self, mode: int, *, target: int = 0, timeout: Optional[float] = None
     ) -> Angle:
-        """2107 TMC_GetAngle. Takes mode (Long). Answers horizontal direction, vertical angle in
-        radians (2 Doubles).
+        """2107 TMC_GetAngle. Takes mode (Long). Modes: `InclinationMode`. Answers horizontal
+        direction, vertical angle in radians (2 Doubles).
         """
         return cast(Angle, await self._value(2107, (mode,), target, timeout))
 
     async def get_simple_mea(
         self, wait_ms: int, mode: int, *, target: int = 0, timeout: Optional[float] = None
     ) -> SimpleMea:
-        """2108 TMC_GetSimpleMea. Takes wait in milliseconds, mode (2 Longs). Answers horizontal
-        direction, vertical angle in radians, slope distance in metres (3 Doubles).
+        """2108 TMC_GetSimpleMea. Takes wait in milliseconds, mode (2 Longs). Modes:
+        `InclinationMode`. Answers horizontal direction, vertical angle in radians, slope
+        distance in metres (3 Doubles).
         """
         return cast(SimpleMea, await self._value(2108, (wait_ms, mode), target, timeout))
 
     async def quick_dist(self, *, target: int = 0, timeout: Optional[float] = None) -> QuickDist:
         """2117 TMC_QuickDist. Answers horizontal direction, vertical angle in radians, slope
-        distance in metres (3 Doubles).
+        distance in metres (3 Doubles). It measures in tracking mode: not for monitoring (from
+        memory).
         """
         return cast(QuickDist, await self._value(2117, (), target, timeout))
 
@@ -194,8 +200,9 @@ class Bap(_Group):
     async def meas_distance_angle(
         self, mode: int, *, target: int = 0, timeout: Optional[float] = None
     ) -> MeasDistanceAngle:
-        """17017 BAP_MeasDistanceAngle. Takes mode (Long). Answers horizontal direction, vertical
-        angle in radians, slope distance in metres (3 Doubles), mode (Long).
+        """17017 BAP_MeasDistanceAngle. Takes mode (Long). Modes: `DistanceMode`. Answers
+        horizontal direction, vertical angle in radians, slope distance in metres (3 Doubles),
+        mode (Long).
         """
         return cast(MeasDistanceAngle, await self._value(17017, (mode,), target, timeout))
 
@@ -215,7 +222,8 @@ class Aut(_Group):
         timeout: Optional[float] = None,
     ) -> None:
         """9027 AUT_MakePositioning. Takes horizontal direction, vertical angle in radians (2
-        Doubles), positioning mode, target recognition mode (2 Longs), dummy (Boolean).
+        Doubles), positioning mode, target recognition mode (2 Longs), dummy (Boolean). Modes:
+        `PositioningMode`, `RecognitionMode`.
         """
         await self._value(
             9027, (hz_rad, v_rad, positioning_mode, target_recognition_mode, dummy), target, timeout
@@ -231,7 +239,7 @@ class Aut(_Group):
         timeout: Optional[float] = None,
     ) -> None:
         """9028 AUT_ChangeFace. Takes positioning mode, target recognition mode (2 Longs), dummy
-        (Boolean).
+        (Boolean). Modes: `PositioningMode`, `RecognitionMode`.
         """
         await self._value(9028, (positioning_mode, target_recognition_mode, dummy), target, timeout)
 

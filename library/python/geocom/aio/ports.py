@@ -21,13 +21,20 @@ class Writer(Protocol):
 
 
 Connection = tuple[asyncio.StreamReader, Writer]
-#: A path with a `/`, "HOST:PORT", a port of this machine, or a call that opens a connection.
-Where = Union[str, "os.PathLike[str]", Callable[[], Awaitable[Connection]]]
+#: A path with a `/`, "HOST:PORT", a port of this machine as "4001" or 4001, or a call that opens a
+#: connection.
+Where = Union[str, int, "os.PathLike[str]", Callable[[], Awaitable[Connection]]]
 
 
 def opener(where: Where, baud: int) -> Callable[[], Awaitable[Connection]]:
-    """A call that opens this connection, again and again."""
+    """A call that opens this connection, again and again. Raises ValueError or TypeError for what
+    can't be opened at all.
+    """
+    if isinstance(where, int):
+        where = str(where)
     if not isinstance(where, (str, os.PathLike)):
+        if not callable(where):
+            raise TypeError(f"{where!r} is no path, no address and no call that opens streams")
         return where
     path = os.fspath(where)
     place = address(path) if isinstance(where, str) else None
