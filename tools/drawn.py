@@ -17,6 +17,8 @@ from followed import Refused
 NEEDED = ["time", "target", "name", "procedure", "outcome", "rc_com", "rc", "values"]
 # The columns that are no values of a row's own answer: those of `tools/reduce`.
 PLACES = ["target_easting_m", "target_northing_m", "target_height_m"]
+# How far from zero a decimal of the protocol is at most.
+FURTHEST = 1e13
 
 
 @dataclass
@@ -54,20 +56,22 @@ class Target:
         marked = outcome_of(fields)
         if marked:
             self.marks.setdefault(marked, []).append(moment)
-        found = {name: float(value) for name, value in quantities.quantities(fields).items() if name in quantities.POINT}
+        found = {name: finite(value) for name, value in quantities.quantities(fields).items() if name in quantities.POINT}
+        found = {name: value for name, value in found.items() if value is not None}
         face = self.turn(found)
         for name, value in found.items():
             self.add(name, face, moment, value)
         for name in PLACES if quantities.has_values(fields) else []:
-            if fields.get(name):
-                self.add(name, 1, moment, float(fields[name]))
+            value = finite(fields.get(name, ""))
+            if value is not None:
+                self.add(name, 1, moment, value)
 
     def add(self, name, face, moment, value):
         self.series.setdefault(name, {}).setdefault(face, Series()).add(moment, value)
 
     def turn(self, found):
         """Turns what was measured in face II over, and joins a direction to the one before it; gives the face."""
-        face = 2 if found.get("v_rad", 0) % math.tau > math.pi else 1
+        face = 2 if {"hz_rad", "v_rad"} <= found.keys() and found["v_rad"] % math.tau > math.pi else 1
         if face == 2:
             found["v_rad"] = math.tau - found["v_rad"]
             found["hz_rad"] -= math.pi
@@ -82,6 +86,15 @@ class Target:
         """About the median of a quantity in the face that it has first: what its differences are counted from."""
         values = next(series.values for _, series in sorted(self.series[name].items()))
         return float(format(statistics.median(values), ".6f" if name.endswith("_rad") else ".4f"))
+
+
+def finite(text):
+    """The number of a text; nothing where it is none, or is further from zero than any decimal of the protocol."""
+    try:
+        number = float(text)
+    except ValueError:
+        return None
+    return number if abs(number) <= FURTHEST else None
 
 
 def outcome_of(fields):

@@ -12,6 +12,8 @@ from records import HEAD, MOMENT, OUTCOMES, REPLIED, UNSENT, counts_line, moment
 STAMP = MOMENT.pattern
 # The line that says at the start what a run has to do, where, and what it waits for.
 START = re.compile(r"geocom: \d+ commands? for .*: waits until eight null procedures are answered, one after the other")
+# What is told once of a line that echoes.
+ECHOES = "geocom: the line echoes what is sent: a modem or the other end has its echo on"
 
 
 def measuring(program, place, words, commands, **options):

@@ -91,7 +91,7 @@ def rows_in_postgres(servers, source):
 
 def level(text):
     """A text as one level of a topic."""
-    for letter in "%/+#\n":
+    for letter in "%/+#\n\t":
         text = text.replace(letter, f"%{ord(letter):02X}")
     return text
 

@@ -67,7 +67,7 @@ def no_files():
     yield BadFile("folder.csv", os.mkdir, 0, "folder.csv: Is a directory")
     yield BadFile("pipe.csv", os.mkfifo, 0, "pipe.csv is no regular file")
     yield BadFile("link.csv", lambda path: os.symlink("nowhere", path), 0, "link.csv isn't there")
-    for name in b"\xff.csv", b"new\nline.csv":
+    for name in b"\xff.csv", b"new\nline.csv", b"end\n\\.\nof\tit.csv":
         yield BadFile(os.fsdecode(name), writes(GOOD["~.csv"]), 40, None)
 
 

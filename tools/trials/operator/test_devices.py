@@ -14,12 +14,11 @@ import pytest
 
 from asking import ANSWERED, COMMANDS, REPLY, REQUEST, SHORT, expect_asked, expect_measured
 from far_end import good
-from measuring import expect_each_once, finished, measuring
+from measuring import ECHOES, expect_each_once, finished, measuring
 from programs import PATIENCE, Run, ended, until
 from terminals import joined, lead, terminal
 
 NO_TERMINAL, HELD, FORBIDDEN = 58, 59, 60
-ECHOES = "geocom: the line echoes what is sent: a modem or the other end has its echo on"
 NOT_RAW = "geocom: the line changes CR to LF: set it to raw mode (stty raw)"
 # The times of a station where not all is answered.
 SHORTER = "--quiet 100 --deadline 300"

@@ -73,6 +73,19 @@ def test_stops_in_a_wait(program, tmp_path):
             expect_whole(far, rows)
 
 
+@pytest.mark.title("--until beside a log")
+def test_stops_beside_a_log(program, tmp_path):
+    """A run that writes a log looks for the file, too."""
+    path = tmp_path / "stop"
+    with standing() as far:
+        words = f"--every 60 --cycles 0 --retries 0 --quiet 100 --deadline 100 --log {tmp_path / 'log'} --until {path}"
+        with measuring(program, far.port, words, CHAINS) as run:
+            until(lambda: len(far.commands()) == 5, "the first cycle")
+            path.touch()
+            rows, messages = finished(run)
+    assert (len(rows), messages) == (5, [])
+
+
 @pytest.mark.title("--until, and a reply that never comes")
 def test_stops_at_a_deadline(program, tmp_path):
     """What is in flight is waited for until its deadline, and is lost then; its chain's rest is skipped."""

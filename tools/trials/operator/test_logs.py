@@ -2,6 +2,7 @@
 
 import os
 import re
+import signal
 
 import pytest
 
@@ -119,6 +120,21 @@ def test_full_disk_told_at_once(program, folder):
                 assert run.is_running(), "it is told at the end alone"
                 assert run.status(9) == 0, "the status"
                 assert run.messages().count(lost) == 1, "how often it is told"
+
+
+@pytest.mark.title("--log, a limit of its size whose signal isn't ignored")
+def test_limited_by_a_signal(program, folder):
+    """The system ends the program without a word. The next start cuts off the torn line of the log, and says so."""
+    log = folder / "log"
+    log.write_bytes(LOG_LINE * (4080 // len(LOG_LINE)))
+    with standing() as far:
+        with measuring(program, far.port, f"--log {log} --quiet 100 --deadline 100 --silent", TWO, shell="ulimit -f 4") as run:
+            assert (run.status(), run.messages()) == (-signal.SIGXFSZ, ""), "how it ended"
+        torn = log.read_bytes().rsplit(b"\n", 1)[1]
+        assert torn, "no line is torn"
+        with measuring(program, far.port, f"--log {log} --quiet 100 --deadline 100", TWO) as run:
+            _, messages = finished(run)
+    assert f"geocom: {len(torn)} bytes of an incomplete line of the log were cut off" in messages
 
 
 @pytest.mark.title("--log, no such folder")

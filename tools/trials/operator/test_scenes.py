@@ -14,8 +14,8 @@ SCENE_REQUESTS = b"%R1Q,5003,1:\r\n%R1Q,5004,2:\r\n%R1Q,9027,3:0.25,1.5,0,1,0\r\
 SCENE_COMMANDS = b"7 5003\n7 5004\n7 9027 0.25,1.5,0,1,0\n7 17017 2\n"
 # Scenes that are refused, with what is reported.
 FAULTY = [
-    (b"target 0.25 1.5\n", "geocom: fault 51 line 1\n"),
-    (b"serial 1\n\nnames EAST\n", "geocom: fault 51 line 3\n"),
+    (b"target 0.25 1.5\n", "geocom: fault 51 line 1\ngeocom: line 1 of the scene: the form is target HZ V DISTANCE\n"),
+    (b"serial 1\n\nnames EAST\n", "geocom: fault 51 line 3\ngeocom: line 3 of the scene: no line of a scene begins so\n"),
     (b"target 0.25 1.5 12.5\n" * 33, "geocom: fault 41\n"),
     (b"#" * 65537, "geocom: fault 53\n"),
 ]

@@ -105,14 +105,15 @@ def test_word_for_the_text(program):
 
 @pytest.mark.title("a fault of one of two texts")
 def test_two_texts(program, folder):
-    """Where a scene is named a fault of a text says of which it is, and where the scene is."""
+    """A scene that is refused is named with its file. A fault of the commands has its line alone."""
     scene = folder / "scene"
     scene.write_bytes(b"target 0.25\n")
     status, _, messages = ended([program, "loop", "--scene", scene], b"7 5003\n")
-    assert (status, messages) == (1, f"geocom: fault 51 line 1\ngeocom: of the scene in {scene}\n"), "the scene"
+    trouble = "geocom: fault 51 line 1\ngeocom: line 1 of the scene: the form is target HZ V DISTANCE\n"
+    assert (status, messages) == (1, f"{trouble}geocom: of the scene in {scene}\n"), "the scene"
     scene.write_bytes(b"serial 71\n")
     status, _, messages = ended([program, "loop", "--scene", scene], b"7 5003 1\n")
-    assert (status, messages) == (1, "geocom: fault 51 line 1\ngeocom: of the commands of standard input\n"), "the commands"
+    assert (status, messages) == (1, "geocom: fault 51 line 1\n"), "the commands"
 
 
 @pytest.mark.title("a full standard error")

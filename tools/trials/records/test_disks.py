@@ -2,12 +2,17 @@
 
 import re
 import shutil
+import signal
 import subprocess
 from pathlib import Path
 
 import pytest
 
-from stations import appended, instrument, numbers, split
+from programs import ended
+from stations import COMMANDS, PATIENCE, appended, instrument, numbers, split
+from unit_line import settings, words
+
+UNIT = Path(__file__).resolve().parents[3] / "packaging/systemd/geocom-station@.service"
 
 needs_strace = pytest.mark.skipif(not shutil.which("strace"), reason="strace is missing")
 
@@ -92,17 +97,40 @@ def test_is_full(program, small_disk):
     assert again[:-3] == rows and len(again) == len(rows) + 3, "the table doesn't go on"
 
 
+def expect_limited(program, path, is_ignored, command, shell):
+    """A station that reaches a limit of its file's size: the system ends it by a signal, without a word; where that is ignored the run ends
+    with fault 55. No row is lost, and the table goes on in the next run. `command` is its command line at an instrument."""
+    with instrument() as far:
+        status, output, messages = ended(command(far), COMMANDS, PATIENCE, shell=shell)
+        assert (status, output) == (1 if is_ignored else -signal.SIGXFSZ, b""), f"{shell}: {messages!r}"
+        assert ("geocom: fault 55\n" in messages) == is_ignored and is_ignored == bool(messages), f"{shell}: {messages!r}"
+        rows, _ = split(path.read_bytes())
+        assert rows and far.followed <= set(numbers(rows)), f"{shell}: a row is lost"
+    with instrument() as far:
+        found = appended(program, far, path, cycles=1)
+        assert found[0] == 0, f"{shell}, behind it: {found}"
+        assert len(split(path.read_bytes())[0]) == len(rows) + 3, f"{shell}, behind it"
+
+
 def test_is_limited(program, folder):
-    """After a limit of a file's size (`ulimit -f`) the system ends the program by a signal; where that is ignored it is fault 55."""
-    for shell, ends in [("ulimit -f 4; trap '' XFSZ", 1), ("ulimit -f 4", -25)]:
-        path = folder / f"limited{ends}.csv"
-        with instrument() as far:
-            status, output, messages = appended(program, far, path, "--sync", shell=shell)
-            assert (status, output) == (ends, b""), f"{shell}: {messages!r}"
-            assert status != 1 or messages.endswith("geocom: fault 55\n"), shell
-            rows, _ = split(path.read_bytes())
-            assert far.followed <= set(numbers(rows)), f"{shell}: a row is lost"
-        with instrument() as far:
-            found = appended(program, far, path, cycles=1)
-            assert found[0] == 0, f"{shell}, behind it: {found}"
-            assert len(split(path.read_bytes())[0]) == len(rows) + 3, f"{shell}, behind it"
+    """After a limit of a file's size (`ulimit -f`), with the signal ignored and not."""
+    for is_ignored in True, False:
+        path = folder / f"limited{is_ignored}.csv"
+        words = ["--append", path, "--cycles", "0", "--quiet", "10", "--retries", "0", "--silent", "--sync"]
+        shell = "ulimit -f 4; trap '' XFSZ" if is_ignored else "ulimit -f 4"
+        expect_limited(program, path, is_ignored, lambda far, words=words: [program, "station", far.port, *words], shell)
+
+
+def test_a_unit_is_limited(program, folder):
+    """The command line of the unit ignores that signal itself."""
+    path, unit = folder / "north.csv", settings(UNIT, "north")
+
+    def command(far):
+        known = {"FILE": path.name, "WHERE": str(far.port), "WORDS": "--cycles 0 --quiet 10 --retries 0 --silent"}
+        found = " ".join(words(unit["ExecStart"], known))
+        for name, place in ("@BIN@/geocom", program), ("/var/lib/geocom", folder), ("%t", folder):
+            assert name in found, name
+            found = found.replace(name, str(place))
+        return found.split()
+
+    expect_limited(program, path, True, command, "ulimit -f 4")

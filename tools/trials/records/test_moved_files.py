@@ -81,3 +81,28 @@ def test_tells_where_its_path_leads_astray(program, folder):
         assert run.messages() == ASTRAY + MOVED
         old, new = numbers_of_both(path, "--csv")
         expect_none_lost(old + new, far.answered)
+
+
+def test_tells_each_time_that_its_path_leads_astray(program, folder):
+    """Where the path leads to the old file again the rows go on there. A second loss of the path is reported at once, too."""
+    path, place = folder / "rows.csv", folder / "place"
+    place.mkdir()
+    with instrument() as far, appending(program, far, path) as run:
+        until(lambda: far.answered > 5, "nothing is answered", PATIENCE)
+        old = path.with_suffix(".1")
+        os.link(path, old)
+        for time_of in 1, 2:
+            # At once, since the station makes a file where there is none.
+            link = folder / f"link{time_of}"
+            link.symlink_to(place)
+            link.replace(path)
+            until(lambda count=time_of: run.messages() == count * ASTRAY, f"time {time_of} isn't told", PATIENCE)
+            again = folder / f"again{time_of}"
+            os.link(old, again)
+            again.replace(path)
+            before = far.answered
+            until(lambda least=before: far.answered > least + 5, "it stands still", PATIENCE)
+        run.kill()
+        assert run.messages() == 2 * ASTRAY
+        rows = rows_in(path.read_bytes()[: path.read_bytes().rindex(b"\n") + 1], "--csv")
+        expect_none_lost([int(row["values"]) for row in rows], far.answered)

@@ -14,18 +14,17 @@ import re
 from dataclasses import dataclass
 
 from line_log import WHILE
-from measuring import START, STAMP, counts_of
+from measuring import ECHOES, START, STAMP, counts_of
 from records import COLUMNS, GOOD, OUTCOMES, UNSENT, moment
 from tagging import tagged
 
 # What a row has of a reply.
 OF_REPLY = ["fault", "rc_com", "rc", "values", "quality"]
-ECHOES = "the line echoes what is sent"
 # What may be told, at most once a minute of each kind.
 SIGNS = [
     rf"geocom: (no connection) since {STAMP}", rf"geocom: (line not quiet) since {STAMP}", rf"geocom: (no answer) since {STAMP}",
     r"geocom: (connected again)", r"geocom: (cycle) \d+ was not done when the next was due",
-    rf"geocom: (commands skipped) since {STAMP}: \d+", rf"geocom: ({ECHOES}): a modem or the far end has its echo on",
+    rf"geocom: (commands skipped) since {STAMP}: \d+", f"({re.escape(ECHOES)})",
 ]
 
 

@@ -44,7 +44,7 @@ def goes_again(row):
 
 def numbers_of(rows, asked):
     """Of each row that was sent the number of its request on the line: the first that came after the row's moment, with its procedure and
-    its parameters, before the next such row's moment. A request that was cut has none."""
+    its parameters, before the next such row's moment, or before the row was answered. A request that was cut has none."""
     sent, numbers, at = collections.defaultdict(list), {}, collections.defaultdict(int)
     for n, row in enumerate(rows):
         if row["sent"]:
@@ -53,6 +53,9 @@ def numbers_of(rows, asked):
         key = one.rpc, one.params
         mine, place = sent[key], at[key]
         while place + 1 < len(mine) and mine[place + 1][0] <= one.utc + 1:
+            row = rows[mine[place][1]]
+            if mine[place][1] not in numbers and row["outcome"] in REPLIED and one.utc <= milliseconds(row["time"]) + 1:
+                break  # it is answered after this request came, though the next one like it goes out in the same millisecond
             place += 1
         at[key] = place
         if mine and mine[place][0] <= one.utc + 1:
