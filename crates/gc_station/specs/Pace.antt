@@ -1,6 +1,8 @@
--- How long a read waits, and which overrun is reported: this project's own. Moments are by the clock for deadlines, in
+-- How long a read waits, what health of the link is reported, and which overrun: this project's own. Moments are by the clock for deadlines, in
 -- milliseconds.
-use Rattle.std.specs.Prelude.{ℕ, ◌-◌, ◌&&◌, Bool, not, if◌then◌else◌, nat_lt, min, max, Option, Some, None}
+use Rattle.std.specs.Prelude.{ℕ, ◌-◌, ◌&&◌, Bool, not, if◌then◌else◌, nat_eq, nat_lt, min, max, Option, Some, None}
+use Rattle.gc_station.specs.declared.book.LinkHealth.{LinkHealth}
+use Rattle.gc_station.specs.declared.book.LinkHealth.TheVariants.{Fine, Idle, Unconnected, Unquiet, Unheard}
 use Rattle.gc_station.specs.declared.plan.Plan.{Plan}
 use Rattle.gc_station.specs.declared.progress.Phase.{Phase}
 use Rattle.gc_station.specs.declared.progress.Phase.TheVariants as phase
@@ -50,6 +52,20 @@ read_end plan p until None = read_end_without_deadline plan p until
 abbrev pub read_timeout : Plan → Progress → (fresh : ℕ) → Until → (deadline : Option ℕ) → ℕ
 read_timeout plan p fresh until deadline =
     min (max (min (read_end plan p until deadline) (stale_at plan fresh) - p.moment.elapsed) 1) (longest_timeout plan)
+
+-- whether no command of the cycle is left, as before the first cycle, and none is outstanding: `waiting` is how many commands
+-- are outstanding, of a cycle or of the setup
+abbrev pub is_cycle_done : Progress → (waiting : ℕ) → Bool
+is_cycle_done p waiting = nat_eq p.unsent 0 && nat_eq waiting 0
+
+-- the health of the link in this phase, as it is reported before an act; `waiting` is as in `is_cycle_done`
+abbrev pub health_in : Phase → Plan → Progress → (waiting : ℕ) → LinkHealth
+health_in phase.Down plan p waiting = if is_idle plan p then Idle else Unconnected
+health_in phase.Pausing plan p waiting = if is_idle plan p then Idle else Unconnected
+health_in phase.Clearing plan p waiting = Unquiet
+health_in phase.Draining plan p waiting = Unquiet
+health_in phase.Ready plan p waiting = if p.asked then Unheard else if has_begun p && is_cycle_done p waiting then Idle else Fine
+health_in _ plan p waiting = if p.asked then Unheard else Fine
 
 -- whether the cycle that began last has overrun: it isn't missed, and wasn't done when the next one, which hasn't begun, was due.
 -- False if no cycle is left, or cycles have no due moments (`every` is 0). Before the first cycle, where it may be true,

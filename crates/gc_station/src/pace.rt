@@ -6,8 +6,9 @@ ghost use Rattle.std.specs.Prelude.{◌≡◌, ℕ, Option, unwrap_or};
 ghost use Rattle.std.specs.Option.{option_to_list};
 ghost use Rattle.std.specs.Io.KnownBytes.{Appends};
 ghost use Rattle.gc_client.specs.Rule.{IsEarliest, deadlines};
+ghost use Rattle.gc_station.specs.Marks.{commands_in};
 ghost use Rattle.gc_station.specs.NextCommand.{cycles_begun};
-ghost use Rattle.gc_station.specs.Pace.{retry_at, stale_at, longest_timeout, read_end_in, read_end_without_deadline, read_end, read_timeout, overrun};
+ghost use Rattle.gc_station.specs.Pace.{retry_at, stale_at, longest_timeout, read_end_in, read_end_without_deadline, read_end, read_timeout, is_cycle_done, health_in, overrun};
 ghost use Rattle.gc_station.specs.Progressing.{due_at};
 
 use crate::book::{Book, LinkHealth};
@@ -141,7 +142,9 @@ impl Station {
 
     // The health of the link before the next act, as `LinkHealth` explains it. In the phase `Closing` it is `Unheard` if
     // `asked` says so, and else `Fine`.
-    fn health(&self, plan: &Plan) -> LinkHealth {
+    fn health(&self, plan: &Plan) -> LinkHealth
+        ensures { result ≡ health_in self.now.progress.phase plan.now self.now.progress (commands_in self.now.marks.items) }
+    {
         match self.progress.phase {
             Phase::Down | Phase::Pausing if self.progress.is_idle(plan) => LinkHealth::Idle,
             Phase::Down | Phase::Pausing => LinkHealth::Unconnected,
@@ -154,7 +157,9 @@ impl Station {
 
     // Whether no command of the cycle is left, as before the first cycle, and no command is outstanding, of a cycle or of the
     // setup.
-    fn is_done(&self) -> bool {
+    fn is_done(&self) -> bool
+        ensures { result ≡ is_cycle_done self.now.progress (commands_in self.now.marks.items) }
+    {
         self.progress.unsent == 0 && self.commands_waiting() == 0
     }
 
