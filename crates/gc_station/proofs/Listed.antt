@@ -1,6 +1,7 @@
 -- Whether a command of an attempt ended as the rule of its chain names, by the ends that records have: `listed` of a model is
 -- what its records say.
-use Rattle.std.proofs.Common.{◌≡◌, ◌⊎◌, inl, inr, ℕ, ◌||◌, Bool, true, false, List, [], ◌∷◌, ◌++◌, Option, if◌then◌else◌, nat_eq, refl, sym, ap, ◌∙◌}
+use Rattle.std.proofs.Common.{◌≡◌, ◌⊎◌, inl, inr, ℕ, zero, suc, ◌<◌, ◌||◌, Bool, true, false, List, [], ◌∷◌, ◌++◌, Option, if◌then◌else◌, nat_eq, refl, sym, ap, ◌∙◌, subst, arith}
+use Rattle.std.specs.List.{AllByRecursion}
 use Rattle.std.proofs.lemmas.Bool.{or_right, eqb-true, eqb-false}
 use Rattle.std.proofs.lemmas.Option.{same_Some}
 use Rattle.gc_catalogue.specs.declared.answer.Answer.{Answer}
@@ -14,11 +15,13 @@ use Rattle.gc_texts.specs.declared.again.Again.{Again}
 use Rattle.gc_texts.specs.declared.near.Expected.{Expected}
 use Rattle.gc_texts.specs.declared.quality.Quality.{Quality}
 use Rattle.gc_texts.specs.declared.tasks.Task.{Task}
+use Rattle.gc_texts.specs.declared.turn.Turn.{Turn}
+use Rattle.gc_values.proofs.Every.{every_behind}
 use Rattle.gc_station.specs.Attempts.{code_in, code_of}
 use Rattle.gc_station.specs.Marks.{end_of, answer_as}
-use Rattle.gc_station.specs.NextCommand.{expected_of_setup}
+use Rattle.gc_station.specs.NextCommand.{expected_at, expected_of_setup}
 use Rattle.gc_station.specs.Records.{Record}
-use Rattle.gc_station.specs.Retries.{code_of_end, is_listed, HasListed, BeginNoAttempt}
+use Rattle.gc_station.specs.Retries.{code_of_end, is_listed, HasListed, BeginNoAttempt, HasItsTurn}
 use Rattle.gc_station.specs.Scopes.{Reads}
 use Rattle.gc_station.proofs.Facts.{or_first}
 use Rattle.gc_station.proofs.Meets.{answer_line}
@@ -75,7 +78,7 @@ listed_or_before reads commands (r ∷ rs) b e = by_rest (listed_or_before reads
       → ((b ≡ true) × BeginNoAttempt (r ∷ rs)) ⊎ HasListed reads commands (r ∷ rs)
   by_tests first true t l is all = inr (record { front = []; one = r; behind = rs; order = refl; listed = l; same = all })
   by_tests true false t l is all = cc
-  by_tests false false t l is all = inl (or_first b false is refl, (eqb-false r.turn.link 0 t, all))
+  by_tests false false t l is all = inl (or_first b false is refl, ((λ some. eqb-false r.turn.link 0 t), all))
 
   -- `listed_or_before` by what it gives for the records after the first
   by_rest : ((((if nat_eq r.turn.link 0 then false else b) || is_listed reads commands r) ≡ true) × BeginNoAttempt rs) ⊎ HasListed reads commands rs
@@ -92,27 +95,47 @@ has_if_listed reads commands rs e = by_case (listed_or_before reads commands rs 
   by_case (inl it) = cc
   by_case (inr h) = h
 
--- `any_listed` stays true over records that begin no attempt
-stays_listed : (reads : Reads) (commands : List Task) (rs : List Record) → BeginNoAttempt rs → any_listed reads commands true rs ≡ true
-stays_listed reads commands [] all = refl
-stays_listed reads commands (r ∷ rs) all = by_test (λ b. stays_listed reads commands rs all.1) (nat_eq r.turn.link 0) refl where
-  -- the lemma above, whether the first record begins an attempt
-  by_test : (Bool → any_listed reads commands true rs ≡ true) → (first : Bool) → nat_eq r.turn.link 0 ≡ first
-      → any_listed reads commands ((if first then false else true) || is_listed reads commands r) rs ≡ true
-  by_test ih true t = absurd (all.0 (eqb-true r.turn.link 0 t))
-  by_test ih false t = ih true
-
--- if one of the records ended as its rule names, and no attempt begins after it, `any_listed` holds of all
-pub listed_if_has : (reads : Reads) (commands : List Task) (rs : List Record) (b : Bool) → HasListed reads commands rs → any_listed reads commands b rs ≡ true
-listed_if_has reads commands rs b h =
-    ap (any_listed reads commands b) h.order ∙ any_append reads commands h.front (h.one ∷ h.behind) b
-    ∙ ap (λ x. any_listed reads commands ((if nat_eq h.one.turn.link 0 then false else any_listed reads commands b h.front) || x) h.behind) h.listed
-    ∙ ap (λ x. any_listed reads commands x h.behind) (or_right (if nat_eq h.one.turn.link 0 then false else any_listed reads commands b h.front) true refl)
-    ∙ stays_listed reads commands h.behind h.same
-
 -- what is expected of a command's answer, of which the text says this; if it is of the setup (`is_setup`), in this attempt
 abbrev pub expected_as : (is_setup : Bool) → (attempt : ℕ) → Expected → Expected
 expected_as is_setup attempt expected = if is_setup then expected_of_setup attempt expected else expected
+
+-- a number that isn't equal to 0 is above it
+above_zero : (n : ℕ) → nat_eq n 0 ≡ false → 0 < n
+above_zero zero e = cc
+above_zero (suc n) e = omega arith
+
+-- a record with link 0 that has its turn is of a command of a cycle: one of the setup has link 1
+is_of_cycle : (commands : List Task) (r : Record) → HasItsTurn commands r → r.turn.link ≡ 0 → 0 < r.cycle
+is_of_cycle commands r its first = by_cycle (nat_eq r.cycle 0) refl where
+  -- the lemma above, whether the record is of the setup
+  by_cycle : (is_setup : Bool) → nat_eq r.cycle 0 ≡ is_setup → 0 < r.cycle
+  by_cycle true e =
+      let turn : r.turn ≡ (expected_as true r.turn.attempt (expected_at commands r.place)).turn =
+      subst (λ (b : Bool). r.turn ≡ (expected_as b r.turn.attempt (expected_at commands r.place)).turn) e its in
+      let link : r.turn.link ≡ 1 = ap (λ (t : Turn). t.link) turn in
+      absurd (omega (arith, link, first))
+  by_cycle false e = above_zero r.cycle e
+
+-- `any_listed` stays true over records that begin no attempt, and have their turns
+stays_listed : (reads : Reads) (commands : List Task) (rs : List Record) → AllByRecursion (HasItsTurn commands) rs → BeginNoAttempt rs → any_listed reads commands true rs ≡ true
+stays_listed reads commands [] its all = refl
+stays_listed reads commands (r ∷ rs) its all = by_test (λ b. stays_listed reads commands rs its.1 all.1) (nat_eq r.turn.link 0) refl where
+  -- the lemma above, whether the first record begins an attempt
+  by_test : (Bool → any_listed reads commands true rs ≡ true) → (first : Bool) → nat_eq r.turn.link 0 ≡ first
+      → any_listed reads commands ((if first then false else true) || is_listed reads commands r) rs ≡ true
+  by_test ih true t = let first = eqb-true r.turn.link 0 t in absurd (all.0 (is_of_cycle commands r its.0 first) first)
+  by_test ih false t = ih true
+
+-- if one of the records ended as its rule names, and no attempt begins after it, `any_listed` holds of all, which have their
+-- turns
+pub listed_if_has : (reads : Reads) (commands : List Task) (rs : List Record) (b : Bool) → AllByRecursion (HasItsTurn commands) rs → HasListed reads commands rs
+    → any_listed reads commands b rs ≡ true
+listed_if_has reads commands rs b its h =
+    let behind = every_behind (HasItsTurn commands) h.front (h.one ∷ h.behind) (subst (AllByRecursion (HasItsTurn commands)) h.order its) in
+    ap (any_listed reads commands b) h.order ∙ any_append reads commands h.front (h.one ∷ h.behind) b
+    ∙ ap (λ x. any_listed reads commands ((if nat_eq h.one.turn.link 0 then false else any_listed reads commands b h.front) || x) h.behind) h.listed
+    ∙ ap (λ x. any_listed reads commands x h.behind) (or_right (if nat_eq h.one.turn.link 0 then false else any_listed reads commands b h.front) true refl)
+    ∙ stays_listed reads commands h.behind behind.1 h.same
 
 -- the target's place in `expected_as` is that of the command
 pub near_expected : (is_setup : Bool) (attempt : ℕ) (expected : Expected) → (expected_as is_setup attempt expected).near ≡ expected.near

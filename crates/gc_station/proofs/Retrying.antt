@@ -29,6 +29,11 @@ use Rattle.gc_station.proofs.Listed.{has_if_listed, listed_if_has}
 use Rattle.gc_station.proofs.Closings.{needs_of}
 use Rattle.gc_station.proofs.AsText.{IsAsItsText, kept_all}
 
+-- the law: each record has its command's turn
+pub each_has_its_turn : EachRecordHasItsTurn
+each_has_its_turn plan commands scope acts =
+    all_on (IsAsItsText plan commands scope) (HasItsTurn commands) (state_after plan commands scope acts).records (λ r so. so.0) (kept_all plan commands scope acts).records
+
 module _ (plan : Plan) (commands : List Task) (scope : Scope) where
   -- the model after these acts
   abbrev state : List Act → Model
@@ -146,15 +151,10 @@ module _ (plan : Plan) (commands : List Task) (scope : Scope) where
     -- why the attempt is left out
     by_why : ((s.listed ≡ false) ⊎ (s.progress.next_is_chained ≡ true))
         → MayLeaveOut scope.reads commands s
-    by_why (inl none) = inl (λ h. both_ways s.listed none ((kept_all plan commands scope acts).listed ∙ listed_if_has scope.reads commands s.records false h))
+    by_why (inl none) = inl (λ h. both_ways s.listed none ((kept_all plan commands scope acts).listed ∙ listed_if_has scope.reads commands s.records false (each_has_its_turn plan commands scope acts) h))
     by_why (inr bound) =
         inr (by_missed s.progress.missed (first_is_chained (drop (place_next commands s.progress) commands)) refl (sym (chained_as_text_says plan commands scope acts runs above) ∙ bound))
 
 -- the law: further attempts of a chain are sent, and left out, only for a cause
 pub goes_out_again : FurtherAttemptsHaveACause
 goes_out_again = record { goes = goes_again; passes = passes_over }
-
--- the law: each record has its command's turn
-pub each_has_its_turn : EachRecordHasItsTurn
-each_has_its_turn plan commands scope acts =
-    all_on (IsAsItsText plan commands scope) (HasItsTurn commands) (state_after plan commands scope acts).records (λ r so. so.0) (kept_all plan commands scope acts).records

@@ -35,9 +35,10 @@ abbrev pub is_listed : Reads → List Task → Record → Bool
 is_listed reads commands r =
     repeats_after (expected_of commands r.cycle r.turn.attempt r.place).again (code_of_end reads r.command.call r.end) r.end
 
--- no attempt begins with one of these records
+-- no attempt begins with one of these records: none of a command of a cycle, which has a number above 0, has link 0. A command
+-- of the setup begins no attempt, whatever its link
 abbrev pub BeginNoAttempt : List Record → Type 0
-BeginNoAttempt rs = AllByRecursion (λ (r : Record). r.turn.link ≡ 0 → ⊥) rs
+BeginNoAttempt rs = AllByRecursion (λ (r : Record). 0 < r.cycle → r.turn.link ≡ 0 → ⊥) rs
 
 -- among `records` is one (`one`) of a command that ended as the rule of its chain names; and no attempt begins after it
 -- (`same`), so it is of the same attempt as the last record that is of a cycle
