@@ -81,8 +81,8 @@ abbrev pub run_in : Survey → PortsSeen → RunSeen
 run_in survey seen = record { acts = seen.acts; text = text_by survey; taken = seen.taken }
 
 -- a run over a link wrote the records that its acts give of the tasks into a sink, and ended with `end` (`RanBy`); and at each
--- act all that the acts before it settled was recorded, and lasted (`KeepsUpBy`). If the sink failed the connection was closed at
--- the end (`close_at_output`)
+-- act all that the acts before it settled was recorded, and lasted unless the act is a mere reading of the clock (`KeepsUpBy`). If
+-- the sink failed the connection was closed at the end (`close_at_output`)
 pub record RunsSurvey (survey : Survey) (old new : PortsSeen) (end : Result Tally RunFault) : Type 0 where
   pub ran : ForEachAndSomeReadings (RanBy survey.plan survey.tasks survey.max_turns (run_in survey old) (run_in survey new) end)
   pub keeps : ForEachAndSomeReadings (KeepsUpBy survey.plan survey.tasks survey.max_turns (run_in survey old) (run_in survey new)

@@ -50,8 +50,8 @@ pub fn run_station_text<L: Link, S: Source, K: Durable, E: Write>(
     kept: &mut Kept,
 ) -> (Streams<S, K, E>, Result<Tally, Stop>)
     // The text was refused; or the output failed before the records; or the text's commands were measured, and the link, the
-    // output and the run's end are as the model has them. At each act all that the acts before it settled was written, and
-    // lasted.
+    // output and the run's end are as the model has them. At each act all that the acts before it settled was written; and
+    // it lasted before anything was sent, read, opened or closed.
     ensures measures { MeasuresText spot.entry.station max_turns
         (ports_seen S.Source K.Sink E.contents streams (L.acts link.old) kept.old.turns)
         (ports_seen S.Source K.Sink E.contents result.0 (L.acts link.new) kept.new.turns)

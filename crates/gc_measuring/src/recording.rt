@@ -142,7 +142,8 @@ pub fn append_at<
 )
     // Either the file can't be had, which is reported with status 1, and nothing was read. Or the messages report the file's
     // opening and then, with the status, how the run ended; and the file that is handed back has the run's rows: those of the
-    // acts that the link recorded. At each act the file had all rows that the acts before it settled, and they lasted.
+    // acts that the link recorded. At each act the file had all rows that the acts before it settled; and before anything was
+    // sent, read, opened or closed they lasted.
     ensures told { IfOk result.1 (λ status. ReportsAppending
         (views_by S.Source ⟦<Followed<'a, R> as Sink>⟧ ⟦<Followed<'a, R> as Durable>⟧.is_durable E.contents)
         (is_some spot.entry.site.log) spot.entry.station

@@ -54,8 +54,8 @@ pub fn measure_at<
 )
     // The status and the messages report how the run ended, and then whether the log isn't complete. Either the text was refused,
     // or the output failed before the records, or the text's commands were measured: the link that is handed back has recorded
-    // all acts of the run and no other, the sink its records, and at each act all that was settled before lasted. Or log, link or
-    // clock couldn't be had, and nothing was done.
+    // all acts of the run and no other, the sink its records, and all that was settled lasted before anything was sent, read, opened
+    // or closed. Or log, link or clock couldn't be had, and nothing was done.
     ensures told { IfOk result.1 (λ status. ReportsAtSite (views_by S.Source K.Sink K.is_durable E.contents)
         (is_some spot.entry.site.log) spot.entry.station
         (stage streams (Some []) kept.old.turns) (stage result.0 (acts_of result.2) kept.new.turns) (exit_status status)) }

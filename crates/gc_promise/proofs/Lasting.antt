@@ -16,6 +16,7 @@ use Rattle.gc_files.proofs.Failing.{tables_outlast_failures}
 use Rattle.gc_files.proofs.Lasting.{tables_last}
 use Rattle.gc_links.specs.Acts.{Act}
 use Rattle.gc_messages.specs.Following.{bytes_in}
+use Rattle.gc_station.specs.ActKinds.{ReadsClock}
 use Rattle.gc_station.specs.Keeping.{KeepsUp, close_at_output}
 use Rattle.gc_station.specs.Records.{Record}
 use Rattle.gc_station.specs.Runs as runs
@@ -35,7 +36,7 @@ use Rattle.gc_promise.specs.Lasting.{HasRunOfFile, AppendsAreRuns, RunMoment, Is
 use Rattle.gc_promise.specs.Tables.{scope_of}
 use Rattle.gc_promise.proofs.Ended.{text_whole}
 use Rattle.gc_promise.proofs.Pieces.{all_pieces, rows_left, whole_rest}
-use Rattle.gc_promise.proofs.Seen.{IsKeptAt, kept_at, seen_at, Fronted, fronted, texts_whole}
+use Rattle.gc_promise.proofs.Seen.{IsKeptAt, kept_at, done_at, next_at, seen_at, Fronted, fronted, texts_whole}
 use Rattle.gc_promise.proofs.Taken.{appended_to_known}
 use Rattle.gc_promise.proofs.Staying.{run_by, is_run, happen_append, life_append, splits_at_run, cuts_first, possible_events_append, sides_append, runs_of_append}
 use Rattle.std.proofs.lemmas.Bool.{not-true}
@@ -102,14 +103,21 @@ module _ {R : Type 0} (m : RunMoment R) (is : IsRunMoment m) (reads : Asked → 
   took = rw (← is.run.is_run.none, ← is.run.is_run.acts, ← is.run.took, ← none_between) (ran.run.ran.0 reads are)
 
   -- at the moment's turn, which is one of the run's, all that the acts before it settled was kept (`IsKeptAt`)
-  seen : IsKeptAt m.run.survey.plan m.run.survey.tasks scope text (Some []) (Some []) [] m.turn
+  seen : IsKeptAt m.run.survey.plan m.run.survey.tasks scope text (Some []) (Some []) [] keeps.acts m.turn
   seen =
       let turns = append_cancel_left m.run.old.turns keeps.turns (is.seen.earlier ++ m.turn ∷ is.seen.later) (sym keeps.saw ∙ is.seen.among) in
       kept_at m.run.survey.plan m.run.survey.tasks scope text (Some []) (Some []) [] keeps.acts is.seen.earlier is.seen.later m.turn (rw (← turns) keeps.kept)
 
   -- what the file and those before it had taken at the turn are the rows of what the acts of `done` settled
   settled_by : bytes_in m.was ≡ rows_by m.run.survey reads m.done
-  settled_by = seen_at m.run.survey.plan m.run.survey.tasks scope text m.turn seen.front m.done (bytes_in m.was) seen.kept is.seen.done is.seen.taken
+  settled_by = seen_at m.run.survey.plan m.run.survey.tasks scope text m.turn seen.front m.done seen.act (bytes_in m.was) seen.kept is.seen.done is.seen.taken
+
+  -- the act before which the moment's turn was seen is the one that `IsSeen` names, so it is no mere reading of the clock
+  is_more : ReadsClock seen.act → ⊥
+  is_more =
+      let is_next = next_at m.run.recorded keeps.acts (close_at_output ran.end) seen.front seen.behind m.done is.seen.rest seen.act is.seen.next
+      keeps.tells seen.all (done_at m.run.survey.plan m.run.survey.tasks scope text m.turn seen.front m.done seen.act seen.kept is.seen.done) is.seen.recorded in
+      subst (λ (act : Act). ReadsClock act → ⊥) is_next is.seen.is_more
 
   -- what the file and those before it took in the end is a front of the rows of what acts of the run settled (`Fronted`)
   end : Fronted m.run.survey.plan m.run.survey.tasks scope text m.run.recorded (bytes_in m.file)
@@ -166,7 +174,7 @@ module _ {R : Type 0} (m : RunMoment R) (is : IsRunMoment m) (reads : Asked → 
   -- what the file had taken at the turn was all synced
   kept : synced (steps_in m.was.rows) ≡ taken
   kept =
-      let lasts : is_durable m.was.rows ≡ true = sym is.seen.lasts ∙ seen.kept.lasts in
+      let lasts : is_durable m.was.rows ≡ true = sym is.seen.lasts ∙ seen.kept.lasts is_more in
       let isnt : not m.was.rows.unkept ≡ true = subst (λ (b : Bool). (if b then not m.was.rows.unkept else true) ≡ true) is.seen.synced lasts in
       m.was.rows.kept (not-true m.was.rows.unkept isnt)
 

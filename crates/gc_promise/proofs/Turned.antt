@@ -32,7 +32,7 @@ module _ (text : Record → List ℕ) where
       → AreKept plan commands (scope reads) text (Some []) (Some []) done acts (turns_from s done acts)
   kept_from reads s done [] is = tt
   kept_from reads s done (act ∷ acts) is = (
-    record { tells = refl; took = ap (λ (m : Model). texts_of text m.records) is; lasts = refl },
+    record { tells = refl; took = ap (λ (m : Model). texts_of text m.records) is; lasts = λ more. refl },
     kept_from reads (after plan commands s act) (done ++ act ∷ []) acts
         (ap (λ (m : Model). after plan commands m act) is ∙ sym (after_all-append plan commands (opening plan (scope reads)) done (act ∷ []))),
   )

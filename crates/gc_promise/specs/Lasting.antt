@@ -13,6 +13,7 @@ use Rattle.gc_lines.specs.declared.ports.Source.{Ghosts as Source}
 use Rattle.gc_lines.specs.declared.ports.Sink.{Ghosts as Sink}
 use Rattle.gc_messages.specs.Following.{bytes_in}
 use Rattle.gc_messages.specs.declared.following.Followed.{Followed}
+use Rattle.gc_station.specs.ActKinds.{ReadsClock}
 use Rattle.gc_station.specs.Keeping.{Snapshot}
 use Rattle.gc_station.specs.Records.{texts_of}
 use Rattle.gc_station.specs.Scopes.{ForEachReadings}
@@ -58,13 +59,18 @@ pub record RunMoment (R : Type 0) : Type 0 where
   pub was : Followed R
   pub calls : List Step
 
--- the moment's turn was seen at an act of the run. The acts of `done` were done then; what was seen of the file, its bytes and
--- whether it is durable, is that of `was`; and `was` was opened so that it syncs
+-- the moment's turn was seen at an act of the run. The acts of `done` were done then, and the act was `next`: it sent, read,
+-- opened or closed something, so it is no mere reading of the clock. What was seen of the file, its bytes and whether it is durable,
+-- is that of `was`; and `was` was opened so that it syncs
 pub record IsSeen {R : Type 0} (m : RunMoment R) : Type 0 where
   pub earlier : List Snapshot
   pub later : List Snapshot
   pub among : m.run.new.turns ≡ m.run.old.turns ++ (earlier ++ m.turn ∷ later)
   pub done : m.turn.acts ≡ Some m.done
+  pub next : Act
+  pub rest : List Act
+  pub recorded : m.run.recorded ≡ m.done ++ next ∷ rest
+  pub is_more : ReadsClock next → ⊥
   pub taken : m.turn.taken ≡ Some (bytes_in m.was)
   pub lasts : m.turn.lasts ≡ is_durable m.was.rows
   pub synced : asks_sync m.was.rows ≡ true

@@ -54,8 +54,9 @@ pub fn appends_are_runs_of_files<'a, S: Source, K, E, R: Files<File = File> + 'a
 {}
 
 /// If a run that appends to a file with `sync` is killed at any time, or the machine crashes, the next start makes of the file
-/// the table that was there before, rows of earlier runs, and after them each row that the acts before this run's last act
-/// settled, but for those that went into files before this one. Further rows may follow, but none that isn't the run's.
+/// the table that was there before, rows of earlier runs, and after them each row that was settled before this run last sent,
+/// read, opened or closed something, but for those that went into files before this one. Further rows may follow, but none that
+/// isn't the run's.
 pub fn rows_outlast_crashes<R>()
     ensures { RowsOutlastCrashes R }
 {}

@@ -1,8 +1,8 @@
 -- A run on the way, with what was seen at each act (a `Snapshot`): what the acts before it settled is in the book then, and
--- lasts. An act is one call on the link, with its result. At the start the link had recorded `told`, the book had taken `taken`,
+-- lasts, unless the act only reads the clock. An act is one call on the link, with its result. At the start the link had recorded `told`, the book had taken `taken`,
 -- and `saw` were the turns seen; by now they are those with primes. `text` is how a record is written. `Noted` says what was done
 -- and seen so far.
-use Rattle.std.proofs.Common.{◌≡◌, ℕ, Bool, true, List, [], ◌∷◌, ◌++◌, Option, Some, Err, sym, ap, ◌∙◌, subst, append-nil, append_assoc}
+use Rattle.std.proofs.Common.{◌≡◌, ℕ, Bool, true, false, List, [], ◌∷◌, ◌++◌, Option, Some, Err, refl, sym, ap, ◌∙◌, subst, append-nil, append_assoc}
 use Rattle.std.specs.Io.KnownBytes.{Keeps}
 use Rattle.gc_texts.specs.declared.tasks.Task.{Task}
 use Rattle.gc_texts.specs.declared.fault.RunFault.{RunFault}
@@ -12,17 +12,28 @@ use Rattle.gc_station.specs.declared.plan.Plan.{Plan}
 use Rattle.gc_station.specs.declared.cause.Cause.{Cause}
 use Rattle.gc_station.specs.declared.cause.Cause.TheVariants.{Done, Dead, Read, End, Write, Clock, Open, Turns, Stale, Stopped, SetUp}
 use Rattle.gc_station.specs.declared.progress.Action.{Action}
+use Rattle.gc_station.specs.declared.progress.Action.TheVariants.{ReadClock, Renew, Begin, Skip, Pass}
 use Rattle.gc_station.specs.declared.station.Station.{Station}
+use Rattle.gc_station.specs.ActKinds.{ReadsClock}
 use Rattle.gc_station.specs.Causes.{fault_of_cause}
-use Rattle.gc_station.specs.Keeping.{Snapshot, IsKept, AreKept, KeepsUp, close_at_output}
+use Rattle.gc_station.specs.Keeping.{Snapshot, reads_clock_alone, IsKept, AreKept, KeepsUp, close_at_output}
 use Rattle.gc_station.specs.Records.{Record}
 use Rattle.gc_station.specs.Runs.{state_after}
-use Rattle.gc_station.specs.Model.{opening, action_at, Performs, stepped}
+use Rattle.gc_station.specs.Model.{Model, opening, action_at, Performs, stepped}
 use Rattle.gc_station.specs.Scopes.{Scope, AreReadings}
 use Rattle.gc_station.specs.Stations.{Refines, Makes, Breaks, as_seen}
 use Rattle.gc_station.specs.declared.tally.Tally.{Tally}
 use Rattle.gc_station.proofs.Going.{Went, went_nothing, went_kept, went_on, runs-append}
 use Rattle.gc_station.proofs.Hearing.{adds_acts_append}
+
+-- an act that isn't a mere reading of the clock performs an action that isn't one
+more_than_clock : (commands : List Task) (s : Model) (action : Action) (act : Act) → Performs commands s action act → (ReadsClock act → ⊥) → reads_clock_alone action ≡ false
+more_than_clock commands s ReadClock act does more = absurd (more does)
+more_than_clock commands s Renew act does more = absurd (more does)
+more_than_clock commands s Begin act does more = absurd (more does)
+more_than_clock commands s Skip act does more = absurd (more does)
+more_than_clock commands s Pass act does more = absurd (more does)
+more_than_clock commands s action act does more = refl
 
 module _ (plan : Plan) (commands : List Task) (scope : Scope) (text : Record → List ℕ) (told : Option (List Act)) (taken : Option (List ℕ)) where
   -- the station `went` through acts, before each of which one of `turns` was seen, after the turns of `saw`; and at each turn,
@@ -35,14 +46,14 @@ module _ (plan : Plan) (commands : List Task) (scope : Scope) (text : Record →
 
   -- `AreKept` is preserved by one act more, if what all acts before it (`done`, and then `acts`) settled was kept at its turn
   kept_more : (done acts : List Act) (turns : List Snapshot) (act : Act) (turn : Snapshot) → AreKept plan commands scope text told taken done acts turns
-      → IsKept plan commands scope text told taken (done ++ acts) turn → AreKept plan commands scope text told taken done (acts ++ act ∷ []) (turns ++ turn ∷ [])
-  kept_more done [] [] act turn are is = (subst (λ (xs : List Act). IsKept plan commands scope text told taken xs turn) (append-nil done) is, tt)
+      → IsKept plan commands scope text told taken (done ++ acts) act turn → AreKept plan commands scope text told taken done (acts ++ act ∷ []) (turns ++ turn ∷ [])
+  kept_more done [] [] act turn are is = (subst (λ (xs : List Act). IsKept plan commands scope text told taken xs act turn) (append-nil done) is, tt)
   kept_more done [] (t ∷ turns) act turn are is = absurd are
   kept_more done (a ∷ acts) [] act turn are is = absurd are
   kept_more done (a ∷ acts) (t ∷ turns) act turn are is = (
     are.0,
     kept_more (done ++ a ∷ []) acts turns act turn are.1
-        (subst (λ (xs : List Act). IsKept plan commands scope text told taken xs turn) (sym (append_assoc done (a ∷ []) acts)) is),
+        (subst (λ (xs : List Act). IsKept plan commands scope text told taken xs act turn) (sym (append_assoc done (a ∷ []) acts)) is),
   )
 
   -- `Noted` holds if nothing was done, for a station that is as the model of one that has done nothing
@@ -64,18 +75,21 @@ module _ (plan : Plan) (commands : List Task) (scope : Scope) (text : Record →
   saw_more saw saw' saw'' turns turn all one = one ∙ ap (λ (xs : List Snapshot). xs ++ turn ∷ []) all ∙ append_assoc saw turns (turn ∷ [])
 
   -- `Noted` is preserved by the act of the next action (`Makes`), if replies are read as `AreReadings` says, the link and the
-  -- book were seen before the act, and all records lasted then
+  -- book were seen before the act, and all records lasted then, unless the action only reads the clock
   pub noted_on : (told' told'' : Option (List Act)) (taken' taken'' : Option (List ℕ)) (lasts : Bool) (station new : Station) (action : Action) (saw saw' saw'' : List Snapshot)
       → (n : Noted told' taken' station saw saw')
       → (is_next : action ≡ action_at plan (state_after plan commands scope n.went.acts))
       → Makes commands action (stepped plan commands action) (as_seen told' text taken' station) (as_seen told'' text taken'' new)
-      → AreReadings scope.reads → (one_more : saw'' ≡ saw' ++ seen_now told' taken' lasts ∷ []) → (lasting : lasts ≡ true) → Noted told'' taken'' new saw saw''
-  noted_on told' told'' taken' taken'' lasts station new action saw saw' saw'' n is makes are one true_ =
+      → AreReadings scope.reads → (one_more : saw'' ≡ saw' ++ seen_now told' taken' lasts ∷ []) → (lasting : reads_clock_alone action ≡ false → lasts ≡ true) → Noted told'' taken'' new saw saw''
+  noted_on told' told'' taken' taken'' lasts station new action saw saw' saw'' n is makes are one lasting =
+      let w = n.went in
+      let obeys = (makes.goes (state_after plan commands scope w.acts) taken w.stands (λ ok. w.took)).0 in
       record {
-        went = went_on plan commands scope text told told' told'' taken taken' taken'' station new action n.went is makes are;
+        went = went_on plan commands scope text told told' told'' taken taken' taken'' station new action w is makes are;
         turns = n.turns ++ seen_now told' taken' lasts ∷ [];
         all = saw_more saw saw' saw'' n.turns (seen_now told' taken' lasts) n.all one;
-        kept = kept_more [] n.went.acts n.turns makes.act (seen_now told' taken' lasts) n.kept (record { tells = n.went.tells; took = n.went.took; lasts = true_ });
+        kept = kept_more [] w.acts n.turns makes.act (seen_now told' taken' lasts) n.kept
+            (record { tells = w.tells; took = w.took; lasts = λ more. lasting (more_than_clock commands (state_after plan commands scope w.acts) action makes.act obeys more) });
       }
 
   -- `KeepsUp` of this run, with the acts `others` after it
@@ -109,25 +123,26 @@ module _ (plan : Plan) (commands : List Task) (scope : Scope) (text : Record →
 
   -- where `Noted` holds, the book refused a record of the next action's act (`Breaks`), and the link then recorded a close, the
   -- run has kept up (`KeepsUp`), with that close after its own acts; if the link and the book were seen before the act, and all
-  -- records lasted then
+  -- records lasted then, unless the action only reads the clock
   pub noted_refused : (told' told'' told''' : Option (List Act)) (taken' taken'' : Option (List ℕ)) (lasts : Bool) (station : Station) (action : Action) (saw saw' saw'' : List Snapshot)
       → (n : Noted told' taken' station saw saw')
       → (is_next : action ≡ action_at plan (state_after plan commands scope n.went.acts))
       → Breaks commands action (stepped plan commands action) (as_seen told' text taken' station) told'' taken''
-      → AddsActs told'' told''' (Closed ∷ []) → (one_more : saw'' ≡ saw' ++ seen_now told' taken' lasts ∷ []) → (lasting : lasts ≡ true)
+      → AddsActs told'' told''' (Closed ∷ []) → (one_more : saw'' ≡ saw' ++ seen_now told' taken' lasts ∷ []) → (lasting : reads_clock_alone action ≡ false → lasts ≡ true)
       → KeepsUpHere told''' saw saw'' (Closed ∷ [])
-  noted_refused told' told'' told''' taken' taken'' lasts station action saw saw' saw'' n is breaks closed one true_ =
+  noted_refused told' told'' told''' taken' taken'' lasts station action saw saw' saw'' n is breaks closed one lasting =
       let w = n.went in
       let s = state_after plan commands scope w.acts in
-      let obeys : Performs commands s (action_at plan s) breaks.act =
-      subst (λ (o : Action). Performs commands s o breaks.act) is (breaks.goes s taken w.stands (λ ok. w.took)).0 in
+      let does = (breaks.goes s taken w.stands (λ ok. w.took)).0 in
+      let obeys : Performs commands s (action_at plan s) breaks.act = subst (λ (o : Action). Performs commands s o breaks.act) is does in
       record {
         acts = w.acts ++ breaks.act ∷ [];
         tells = adds_acts_append told told'' told''' (w.acts ++ breaks.act ∷ []) (Closed ∷ []) (adds_acts_append told told' told'' w.acts (breaks.act ∷ []) w.tells breaks.tells) closed;
         runs = runs-append plan commands (opening plan scope) w.acts (breaks.act ∷ []) w.runs (obeys, tt);
         turns = n.turns ++ seen_now told' taken' lasts ∷ [];
         saw = saw_more saw saw' saw'' n.turns (seen_now told' taken' lasts) n.all one;
-        kept = kept_more [] w.acts n.turns breaks.act (seen_now told' taken' lasts) n.kept (record { tells = w.tells; took = w.took; lasts = true_ });
+        kept = kept_more [] w.acts n.turns breaks.act (seen_now told' taken' lasts) n.kept
+            (record { tells = w.tells; took = w.took; lasts = λ more. lasting (more_than_clock commands s action breaks.act does more) });
       }
 
   -- a run that has kept up with no act after it has kept up with the close that `close_at_output` gives for the fault of a cause:

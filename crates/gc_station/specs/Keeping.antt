@@ -1,7 +1,7 @@
 -- What lasts while a run goes on, this project's own: at each act of the link all that the acts before it settled is in the
--- book, and lasts. An act is one call on the link, with its result. The book is what takes the texts of the records; `text` gives
--- the text of a record.
-use Rattle.std.specs.Prelude.{◌≡◌, ℕ, Bool, true, List, [], ◌∷◌, ◌++◌, Option, Result, Ok, Err, refl}
+-- book; and it lasts before anything is sent, read, opened or closed. An act is one call on the link, with its result. The book is
+-- what takes the texts of the records; `text` gives the text of a record.
+use Rattle.std.specs.Prelude.{◌≡◌, ℕ, Bool, true, false, List, [], ◌∷◌, ◌++◌, Option, Result, Ok, Err, refl}
 use Rattle.std.specs.Coded.{Coded, code_by, coded×, coded_ℕ, coded_bool, coded_list, coded_option}
 use Rattle.std.specs.Io.KnownBytes.{Appends}
 use Rattle.gc_texts.specs.declared.tasks.Task.{Task}
@@ -10,6 +10,9 @@ use Rattle.gc_texts.specs.declared.fault.RunFault.TheVariants.{Output}
 use Rattle.gc_links.specs.Acts.{Act, Closed, AddsActs}
 use Rattle.gc_links.specs.Coding.{acts_code}
 use Rattle.gc_station.specs.declared.plan.Plan.{Plan}
+use Rattle.gc_station.specs.declared.progress.Action.{Action}
+use Rattle.gc_station.specs.declared.progress.Action.TheVariants.{ReadClock, Renew, Begin, Skip, Pass}
+use Rattle.gc_station.specs.ActKinds.{ReadsClock}
 use Rattle.gc_station.specs.Records.{Record, texts_of}
 use Rattle.gc_station.specs.Model.{opening, Runs}
 use Rattle.gc_station.specs.Runs.{RunSeen, state_after}
@@ -24,30 +27,40 @@ pub record Snapshot : Type 0 where
   -- whether these bytes are durable, as far as the book is meant to make them so; a book that isn't meant to always says `true`
   pub lasts : Bool
 
+-- the action only reads the clock: it sends nothing, reads nothing from the instrument, and opens and closes no connection
+abbrev pub reads_clock_alone : Action → Bool
+reads_clock_alone ReadClock = true
+reads_clock_alone Renew = true
+reads_clock_alone Begin = true
+reads_clock_alone Skip = true
+reads_clock_alone Pass = true
+reads_clock_alone _ = false
+
 -- a run of `scope`. Before it the link had recorded `told`, and the book had taken `taken`
 module _ (plan : Plan) (commands : List Task) (scope : Scope) (text : Record → List ℕ) (told : Option (List Act)) (taken : Option (List ℕ)) where
-  -- before the act of this turn the link had recorded `acts` after those of `told`, and the book had taken, after `taken`, the
-  -- texts of all records that these acts settled; and they were durable
-  pub record IsKept (acts : List Act) (turn : Snapshot) : Type 0 where
+  -- before `act`, the act of this turn, the link had recorded `acts` after those of `told`, and the book had taken, after
+  -- `taken`, the texts of all records that these acts settled. They were durable, unless `act` is a mere reading of the clock
+  pub record IsKept (acts : List Act) (act : Act) (turn : Snapshot) : Type 0 where
     pub tells : AddsActs told turn.acts acts
     pub took : Appends taken turn.taken (texts_of text (state_after plan commands scope acts).records)
-    pub lasts : turn.lasts ≡ true
+    pub lasts : (ReadsClock act → ⊥) → turn.lasts ≡ true
 
   -- the acts `acts`, which follow those of `done`, have these turns, one for one and in order: each turn is of the moment before
-  -- its act, and `IsKept` says that what the acts before that moment settled was durable in the book
+  -- its act, and `IsKept` says that what the acts before that moment settled was in the book, and durable if more than the clock
+  -- was to be read
   abbrev pub AreKept : (done acts : List Act) → List Snapshot → Type 0
   AreKept done [] [] = Unit {0}
   AreKept done [] (turn ∷ turns) = ⊥
   AreKept done (act ∷ acts) [] = ⊥
-  AreKept done (act ∷ acts) (turn ∷ turns) = IsKept done turn × AreKept (done ++ act ∷ []) acts turns
+  AreKept done (act ∷ acts) (turn ∷ turns) = IsKept done act turn × AreKept (done ++ act ∷ []) acts turns
 
 -- a run of `scope`. From `told` to `told'` the link recorded acts, and before them the book had taken `taken`. The list of turns
 -- was `seen` before the run, and is `seen'` after it
 module _ (plan : Plan) (commands : List Task) (scope : Scope) (text : Record → List ℕ) (told told' : Option (List Act)) (taken : Option (List ℕ))
     (seen seen' : List Snapshot) where
   -- the link recorded the acts of a run (`acts`), each the one that was to be made next, and after them `others`. Before each of
-  -- `acts` one turn was added to the list of turns; and at that turn all that the acts before it settled was durable in the book
-  -- (`AreKept`)
+  -- `acts` one turn was added to the list of turns; and at that turn all that the acts before it settled was in the book, and
+  -- durable unless the act is a mere reading of the clock (`AreKept`)
   pub record KeepsUp (others : List Act) : Type 0 where
     pub acts : List Act
     pub tells : AddsActs told told' (acts ++ others)

@@ -55,8 +55,9 @@ pub trait Book {
         ensures same_overruns { overruns self.new ≡ overruns self.old }
         ensures form { text self.new ≡ text self.old };
 
-    /// Makes all records so far durable: they outlast a crash, if the book is meant to outlast one. It is called before each
-    /// act, but for the close after the book failed, and at the end. `Err`: the book has failed.
+    /// Makes all records so far durable: they outlast a crash, if the book is meant to outlast one. It is called before anything
+    /// is sent, read, opened or closed, but for the close after the book failed, and at the end; not before an act that only
+    /// reads the clock. `Err`: the book has failed.
     fn sync(&mut self) -> Result<(), PortFailed>
         ensures is_durable { OnOk result (is_durable self.new ≡ true) }
         ensures same { Keeps (taken self.old) (taken self.new) }

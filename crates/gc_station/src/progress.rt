@@ -2,6 +2,7 @@
 
 ghost use Rattle.std.specs.Prelude.{◌≡◌};
 ghost use Rattle.gc_station.specs.Deciding.{width_of, is_up, is_unquiet, is_past, is_quiet, has_begun, dead_after};
+ghost use Rattle.gc_station.specs.Keeping.{reads_clock_alone};
 ghost use Rattle.gc_station.specs.Progressing.{at_start};
 ghost use Rattle.gc_station.specs.Model.{is_heard};
 
@@ -181,6 +182,22 @@ pub(crate) fn dead_after(plan: &Plan) -> u64
     ensures { result ≡ dead_after plan.now }
 {
     later(plan.deadline, plan.deadline)
+}
+
+impl Action {
+    // Whether it only reads the clock: it sends nothing, reads nothing from the instrument, and opens and closes no connection.
+    pub(crate) fn reads_clock_alone(self) -> bool
+        ensures { result ≡ reads_clock_alone self }
+    {
+        match self {
+            Action::ReadClock => true,
+            Action::Renew => true,
+            Action::Begin => true,
+            Action::Skip => true,
+            Action::Pass => true,
+            _ => false,
+        }
+    }
 }
 
 impl Phase {

@@ -1,7 +1,8 @@
 //! A whole run of a station: what is next is done, until nothing is.
 
-ghost use Rattle.std.specs.Prelude.{◌≡◌, true, OnOk};
-ghost use Rattle.gc_station.specs.Keeping.{KeepsUpBy, close_if_failed, close_at_output};
+ghost use Rattle.std.specs.Prelude.{◌≡◌, true, false, OnOk};
+ghost use Rattle.std.specs.Io.KnownBytes.{Keeps};
+ghost use Rattle.gc_station.specs.Keeping.{reads_clock_alone, KeepsUpBy, close_if_failed, close_at_output};
 ghost use Rattle.gc_station.specs.Runs.{EndsBy, RanBy, FailsAtOutput, LastUnlessFailed, run_seen};
 ghost use Rattle.gc_station.specs.Scopes.{ForEachReadings, ForEachAndSomeReadings};
 ghost use Rattle.gc_station.specs.Writing.{KeepsBook};
@@ -16,6 +17,20 @@ use crate::tally::Tally;
 use gc_lines::PortFailed;
 use gc_links::Link;
 use gc_texts::{RunFault, Task};
+
+// Makes all records so far durable before an action, unless that only reads the clock: an outage ends with all commands of the
+// missed cycles written one after the other, each after a reading of the clock, and one sync serves them all. `Err`: the book
+// failed.
+fn sync_before<B: Book>(book: &mut B, action: Action) -> Result<(), PortFailed>
+    ensures is_durable { OnOk result (reads_clock_alone action ≡ false → B.is_durable book.new ≡ true) }
+    ensures same { Keeps (B.taken book.old) (B.taken book.new) }
+    ensures kept { KeepsBook B.Book book.old book.new result }
+{
+    if action.reads_clock_alone() {
+        return Ok(());
+    }
+    book.sync()
+}
 
 // Runs a station until no act is next. Returns why it stopped, and the counts of how commands ended. `Err`: the book failed,
 // and the link was closed.
@@ -39,13 +54,13 @@ pub(crate) fn run<L: Link, B: Book>(
     // The last cycle whose overrun was reported to the book; 0 if none was.
     let mut reported = 0;
     loop {
-        // No act is made before all records last: through a crash of the program, or of the machine, as far as the book is meant
-        // for that.
-        if let Err(unsynced) = book.sync() {
+        let action = station.action(plan);
+        // Nothing is sent, read, opened or closed before all records last: through a crash of the program, or of the machine, as
+        // far as the book is meant for that.
+        if let Err(unsynced) = sync_before(book, action) {
             link.close();
             return Err(unsynced);
         }
-        let action = station.action(plan);
         if let Action::Stop(cause) = action {
             return Ok((cause, station.recorded.tally.total()));
         }
@@ -109,8 +124,10 @@ pub(crate) fn run<L: Link, B: Book>(
 ///   the last act before that record, and a first part of that record. If the records couldn't be made to last, it has all
 ///   of them. In both cases nothing more is sent: the link is closed, and the outstanding commands aren't written.
 ///
-/// Before each act but the close after the book failed, all records of the acts before outlast what the book is meant to
-/// outlast. What is seen of the link and the book then is noted in `kept`.
+/// Before each act but the close after the book failed, the book has all records of the acts before; and before anything is sent,
+/// read, opened or closed they outlast what the book is meant to outlast. So one sync serves all records between which only the
+/// clock is read, as those of the cycles that an outage cost. What is seen of the link and the book before each act is noted in
+/// `kept`.
 pub fn run_station<L: Link, B: Book>(
     link: &mut L,
     book: &mut B,
@@ -124,8 +141,8 @@ pub fn run_station<L: Link, B: Book>(
     ensures ran { ForEachAndSomeReadings (RanBy plan.now commands.now max_turns
         (run_seen (L.acts link.old) B.Book book.old) (run_seen (L.acts link.new) B.Book book.new) result) }
 
-    // At each act what the acts before it settled is in the book, and lasts. If the book failed one act is made all the same:
-    // the connection is closed.
+    // At each act what the acts before it settled is in the book; and it lasts unless the act is a mere reading of the clock. If
+    // the book failed one act is made all the same: the connection is closed.
     ensures keeps { ForEachAndSomeReadings (KeepsUpBy plan.now commands.now max_turns
         (run_seen (L.acts link.old) B.Book book.old) (run_seen (L.acts link.new) B.Book book.new)
         kept.old.turns kept.new.turns (close_at_output result)) }

@@ -1,9 +1,10 @@
 //! A station's steps: each makes the one call of the link that is next, and lets the client handle what came of it.
 
-ghost use Rattle.std.specs.Prelude.{◌≡◌, List, length, drop, Option, OnOk, true};
+ghost use Rattle.std.specs.Prelude.{◌≡◌, List, length, drop, Option, OnOk, true, false};
 ghost use Rattle.gc_catalogue.specs.Asked.{IsAskedReading};
 ghost use Rattle.gc_client.specs.Settlements.{AreReadBy};
 ghost use Rattle.gc_station.specs.Deciding.{action_of};
+ghost use Rattle.gc_station.specs.Keeping.{reads_clock_alone};
 ghost use Rattle.gc_station.specs.Marks.{commands_in};
 ghost use Rattle.gc_station.specs.Scopes.{AreReadings, scoped, Reads};
 ghost use Rattle.gc_station.specs.Records.{WritesNews};
@@ -362,7 +363,7 @@ impl Station {
     }
 
     // Takes a turn: performs an action, and then records what is lost (`record_lost`). When it is called, all records so far must be
-    // durable. `Err`: the book failed at a record.
+    // durable, unless the action only reads the clock. `Err`: the book failed at a record.
     pub(crate) fn step<L: Link, B: Book>(
         &mut self,
         link: &mut L,
@@ -371,7 +372,7 @@ impl Station {
         commands: &[Task],
         action: Action,
     ) -> Result<(), PortFailed>
-        requires is_durable { B.is_durable book.old ≡ true }
+        requires is_durable { reads_clock_alone action ≡ false → B.is_durable book.old ≡ true }
         requires able { CanPerform commands.now action self.old }
         ensures does { OnCall action (Steps plan.now commands.now action
             (as_seen (L.acts link.old) (B.text book.old) (B.taken book.old) self.old)

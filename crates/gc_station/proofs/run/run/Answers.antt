@@ -2,6 +2,7 @@ use Rattle.std.proofs.Common.{◌≡◌, inl, inr, refl, ap, sym, ◌∙◌, ari
 use Rattle.gc_catalogue.specs.declared.answer.Reading.TheVariants.{Refused}
 use Rattle.gc_station.specs.Tallies.{total}
 use Rattle.gc_station.specs.declared.progress.Progress.{Progress}
+use Rattle.gc_station.specs.Keeping.{reads_clock_alone}
 use Rattle.gc_station.specs.Runs.{state_after}
 use Rattle.gc_station.specs.Scopes.{Scope, Reads}
 use Rattle.gc_station.specs.Model.{opening}
@@ -21,17 +22,17 @@ returns-in-Err g c =
       ran = λ reads are.
           let scope : Scope = record { turns = c.args.max_turns; reads = reads } in
           let w = went_kept plan commands scope text told (g.L.Link.acts c.loop-unsynced.link) taken (g.B.Book.taken c.loop-unsynced.book)
-          (g.B.Book.taken c.sync.new.self) c.loop-unsynced.station c.sync.ensures.same (c.loop-unsynced.invariant.went reads are) in
+          (g.B.Book.taken c.sync_before.new.book) c.loop-unsynced.station c.sync_before.ensures.same (c.loop-unsynced.invariant.went reads are) in
           inr (fails_at_sync plan commands scope text told (g.L.Link.acts c.loop-unsynced.link) (g.L.Link.acts c.close.new.self) taken
-          (g.B.Book.taken c.sync.new.self) c.loop-unsynced.station w c.close.ensures);
+          (g.B.Book.taken c.sync_before.new.book) c.loop-unsynced.station w c.close.ensures);
       keeps = λ reads are.
           let scope : Scope = record { turns = c.args.max_turns; reads = reads } in
           let n = noted_kept plan commands scope text told taken (g.L.Link.acts c.loop-unsynced.link) (g.B.Book.taken c.loop-unsynced.book)
-          (g.B.Book.taken c.sync.new.self) c.loop-unsynced.station c.args.kept.now.turns c.loop-unsynced.kept.turns c.sync.ensures.same (c.loop-unsynced.invariant.noted reads are) in
-          noted_closed plan commands scope text told taken (g.L.Link.acts c.loop-unsynced.link) (g.L.Link.acts c.close.new.self) (g.B.Book.taken c.sync.new.self)
+          (g.B.Book.taken c.sync_before.new.book) c.loop-unsynced.station c.args.kept.now.turns c.loop-unsynced.kept.turns c.sync_before.ensures.same (c.loop-unsynced.invariant.noted reads are) in
+          noted_closed plan commands scope text told taken (g.L.Link.acts c.loop-unsynced.link) (g.L.Link.acts c.close.new.self) (g.B.Book.taken c.sync_before.new.book)
           c.loop-unsynced.station c.args.kept.now.turns c.loop-unsynced.kept.turns n c.close.ensures;
       is_durable = tt;
-      kept = record { form = c.sync.ensures.form ∙ c.loop-unsynced.invariant.form; fails = c.in-Err.ensures.fails };
+      kept = record { form = c.sync_before.ensures.kept.form ∙ c.loop-unsynced.invariant.form; fails = c.in-Err.ensures.kept.fails };
     }
 
 pub returns-in-Err-step : goal.returns-in-Err-step
@@ -44,11 +45,11 @@ returns-in-Err-step g c =
       ran = λ reads are.
           let scope : Scope = record { turns = c.args.max_turns; reads = reads } in
           let kept = went_kept plan commands scope (g.B.Book.text c.args.book.now) told (g.L.Link.acts c.loop-unsynced.link) taken
-          (g.B.Book.taken c.loop-unsynced.book) (g.B.Book.taken c.sync.new.self) c.loop-unsynced.station c.sync.ensures.same
+          (g.B.Book.taken c.loop-unsynced.book) (g.B.Book.taken c.sync_before.new.book) c.loop-unsynced.station c.sync_before.ensures.same
           (c.loop-unsynced.invariant.went reads are) in
-          let w = went_kept plan commands scope (g.B.Book.text c.args.book.now) told (g.L.Link.acts c.loop-unsynced.link) taken (g.B.Book.taken c.sync.new.self)
+          let w = went_kept plan commands scope (g.B.Book.text c.args.book.now) told (g.L.Link.acts c.loop-unsynced.link) taken (g.B.Book.taken c.sync_before.new.book)
           (g.B.Book.taken c.report_to-reported.new.book) c.loop-unsynced.station
-          (kept_same (g.B.Book.taken c.sync.new.self) (g.B.Book.taken c.report_to-reported.new.book) c.report_to-reported.ensures.taken) kept in
+          (kept_same (g.B.Book.taken c.sync_before.new.book) (g.B.Book.taken c.report_to-reported.new.book) c.report_to-reported.ensures.taken) kept in
           let s = state_after plan commands scope w.acts in
           let same = same_readings s.reads reads (reads_as_in_scope plan commands scope w.acts) are in
           inl (fails_at_record plan commands scope (g.B.Book.text c.args.book.now) told (g.L.Link.acts c.loop-unsynced.link) (g.L.Link.acts c.step.new.link)
@@ -56,16 +57,16 @@ returns-in-Err-step g c =
           (g.B.Book.taken c.step.new.book) c.loop-unsynced.station c.action-action.result w
           (c.action-action.ensures.action s w.stands same)
           (on_call c.action-action.result _ c.in_default-action.not-Stop
-          (rw (c.report_to-reported.ensures.form ∙ c.sync.ensures.form ∙ c.loop-unsynced.invariant.form) at c.in-Err-step.ensures.does))
+          (rw (c.report_to-reported.ensures.form ∙ c.sync_before.ensures.kept.form ∙ c.loop-unsynced.invariant.form) at c.in-Err-step.ensures.does))
           c.close-in-Err-step.ensures are);
       keeps = λ reads are.
           let scope : Scope = record { turns = c.args.max_turns; reads = reads } in
           let text = g.B.Book.text c.args.book.now in
           let m = noted_kept plan commands scope text told taken (g.L.Link.acts c.loop-unsynced.link) (g.B.Book.taken c.loop-unsynced.book)
-          (g.B.Book.taken c.sync.new.self) c.loop-unsynced.station c.args.kept.now.turns c.loop-unsynced.kept.turns c.sync.ensures.same (c.loop-unsynced.invariant.noted reads are) in
-          let n = noted_kept plan commands scope text told taken (g.L.Link.acts c.loop-unsynced.link) (g.B.Book.taken c.sync.new.self)
+          (g.B.Book.taken c.sync_before.new.book) c.loop-unsynced.station c.args.kept.now.turns c.loop-unsynced.kept.turns c.sync_before.ensures.same (c.loop-unsynced.invariant.noted reads are) in
+          let n = noted_kept plan commands scope text told taken (g.L.Link.acts c.loop-unsynced.link) (g.B.Book.taken c.sync_before.new.book)
           (g.B.Book.taken c.report_to-reported.new.book) c.loop-unsynced.station c.args.kept.now.turns c.loop-unsynced.kept.turns
-          (kept_same (g.B.Book.taken c.sync.new.self) (g.B.Book.taken c.report_to-reported.new.book) c.report_to-reported.ensures.taken) m in
+          (kept_same (g.B.Book.taken c.sync_before.new.book) (g.B.Book.taken c.report_to-reported.new.book) c.report_to-reported.ensures.taken) m in
           let s = state_after plan commands scope n.went.acts in
           let same = same_readings s.reads reads (reads_as_in_scope plan commands scope n.went.acts) are in
           noted_refused plan commands scope text told taken (g.L.Link.acts c.loop-unsynced.link) (g.L.Link.acts c.step.new.link)
@@ -74,11 +75,11 @@ returns-in-Err-step g c =
           c.args.kept.now.turns c.loop-unsynced.kept.turns c.with_snapshot.result.turns n
           (c.action-action.ensures.action s n.went.stands same)
           (on_call c.action-action.result _ c.in_default-action.not-Stop
-          (rw (c.report_to-reported.ensures.form ∙ c.sync.ensures.form ∙ c.loop-unsynced.invariant.form) at c.in-Err-step.ensures.does))
-          c.close-in-Err-step.ensures c.with_snapshot.ensures (c.report_to-reported.ensures.is_durable ∙ c.in_default.ensures.is_durable);
+          (rw (c.report_to-reported.ensures.form ∙ c.sync_before.ensures.kept.form ∙ c.loop-unsynced.invariant.form) at c.in-Err-step.ensures.does))
+          c.close-in-Err-step.ensures c.with_snapshot.ensures (λ more. c.report_to-reported.ensures.is_durable ∙ c.in_default.ensures.is_durable more);
       is_durable = tt;
       kept = record {
-        form = c.in-Err-step.ensures.kept.form ∙ c.report_to-reported.ensures.form ∙ c.sync.ensures.form ∙ c.loop-unsynced.invariant.form;
+        form = c.in-Err-step.ensures.kept.form ∙ c.report_to-reported.ensures.form ∙ c.sync_before.ensures.kept.form ∙ c.loop-unsynced.invariant.form;
         fails = c.in-Err-step.ensures.kept.fails;
       };
     }
@@ -91,7 +92,7 @@ loop-unsynced-smaller g c =
     (g.B.Book.taken c.report_to-reported.new.book) (g.B.Book.taken c.step.new.book) c.loop-unsynced.station c.step.new.self c.action-action.result
     c.action-action.ensures.is c.loop-unsynced.invariant.some
     (on_call c.action-action.result _ c.in_default-action.not-Stop
-    (rw (c.report_to-reported.ensures.form ∙ c.sync.ensures.form ∙ c.loop-unsynced.invariant.form) at c.in_default-step.ensures.does))
+    (rw (c.report_to-reported.ensures.form ∙ c.sync_before.ensures.kept.form ∙ c.loop-unsynced.invariant.form) at c.in_default-step.ensures.does))
     c.loop-unsynced.invariant.below).less
 
 pub loop-unsynced-preserved : goal.loop-unsynced-preserved
@@ -101,12 +102,12 @@ loop-unsynced-preserved g c =
     let told = g.L.Link.acts c.args.link.now in
     let taken = g.B.Book.taken c.args.book.now in
     let makes = on_call c.action-action.result _ c.in_default-action.not-Stop
-    (rw (c.report_to-reported.ensures.form ∙ c.sync.ensures.form ∙ c.loop-unsynced.invariant.form) at c.in_default-step.ensures.does) in
+    (rw (c.report_to-reported.ensures.form ∙ c.sync_before.ensures.kept.form ∙ c.loop-unsynced.invariant.form) at c.in_default-step.ensures.does) in
     let nearer = went_nearer plan commands (g.B.Book.text c.args.book.now) (g.L.Link.acts c.loop-unsynced.link) (g.L.Link.acts c.step.new.link)
     (g.B.Book.taken c.report_to-reported.new.book) (g.B.Book.taken c.step.new.book) c.loop-unsynced.station c.step.new.self c.action-action.result
     c.action-action.ensures.is c.loop-unsynced.invariant.some
     (on_call c.action-action.result _ c.in_default-action.not-Stop
-    (rw (c.report_to-reported.ensures.form ∙ c.sync.ensures.form ∙ c.loop-unsynced.invariant.form) at c.in_default-step.ensures.does))
+    (rw (c.report_to-reported.ensures.form ∙ c.sync_before.ensures.kept.form ∙ c.loop-unsynced.invariant.form) at c.in_default-step.ensures.does))
     c.loop-unsynced.invariant.below in
     record {
       within = omega (arith, nearer.within);
@@ -117,11 +118,11 @@ loop-unsynced-preserved g c =
       went = λ reads are.
           let scope : Scope = record { turns = c.args.max_turns; reads = reads } in
           let kept = went_kept plan commands scope (g.B.Book.text c.args.book.now) told (g.L.Link.acts c.loop-unsynced.link) taken
-          (g.B.Book.taken c.loop-unsynced.book) (g.B.Book.taken c.sync.new.self) c.loop-unsynced.station c.sync.ensures.same
+          (g.B.Book.taken c.loop-unsynced.book) (g.B.Book.taken c.sync_before.new.book) c.loop-unsynced.station c.sync_before.ensures.same
           (c.loop-unsynced.invariant.went reads are) in
-          let w = went_kept plan commands scope (g.B.Book.text c.args.book.now) told (g.L.Link.acts c.loop-unsynced.link) taken (g.B.Book.taken c.sync.new.self)
+          let w = went_kept plan commands scope (g.B.Book.text c.args.book.now) told (g.L.Link.acts c.loop-unsynced.link) taken (g.B.Book.taken c.sync_before.new.book)
           (g.B.Book.taken c.report_to-reported.new.book) c.loop-unsynced.station
-          (kept_same (g.B.Book.taken c.sync.new.self) (g.B.Book.taken c.report_to-reported.new.book) c.report_to-reported.ensures.taken) kept in
+          (kept_same (g.B.Book.taken c.sync_before.new.book) (g.B.Book.taken c.report_to-reported.new.book) c.report_to-reported.ensures.taken) kept in
           let s = state_after plan commands scope w.acts in
           let same = same_readings s.reads reads (reads_as_in_scope plan commands scope w.acts) are in
           went_on plan commands scope (g.B.Book.text c.args.book.now) told (g.L.Link.acts c.loop-unsynced.link) (g.L.Link.acts c.step.new.link) taken
@@ -131,19 +132,19 @@ loop-unsynced-preserved g c =
           let scope : Scope = record { turns = c.args.max_turns; reads = reads } in
           let text = g.B.Book.text c.args.book.now in
           let m = noted_kept plan commands scope text told taken (g.L.Link.acts c.loop-unsynced.link) (g.B.Book.taken c.loop-unsynced.book)
-          (g.B.Book.taken c.sync.new.self) c.loop-unsynced.station c.args.kept.now.turns c.loop-unsynced.kept.turns c.sync.ensures.same (c.loop-unsynced.invariant.noted reads are) in
-          let n = noted_kept plan commands scope text told taken (g.L.Link.acts c.loop-unsynced.link) (g.B.Book.taken c.sync.new.self)
+          (g.B.Book.taken c.sync_before.new.book) c.loop-unsynced.station c.args.kept.now.turns c.loop-unsynced.kept.turns c.sync_before.ensures.same (c.loop-unsynced.invariant.noted reads are) in
+          let n = noted_kept plan commands scope text told taken (g.L.Link.acts c.loop-unsynced.link) (g.B.Book.taken c.sync_before.new.book)
           (g.B.Book.taken c.report_to-reported.new.book) c.loop-unsynced.station c.args.kept.now.turns c.loop-unsynced.kept.turns
-          (kept_same (g.B.Book.taken c.sync.new.self) (g.B.Book.taken c.report_to-reported.new.book) c.report_to-reported.ensures.taken) m in
+          (kept_same (g.B.Book.taken c.sync_before.new.book) (g.B.Book.taken c.report_to-reported.new.book) c.report_to-reported.ensures.taken) m in
           let s = state_after plan commands scope n.went.acts in
           let same = same_readings s.reads reads (reads_as_in_scope plan commands scope n.went.acts) are in
           noted_on plan commands scope text told taken (g.L.Link.acts c.loop-unsynced.link) (g.L.Link.acts c.step.new.link)
           (g.B.Book.taken c.report_to-reported.new.book) (g.B.Book.taken c.step.new.book) (g.B.Book.is_durable c.report_to-reported.new.book)
           c.loop-unsynced.station c.step.new.self c.action-action.result
           c.args.kept.now.turns c.loop-unsynced.kept.turns c.with_snapshot.result.turns n
-          (c.action-action.ensures.action s n.went.stands same) makes are c.with_snapshot.ensures (c.report_to-reported.ensures.is_durable ∙ c.in_default.ensures.is_durable);
-      form = c.in_default-step.ensures.kept.form ∙ c.report_to-reported.ensures.form ∙ c.sync.ensures.form ∙ c.loop-unsynced.invariant.form;
-      failed = c.in_default-step.ensures.kept.fails ∙ c.report_to-reported.ensures.failed ∙ c.in_default.ensures.fails ∙ c.loop-unsynced.invariant.failed;
+          (c.action-action.ensures.action s n.went.stands same) makes are c.with_snapshot.ensures (λ more. c.report_to-reported.ensures.is_durable ∙ c.in_default.ensures.is_durable more);
+      form = c.in_default-step.ensures.kept.form ∙ c.report_to-reported.ensures.form ∙ c.sync_before.ensures.kept.form ∙ c.loop-unsynced.invariant.form;
+      failed = c.in_default-step.ensures.kept.fails ∙ c.report_to-reported.ensures.failed ∙ c.in_default.ensures.kept.fails ∙ c.loop-unsynced.invariant.failed;
     }
 
 pub loop-unsynced-init : goal.loop-unsynced-init
@@ -172,7 +173,7 @@ returns-in-Stop-clause-ran g c reads are =
     let commands = c.args.commands.now in
     let scope : Scope = record { turns = c.args.max_turns; reads = reads } in
     let w = went_kept plan commands scope (g.B.Book.text c.args.book.now) (g.L.Link.acts c.args.link.now) (g.L.Link.acts c.loop-unsynced.link)
-    (g.B.Book.taken c.args.book.now) (g.B.Book.taken c.loop-unsynced.book) (g.B.Book.taken c.sync.new.self) c.loop-unsynced.station c.sync.ensures.same
+    (g.B.Book.taken c.args.book.now) (g.B.Book.taken c.loop-unsynced.book) (g.B.Book.taken c.sync_before.new.book) c.loop-unsynced.station c.sync_before.ensures.same
     (c.loop-unsynced.invariant.went reads are) in
     let s = state_after plan commands scope w.acts in
     let same = same_readings s.reads reads (reads_as_in_scope plan commands scope w.acts) are in
@@ -191,7 +192,10 @@ returns-in-Stop-clause-keeps g c reads are =
     let commands = c.args.commands.now in
     let scope : Scope = record { turns = c.args.max_turns; reads = reads } in
     let n = noted_kept plan commands scope (g.B.Book.text c.args.book.now) (g.L.Link.acts c.args.link.now) (g.B.Book.taken c.args.book.now) (g.L.Link.acts c.loop-unsynced.link)
-    (g.B.Book.taken c.loop-unsynced.book) (g.B.Book.taken c.sync.new.self) c.loop-unsynced.station c.args.kept.now.turns c.loop-unsynced.kept.turns c.sync.ensures.same
+    (g.B.Book.taken c.loop-unsynced.book) (g.B.Book.taken c.sync_before.new.book) c.loop-unsynced.station c.args.kept.now.turns c.loop-unsynced.kept.turns c.sync_before.ensures.same
     (c.loop-unsynced.invariant.noted reads are) in
     noted_end plan commands scope (g.B.Book.text c.args.book.now) (g.L.Link.acts c.args.link.now) (g.B.Book.taken c.args.book.now) (g.L.Link.acts c.loop-unsynced.link)
-    (g.B.Book.taken c.sync.new.self) c.loop-unsynced.station c.args.kept.now.turns c.loop-unsynced.kept.turns n
+    (g.B.Book.taken c.sync_before.new.book) c.loop-unsynced.station c.args.kept.now.turns c.loop-unsynced.kept.turns n
+
+pub returns-in-Stop-clause-is_durable : goal.returns-in-Stop-clause-is_durable
+returns-in-Stop-clause-is_durable g c = c.in_default.ensures.is_durable (ap reads_clock_alone c.in-Stop.is)
