@@ -8,6 +8,7 @@ pub mod OneReading
 mod CommandForms
 mod RawForms
 mod RawTroubles
+mod NearTroubles
 mod WishForms
 mod WordForms
 mod CodeForms

@@ -23,6 +23,7 @@ pub mod Again
 pub mod Retries
 pub mod ProcedureNames
 pub mod Troubles
+pub mod CommandStops
 pub mod Logs
 pub mod Laws
 pub mod Moments

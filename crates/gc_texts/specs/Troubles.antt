@@ -1,5 +1,5 @@
--- Which field of a faulty line of a station's text is at fault: this project's own.
-use Rattle.std.specs.Prelude.{◌≡◌, ◌≢◌, ℕ, ◌⊎◌, List, ◌++◌, length, codes}
+-- Which field of a faulty line of a station's text, or of a text of commands, is at fault: this project's own.
+use Rattle.std.specs.Prelude.{◌≡◌, ◌≢◌, ℕ, ◌⊎◌, Bool, true, false, List, ◌∷◌, ◌++◌, length, codes}
 use Rattle.std.specs.Fmt.{decimal}
 use Rattle.gc_catalogue.specs.Calls.{IsCall, IsParameterCount, IsRefusal}
 use Rattle.gc_catalogue.specs.Raws.{IsRawCall, IsRawRefusal}
@@ -9,10 +9,15 @@ use Rattle.gc_catalogue.specs.declared.raw.RawFault.{RawFault}
 use Rattle.gc_catalogue.specs.declared.raw.RawFault.TheVariants.{InTable, TooLong}
 use Rattle.gc_values.specs.declared.fault.ValueFault.{ValueFault}
 use Rattle.gc_values.specs.declared.fault.ValueFault.TheVariants.{Count, TooMany}
+use Rattle.gc_values.specs.Decimals.{SpellsDecimal, zero}
+use Rattle.gc_values.specs.Directions.{is_place, is_tolerance}
+use Rattle.gc_values.specs.declared.decimal.Decimal.{Decimal}
 use Rattle.gc_texts.specs.Procedures.{IsRpc, IsTarget}
 use Rattle.gc_texts.specs.Cuts.{behind}
 use Rattle.gc_texts.specs.ProcedureNames.{name_in_table}
+use Rattle.gc_texts.specs.TaskLines.{IsTaskLine}
 use Rattle.gc_texts.specs.Words.{first_word, second_word, third_word, after_two_words, after_three_words}
+use Rattle.gc_texts.specs.declared.task_line.TaskLine.{TaskLine}
 use Rattle.gc_texts.specs.declared.trouble.Trouble.{Trouble}
 use Rattle.gc_texts.specs.declared.trouble.Trouble.TheVariants as trouble
 
@@ -98,11 +103,42 @@ pub record BeginsAsCommand (line : List ℕ) : Type 0 where
   pub no_at : first_word line ≢ codes "at"
   pub no_each : first_word line ≢ codes "each"
 
+-- a text is no decimal, or one that doesn't fit
+abbrev pub IsUnfit : (fits : Decimal → Bool) → List ℕ → Type 0
+IsUnfit fits text = ((d : Decimal) → SpellsDecimal text d → ⊥) ⊎ ((d : Decimal) × SpellsDecimal text d × (fits d ≡ false))
+
+-- whether a decimal is a horizontal angle of a place, from 0 to a turn: with 0.0 as the vertical angle it is a place
+abbrev pub fits_hz : Decimal → Bool
+fits_hz hz = is_place (record { hz = hz; v = zero })
+
+-- whether a decimal is a vertical angle of a place, from 0 to half a turn: with 0.0 as the horizontal angle it is a place
+abbrev pub fits_v : Decimal → Bool
+fits_v v = is_place (record { hz = zero; v = v })
+
+-- a text is a decimal that fits
+abbrev pub IsFit : (fits : Decimal → Bool) → List ℕ → Type 0
+IsFit fits text = (d : Decimal) × SpellsDecimal text d × (fits d ≡ true)
+
+-- this one of the three numbers that follow `near T` in a line is at fault; `Near`: none is
+abbrev pub IsNearTrouble : List ℕ → Trouble → Type 0
+IsNearTrouble numbers trouble.NearHz = IsUnfit fits_hz (first_word numbers)
+IsNearTrouble numbers trouble.NearV = IsUnfit fits_v (second_word numbers)
+IsNearTrouble numbers trouble.NearTolerance = IsUnfit is_tolerance (after_two_words numbers)
+IsNearTrouble numbers trouble.Near = IsFit fits_hz (first_word numbers) × IsFit fits_v (second_word numbers) × IsFit is_tolerance (after_two_words numbers)
+IsNearTrouble numbers _ = ⊥
+
+-- a line `near` whose target is one, with this trouble in the three numbers after it
+abbrev pub IsNearLineTrouble : List ℕ → Trouble → Type 0
+IsNearLineTrouble line t = (first_word line ≡ codes "near") × HasTarget (second_word line) × IsNearTrouble (after_two_words line) t
+
 -- a line whose first word is `deadline`, `name`, `near`, `accept`, `retry`, `at` or `each` is at fault in its target, or in what it sets
 abbrev pub IsSettingTrouble : List ℕ → Trouble → Type 0
 IsSettingTrouble line trouble.Deadline = first_word line ≡ codes "deadline"
 IsSettingTrouble line trouble.Name = (first_word line ≡ codes "name") × HasTarget (second_word line)
-IsSettingTrouble line trouble.Near = (first_word line ≡ codes "near") × HasTarget (second_word line)
+IsSettingTrouble line trouble.NearHz = IsNearLineTrouble line trouble.NearHz
+IsSettingTrouble line trouble.NearV = IsNearLineTrouble line trouble.NearV
+IsSettingTrouble line trouble.NearTolerance = IsNearLineTrouble line trouble.NearTolerance
+IsSettingTrouble line trouble.Near = IsNearLineTrouble line trouble.Near
 IsSettingTrouble line trouble.Accept = first_word line ≡ codes "accept"
 IsSettingTrouble line trouble.Retry = first_word line ≡ codes "retry"
 IsSettingTrouble line trouble.AtStart = first_word line ≡ codes "at"
@@ -128,9 +164,49 @@ IsAskingTrouble line trouble.RawParameters = IsRawCommandTrouble line trouble.Ra
 IsAskingTrouble line trouble.RawTooLong = IsRawCommandTrouble line trouble.RawTooLong
 IsAskingTrouble line t = IsCommandTrouble line t
 
--- in a line that is known to be faulty, this is at fault: by its first word the line sets something, or is taken for a command
+-- a line begins with the byte order mark of UTF-8, EF BB BF, or with one of UTF-16, FF FE or FE FF
+abbrev pub IsMarkTrouble : List ℕ → Trouble → Type 0
+IsMarkTrouble line trouble.ByteOrderMark = (rest : List ℕ) × (line ≡ 239 ∷ 187 ∷ 191 ∷ rest)
+IsMarkTrouble line trouble.Utf16 = (rest : List ℕ) × ((line ≡ 255 ∷ 254 ∷ rest) ⊎ (line ≡ 254 ∷ 255 ∷ rest))
+IsMarkTrouble line t = ⊥
+
+-- a line begins with no byte order mark
+pub record HasNoMark (line : List ℕ) : Type 0 where
+  pub no_utf8 : (rest : List ℕ) → line ≡ 239 ∷ 187 ∷ 191 ∷ rest → ⊥
+  pub no_little : (rest : List ℕ) → line ≡ 255 ∷ 254 ∷ rest → ⊥
+  pub no_big : (rest : List ℕ) → line ≡ 254 ∷ 255 ∷ rest → ⊥
+
+-- in a line without a byte order mark this is at fault: by its first word the line sets something, or is taken for a command
+abbrev pub IsUnmarkedTrouble : List ℕ → Trouble → Type 0
+IsUnmarkedTrouble line t = IsSettingTrouble line t ⊎ (BeginsAsCommand line × IsAskingTrouble line t)
+
+-- in a line that is known to be faulty in a station's text, this is at fault: it begins with a byte order mark, or it doesn't
 abbrev pub IsTrouble : List ℕ → Trouble → Type 0
-IsTrouble line t = IsSettingTrouble line t ⊎ (BeginsAsCommand line × IsAskingTrouble line t)
+IsTrouble line t = IsMarkTrouble line t ⊎ (HasNoMark line × IsUnmarkedTrouble line t)
+
+-- a line begins as one that sets something in a station's text, or is one of such a text
+abbrev pub IsForStation : List ℕ → Type 0
+IsForStation line = ((t : Trouble) × IsSettingTrouble line t) ⊎ ((said : TaskLine) × IsTaskLine line said)
+
+-- a line doesn't begin as one that sets something in a station's text, and is none of such a text
+abbrev pub IsNotForStation : List ℕ → Type 0
+IsNotForStation line = BeginsAsCommand line × ((said : TaskLine) → IsTaskLine line said → ⊥)
+
+-- what is reported of a line of a text of commands, if this is the trouble of a command
+abbrev pub for_command : Trouble → Trouble
+for_command trouble.NoForm = trouble.CommandForm
+for_command t = t
+
+-- in a line of a text of commands, without a byte order mark, this is at fault: it is for a station's text; or it isn't, and this
+-- is reported of its trouble as a command
+abbrev pub IsUnmarkedCommandTrouble : List ℕ → Trouble → Type 0
+IsUnmarkedCommandTrouble line t =
+    ((t ≡ trouble.ForStation) × IsForStation line)
+    ⊎ (IsNotForStation line × ((asked : Trouble) × IsAskingTrouble line asked × (t ≡ for_command asked)))
+
+-- in a line that is known to be faulty in a text of commands, this is at fault: it begins with a byte order mark, or it doesn't
+abbrev pub IsFaultOfCommand : List ℕ → Trouble → Type 0
+IsFaultOfCommand line t = IsMarkTrouble line t ⊎ (HasNoMark line × IsUnmarkedCommandTrouble line t)
 
 -- the text that the procedure with this number and name is in the table, so the word `raw` is to be left out
 abbrev pub in_table_text : ℕ → List ℕ → List ℕ
@@ -145,7 +221,10 @@ trouble_text trouble.Number = codes "procedure"
 trouble_text trouble.Target = codes "target"
 trouble_text trouble.Deadline = codes "deadline"
 trouble_text trouble.Name = codes "name"
-trouble_text trouble.Near = codes "near"
+trouble_text trouble.NearHz = codes "near: HZ is no decimal from 0 to a turn, in radians"
+trouble_text trouble.NearV = codes "near: V is no decimal from 0 to half a turn, in radians"
+trouble_text trouble.NearTolerance = codes "near: TOLERANCE is no decimal from 0 to half a turn, in radians"
+trouble_text trouble.Near = codes "near: a second place of the target, or a 65th"
 trouble_text trouble.Accept = codes "accept"
 trouble_text trouble.Retry = codes "retry"
 trouble_text trouble.AtStart = codes "at start"
@@ -155,6 +234,10 @@ trouble_text (trouble.RawInTable rpc) = in_table_text rpc (name_in_table rpc)
 trouble_text trouble.RawParameters = codes "more than 16 parameters, a double quote without its end, or a carriage return"
 trouble_text trouble.RawTooLong = codes "the request has more than 512 bytes"
 trouble_text trouble.NoForm = codes "no form"
+trouble_text trouble.CommandForm = codes "the form is T RPC or T RPC PARAMS"
+trouble_text trouble.ForStation = codes "of a text for geocom station"
+trouble_text trouble.ByteOrderMark = codes "begins with a byte order mark: save the text without it"
+trouble_text trouble.Utf16 = codes "is UTF-16: save the text as UTF-8"
 
 -- the line that the program writes of the trouble of a text's line with this number, counted from 1
 abbrev pub trouble_line : ℕ → Trouble → List ℕ

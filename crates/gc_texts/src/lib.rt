@@ -31,7 +31,7 @@ mod zeroed;
 
 pub use again::Again;
 pub use codes::Codes;
-pub use command_text::read_command_text;
+pub use command_text::{CommandStop, read_command_text, read_commands_of};
 pub use commands::{Command, read_commands};
 pub use cuts::{after_prefix, before, behind, cut_at, is_word};
 pub use ending::Ending;
@@ -47,7 +47,7 @@ pub use settled::{append_settlements, write_settlements};
 pub use stamp::{STAMP_ROOM, Stamp, stamp_text};
 pub use tasks::{Task, Tasks, read_tasks};
 pub use text::{TEXT_LIMIT, read_text};
-pub use trouble::{Trouble, trouble_of};
+pub use trouble::{Trouble, command_trouble_of, trouble_of};
 pub use turn::Turn;
 pub use wish::Wish;
 pub use zeroed::reading_as_zero;

@@ -1,16 +1,19 @@
-//! Troubles: which field of a faulty line of a station's text is at fault, and what is printed of it.
+//! Troubles: which field of a faulty line of a station's text or of a text of commands is at fault, and what is printed of it.
 
 ghost use Rattle.std.specs.Prelude.{◌≡◌, ◌++◌, IsTrue, IsFalse, MatchOption, codes};
 ghost use Rattle.gc_lines.specs.Ports.{WritesIfOk};
-ghost use Rattle.gc_texts.specs.Troubles.{parameters_trouble, raw_trouble, IsCallTrouble, IsRawTrouble, IsRawWordsTrouble, HasTarget, NoTarget, BeginsAsCommand, IsSettingTrouble, IsAskingTrouble, IsTrouble, in_table_text, trouble_text, trouble_line};
+ghost use Rattle.gc_texts.specs.Troubles.{parameters_trouble, raw_trouble, IsCallTrouble, IsRawTrouble, IsRawWordsTrouble, HasTarget, NoTarget, BeginsAsCommand, IsNearTrouble, IsFit, IsUnfit, IsSettingTrouble, IsAskingTrouble, IsMarkTrouble, HasNoMark, IsUnmarkedTrouble, IsTrouble, IsForStation, IsNotForStation, IsUnmarkedCommandTrouble, IsFaultOfCommand, for_command, fits_hz, fits_v, in_table_text, trouble_text, trouble_line};
+ghost use Rattle.gc_values.specs.Directions.{is_tolerance};
 ghost use Rattle.gc_texts.specs.Words.{second_word, third_word};
 ghost use Rattle.gc_texts.specs.ProcedureNames.{name_in_table};
 
-use crate::cuts::{before, behind, is_word};
+use crate::cuts::{after_prefix, before, behind, is_word};
+use crate::near::read_double;
 use crate::procedure::{target_of, u16_of};
+use crate::task_line::read_task_line;
 use gc_catalogue::{CallFault, RawFault, decode_call, parameter_count, procedure_name, raw_call};
 use gc_lines::Request;
-use gc_values::ValueFault;
+use gc_values::{Decimal, Direction, ValueFault, is_tolerance};
 use std::io::{self, Write};
 
 /// Which field of a faulty line is at fault. The texts are this project's own.
@@ -30,8 +33,13 @@ pub enum Trouble {
     Deadline,
     /// A line `name` gives no text, or one that no name may have, its target has a name already, or 64 targets have names.
     Name,
-    /// A line `near` has words that don't read as a place and a tolerance, or numbers outside their ranges; or its target has a place
-    /// already, or 64 targets have places.
+    /// The horizontal angle of a line `near` is no decimal from 0 to a turn.
+    NearHz,
+    /// The vertical angle of a line `near` is no decimal from 0 to half a turn.
+    NearV,
+    /// The tolerance of a line `near` is no decimal from 0 to half a turn, or more follows it.
+    NearTolerance,
+    /// A line `near` reads, but its target has a place already, or 64 targets have places.
     Near,
     /// The procedure with this number is in the table, so the word `raw` is to be left out.
     RawInTable(u16),
@@ -52,6 +60,14 @@ pub enum Trouble {
     Now,
     /// The line has no form: it is one word, with or without a space after it, or it ends in a space after a procedure's number.
     NoForm,
+    /// The same of a line of a text of commands, whose one form is said.
+    CommandForm,
+    /// The line is in a text of commands, and one of a station's text.
+    ForStation,
+    /// The line begins with the byte order mark of UTF-8.
+    ByteOrderMark,
+    /// The line begins with the byte order mark of UTF-16.
+    Utf16,
 }
 
 impl Trouble {
@@ -75,7 +91,23 @@ impl Trouble {
             Trouble::Target => writeln!(messages, "target"),
             Trouble::Deadline => writeln!(messages, "deadline"),
             Trouble::Name => writeln!(messages, "name"),
-            Trouble::Near => writeln!(messages, "near"),
+            Trouble::NearHz => {
+                writeln!(
+                    messages,
+                    "near: HZ is no decimal from 0 to a turn, in radians"
+                )
+            }
+            Trouble::NearV => {
+                writeln!(
+                    messages,
+                    "near: V is no decimal from 0 to half a turn, in radians"
+                )
+            }
+            Trouble::NearTolerance => writeln!(
+                messages,
+                "near: TOLERANCE is no decimal from 0 to half a turn, in radians"
+            ),
+            Trouble::Near => writeln!(messages, "near: a second place of the target, or a 65th"),
             Trouble::Accept => writeln!(messages, "accept"),
             Trouble::Retry => writeln!(messages, "retry"),
             Trouble::AtStart => writeln!(messages, "at start"),
@@ -90,6 +122,15 @@ impl Trouble {
             }
             Trouble::RawTooLong => writeln!(messages, "the request has more than 512 bytes"),
             Trouble::NoForm => writeln!(messages, "no form"),
+            Trouble::CommandForm => writeln!(messages, "the form is T RPC or T RPC PARAMS"),
+            Trouble::ForStation => writeln!(messages, "of a text for geocom station"),
+            Trouble::ByteOrderMark => {
+                writeln!(
+                    messages,
+                    "begins with a byte order mark: save the text without it"
+                )
+            }
+            Trouble::Utf16 => writeln!(messages, "is UTF-16: save the text as UTF-8"),
         }
     }
 }
@@ -215,8 +256,67 @@ fn has_target(line: &[u8]) -> bool
     target_of(before(b' ', behind(b' ', line))).is_some()
 }
 
+// Whether a text is a decimal from 0 to a turn, in radians.
+fn is_hz(text: &[u8]) -> bool
+    ensures fit { IsTrue result → IsFit fits_hz text.now }
+    ensures unfit { IsFalse result → IsUnfit fits_hz text.now }
+{
+    match read_double(text) {
+        Some(hz) => Direction {
+            hz,
+            v: Decimal::zero(),
+        }
+        .is_place(),
+        None => false,
+    }
+}
+
+// Whether a text is a decimal from 0 to half a turn, in radians, as a vertical angle.
+fn is_v(text: &[u8]) -> bool
+    ensures fit { IsTrue result → IsFit fits_v text.now }
+    ensures unfit { IsFalse result → IsUnfit fits_v text.now }
+{
+    match read_double(text) {
+        Some(v) => Direction {
+            hz: Decimal::zero(),
+            v,
+        }
+        .is_place(),
+        None => false,
+    }
+}
+
+// Whether a text is a tolerance, from 0 to half a turn, in radians.
+fn is_tolerance_text(text: &[u8]) -> bool
+    ensures fit { IsTrue result → IsFit is_tolerance text.now }
+    ensures unfit { IsFalse result → IsUnfit is_tolerance text.now }
+{
+    match read_double(text) {
+        Some(tolerance) => is_tolerance(&tolerance),
+        None => false,
+    }
+}
+
+// Which number is at fault of the three that follow a line's words `near T`. `Near`: none of them.
+fn near_trouble(numbers: &[u8]) -> Trouble
+    ensures { IsNearTrouble numbers.now result }
+{
+    let others = behind(b' ', numbers);
+    if !is_hz(before(b' ', numbers)) {
+        return Trouble::NearHz;
+    }
+    if !is_v(before(b' ', others)) {
+        return Trouble::NearV;
+    }
+    if !is_tolerance_text(behind(b' ', others)) {
+        return Trouble::NearTolerance;
+    }
+    Trouble::Near
+}
+
 // Which field is at fault of a line whose first word is `deadline`, `name`, `near`, `accept`, `retry`, `at` or `each`. `None`: the first
 // word is none of these.
+#[tactic(auto, using(crate::proofs::NearTroubles::near_is_setting))]
 fn setting_trouble(line: &[u8]) -> Option<Trouble>
     ensures { MatchOption result (BeginsAsCommand line.now) (λ t. IsSettingTrouble line.now t) }
 {
@@ -233,7 +333,7 @@ fn setting_trouble(line: &[u8]) -> Option<Trouble>
     }
     if is_word(b"near", first) {
         return Some(if has_target(line) {
-            Trouble::Near
+            near_trouble(behind(b' ', behind(b' ', line)))
         } else {
             Trouble::Target
         });
@@ -253,17 +353,86 @@ fn setting_trouble(line: &[u8]) -> Option<Trouble>
     None
 }
 
-/// Which field of a line is at fault, if the line is a faulty one of a station's text. A line whose first word is `deadline`, `name`,
-/// `near`, `accept`, `retry`, `at` or `each` is at fault in its target or in what it sets. Any other line is taken for a command, or,
-/// if its second word is `raw`, for a request of a procedure that isn't in the table. Of these a line whose first three words are
-/// `T 5007 now`, with a target's number T, gives `Now`; one that is one word, with or without a space after it, or each of whose
-/// fields reads, gives `NoForm`; and any other is at fault in its first field that doesn't read. Of a line that isn't faulty the
-/// result says nothing: a command gives `NoForm`, for example, and a line `retry` gives `Retry`.
-pub fn trouble_of(line: &[u8]) -> Trouble
-    ensures { IsTrouble line.now result }
+// The trouble of a line that begins with a byte order mark, of UTF-8 or of UTF-16. `None`: it begins with none.
+fn mark_trouble(line: &[u8]) -> Option<Trouble>
+    ensures { MatchOption result (HasNoMark line.now) (λ t. IsMarkTrouble line.now t) }
+{
+    if after_prefix(b"\xef\xbb\xbf", line).is_some() {
+        return Some(Trouble::ByteOrderMark);
+    }
+    if after_prefix(b"\xff\xfe", line).is_some() {
+        return Some(Trouble::Utf16);
+    }
+    if after_prefix(b"\xfe\xff", line).is_some() {
+        return Some(Trouble::Utf16);
+    }
+    None
+}
+
+// Which field is at fault of a line without a byte order mark, as `trouble_of` says.
+fn unmarked_trouble(line: &[u8]) -> Trouble
+    ensures { IsUnmarkedTrouble line.now result }
 {
     match setting_trouble(line) {
         Some(trouble) => trouble,
         None => asking_trouble(line),
+    }
+}
+
+/// Which field of a line is at fault, if the line is a faulty one of a station's text. A line that begins with a byte order mark has
+/// that as its trouble. A line whose first word is `deadline`, `name`, `near`, `accept`, `retry`, `at` or `each` is at fault in its
+/// target or in what it sets. Any other line is taken for a command, or, if its second word is `raw`, for a request of a procedure
+/// that isn't in the table. Of these a line whose first three words are `T 5007 now`, with a target's number T, gives `Now`; one that
+/// is one word, with or without a space after it, or each of whose fields reads, gives `NoForm`; and any other is at fault in its first
+/// field that doesn't read. Of a line that isn't faulty the result says nothing: a command gives `NoForm`, for example, and a line
+/// `retry` gives `Retry`.
+pub fn trouble_of(line: &[u8]) -> Trouble
+    ensures { IsTrouble line.now result }
+{
+    match mark_trouble(line) {
+        Some(trouble) => trouble,
+        None => unmarked_trouble(line),
+    }
+}
+
+// Whether a line is one of a station's text, or begins as one that sets something there.
+fn is_for_station(line: &[u8]) -> bool
+    ensures station { IsTrue result → IsForStation line.now }
+    ensures none { IsFalse result → IsNotForStation line.now }
+{
+    setting_trouble(line).is_some() || read_task_line(line).is_some()
+}
+
+// What is reported of a line of a text of commands, if this is the trouble of a command: where it has no form, the form that it
+// should have.
+fn for_command(trouble: Trouble) -> Trouble
+    ensures { result ≡ for_command trouble }
+{
+    match trouble {
+        Trouble::NoForm => Trouble::CommandForm,
+        other => other,
+    }
+}
+
+// Which field is at fault of a line without a byte order mark, as `command_trouble_of` says.
+fn unmarked_command_trouble(line: &[u8]) -> Trouble
+    ensures { IsUnmarkedCommandTrouble line.now result }
+{
+    if is_for_station(line) {
+        Trouble::ForStation
+    } else {
+        for_command(asking_trouble(line))
+    }
+}
+
+/// Which field of a line is at fault, if the line is a faulty one of a text of commands, as that of `ask`: `ForStation` if the line is
+/// one of a station's text, or begins as one that sets something there; and otherwise as `trouble_of` says of a command, but with
+/// `CommandForm` in place of `NoForm`. Of a line that isn't faulty the result says nothing.
+pub fn command_trouble_of(line: &[u8]) -> Trouble
+    ensures { IsFaultOfCommand line.now result }
+{
+    match mark_trouble(line) {
+        Some(trouble) => trouble,
+        None => unmarked_command_trouble(line),
     }
 }

@@ -8,8 +8,8 @@ use gc_engines::read_schedule;
 use gc_lines::ToWriter;
 use gc_links::place_of;
 use gc_texts::{
-    Codes, Command, LogBytes, LogLine, LogMark, RunFault, Task, Tasks, line_at, read_commands,
-    read_log_line, read_tasks, trouble_of, write_log_line,
+    Codes, Command, LogBytes, LogLine, LogMark, RunFault, Task, Tasks, Trouble, command_trouble_of,
+    line_at, read_commands, read_log_line, read_tasks, trouble_of, write_log_line,
 };
 use gc_world::Event;
 use std::alloc::Global;
@@ -65,7 +65,8 @@ impl TextCase<'_, '_> {
     fn read_as_said(&self, came: &mut Told) -> Result<(), RunFault> {
         match self.case.value("as") {
             "line" => came.bytes(line_at(self.text, self.case.number("line", 0))),
-            "trouble" => append_trouble(self.text, came),
+            "trouble" => append_trouble(trouble_of(self.text), came),
+            "trouble of a command" => append_trouble(command_trouble_of(self.text), came),
             "log" => write_as_log_line(self.text, came),
             "fault" => append_named_fault(&self.case, came),
             "commands" => append_commands(read_commands(came.alloc, self.text)?.as_slice(), came),
@@ -213,9 +214,9 @@ fn append_codes(title: &str, codes: &Codes, came: &mut Told) {
     }
 }
 
-// Appends what the program prints of a faulty line of a station's text, as if it were the text's third line.
-fn append_trouble(line: &[u8], came: &mut Told) {
-    let _ = trouble_of(line).tell(3, came);
+// Appends what the program prints of a faulty line with this trouble, as if it were the text's third line.
+fn append_trouble(trouble: Trouble, came: &mut Told) {
+    let _ = trouble.tell(3, came);
 }
 
 // Appends the place of a link that a word names, as `Debug` prints it, or `none` if it names none or isn't UTF-8.
