@@ -16,11 +16,11 @@ fault_of_stop Empty = NoCommand
 fault_of_stop (Line n trouble) = Schedule n
 fault_of_stop (Run fault) = fault
 
--- what is written of a stop after the line of its fault: if the text has no command, a line that says so; where line n of the
+-- what is written of a stop after the line of its fault: if the text has no command of a cycle, a line that says so; where line n of the
 -- text is faulty, a line that says what the trouble with that line is; else nothing
 abbrev pub stop_detail : Stop → List ℕ
 stop_detail (Text fault) = []
-stop_detail Empty = codes "geocom: the text has no command\n"
+stop_detail Empty = codes "geocom: the text has no command of a cycle\n"
 stop_detail (Line n trouble) = trouble_line n trouble
 stop_detail (Run fault) = []
 

@@ -34,7 +34,7 @@ impl Stop {
         }
     }
 
-    /// Writes the message of the fault. In two cases a second message follows: for `Empty`, that the text has no command; for
+    /// Writes the message of the fault. In two cases a second message follows: for `Empty`, that the text has no command of a cycle; for
     /// `Line`, which field of the text's faulty line is at fault.
     pub fn report<E: Write>(self, messages: &mut E) -> io::Result<()>
         ensures { WritesIfOk E.contents messages.old messages.new result (stop_text self) }
@@ -48,7 +48,7 @@ impl Stop {
         ensures { WritesIfOk E.contents messages.old messages.new result (stop_detail self) }
     {
         match self {
-            Stop::Empty => writeln!(messages, "geocom: the text has no command"),
+            Stop::Empty => writeln!(messages, "geocom: the text has no command of a cycle"),
             Stop::Line(line, trouble) => trouble.tell(line, messages),
             // For the proof: writing an empty text gives the clause, which an `Ok(())` alone doesn't.
             Stop::Text(_) | Stop::Run(_) => write!(messages, ""),
