@@ -1,5 +1,6 @@
 pub mod Asked
 pub mod Drills
+pub mod Jobs
 pub mod Refusing
 pub mod Scenes
 pub mod Serves

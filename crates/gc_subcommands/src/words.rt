@@ -1,5 +1,8 @@
 //! Which subcommand the words of the command line ask for.
 
+ghost use Rattle.std.specs.Prelude.{◌≡◌};
+ghost use Rattle.gc_subcommands.specs.Jobs.{station_job};
+
 use crate::ask::ask_command;
 use crate::check::check_command;
 use crate::drill::{Drilling, drill_command, drilling_of};
@@ -229,23 +232,36 @@ fn station_job<'a>(words: &ArgMatches<'a>) -> Job<'a> {
     let Some(station) = station_of(words) else {
         return Job::NumberMissing;
     };
+    let site = Site {
+        place,
+        log: log_of(words),
+        until: words.get_str("until"),
+    };
+    station_job_at(site, station, recording_of(words), words.get_flag("check"))
+}
+
+// A station at a site, with these settings and records, or with `checks` only the outline of what it would do. `StaleTooSoon`: the
+// run would end for want of an answer before its second cycle is due, also where it would only be checked.
+fn station_job_at<'a>(
+    site: Site<'a>,
+    station: Settings,
+    recording: Option<Recording<'a>>,
+    checks: bool,
+) -> Job<'a>
+    ensures { result ≡ station_job site.entry station recording.entry checks }
+{
     if station.choice.is_stale_too_soon() {
         return Job::StaleTooSoon;
     }
-    if words.get_flag("check") {
+    if checks {
         return Job::Client(ClientJob::Outline {
             choice: station.choice,
         });
     }
-    let log = log_of(words);
     Job::Client(ClientJob::Station {
-        site: Site {
-            place,
-            log,
-            until: words.get_str("until"),
-        },
+        site,
         station,
-        recording: recording_of(words),
+        recording,
     })
 }
 

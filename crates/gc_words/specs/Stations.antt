@@ -1,7 +1,8 @@
--- The settings of a station whose rows go into a file, and of one whose run begins: this project's own.
-use Rattle.std.specs.Prelude.{ℕ, true}
+-- The settings of a station whose rows go into a file, of one whose run begins, and of one that is refused: this project's own.
+use Rattle.std.specs.Prelude.{ℕ, Bool, true, ◌&&◌, nat_lt}
 use Rattle.gc_rows.specs.declared.record.Form.{Form}
 use Rattle.gc_rows.specs.declared.record.Form.TheVariants.{Lines, Csv, Columns, Json}
+use Rattle.gc_words.specs.declared.choice.Choice.{Choice}
 use Rattle.gc_words.specs.declared.settings.Settings.{Settings}
 
 -- the form of rows that go into a file: the one that was asked for, but comma-separated values in place of `Lines`
@@ -19,3 +20,7 @@ for_file station = record station { layout = record station.layout { form = form
 -- the settings of a station whose run began at `run`, in milliseconds since 1970-01-01, UTC
 abbrev pub begun_at : ℕ → Settings → Settings
 begun_at run station = record station { layout = record station.layout { run = run } }
+
+-- whether the run would end for want of an answer before a second cycle is due: `stale` isn't 0, and is below `every`
+abbrev pub is_stale_too_soon : Choice → Bool
+is_stale_too_soon choice = nat_lt 0 choice.stale && nat_lt choice.stale choice.every

@@ -1,5 +1,8 @@
 //! The choice: what an operator chooses beside the text, and by which options.
 
+ghost use Rattle.std.specs.Prelude.{◌≡◌};
+ghost use Rattle.gc_words.specs.Stations.{is_stale_too_soon};
+
 use crate::arguments::{Argument, FLAG, PLACE, Takes, command_of};
 use crate::help::STATION;
 use crate::layout::Layout;
@@ -133,7 +136,9 @@ pub struct Choice {
 impl Choice {
     /// Whether the run would end for want of an answer before a second cycle is due: `stale` isn't 0, and is below `every`. How
     /// many cycles the run has doesn't count.
-    pub fn is_stale_too_soon(self) -> bool {
+    pub fn is_stale_too_soon(self) -> bool
+        ensures { result ≡ is_stale_too_soon self }
+    {
         self.stale > 0 && self.stale < self.every
     }
 }
