@@ -6,3 +6,4 @@ pub mod Laws
 pub mod Links
 pub mod Looping
 pub mod Places
+pub mod Showing

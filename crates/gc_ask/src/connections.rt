@@ -1,10 +1,11 @@
 //! Asking and serving over real connections, to their ends. How a connection is made is in `gc_links`.
 
-ghost use Rattle.std.specs.Prelude.{◌≡◌, ◌≤◌};
+ghost use Rattle.std.specs.Prelude.{◌≡◌, ◌≤◌, IfErr};
 ghost use Rattle.gc_ask.specs.AskRuns.{AskRunsConnected, AsksOverFresh};
 ghost use Rattle.gc_lines.specs.Answering.{taken_by};
 ghost use Rattle.gc_ask.specs.Looping.{LoopRunsConnected, LoopsOverFresh};
 ghost use Rattle.gc_ask.specs.Places.{IsFaultOfPlace, fault_of_reason, fault_of_unusable};
+ghost use Rattle.gc_texts.specs.CommandStops.{with_command_fault, StopsAtItsLine};
 ghost use Rattle.gc_texts.specs.WholeTexts.{input_of};
 ghost use Rattle.gc_texts.specs.declared.fault.RunFault.{RunFault};
 
@@ -17,7 +18,9 @@ use crate::simulated::Simulates;
 use gc_instrument::Instrument;
 use gc_lines::{Answers, FromReader, Sink, Source, ToWriter};
 use gc_links::{Place, Unusable, accept, both_ends, connect_here, wire_to};
-use gc_texts::{Command, RunFault, end_of_serving, read_command_text};
+use gc_texts::{
+    Command, CommandStop, RunFault, end_of_serving, read_command_text, read_commands_of,
+};
 use std::alloc::Global;
 use std::fs::File;
 use std::io::{Read, Write};
@@ -32,7 +35,7 @@ pub const MOST_CONNECTIONS: u32 = 1000;
 /// connection, with an instrument at its other end, in at most `max_reads` reads of both ends together.
 ///
 /// The faults come as `run_loop_on` says, and `Socket` comes where the connection couldn't be made. No socket is opened before
-/// the whole text was read.
+/// the whole text was read. For a faulty line the stop says which of its fields is at fault.
 pub fn loop_tcp_on<
     R: Net<Listener = TcpListener, Stream = TcpStream>,
     S: Source,
@@ -45,15 +48,16 @@ pub fn loop_tcp_on<
     commands: &mut S,
     sink: &mut K,
     max_reads: u32,
-) -> Result<(), RunFault>
+) -> Result<(), CommandStop>
     ensures loops { LoopRunsConnected (input_of S.Source commands.old) (input_of S.Source commands.new) max_reads
-        (taken_by K.Sink sink.old) (taken_by K.Sink sink.new) result }
+        (taken_by K.Sink sink.old) (taken_by K.Sink sink.new) (with_command_fault result) }
+    ensures line { IfErr result (λ stop. StopsAtItsLine (input_of S.Source commands.old) (input_of S.Source commands.new) stop) }
 {
-    let commands = read_command_text(alloc, commands)?;
+    let commands = read_commands_of(alloc, commands)?;
     let Ok((near, far)) = both_ends(rt) else {
-        return Err(RunFault::Socket);
+        return Err(CommandStop::Fault(RunFault::Socket));
     };
-    loop_over(
+    loop_until_stop(
         commands.as_slice(),
         instrument,
         &near,
@@ -61,6 +65,23 @@ pub fn loop_tcp_on<
         sink,
         max_reads,
     )
+}
+
+// As `loop_over`, with its fault as a stop.
+fn loop_until_stop<K: Sink, T: Answers + Drop>(
+    commands: &[Command],
+    instrument: T,
+    near: &TcpStream,
+    far: &TcpStream,
+    sink: &mut K,
+    max_reads: u32,
+) -> Result<(), CommandStop>
+    ensures { LoopsOverFresh commands.now max_reads (taken_by K.Sink sink.old) (taken_by K.Sink sink.new) (with_command_fault result) }
+{
+    match loop_over(commands, instrument, near, far, sink, max_reads) {
+        Ok(()) => Ok(()),
+        Err(fault) => Err(CommandStop::Fault(fault)),
+    }
 }
 
 // Asks commands over a connection that was just made: `near` is the client's end, and at `far` the instrument answers. At
@@ -102,14 +123,17 @@ pub fn loop_tcp<R: Net<Listener = TcpListener, Stream = TcpStream>, S: Source, K
     ensures loops { LoopRunsConnected (input_of S.Source commands.old) (input_of S.Source commands.new) max_reads
         (taken_by K.Sink sink.old) (taken_by K.Sink sink.new) result }
 {
-    loop_tcp_on(
+    match loop_tcp_on(
         rt,
         alloc,
         Instrument::simulator(),
         commands,
         sink,
         max_reads,
-    )
+    ) {
+        Ok(()) => Ok(()),
+        Err(stop) => Err(stop.fault()),
+    }
 }
 
 /// Listens at an address, accepts `connections` connections one after the other, and serves each with the instrument, which is
@@ -182,7 +206,7 @@ pub fn ask_tcp<R: Net<Listener = TcpListener, Stream = TcpStream>, S: Source, K:
 /// Asks the commands of a source as `ask_tcp` does, at a place: connects to it, or opens it where it is a device.
 ///
 /// The faults come as `run_ask` says, and one of `fault_of_reason` comes where no connection could be made. None is made before
-/// the whole text was read.
+/// the whole text was read. For a faulty line the stop says which of its fields is at fault.
 pub fn ask_at<
     R: Net<Listener = TcpListener, Stream = TcpStream> + Files<File = File> + Clock,
     S: Source,
@@ -194,16 +218,33 @@ pub fn ask_at<
     commands: &mut S,
     sink: &mut K,
     max_reads: u32,
-) -> Result<(), RunFault>
+) -> Result<(), CommandStop>
     ensures asks { AskRunsConnected IsFaultOfPlace (input_of S.Source commands.old) (input_of S.Source commands.new) max_reads
-        (taken_by K.Sink sink.old) (taken_by K.Sink sink.new) result }
+        (taken_by K.Sink sink.old) (taken_by K.Sink sink.new) (with_command_fault result) }
+    ensures line { IfErr result (λ stop. StopsAtItsLine (input_of S.Source commands.old) (input_of S.Source commands.new) stop) }
 {
-    let commands = read_command_text(alloc, commands)?;
+    let commands = read_commands_of(alloc, commands)?;
     let wire = match wire_to(rt, place) {
         Ok(wire) => wire,
-        Err(reason) => return Err(fault_of_reason(reason)),
+        Err(reason) => return Err(CommandStop::Fault(fault_of_reason(reason))),
     };
-    ask_over(commands.as_slice(), &wire, &wire, sink, max_reads)
+    ask_until_stop(commands.as_slice(), &wire, &wire, sink, max_reads)
+}
+
+// As `ask_over`, with its fault as a stop.
+fn ask_until_stop<I: Read + Drop, O: Write + Drop, K: Sink>(
+    commands: &[Command],
+    reader: I,
+    writer: O,
+    sink: &mut K,
+    max_reads: u32,
+) -> Result<(), CommandStop>
+    ensures { AsksOverFresh commands.now max_reads (taken_by K.Sink sink.old) (taken_by K.Sink sink.new) (with_command_fault result) }
+{
+    match ask_over(commands, reader, writer, sink, max_reads) {
+        Ok(()) => Ok(()),
+        Err(fault) => Err(CommandStop::Fault(fault)),
+    }
 }
 
 // Asks commands over the two directions of a connection that was just made, in at most `max_reads` reads. The faults are those of

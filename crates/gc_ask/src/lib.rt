@@ -14,6 +14,7 @@ mod kept_port;
 pub mod laws;
 mod link;
 mod looped;
+mod shown;
 mod simulated;
 mod slow;
 mod unused;
@@ -29,5 +30,6 @@ pub use connections::{
 pub use devices::{keep_device, serve_device};
 pub use kept_port::{Keeping, keep_on, keep_tcp};
 pub use looped::{Duplex, run_loop, run_loop_on};
+pub use shown::{Shown, write_shown};
 pub use simulated::Simulates;
 pub use slow::Slow;

@@ -6,6 +6,7 @@ ghost use Rattle.gc_messages.specs.Streams.{are_open, ReportsClosed};
 ghost use Rattle.gc_messages.specs.Statuses.{IsStatusUpTo};
 
 use crate::system::System;
+use gc_ask::Shown;
 use gc_lines::{Durable, Source};
 use gc_measuring::{Appended, Spot, append_text_at, check_task_text, measure_at};
 use gc_messages::{Lossy, Noticed, Noting, Streams};
@@ -55,8 +56,16 @@ impl<'a, R: Net<Listener = TcpListener, Stream = TcpStream> + Clock + Files<File
         ensures { IsStatusUpTo 1 result.1 }
     {
         match job {
-            ClientJob::Loop { scene } => loop_scene(self.rt, self.alloc, scene, streams),
-            ClientJob::Ask { place } => ask_place(self.rt, self.alloc, place, streams),
+            ClientJob::Loop { scene } => {
+                let shown = shown_of(streams, self.standard.output_terminal);
+                let (shown, ended) = loop_scene(self.rt, self.alloc, scene, shown);
+                (streams_of(shown), ended)
+            }
+            ClientJob::Ask { place } => {
+                let shown = shown_of(streams, self.standard.output_terminal);
+                let (shown, ended) = ask_place(self.rt, self.alloc, place, shown);
+                (streams_of(shown), ended)
+            }
             ClientJob::Outline { choice } => check_task_text(self.alloc, choice, streams),
             ClientJob::Station {
                 site,
@@ -155,6 +164,37 @@ impl<
 fn end_appending<R: Files<File = File>>(appended: Option<Appended<'_, R>>) {
     if let Some(appended) = appended {
         appended.end();
+    }
+}
+
+// These streams, with an output whose bytes are escaped if a terminal shows them.
+fn shown_of<S, K, E>(streams: Streams<S, K, E>, at_terminal: bool) -> Streams<S, Shown<K>, E> {
+    let Streams {
+        input,
+        output,
+        messages,
+    } = streams;
+    Streams {
+        input,
+        output: Shown {
+            output,
+            at_terminal,
+        },
+        messages,
+    }
+}
+
+// These streams without what `shown_of` added.
+fn streams_of<S, K, E>(shown: Streams<S, Shown<K>, E>) -> Streams<S, K, E> {
+    let Streams {
+        input,
+        output,
+        messages,
+    } = shown;
+    Streams {
+        input,
+        output: output.output,
+        messages,
     }
 }
 

@@ -12,7 +12,7 @@ use std::io::{self, IsTerminal, Write};
 use std::os::fd::AsFd;
 use std::process::ExitCode;
 
-/// Which of the standard streams are open, and whether a terminal shows the messages alone.
+/// Which of the standard streams are open, whether a terminal shows the messages alone, and whether one shows the output.
 #[derive(Clone, Copy)]
 pub struct Standard {
     pub input: bool,
@@ -20,18 +20,22 @@ pub struct Standard {
     pub messages: bool,
     /// Whether the messages go to a terminal, and the output to none.
     pub terminal: bool,
+    /// Whether the output goes to a terminal.
+    pub output_terminal: bool,
 }
 
 impl Standard {
-    /// Looks which of these are open, and whether the messages go to a terminal and the output to none. It changes no stream, and
+    /// Looks which of these are open, and which of output and messages go to a terminal. It changes no stream, and
     /// opens nothing that stays open. If the system refuses a second handle of an open stream, as when the process may open
     /// nothing more, that stream counts as closed, too.
     pub fn look<I: AsFd, O: AsFd, E: AsFd>(input: &I, output: &O, messages: &E) -> Standard {
+        let output_terminal = output.as_fd().is_terminal();
         Standard {
             input: is_open(input),
             output: is_open(output),
             messages: is_open(messages),
-            terminal: messages.as_fd().is_terminal() && !output.as_fd().is_terminal(),
+            terminal: messages.as_fd().is_terminal() && !output_terminal,
+            output_terminal,
         }
     }
 

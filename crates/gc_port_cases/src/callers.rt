@@ -362,7 +362,10 @@ impl<'a> PortRows<'a> {
     fn ask_place(&self, place: Place<'_>) -> Result<(), RunFault> {
         let mut none = PieceSource::new(b"", &[], u64::MAX);
         let mut sink = PieceSink::new(self.rt.alloc(), 1000, u64::MAX);
-        ask_at(self.rt, self.rt.alloc(), place, &mut none, &mut sink, 9)
+        match ask_at(self.rt, self.rt.alloc(), place, &mut none, &mut sink, 9) {
+            Ok(()) => Ok(()),
+            Err(stop) => Err(stop.fault()),
+        }
     }
 
     // Asks these commands at a port, by its number, in at most so many reads, and reports what was written and how it ended.

@@ -8,7 +8,7 @@
 //!     reads fail             each read of standard input fails
 //!     room 20                the output has room for this many bytes
 //!     closed input output    these of `input`, `output` and `messages` are closed
-//!     terminal yes           the messages go to a terminal
+//!     terminal yes           the messages go to a terminal; `output`: the output does
 //!     far 20                 there is a far end, whose answers take this many milliseconds; with another word it gives none
 //!     line echoes            of a far end: what is sent comes back; with `bare` a CR comes as LF
 //!     refused 2              of a far end: this many connections are refused before one is made
@@ -187,7 +187,7 @@ fn far_end_of<'a, 'b>(
     }
 }
 
-// Which standard streams of a case are open, and whether its messages go to a terminal.
+// Which standard streams of a case are open, and whether its messages or its output go to a terminal.
 fn standard_of(case: &Case<'_>) -> Standard {
     let closed = case.value("closed");
     Standard {
@@ -195,6 +195,7 @@ fn standard_of(case: &Case<'_>) -> Standard {
         output: !closed.contains("output"),
         messages: !closed.contains("messages"),
         terminal: case.is("terminal", "yes"),
+        output_terminal: case.is("terminal", "output"),
     }
 }
 

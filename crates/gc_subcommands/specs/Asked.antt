@@ -1,32 +1,50 @@
 -- How `ask`, `loop` and `serve` report how they ended: this project's own.
-use Rattle.std.specs.Prelude.{◌≡◌, ◌⊎◌, ℕ, List, Option, None, Result}
+use Rattle.std.specs.Prelude.{◌≡◌, ◌⊎◌, ℕ, List, Option, None, Result, Ok, Err, IfErr}
+use Rattle.std.specs.Io.KnownBytes.{Appends}
 use Rattle.gc_ask.specs.AskRuns.{AskRunsConnected}
 use Rattle.gc_ask.specs.Looping.{LoopRunsConnected}
 use Rattle.gc_ask.specs.Places.{IsFaultOfPlace}
 use Rattle.gc_lines.specs.Answering.{Ports, Taken}
 use Rattle.gc_messages.specs.Refusals.{Refuses, range_line}
-use Rattle.gc_subcommands.specs.Refusing.{EndSeen, TellsEnd}
+use Rattle.gc_subcommands.specs.Refusing.{EndSeen}
 use Rattle.gc_subcommands.specs.Scenes.{AreUnused}
 use Rattle.gc_subcommands.specs.Serves.{most_reads}
+use Rattle.gc_texts.specs.CommandStops.{command_stop_text, with_command_fault, StopsAtItsLine}
 use Rattle.gc_texts.specs.Faults.{run_fault_text, Tells}
 use Rattle.gc_texts.specs.WholeTexts.{source_of}
+use Rattle.gc_texts.specs.declared.command_text.CommandStop.{CommandStop}
 use Rattle.gc_texts.specs.declared.fault.RunFault.{RunFault}
 
 -- what is seen of the sink of these ports
 abbrev pub sink_of : Ports → Taken
 sink_of ports = record { bytes = ports.taken; failed = ports.sink_failed }
 
--- commands were asked over a connection to a place (`AskRunsConnected`), and the status and the messages tell how that ended (`TellsEnd`):
--- the messages by the line of the fault, if there was one, and by nothing else
+-- how the end of asking commands is reported: status 0 and no message, or status 1 and the lines of the stop. `old` and `new` are
+-- the messages before and after
+abbrev pub TellsAsked : {X : Type 0} → Result X CommandStop → (status : ℕ) → (old new : Option (List ℕ)) → Type 0
+TellsAsked (Ok _) status old new = (status ≡ 0) × (new ≡ old)
+TellsAsked (Err stop) status old new = (status ≡ 1) × Appends old new (command_stop_text stop)
+
+-- commands had an end of which `Ends` holds, by its fault; the status and the messages tell that end (`TellsAsked`): the messages by the
+-- line of the fault, if there was one, by a second one of a faulty line of the text, and by nothing else. What is told of a
+-- line is at fault in that line of the text
+pub record TellsAskedEnd (Ends : Result (Unit {0}) RunFault → Type 0) (seen : EndSeen) : Type 0 where
+  pub end : Result (Unit {0}) CommandStop
+  pub ends : Ends (with_command_fault end)
+  pub line : IfErr end (λ stop. StopsAtItsLine (source_of seen.old) (source_of seen.new) stop)
+  pub tells : TellsAsked end seen.status seen.told_before seen.told
+
+-- commands were asked over a connection to a place (`AskRunsConnected`), and the status and the messages tell how that ended
+-- (`TellsAskedEnd`)
 abbrev pub TellsAsk : EndSeen → Type 0
 TellsAsk seen =
-    TellsEnd run_fault_text (λ end. AskRunsConnected IsFaultOfPlace (source_of seen.old) (source_of seen.new) most_reads (sink_of seen.old) (sink_of seen.new) end) seen
+    TellsAskedEnd (λ end. AskRunsConnected IsFaultOfPlace (source_of seen.old) (source_of seen.new) most_reads (sink_of seen.old) (sink_of seen.new) end) seen
 
 -- commands were asked over a connection with an instrument of this program at its other end (`LoopRunsConnected`), and the status and the
 -- messages tell how that ended, as in `TellsAsk`
 abbrev pub TellsLooped : EndSeen → Type 0
 TellsLooped seen =
-    TellsEnd run_fault_text (λ end. LoopRunsConnected (source_of seen.old) (source_of seen.new) most_reads (sink_of seen.old) (sink_of seen.new) end) seen
+    TellsAskedEnd (λ end. LoopRunsConnected (source_of seen.old) (source_of seen.new) most_reads (sink_of seen.old) (sink_of seen.new) end) seen
 
 -- a scene was named and refused, with status 1, and source and sink weren't used (`AreUnused`)
 pub record RefusesNamed {Name : Type 0} (scene : Option Name) (seen : EndSeen) : Type 0 where

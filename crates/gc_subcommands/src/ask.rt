@@ -8,12 +8,13 @@ ghost use Rattle.gc_lines.specs.Answering.{ports_of};
 ghost use Rattle.gc_messages.specs.Ends.{is_port};
 ghost use Rattle.gc_messages.specs.Statuses.{IsStatusUpTo};
 
+use crate::asked::report_asked_at;
 use crate::reads::MOST_READS;
 use clap::Command;
 use gc_ask::ask_at;
 use gc_lines::{Sink, Source};
 use gc_links::Place;
-use gc_messages::{Noting, Streams, report_end_at};
+use gc_messages::{Noting, Streams};
 use gc_words::help::COMMANDS;
 use gc_words::{Argument, PLACE, command_of};
 use std::alloc::{AllocError, Global};
@@ -41,7 +42,8 @@ pub fn ask_command<'a>(alloc: Global, name: &'a str) -> Result<Command<'a>, Allo
 /// Asks the commands of the input at a place, writes a line for each settlement on the output, and reports how that ended, with
 /// status 0 or 1. `Err`: the line of the fault couldn't be written. The streams are handed back.
 ///
-/// After some faults a second line gives the place and the reason, unless the place is a port of 127.0.0.1 (`report_end_at`).
+/// Where a line of the text is faulty, a second line says what is at fault in it. After some other faults a second line gives the
+/// place and the reason, unless the place is a port of 127.0.0.1 (`report_end_at`).
 pub fn ask_place<
     R: Net<Listener = TcpListener, Stream = TcpStream> + Files<File = File> + Clock,
     S: Source,
@@ -53,8 +55,8 @@ pub fn ask_place<
     place: Place<'_>,
     mut streams: Streams<S, K, E>,
 ) -> (Streams<S, K, E>, io::Result<ExitCode>)
-    // At a port the status and the messages tell how the asking ended: the messages have the line of the fault, if there was one, and
-    // nothing else.
+    // At a port the status and the messages tell how the asking ended: the messages have the line of the fault, if there was one, a
+    // second one of a faulty line of the text, and nothing else.
     ensures port { is_port place.entry ≡ true → IfOk result.1 (λ status. TellsAsk (end_seen
         (ports_of S.Source streams.input K.Sink streams.output)
         (ports_of S.Source result.0.input K.Sink result.0.output)
@@ -70,6 +72,6 @@ pub fn ask_place<
         &mut streams.output,
         MOST_READS,
     );
-    let ended = report_end_at(place, end, &noting, &mut streams.messages);
+    let ended = report_asked_at(place, end, &noting, &mut streams.messages);
     (streams, ended)
 }

@@ -3,6 +3,7 @@
 #![tactic(auto)]
 
 pub mod ask;
+mod asked;
 pub mod check;
 pub mod drill;
 pub mod exec;

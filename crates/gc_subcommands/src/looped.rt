@@ -7,12 +7,13 @@ ghost use Rattle.gc_subcommands.specs.Refusing.{end_seen};
 ghost use Rattle.gc_lines.specs.Answering.{ports_of};
 ghost use Rattle.gc_messages.specs.Statuses.{IsStatusUpTo};
 
+use crate::asked::report_asked;
 use crate::reads::MOST_READS;
 use crate::scene::{Staged, instrument_of};
 use clap::Command;
 use gc_ask::loop_tcp_on;
 use gc_lines::{Answers, Sink, Source};
-use gc_messages::{Noting, Streams, report_end};
+use gc_messages::{Noting, Streams};
 use gc_words::help::COMMANDS;
 use gc_words::{Argument, SCENE, command_of};
 use std::alloc::{AllocError, Global};
@@ -39,8 +40,9 @@ pub fn loop_command<'a>(alloc: Global, name: &'a str) -> Result<Command<'a>, All
 /// no scene is named; writes a line for each settlement on the output, and reports how that ended, with status 0 or 1. `Err`: the
 /// line of the fault couldn't be written, or the line after it on what is at fault in the scene. The streams are handed back.
 ///
-/// Where a scene is refused, further lines say what is at fault in it, in which file, and what the system refused. Any other fault has
-/// its line alone, also one of the commands' text. No clause says which instrument a scene sets up.
+/// Where a scene is refused, further lines say what is at fault in it, in which file, and what the system refused; where a line of the
+/// commands' text is faulty, a second line says what is at fault in that. Any other fault has its line alone. No clause says which
+/// instrument a scene sets up.
 pub fn loop_scene<
     R: Net<Listener = TcpListener, Stream = TcpStream> + Files,
     S: Source,
@@ -91,7 +93,7 @@ fn loop_over_streams<
 }
 
 // Asks the commands of the input over a connection to an instrument, and reports how that ended, with status 0 or 1. `Err`: the
-// line of the fault couldn't be written.
+// lines of the fault couldn't be written.
 fn loop_on<
     R: Net<Listener = TcpListener, Stream = TcpStream>,
     T: Answers + Drop,
@@ -113,5 +115,5 @@ fn loop_on<
         &mut streams.output,
         MOST_READS,
     );
-    report_end(end, &mut streams.messages)
+    report_asked(end, &mut streams.messages)
 }

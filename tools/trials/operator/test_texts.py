@@ -1,8 +1,11 @@
 """Texts of commands: what a station takes of one, what it refuses and how it says so, and which deadline holds."""
 
+import os
+import pty
 import select
 import socket
 import time
+import tty
 
 import pytest
 
@@ -35,6 +38,13 @@ FAULTY = [
     (b"name 7 pier\n7 5003\nname 7 pillar\n", 3, "name"),
     (b"".join(b"name %d pier\n" % target for target in range(65)), 65, "name"),
     (b"name x pier\n", 1, "target"),
+    (b"near 7 6.3 1.6 0.01\n", 1, "near: HZ is no decimal from 0 to a turn, in radians"),
+    (b"near 7 2.25,1.6,0.01\n", 1, "near: HZ is no decimal from 0 to a turn, in radians"),
+    (b"near 7 2.25 3.2 0.01\n", 1, "near: V is no decimal from 0 to half a turn, in radians"),
+    (b"near 7 2.25 1.6 \n", 1, "near: TOLERANCE is no decimal from 0 to half a turn, in radians"),
+    (b"near 7 2.25 1.6 0.01\n7 5003\nnear 7 2.25 1.6 0.02\n", 3, "near: a second place of the target, or a 65th"),
+    ("\ufeff# one\r\n7 5003\r\n".encode(), 1, "begins with a byte order mark: save the text without it"),
+    ("7 5003\n".encode("utf-16"), 1, "is UTF-16: save the text as UTF-8"),
     (b"7\n", 1, "no form"),
     (b"7 raw 2167\n7 raw 2108 5000,1\n", 2, "2108 is TMC_GetSimpleMea: leave out raw"),
     (b"7 raw 0\n", 1, "0 is COM_NullProc: leave out raw"),
@@ -69,8 +79,8 @@ def test_empty_text(program):
     """A text without a command ends at once, and nothing is connected to; of `ask` and `loop` nothing is asked."""
     with socket.create_server(("127.0.0.1", 0)) as listener:
         port = listener.getsockname()[1]
-        fault = "geocom: fault 50\ngeocom: the text has no command\n"
-        for text in b"", b"\n", b"# none\nname 7 pier\ndeadline 200\nunchained\n":
+        fault = "geocom: fault 50\ngeocom: the text has no command of a cycle\n"
+        for text in b"", b"\n", b"# none\nname 7 pier\ndeadline 200\nunchained\n", b"at start\n7 5003\n":
             for words in [], ["--cycles", "0"], ["--csv", "--every", "1", "--cycles", "0", "--retries", "0"]:
                 assert ended([program, "station", port, *words], text) == (1, b"", fault), f"{words} of {text!r}"
         assert not select.select([listener], [], [], 0)[0], "it connected"
@@ -94,6 +104,37 @@ def test_control_bytes(program):
     assert b"\\x1b[2K\\x0d2026" in output and b"\\x7f\\xe9\\x5c" in output
 
 
+@pytest.mark.title("an answer with control bytes, shown by a terminal")
+def test_control_bytes_at_a_terminal(program):
+    """A refusal that is written over as an answer: `ask` shows a terminal no byte of it that the terminal acts on, and writes it as
+    it came into a pipe."""
+    reply = b"%R1P,0,0:26,\x1b[1K\r0 7 answered %R1P,0,0:0,654321"
+
+    def answers(request):
+        return reply + b"\r\n"
+
+    with standing(answers) as far:
+        words = [program, "ask", far.port]
+        assert ended(words, b"7 5003\n") == (0, b"0 7 answered " + reply + b"\n", "")
+    with standing(answers) as far:
+        assert shown(program, ["ask", far.port], b"7 5003\n") == (
+            b"0 7 answered %R1P,0,0:26,\\x1b[1K\\x0d0 7 answered %R1P,0,0:0,654321\n"
+        )
+
+
+def shown(program, words, text):
+    """What is written to standard output, if that is a terminal."""
+    master, slave = pty.openpty()
+    tty.setraw(slave)
+    try:
+        status, _, messages = ended([program, *words], text, shell=f"exec >{os.ttyname(slave)}")
+        assert (status, messages) == (0, "")
+        return os.read(master, 4096)
+    finally:
+        os.close(slave)
+        os.close(master)
+
+
 @pytest.mark.title("a word for the text")
 def test_word_for_the_text(program):
     """A word for the text is refused, and it is reported where it is read from."""
@@ -105,7 +146,7 @@ def test_word_for_the_text(program):
 
 @pytest.mark.title("a fault of one of two texts")
 def test_two_texts(program, folder):
-    """A scene that is refused is named with its file. A fault of the commands has its line alone."""
+    """A scene that is refused is named with its file; a fault of the commands isn't."""
     scene = folder / "scene"
     scene.write_bytes(b"target 0.25\n")
     status, _, messages = ended([program, "loop", "--scene", scene], b"7 5003\n")
@@ -113,7 +154,8 @@ def test_two_texts(program, folder):
     assert (status, messages) == (1, f"{trouble}geocom: of the scene in {scene}\n"), "the scene"
     scene.write_bytes(b"serial 71\n")
     status, _, messages = ended([program, "loop", "--scene", scene], b"7 5003 1\n")
-    assert (status, messages) == (1, "geocom: fault 51 line 1\n"), "the commands"
+    trouble = "geocom: fault 51 line 1\ngeocom: line 1: 5003 wants 0 parameters\n"
+    assert (status, messages) == (1, trouble), "the commands"
 
 
 @pytest.mark.title("a full standard error")
@@ -127,13 +169,14 @@ def test_full_standard_error(program):
 
 @pytest.mark.title("a station's lines in the texts of ask and loop")
 def test_lines_of_a_station(program):
-    """What only a station's text may have is a line without form to `ask` and `loop`."""
+    """Of what only a station's text may have `ask` and `loop` say that it is for a station."""
     with socket.create_server(("127.0.0.1", 0)) as listener:
         port = listener.getsockname()[1]
         for text in b"deadline 200\n", b"chained\n", b"unchained\n", b"name 7 pier 4\n":
             for words in ["ask", port], ["loop"]:
                 status, output, messages = ended([program, *words], b"7 5003\n" + text)
-                assert (status, output, messages) == (1, b"", "geocom: fault 51 line 2\n"), f"{words[0]} of {text!r}"
+                trouble = "geocom: fault 51 line 2\ngeocom: line 2: of a text for geocom station\n"
+                assert (status, output, messages) == (1, b"", trouble), f"{words[0]} of {text!r}"
         assert not select.select([listener], [], [], 0)[0], "it connected"
 
 
