@@ -1,11 +1,11 @@
 //! Asking and serving over real connections, to their ends. How a connection is made is in `gc_links`.
 
-ghost use Rattle.std.specs.Prelude.{◌≡◌, ◌≤◌, IfErr};
+ghost use Rattle.std.specs.Prelude.{◌≡◌, ◌≤◌};
 ghost use Rattle.gc_ask.specs.AskRuns.{AskRunsConnected, AsksOverFresh};
 ghost use Rattle.gc_lines.specs.Answering.{taken_by};
 ghost use Rattle.gc_ask.specs.Looping.{LoopRunsConnected, LoopsOverFresh};
 ghost use Rattle.gc_ask.specs.Places.{IsFaultOfPlace, fault_of_reason, fault_of_unusable};
-ghost use Rattle.gc_texts.specs.CommandStops.{with_command_fault, StopsAtItsLine};
+ghost use Rattle.gc_texts.specs.CommandStops.{with_command_fault};
 ghost use Rattle.gc_texts.specs.WholeTexts.{input_of};
 ghost use Rattle.gc_texts.specs.declared.fault.RunFault.{RunFault};
 
@@ -51,7 +51,6 @@ pub fn loop_tcp_on<
 ) -> Result<(), CommandStop>
     ensures loops { LoopRunsConnected (input_of S.Source commands.old) (input_of S.Source commands.new) max_reads
         (taken_by K.Sink sink.old) (taken_by K.Sink sink.new) (with_command_fault result) }
-    ensures line { IfErr result (λ stop. StopsAtItsLine (input_of S.Source commands.old) (input_of S.Source commands.new) stop) }
 {
     let commands = read_commands_of(alloc, commands)?;
     let Ok((near, far)) = both_ends(rt) else {
@@ -221,7 +220,6 @@ pub fn ask_at<
 ) -> Result<(), CommandStop>
     ensures asks { AskRunsConnected IsFaultOfPlace (input_of S.Source commands.old) (input_of S.Source commands.new) max_reads
         (taken_by K.Sink sink.old) (taken_by K.Sink sink.new) (with_command_fault result) }
-    ensures line { IfErr result (λ stop. StopsAtItsLine (input_of S.Source commands.old) (input_of S.Source commands.new) stop) }
 {
     let commands = read_commands_of(alloc, commands)?;
     let wire = match wire_to(rt, place) {

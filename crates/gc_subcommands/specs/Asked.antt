@@ -1,5 +1,5 @@
 -- How `ask`, `loop` and `serve` report how they ended: this project's own.
-use Rattle.std.specs.Prelude.{◌≡◌, ◌⊎◌, ℕ, List, Option, None, Result, Ok, Err, IfErr}
+use Rattle.std.specs.Prelude.{◌≡◌, ◌⊎◌, ℕ, List, Option, None, Result, Ok, Err}
 use Rattle.std.specs.Io.KnownBytes.{Appends}
 use Rattle.gc_ask.specs.AskRuns.{AskRunsConnected}
 use Rattle.gc_ask.specs.Looping.{LoopRunsConnected}
@@ -9,7 +9,7 @@ use Rattle.gc_messages.specs.Refusals.{Refuses, range_line}
 use Rattle.gc_subcommands.specs.Refusing.{EndSeen}
 use Rattle.gc_subcommands.specs.Scenes.{AreUnused}
 use Rattle.gc_subcommands.specs.Serves.{most_reads}
-use Rattle.gc_texts.specs.CommandStops.{command_stop_text, with_command_fault, StopsAtItsLine}
+use Rattle.gc_texts.specs.CommandStops.{command_stop_text, with_command_fault}
 use Rattle.gc_texts.specs.Faults.{run_fault_text, Tells}
 use Rattle.gc_texts.specs.WholeTexts.{source_of}
 use Rattle.gc_texts.specs.declared.command_text.CommandStop.{CommandStop}
@@ -26,12 +26,10 @@ TellsAsked (Ok _) status old new = (status ≡ 0) × (new ≡ old)
 TellsAsked (Err stop) status old new = (status ≡ 1) × Appends old new (command_stop_text stop)
 
 -- commands had an end of which `Ends` holds, by its fault; the status and the messages tell that end (`TellsAsked`): the messages by the
--- line of the fault, if there was one, by a second one of a faulty line of the text, and by nothing else. What is told of a
--- line is at fault in that line of the text
+-- line of the fault, if there was one, by a second one of a faulty line of the text, and by nothing else
 pub record TellsAskedEnd (Ends : Result (Unit {0}) RunFault → Type 0) (seen : EndSeen) : Type 0 where
   pub end : Result (Unit {0}) CommandStop
   pub ends : Ends (with_command_fault end)
-  pub line : IfErr end (λ stop. StopsAtItsLine (source_of seen.old) (source_of seen.new) stop)
   pub tells : TellsAsked end seen.status seen.told_before seen.told
 
 -- commands were asked over a connection to a place (`AskRunsConnected`), and the status and the messages tell how that ended

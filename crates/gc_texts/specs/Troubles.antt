@@ -104,8 +104,8 @@ pub record BeginsAsCommand (line : List ℕ) : Type 0 where
   pub no_each : first_word line ≢ codes "each"
 
 -- a text is no decimal, or one that doesn't fit
-abbrev pub IsUnfit : (fits : Decimal → Bool) → List ℕ → Type 0
-IsUnfit fits text = ((d : Decimal) → SpellsDecimal text d → ⊥) ⊎ ((d : Decimal) × SpellsDecimal text d × (fits d ≡ false))
+pub record IsUnfit (fits : Decimal → Bool) (text : List ℕ) : Type 0 where
+  pub is : ((d : Decimal) → SpellsDecimal text d → ⊥) ⊎ ((d : Decimal) × SpellsDecimal text d × (fits d ≡ false))
 
 -- whether a decimal is a horizontal angle of a place, from 0 to a turn: with 0.0 as the vertical angle it is a place
 abbrev pub fits_hz : Decimal → Bool
@@ -116,8 +116,10 @@ abbrev pub fits_v : Decimal → Bool
 fits_v v = is_place (record { hz = zero; v = v })
 
 -- a text is a decimal that fits
-abbrev pub IsFit : (fits : Decimal → Bool) → List ℕ → Type 0
-IsFit fits text = (d : Decimal) × SpellsDecimal text d × (fits d ≡ true)
+pub record IsFit (fits : Decimal → Bool) (text : List ℕ) : Type 0 where
+  pub number : Decimal
+  pub spelled : SpellsDecimal text number
+  pub is : fits number ≡ true
 
 -- this one of the three numbers that follow `near T` in a line is at fault; `Near`: none is
 abbrev pub IsNearTrouble : List ℕ → Trouble → Type 0
@@ -167,7 +169,7 @@ IsAskingTrouble line t = IsCommandTrouble line t
 -- a line begins with the byte order mark of UTF-8, EF BB BF, or with one of UTF-16, FF FE or FE FF
 abbrev pub IsMarkTrouble : List ℕ → Trouble → Type 0
 IsMarkTrouble line trouble.ByteOrderMark = (rest : List ℕ) × (line ≡ 239 ∷ 187 ∷ 191 ∷ rest)
-IsMarkTrouble line trouble.Utf16 = (rest : List ℕ) × ((line ≡ 255 ∷ 254 ∷ rest) ⊎ (line ≡ 254 ∷ 255 ∷ rest))
+IsMarkTrouble line trouble.Utf16 = ((rest : List ℕ) × (line ≡ 255 ∷ 254 ∷ rest)) ⊎ ((rest : List ℕ) × (line ≡ 254 ∷ 255 ∷ rest))
 IsMarkTrouble line t = ⊥
 
 -- a line begins with no byte order mark

@@ -2,7 +2,7 @@
 
 ghost use Rattle.std.specs.Prelude.{◌≡◌, ◌+◌, ◌≤◌, IfOk, IfErr};
 ghost use Rattle.gc_lines.specs.Ports.{WritesIfOk};
-ghost use Rattle.gc_texts.specs.CommandStops.{fault_of_command_stop, command_stop_text, IsCommandStopFor, StopsAtItsLine};
+ghost use Rattle.gc_texts.specs.CommandStops.{fault_of_command_stop, command_stop_text, command_line_text, IsCommandStopFor};
 ghost use Rattle.gc_texts.specs.WholeTexts.{ReadsCommands, ReadsNoCommands, input_of};
 ghost use Rattle.gc_texts.specs.declared.text.TheConstants.{TEXT_LIMIT};
 
@@ -41,12 +41,17 @@ impl CommandStop {
     {
         match self {
             CommandStop::Fault(fault) => fault.tell(messages),
-            CommandStop::Line(line, trouble) => {
-                RunFault::Schedule { line }.tell(messages)?;
-                trouble.tell(line, messages)
-            }
+            CommandStop::Line(line, trouble) => tell_line(line, trouble, messages),
         }
     }
+}
+
+// Writes the message of the fault of a faulty line with this number and this trouble, and then which field is at fault.
+fn tell_line<E: Write>(line: u32, trouble: Trouble, messages: &mut E) -> io::Result<()>
+    ensures { WritesIfOk E.contents messages.old messages.new result (command_line_text line trouble) }
+{
+    RunFault::Schedule { line }.tell(messages)?;
+    trouble.tell(line, messages)
 }
 
 /// Reads the whole command text of a source, and returns its commands in order. The faults are those of `read_text` and of
@@ -70,7 +75,6 @@ pub fn read_commands_of<S: Source>(
 ) -> Result<Vec<Command>, CommandStop>
     ensures found { IfOk result (λ commands. ReadsCommands (input_of S.Source source.old) (input_of S.Source source.new) commands.items) }
     ensures refused { IfErr result (λ stop. ReadsNoCommands (input_of S.Source source.old) (input_of S.Source source.new) (fault_of_command_stop stop)) }
-    ensures line { IfErr result (λ stop. StopsAtItsLine (input_of S.Source source.old) (input_of S.Source source.new) stop) }
     ensures bounded { S.reads source.new ≤ S.reads source.old + (TEXT_LIMIT + 1) }
 {
     match read_text(alloc, source) {

@@ -316,7 +316,6 @@ fn near_trouble(numbers: &[u8]) -> Trouble
 
 // Which field is at fault of a line whose first word is `deadline`, `name`, `near`, `accept`, `retry`, `at` or `each`. `None`: the first
 // word is none of these.
-#[tactic(auto, using(crate::proofs::NearTroubles::near_is_setting))]
 fn setting_trouble(line: &[u8]) -> Option<Trouble>
     ensures { MatchOption result (BeginsAsCommand line.now) (λ t. IsSettingTrouble line.now t) }
 {

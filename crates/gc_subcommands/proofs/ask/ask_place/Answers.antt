@@ -4,5 +4,5 @@ use Rattle.gc_subcommands.proofs.ask.ask_place.Goals as goal
 pub returns-clause-port : goal.returns-clause-port
 returns-clause-port g c at =
     IfOk-weaker c.report_asked_at-ended.result _ _
-    (λ status told. record { end = c.ask_at-end.result; ends = c.ask_at-end.ensures.asks; line = c.ask_at-end.ensures.line; tells = told })
+    (λ status told. record { end = c.ask_at-end.result; ends = c.ask_at-end.ensures.asks; tells = told })
     (c.report_asked_at-ended.ensures.port at)
