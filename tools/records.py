@@ -53,8 +53,11 @@ class NoRow(Exception):
 
 
 def counts_line(**count):
-    """The last line of a run with so many commands of each outcome, and chains that went out `again`; none of what isn't named."""
-    return " ".join(f"{word} {count.get(word, 0)}" for word in (*OUTCOMES, "again"))
+    """The last line of a run with so many commands of each outcome, of which so many answers are `refused`, and chains that went out
+    `again`; none of what isn't named."""
+    counts = {word: f"{word} {count.get(word, 0)}" for word in (*OUTCOMES, "again")}
+    counts["answered"] += f" (refused {count.get('refused', 0)})"
+    return " ".join(counts.values())
 
 
 def printable(data):

@@ -65,7 +65,8 @@ def counts_of(rows):
                 kept.pop()
         kept.append(row)
         last = row
-    return counts_line(**collections.Counter(row["outcome"] for row in kept), again=again)
+    refused = sum(row["quality"] == "refused" for row in kept)
+    return counts_line(**collections.Counter(row["outcome"] for row in kept), refused=refused, again=again)
 
 
 def utc_of(row):

@@ -151,9 +151,10 @@ AllLast is_durable (Err _) = Unit {0}
 abbrev pub overrun_line : (cycle : ℕ) → List ℕ
 overrun_line cycle = codes "geocom: cycle " ++ decimal cycle ++ codes " was not done when the next was due\n"
 
--- the front of the line of the counts: how many commands were answered, late and lost
+-- the front of the line of the counts: how many commands were answered, how many of these were refused, and how many were late and
+-- lost
 abbrev pub main_counts_text : Tally → List ℕ
-main_counts_text t = codes "answered " ++ decimal t.answered ++ codes " late " ++ decimal t.late ++ codes " lost " ++ decimal t.lost ++ codes " "
+main_counts_text t = codes "answered " ++ decimal t.answered ++ codes " (refused " ++ decimal t.refused ++ codes ") late " ++ decimal t.late ++ codes " lost " ++ decimal t.lost ++ codes " "
 
 -- the middle of the line of the counts: how many commands were skipped, unreadable, missed and elsewhere
 abbrev pub other_counts_text : Tally → List ℕ

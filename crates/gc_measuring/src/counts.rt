@@ -42,17 +42,22 @@ fn write_counts<E: Write>(tally: Tally, messages: &mut E) -> io::Result<()>
     write_repeats(tally, messages)
 }
 
-/// Writes the front of the line of the counts: how many commands were answered, late and lost, and a space.
+/// Writes the front of the line of the counts: how many commands were answered, how many of these were refused, how many were late and
+/// lost, and a space.
 pub fn write_main_counts<E: Write>(tally: Tally, messages: &mut E) -> io::Result<()>
     ensures { WritesIfOk E.contents messages.old messages.new result (main_counts_text tally) }
 {
     let Tally {
         answered,
+        refused,
         late,
         lost,
         ..
     } = tally;
-    write!(messages, "answered {answered} late {late} lost {lost} ")
+    write!(
+        messages,
+        "answered {answered} (refused {refused}) late {late} lost {lost} "
+    )
 }
 
 /// Writes the middle of the line of the counts, after `write_main_counts`: how many commands were skipped, unreadable, missed and

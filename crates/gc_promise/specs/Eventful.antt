@@ -459,7 +459,7 @@ records =
 
 -- how many commands ended in each of the seven ways; no chain is sent again
 abbrev pub tally : Tally
-tally = record { answered = 3; late = 1; lost = 7; skipped = 1; unreadable = 1; missed = 7; elsewhere = 1; again = 0 }
+tally = record { answered = 3; refused = 0; late = 1; lost = 7; skipped = 1; unreadable = 1; missed = 7; elsewhere = 1; again = 0 }
 
 -- What the run shows.
 

@@ -2,7 +2,8 @@
 -- exceeds 2^64 - 1 (`capped`).
 use Rattle.std.proofs.Common.{◌||◌, ◌&&◌, not, nat_eq, nat_lt, ◌≡◌, ℕ, suc, ◌+◌, Bool, true, false, List, [], ◌∷◌, if◌then◌else◌, refl, sym, ap, ◌∙◌, arith}
 use Rattle.gc_texts.specs.Endings.{End, Answered, Unreadable, Elsewhere, Late, Lost, Skipped, Missed}
-use Rattle.gc_station.specs.Counting.{is_followed, last_attempts, further_attempts, how_many, ended_answered, ended_unreadable, ended_elsewhere, ended_late, ended_lost, ended_skipped, ended_missed, TalliesCountRecords}
+use Rattle.gc_texts.specs.declared.quality.Quality.TheVariants.{Fine, Warning, Refused}
+use Rattle.gc_station.specs.Counting.{is_followed, last_attempts, further_attempts, how_many, ended_answered, ended_refused, ended_unreadable, ended_elsewhere, ended_late, ended_lost, ended_skipped, ended_missed, TalliesCountRecords}
 use Rattle.gc_station.specs.Records.{Record}
 use Rattle.gc_station.specs.Tallies.{empty_tally, capped, one_more, counted, sum, empty_counts, tallied, total, tally_of}
 use Rattle.gc_station.specs.declared.tally.Counts.{Counts}
@@ -45,6 +46,7 @@ counted_in_front so false r rs = refl
 abbrev with_counted : End → Tally → Tally
 with_counted end t = record {
   answered = if ended_answered end then one_more t.answered else t.answered;
+  refused = if ended_refused end then one_more t.refused else t.refused;
   late = if ended_late end then one_more t.late else t.late;
   lost = if ended_lost end then one_more t.lost else t.lost;
   skipped = if ended_skipped end then one_more t.skipped else t.skipped;
@@ -56,7 +58,9 @@ with_counted end t = record {
 
 -- a command is counted in the count of its ending, and in no other
 counted_by_ending : (end : End) (t : Tally) → counted end t ≡ with_counted end t
-counted_by_ending (Answered quality answer line) t = refl
+counted_by_ending (Answered Fine answer line) t = refl
+counted_by_ending (Answered Warning answer line) t = refl
+counted_by_ending (Answered Refused answer line) t = refl
 counted_by_ending (Unreadable line fault) t = refl
 counted_by_ending (Elsewhere line) t = refl
 counted_by_ending Late t = refl
@@ -131,6 +135,7 @@ again_counts c (r ∷ rs) none = by_tests (λ d n. again_counts d rs n) (nat_eq 
 pub count_records : TalliesCountRecords
 count_records = record {
   answered = counts_all (λ (t : Tally). t.answered) ended_answered (λ end t. refl) (λ a b. refl) refl (λ t n. refl);
+  refused = counts_all (λ (t : Tally). t.refused) ended_refused (λ end t. refl) (λ a b. refl) refl (λ t n. refl);
   unreadable = counts_all (λ (t : Tally). t.unreadable) ended_unreadable (λ end t. refl) (λ a b. refl) refl (λ t n. refl);
   late = counts_all (λ (t : Tally). t.late) ended_late (λ end t. refl) (λ a b. refl) refl (λ t n. refl);
   lost = counts_all (λ (t : Tally). t.lost) ended_lost (λ end t. refl) (λ a b. refl) refl (λ t n. refl);

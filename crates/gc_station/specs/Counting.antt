@@ -1,5 +1,6 @@
 -- A tally counts the records of the last attempts: this project's own.
 use Rattle.std.specs.Prelude.{◌≡◌, ℕ, suc, Bool, true, false, List, [], ◌∷◌, if◌then◌else◌, ◌||◌, ◌&&◌, not, nat_eq, nat_lt}
+use Rattle.gc_texts.specs.Qualities.{is_good}
 use Rattle.gc_texts.specs.Endings.{End, Answered, Unreadable, Elsewhere, Late, Lost, Skipped, Missed}
 use Rattle.gc_station.specs.Records.{Record}
 use Rattle.gc_station.specs.Tallies.{capped, tally_of}
@@ -14,6 +15,11 @@ how_many holds (r ∷ others) = if holds r.end then suc (how_many holds others) 
 abbrev pub ended_answered : End → Bool
 ended_answered (Answered quality answer line) = true
 ended_answered _ = false
+
+-- whether an ending is `Answered`, and the answer a refusal: its quality isn't a good one
+abbrev pub ended_refused : End → Bool
+ended_refused (Answered quality answer line) = not (is_good quality)
+ended_refused _ = false
 
 -- whether an ending is `Unreadable`
 abbrev pub ended_unreadable : End → Bool
@@ -71,6 +77,7 @@ CountsEndings count holds = (records : List Record) → count (tally_of records)
 -- each count of a tally counts the records of last attempts with its ending; `again` is how many times a chain was sent again
 pub record TalliesCountRecords : Type 0 where
   pub answered : CountsEndings (λ t. t.answered) ended_answered
+  pub refused : CountsEndings (λ t. t.refused) ended_refused
   pub unreadable : CountsEndings (λ t. t.unreadable) ended_unreadable
   pub late : CountsEndings (λ t. t.late) ended_late
   pub lost : CountsEndings (λ t. t.lost) ended_lost

@@ -2,6 +2,8 @@
 -- aren't counted.
 use Rattle.std.specs.Prelude.{ℕ, ◌+◌, min, List, [], ◌∷◌, if◌then◌else◌, nat_eq, nat_lt}
 use Rattle.gc_texts.specs.Endings.{End, Answered, Unreadable, Elsewhere, Late, Lost, Skipped, Missed}
+use Rattle.gc_texts.specs.Qualities.{is_good}
+use Rattle.gc_texts.specs.declared.quality.Quality.{Quality}
 use Rattle.gc_texts.specs.declared.turn.Turn.{Turn}
 use Rattle.gc_station.specs.Records.{Record}
 use Rattle.gc_station.specs.declared.tally.Counts.{Counts}
@@ -9,7 +11,7 @@ use Rattle.gc_station.specs.declared.tally.Tally.{Tally}
 
 -- the tally in which no command is counted
 abbrev pub empty_tally : Tally
-empty_tally = record { answered = 0; late = 0; lost = 0; skipped = 0; unreadable = 0; missed = 0; elsewhere = 0; again = 0 }
+empty_tally = record { answered = 0; refused = 0; late = 0; lost = 0; skipped = 0; unreadable = 0; missed = 0; elsewhere = 0; again = 0 }
 
 -- `n`, or 2^64 - 1 if `n` is greater: a count of a tally holds no greater number
 abbrev pub capped : ℕ → ℕ
@@ -19,9 +21,13 @@ capped n = min n 18446744073709551615
 abbrev pub one_more : ℕ → ℕ
 one_more n = capped (n + 1)
 
+-- the tally `t` after one more command that was answered, with this quality: a refusal counts as answered, and as refused besides
+abbrev pub counted_answered : Quality → Tally → Tally
+counted_answered quality t = record t { answered = one_more t.answered; refused = if is_good quality then t.refused else one_more t.refused }
+
 -- the tally `t` after one more command, with this ending
 abbrev pub counted : End → Tally → Tally
-counted (Answered quality answer line) t = record t { answered = one_more t.answered }
+counted (Answered quality answer line) t = counted_answered quality t
 counted Late t = record t { late = one_more t.late }
 counted Lost t = record t { lost = one_more t.lost }
 counted Skipped t = record t { skipped = one_more t.skipped }
@@ -33,6 +39,7 @@ counted Missed t = record t { missed = one_more t.missed }
 abbrev pub sum : (a b : Tally) → Tally
 sum a b = record {
   answered = capped (a.answered + b.answered);
+  refused = capped (a.refused + b.refused);
   late = capped (a.late + b.late);
   lost = capped (a.lost + b.lost);
   skipped = capped (a.skipped + b.skipped);

@@ -1,16 +1,19 @@
 //! A tally: how many commands ended how, and how many chains were sent again.
 
 ghost use Rattle.std.specs.Prelude.{◌≡◌};
-ghost use Rattle.gc_station.specs.Tallies.{empty_tally, counted, sum, empty_counts, started, turned_to, counted_in, total};
+ghost use Rattle.gc_station.specs.Tallies.{empty_tally, counted, counted_answered, sum, empty_counts, started, turned_to, counted_in, total};
 ghost use Rattle.gc_texts.specs.Endings.{ending_seen};
 
-use gc_texts::{Ending, Turn};
+use gc_texts::{Ending, Quality, Turn};
 
 /// How many commands ended how, of the last attempt of each chain. A count stops at 2^64 - 1.
 #[derive(Clone, Copy)]
 pub struct Tally {
     /// A reply came in time, and it is neither `unreadable` nor `elsewhere`.
     pub answered: u64,
+    /// How many of `answered` were refused: the reply's communication code isn't 0, or its return code is neither 0 nor an accepted
+    /// one.
+    pub refused: u64,
     /// A reply came after the request timed out.
     pub late: u64,
     /// No reply came, or none will be taken.
@@ -35,6 +38,7 @@ impl Tally {
     {
         Tally {
             answered: 0,
+            refused: 0,
             late: 0,
             lost: 0,
             skipped: 0,
@@ -50,7 +54,7 @@ impl Tally {
         ensures { self.new ≡ counted (ending_seen ending.entry) self.old }
     {
         match ending {
-            Ending::Answered(..) => self.answered = self.answered.saturating_add(1),
+            Ending::Answered(quality, ..) => self.count_answered(quality),
             Ending::Unreadable(_, _) => self.unreadable = self.unreadable.saturating_add(1),
             Ending::Elsewhere(_) => self.elsewhere = self.elsewhere.saturating_add(1),
             Ending::Late => self.late = self.late.saturating_add(1),
@@ -60,12 +64,25 @@ impl Tally {
         }
     }
 
+    // Counts an answered command whose answer has this quality.
+    fn count_answered(&mut self, quality: Quality)
+        ensures { self.new ≡ counted_answered quality self.old }
+    {
+        self.answered = self.answered.saturating_add(1);
+        self.refused = if quality.is_good() {
+            self.refused
+        } else {
+            self.refused.saturating_add(1)
+        };
+    }
+
     // The sum of both tallies, count by count, each up to 2^64 - 1.
     fn sum(&self, other: &Tally) -> Tally
         ensures { result ≡ sum self.now other.now }
     {
         Tally {
             answered: self.answered.saturating_add(other.answered),
+            refused: self.refused.saturating_add(other.refused),
             late: self.late.saturating_add(other.late),
             lost: self.lost.saturating_add(other.lost),
             skipped: self.skipped.saturating_add(other.skipped),

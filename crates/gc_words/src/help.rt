@@ -188,7 +188,7 @@ writes two lines like
   2026-11-22T23:08:27.123Z 0 7 answered %R1P,0,0:0,123456
   2026-11-22T23:08:27.124Z 1 8 answered %R1P,0,1:0,0
 and at the end, on standard error,
-  answered 2 late 0 lost 0 skipped 0 unreadable 0 missed 0 elsewhere 0 again 0";
+  answered 2 (refused 0) late 0 lost 0 skipped 0 unreadable 0 missed 0 elsewhere 0 again 0";
 
 /// What the help of `rehearse` ends with.
 pub const REHEARSAL: &str =

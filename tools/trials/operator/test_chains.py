@@ -227,4 +227,4 @@ def test_counts(program):
             ends = ["answered", "late", "lost", "answered", "unreadable", "skipped"]
             assert [row["outcome"] for row in rows] == ends, "the outcomes"
             messages = run.messages().splitlines()[-1]
-            assert messages == counts_line(answered=2, late=1, lost=1, skipped=1, unreadable=1), "the last line"
+            assert messages == counts_line(answered=2, refused=1, late=1, lost=1, skipped=1, unreadable=1), "the last line"
