@@ -21,15 +21,15 @@ def measuring(program, place, words, commands, **options):
     return Run([program, "station", place, "--csv", *words.split()], commands, **options)
 
 
-def finished(run, status=0, patience=PATIENCE, counts=-1):
+def finished(run, status=0, patience=PATIENCE):
     """Its rows, and its messages beside its counts and the line of its start, once it has ended with this status. The counts rest on
-    the last line, or on that of this index."""
+    the last line."""
     assert run.status(patience) == status, f"its messages are {run.messages()!r}"
     rows = rows_of(run.output())
     messages = [line for line in run.messages().splitlines() if not START.fullmatch(line)]
     if status == 0:
-        assert messages[counts:][:1] == [counts_of(rows)], "the line of the counts"
-        del messages[counts]
+        assert messages[-1:] == [counts_of(rows)], "the line of the counts"
+        del messages[-1]
     return rows, messages
 
 

@@ -1,5 +1,5 @@
 -- What a run over a link measured, once it is known which acts the link recorded.
-use Rattle.std.proofs.Common.{◌≡◌, ℕ, List, Some, sym, subst}
+use Rattle.std.proofs.Common.{◌≡◌, ℕ, Bool, List, Some, sym, subst}
 use Rattle.gc_links.specs.Acts.{Act}
 use Rattle.gc_measuring.specs.Measuring.{IsMeasured, MeasuresGiven}
 use Rattle.gc_measuring.specs.Telling.{MeasuresAll, MeasuresAllAtLink, MeasuresAtLink, ReportsMeasuring, Stage, Views, seen_at, with_messages}
@@ -7,10 +7,10 @@ use Rattle.gc_words.specs.Stations.{begun_at}
 use Rattle.gc_words.specs.declared.settings.Settings.{Settings}
 
 -- a run that measured, as it reports, and whose link recorded the acts `told`, measured over that link
-pub measures_at_link : {S K E : Type 0} (views : Views S K E) (station : Settings) (old new : Stage S K E) (told : List Act) (run status : ℕ)
-    → new.acts ≡ Some told → (reports : ReportsMeasuring views (begun_at run station) old (record new { acts = Some told }) status)
+pub measures_at_link : {S K E : Type 0} (views : Views S K E) (station : Settings) (old new : Stage S K E) (told : List Act) (run : ℕ) (is_lost : Bool) (status : ℕ)
+    → new.acts ≡ Some told → (reports : ReportsMeasuring views (begun_at run station) old (record new { acts = Some told }) is_lost status)
     → MeasuresAtLink views station old (with_messages new reports.between) reports.end
-measures_at_link views station old new told run status is reports = record {
+measures_at_link views station old new told run is_lost status is reports = record {
   told = told;
   is = is;
   run = run;

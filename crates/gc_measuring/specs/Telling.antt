@@ -69,23 +69,24 @@ seen_at views at = ports_seen views.source views.sink views.shown at.streams at.
 abbrev pub SinkFailsAtOutput : {S K E : Type 0} → Views S K E → (old new : Stage S K E) → Result Tally Stop → Type 0
 SinkFailsAtOutput views old new end = FailsAtOutput (views.sink.failed old.streams.output) (views.sink.failed new.streams.output) (with_fault end)
 
--- a text was refused, or its commands were measured, from `old` to `new`; and the status and the messages report how that ended.
--- All records last, as `AllLast` has it. `between` are the messages before the report
-pub record ReportsMeasuring {S K E : Type 0} (views : Views S K E) (station : Settings) (old new : Stage S K E) (status : ℕ)
+-- the messages report whether a log isn't complete (`is_lost`), and after that, with the status, how a run ended. `behind` are
+-- the messages between the two
+pub record ReportsLossAndEnd (is_lost : Bool) (end : Result Tally Stop) (status : ℕ) (old new : Option (List ℕ)) : Type 0 where
+  pub behind : Option (List ℕ)
+  pub loss : ReportsLoss is_lost old behind
+  pub counts : ReportsEndOfRun end status behind new
+
+-- a text was refused, or its commands were measured, from `old` to `new`; and the messages report whether the log, if there is
+-- one, isn't complete (`is_lost`), and after that, with the status, how the run ended. All records last, as `AllLast` has it.
+-- `between` are the messages before the report
+pub record ReportsMeasuring {S K E : Type 0} (views : Views S K E) (station : Settings) (old new : Stage S K E) (is_lost : Bool) (status : ℕ)
     : Type 0 where
   pub end : Result Tally Stop
   pub between : E
   pub measured : MeasuresGiven station (seen_at views old) (seen_at views (with_messages new between)) end
   pub all_last : AllLast (views.lasts new.streams.output) end
   pub fails : SinkFailsAtOutput views old new end
-  pub counts : ReportsEndOfRun end status (views.shown between) (views.shown new.streams.messages)
-
--- as `ReportsMeasuring` says; and then, if the log isn't complete (`is_lost`), the messages report that (`ReportsLoss`). `behind`
--- are the messages before the report of the log
-abbrev pub ReportsLogged : {S K E : Type 0} → Views S K E → Settings → (old new : Stage S K E) → (is_lost : Bool) → (status : ℕ) → Type 0
-ReportsLogged {S = S} {K = K} {E = E} views station old new is_lost status =
-    (behind : E) × ReportsMeasuring views station old (with_messages new behind) status
-    × ReportsLoss is_lost (views.shown behind) (views.shown new.streams.messages)
+  pub tells : ReportsLossAndEnd is_lost end status (views.shown between) (views.shown new.streams.messages)
 
 -- a source gave a text to its end, and the run over its commands, from `old` to `new`, is done, or its end was asked for.
 -- `between` are the messages as the run left them
@@ -119,21 +120,18 @@ pub record MeasuresAtLink {S K E : Type 0} (views : Views S K E) (station : Sett
   pub measured : MeasuresGiven (begun_at run station) (seen_at views old) (seen_at views new) end
   pub all_last : AllLast (views.lasts new.streams.output) end
 
--- a run measured over its link, or it didn't begin; and the status and the messages report how it ended, and then whether the
--- log, if one was asked for (`has_log`), isn't complete (`is_lost`). `between` are the messages before the report of the end, and
--- `behind` those after it
+-- a run measured over its link, or it didn't begin; and the messages report whether the log, if one was asked for (`has_log`),
+-- isn't complete (`is_lost`), and after that, with the status, how the run ended. `between` are the messages before the report
 pub record ReportsAtSite {S K E : Type 0} (views : Views S K E) (has_log : Bool) (station : Settings) (old new : Stage S K E) (status : ℕ)
     : Type 0 where
   pub end : Result Tally Stop
   pub between : E
-  pub behind : E
   pub is_lost : Bool
   pub logged : is_lost ≡ true → has_log ≡ true
   pub ran : MeasuresAtLink views station old (with_messages new between) end
       ⊎ IsUnbegun has_log old (with_messages new between) end
   pub fails : SinkFailsAtOutput views old new end
-  pub counts : ReportsEndOfRun end status (views.shown between) (views.shown behind)
-  pub loss : ReportsLoss is_lost (views.shown behind) (views.shown new.streams.messages)
+  pub tells : ReportsLossAndEnd is_lost end status (views.shown between) (views.shown new.streams.messages)
 
 -- as `MeasuresAll` says, of a run that began at some moment (`run`), over a link that has recorded the acts `told`
 pub record MeasuresAllAtLink {S K E : Type 0} (views : Views S K E) (station : Settings) (old new : Stage S K E) : Type 0 where

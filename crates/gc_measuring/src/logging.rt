@@ -5,18 +5,21 @@ ghost use Rattle.std.specs.Option.{is_some};
 ghost use Rattle.std.specs.Process.{exit_status};
 ghost use Rattle.gc_texts.specs.declared.fault.RunFault.{RunFault};
 ghost use Rattle.gc_measuring.specs.Logging.{ReportsLoss};
-ghost use Rattle.gc_measuring.specs.Telling.{ReportsLogged, MeasuresAll, stage, views_by};
+ghost use Rattle.gc_measuring.specs.Telling.{ReportsLossAndEnd, ReportsMeasuring, MeasuresAll, stage, views_by};
 ghost use Rattle.gc_logs.specs.Bounds.{has_ended, sink_of};
 ghost use Rattle.gc_messages.specs.Statuses.{IsStatusUpTo};
 
+use crate::counts::report_end_of_run;
+use crate::measure::run_station_text;
 use crate::spot::Spot;
-use crate::station::measure_over;
+use crate::station::note_stop;
+use crate::stop::Stop;
 use gc_files::{Appending, RowsFile, RowsOptions, SystemFile, Unfit, open_file, open_rows};
 use gc_lines::{Durable, PortFailed, Sink, Source};
 use gc_links::Link;
 use gc_logs::{Bounded, Logged};
 use gc_messages::{FilesSeen, LogSeen, Noticed, Streams, note_files};
-use gc_station::Kept;
+use gc_station::{Kept, Tally};
 use gc_texts::RunFault;
 use gc_words::LogPlace;
 use std::alloc::Global;
@@ -159,8 +162,8 @@ fn note_torn(noticed: &Cell<Noticed>, torn: u64) {
 }
 
 /// Measures over a link with a log, and reports how the run ended, as `measure_over` does. If the log isn't complete, because it
-/// ended at its bound or its file failed, a line says so after that. Returns the streams and the status of the first report, or
-/// the error of a report that couldn't be written. What was seen of link and output at each act is noted in `kept`.
+/// ended at its bound or its file failed, a line says so before that. Returns the streams and the status of the report, or the
+/// error if a line of it couldn't be written. What was seen of link and output at each act is noted in `kept`.
 pub(crate) fn measure_logged<L: Link, G: Sink, S: Source, K: Durable, E: Write>(
     alloc: Global,
     logged: &mut Logged<L, G>,
@@ -168,8 +171,9 @@ pub(crate) fn measure_logged<L: Link, G: Sink, S: Source, K: Durable, E: Write>(
     streams: Streams<S, K, E>,
     kept: &mut Kept,
 ) -> (Streams<S, K, E>, io::Result<ExitCode>)
-    // As without a log; and after that the messages say that the log isn't complete exactly if its sink has ended or failed.
-    ensures told { IfOk result.1 (λ status. ReportsLogged (views_by S.Source K.Sink K.is_durable E.contents) spot.entry.station
+    // As without a log; but before the report of the end the messages say that the log isn't complete exactly if its sink has ended
+    // or failed.
+    ensures told { IfOk result.1 (λ status. ReportsMeasuring (views_by S.Source K.Sink K.is_durable E.contents) spot.entry.station
         (stage streams (L.acts logged.old.link) kept.old.turns) (stage result.0 (L.acts logged.new.link) kept.new.turns)
         (G.failed (sink_of logged.new)) (exit_status status)) }
 
@@ -179,23 +183,33 @@ pub(crate) fn measure_logged<L: Link, G: Sink, S: Source, K: Durable, E: Write>(
         (stage streams (L.acts logged.old.link) kept.old.turns) (stage result.0 (L.acts logged.new.link) kept.new.turns)) }
     ensures bound { IsStatusUpTo 1 result.1 }
 {
-    let (mut streams, ended) = measure_over(alloc, logged, spot, streams, kept);
-    let ended = report_loss(ended, logged.has_lost_its_log(), &mut streams.messages);
+    let (mut streams, end) = run_station_text(alloc, logged, spot, streams, u64::MAX, kept);
+    note_stop(spot, end);
+    let is_lost = logged.has_lost_its_log();
+    let ended = report_loss_and_end(is_lost, end, &mut streams.messages);
     (streams, ended)
 }
 
-// Writes a line if the log isn't complete (`is_lost`), after the report of how the run ended, whose status (`ended`) stays as it
-// was. `Err`: `ended` is an error, and then nothing is written, or this line couldn't be written.
-fn report_loss<E: Write>(
-    ended: io::Result<ExitCode>,
+// Reports how a run ended, as `report_end_of_run` does, after a line that says so if its log isn't complete (`is_lost`). `Err`: one
+// of these lines couldn't be written, and those after it aren't.
+fn report_loss_and_end<E: Write>(
     is_lost: bool,
+    end: Result<Tally, Stop>,
     messages: &mut E,
 ) -> io::Result<ExitCode>
-    ensures told { IfOk result (λ status. (ended ≡ Ok status) × ReportsLoss is_lost (E.contents messages.old) (E.contents messages.new)) }
+    ensures told { IfOk result (λ status. ReportsLossAndEnd is_lost end (exit_status status) (E.contents messages.old) (E.contents messages.new)) }
+    ensures bound { IsStatusUpTo 1 result }
 {
-    let status = ended?;
+    report_loss(is_lost, messages)?;
+    report_end_of_run(end, messages)
+}
+
+// Writes a line if the log isn't complete (`is_lost`), and else nothing. `Err`: the line couldn't be written.
+fn report_loss<E: Write>(is_lost: bool, messages: &mut E) -> io::Result<()>
+    ensures { IfOk result (λ _. ReportsLoss is_lost (E.contents messages.old) (E.contents messages.new)) }
+{
     if is_lost {
         writeln!(messages, "geocom: the log could not be written completely")?;
     }
-    Ok(status)
+    Ok(())
 }

@@ -1,6 +1,6 @@
 //! A station at a place: it opens its log and its link, measures, and reports how that ended.
 
-ghost use Rattle.std.specs.Prelude.{◌≡◌, [], Some, IfOk, IfErr};
+ghost use Rattle.std.specs.Prelude.{◌≡◌, [], Some, false, IfOk, IfErr};
 ghost use Rattle.std.specs.Option.{is_some};
 ghost use Rattle.std.specs.Process.{exit_status};
 ghost use Rattle.gc_measuring.specs.Stops.{fault_without_link, IsFaultWithoutLink};
@@ -33,7 +33,7 @@ use std::time::Clock;
 /// the site's file `until` is there, the run ends between two chains, or two attempts of one, as a run that is done. Beside the
 /// faults of a run, the fault is `Log` if no log can be had, `Clock` if the clock can't be read, and what is wrong with the
 /// device if the place is one and can't be used. That a log isn't complete, because it ended at its bound or its file failed, is
-/// reported after that, and changes no status. The streams are handed back, and the link, if there was one. What was seen of link
+/// reported before that, and changes no status. The streams are handed back, and the link, if there was one. What was seen of link
 /// and output at each act is noted in `kept`.
 pub fn measure_at<
     'a,
@@ -52,7 +52,7 @@ pub fn measure_at<
     io::Result<ExitCode>,
     Option<Telling<Watched<'a, R, PlacedLink<'a, R>>>>,
 )
-    // The status and the messages report how the run ended, and then whether the log isn't complete. Either the text was refused,
+    // The messages report whether the log isn't complete, and then, with the status, how the run ended. Either the text was refused,
     // or the output failed before the records, or the text's commands were measured: the link that is handed back has recorded
     // all acts of the run and no other, the sink its records, and all that was settled lasted before anything was sent, read, opened
     // or closed. Or log, link or clock couldn't be had, and nothing was done.
@@ -159,7 +159,7 @@ pub(crate) fn measure_over<L: Link, S: Source, K: Durable, E: Write>(
     // The text was refused, or the output failed before the records, or the text's commands were measured; and the status and the
     // messages report how that ended.
     ensures told { IfOk result.1 (λ status. ReportsMeasuring (views_by S.Source K.Sink K.is_durable E.contents) spot.entry.station
-        (stage streams (L.acts link.old) kept.old.turns) (stage result.0 (L.acts link.new) kept.new.turns) (exit_status status)) }
+        (stage streams (L.acts link.old) kept.old.turns) (stage result.0 (L.acts link.new) kept.new.turns) false (exit_status status)) }
 
     // Status 0 only if the source gave a text to its end, and the run over its commands is done, or its end was asked for.
     ensures done { IfOk result.1 (λ status. exit_status status ≡ 0
@@ -173,8 +173,8 @@ pub(crate) fn measure_over<L: Link, S: Source, K: Durable, E: Write>(
     (streams, ended)
 }
 
-// If a run stopped for a fault, notes the fault at its spot.
-fn note_stop(spot: Spot<'_>, end: Result<Tally, Stop>) {
+/// If a run stopped for a fault, notes the fault at its spot.
+pub(crate) fn note_stop(spot: Spot<'_>, end: Result<Tally, Stop>) {
     if let Err(stop) = end {
         spot.note_fault(stop.fault());
     }

@@ -104,8 +104,8 @@ def test_full_disk(program, folder):
         with limited(program, far.port, folder / "log", "") as run:
             assert run.status() == 0, "the status"
             messages = run.messages().splitlines()
-            assert messages[-1:] == ["geocom: the log could not be written completely"], "the last line"
-            assert messages[-2] == counts_line(answered=2), "the counts"
+            assert messages[-1:] == [counts_line(answered=2)], "the last line"
+            assert messages[-2] == "geocom: the log could not be written completely", "the line before it"
             assert run.output().count(b",answered,") == 2, "how many rows"
 
 
@@ -208,7 +208,7 @@ def test_bounded_log(program, folder):
         log = folder / "log"
         for number in range(4):
             with measuring(program, far.port, f"--log {log} --log-bytes 2000 --quiet 100 --deadline 100 --cycles 20", TWO) as run:
-                rows, messages = finished(run, counts=-2)
+                rows, messages = finished(run)
             expect_each_once(rows, 2, 20)
             assert (messages.count(full), messages[-1]) == (1, "geocom: the log could not be written completely"), f"what run {number} told"
             assert len(log.read_bytes()) <= 2000, f"it has {len(log.read_bytes())} bytes"

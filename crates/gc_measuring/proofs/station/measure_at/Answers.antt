@@ -3,7 +3,7 @@ use Rattle.std.proofs.Common.{inl, inr, refl, false, Err, Some, sym, ap, ◌∙�
 use Rattle.std.proofs.lemmas.Bool.{false≢true}
 use Rattle.std.proofs.lemmas.Result.{IfOk-weaker}
 use Rattle.gc_measuring.specs.declared.stop.Stop.TheVariants.{Run}
-use Rattle.gc_measuring.specs.Telling.{acts_of, stage, with_messages}
+use Rattle.gc_measuring.specs.Telling.{acts_of, stage}
 use Rattle.gc_measuring.proofs.AtLink.{measures_at_link, measures_all_at_link}
 use Rattle.gc_measuring.proofs.Unbegun.{sink_is_as_it_was}
 use Rattle.gc_measuring.proofs.station.measure_at.Goals as goal
@@ -14,7 +14,6 @@ returns-in-Err-clause-told g c =
     (λ status told. record {
       end = Err (Run c.in-Err.fault);
       between = c.args.streams.messages;
-      behind = c.report_end_of_run-ended.new.messages;
       is_lost = false;
       logged = λ lost. absurd (false≢true lost);
       ran = inr (record {
@@ -28,8 +27,7 @@ returns-in-Err-clause-told g c =
         turns = refl;
       });
       fails = sink_is_as_it_was _ _ _ c.in-Err.ensures.fault;
-      counts = told;
-      loss = refl;
+      tells = record { behind = _; loss = refl; counts = told };
     })
     c.report_end_of_run-ended.ensures.told
 
@@ -40,14 +38,12 @@ returns-in-None-clause-told g c =
     (λ status t. record {
       end = t.end;
       between = t.between;
-      behind = c.measure_over-streams.result.0.messages;
       is_lost = false;
       logged = λ lost. absurd (false≢true lost);
       ran =
-          inl (measures_at_link _ c.args.spot.station _ new c.measure_over-streams.new.link.link.history.acts c.in-Ok.opened.moment.utc _ (ap (λ l. Some l.history.acts) c.into_link.ensures) t);
+          inl (measures_at_link _ c.args.spot.station _ new c.measure_over-streams.new.link.link.history.acts c.in-Ok.opened.moment.utc _ _ (ap (λ l. Some l.history.acts) c.into_link.ensures) t);
       fails = t.fails;
-      counts = t.counts;
-      loss = refl;
+      tells = t.tells;
     })
     (rw (c.new-link.ensures, c.new-told.ensures, c.begun-station.ensures) at c.measure_over-streams.ensures.told)
 
@@ -64,16 +60,14 @@ returns-in-Some-clause-told g c =
     let new = stage c.measure_logged-streams.result.0 (acts_of (Some c.into_link-in-Some-2.result)) c.measure_logged-streams.new.kept.turns in
     IfOk-weaker c.measure_logged-streams.result.1 _ _
     (λ status t. record {
-      end = t.1.end;
-      between = t.1.between;
-      behind = t.0;
+      end = t.end;
+      between = t.between;
       is_lost = _;
       logged = λ _. sym c.in-Ok.ensures.logged ∙ ap is_some c.in-Some.is;
-      ran = inl (measures_at_link _ c.args.spot.station _ (with_messages new t.0) c.measure_logged-streams.new.logged.link.link.history.acts c.in-Ok.opened.moment.utc _
-          (ap (λ l. Some l.history.acts) (c.into_link-in-Some-2.ensures ∙ ap (λ n. n.link) c.into_link-in-Some.ensures)) t.1);
-      fails = t.1.fails;
-      counts = t.1.counts;
-      loss = t.2;
+      ran = inl (measures_at_link _ c.args.spot.station _ new c.measure_logged-streams.new.logged.link.link.history.acts c.in-Ok.opened.moment.utc _ _
+          (ap (λ l. Some l.history.acts) (c.into_link-in-Some-2.ensures ∙ ap (λ n. n.link) c.into_link-in-Some.ensures)) t);
+      fails = t.fails;
+      tells = t.tells;
     })
     (rw (c.new-logged.ensures, c.new-link.ensures, c.new-told.ensures, c.begun-station.ensures) at c.measure_logged-streams.ensures.told)
 

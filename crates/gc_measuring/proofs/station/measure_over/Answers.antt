@@ -1,4 +1,5 @@
 use Rattle.std.specs.Process.{exit_status}
+use Rattle.std.proofs.Common.{refl}
 use Rattle.std.proofs.lemmas.Result.{IfOk-weaker}
 use Rattle.gc_measuring.proofs.Measured.{done_at_0}
 use Rattle.gc_measuring.proofs.station.measure_over.Goals as goal
@@ -13,7 +14,7 @@ returns-clause-told g c =
       measured = (m.0, m.1, m.3);
       all_last = c.run_station_text-streams.ensures.is_durable;
       fails = c.run_station_text-streams.ensures.output;
-      counts = told;
+      tells = record { behind = _; loss = refl; counts = told };
     })
     c.report_end_of_run-ended.ensures.told
 
