@@ -122,6 +122,7 @@ impl<
             site,
             station,
             noticed: &noticed,
+            reason: self.rt.reason(),
         };
         let lossy = lossy_of(streams);
         let (mut lossy, ended) = self.measure_recorded(spot, recording, lossy);

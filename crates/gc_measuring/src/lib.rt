@@ -15,6 +15,7 @@ mod spot;
 mod station;
 mod stop;
 mod task_text;
+mod unwell;
 mod wanted;
 
 pub use checking::{check_task_text, write_target};

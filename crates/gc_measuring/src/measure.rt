@@ -176,23 +176,21 @@ struct Records<'a, K, E> {
 }
 
 impl<'a, K, E: Write> Records<'a, K, E> {
-    // Ends the reporter at the end of a run, as `Reporter::end` says, and reports before that, if the run is stale (`is_stale`),
-    // since when no answer of a good quality came. The sink and the messages are handed back.
+    // Ends the reporter at the end of a run, as `Reporter::end` says; if the run is stale (`is_stale`), that reports since when no
+    // answer of a good quality came. The sink and the messages are handed back.
     fn end(self, is_stale: bool) -> (K, E)
         ensures { result.0 ≡ self.entry.sink }
     {
         let Records {
             sink,
             layout: _,
-            names: _,
+            names,
             noticed: _,
             fresh,
-            mut reporter,
+            reporter,
         } = self;
-        if is_stale {
-            reporter.report_stale(fresh);
-        }
-        (sink, reporter.end())
+        let stale = if is_stale { Some(fresh) } else { None };
+        (sink, reporter.end(names.as_slice(), stale))
     }
 }
 
@@ -212,7 +210,7 @@ impl<'a, K: Durable, E: Write> Book for Records<'a, K, E> {
         command: &Wish,
         ending: Ending<'_>,
     ) -> Result<(), PortFailed> {
-        self.reporter.count(stamp, ending);
+        self.reporter.count(stamp, command, ending);
         self.fresh = fresh_after(self.fresh, stamp.utc, ending);
         write_station_row(
             &mut self.sink,
@@ -235,7 +233,8 @@ impl<'a, K: Durable, E: Write> Book for Records<'a, K, E> {
 
     // Writes the messages that are due, by the health of the link and by what was noticed.
     fn sees(&mut self, health: LinkHealth, moment: Moment) {
-        self.reporter.report(self.noticed.get(), health, moment);
+        self.reporter
+            .report(self.noticed.get(), health, moment, self.names.as_slice());
     }
 
     // Reports on the messages that this cycle wasn't done when the next was due, if a line of this kind may be written now.

@@ -11,7 +11,7 @@ use crate::signs::Signs;
 use gc_links::{Moment, Place};
 use gc_messages::{FilesSeen, FilesTold, Noticed};
 use gc_station::LinkHealth;
-use gc_texts::{Ending, Stamp};
+use gc_texts::{Ending, Name, Stamp, Wish};
 use gc_words::Watch;
 use std::io::{self, Write};
 
@@ -40,25 +40,27 @@ impl<E: Write> Reporter<E> {
         }
     }
 
-    /// Counts a record for the signs of life, also one that can't be written.
-    pub(crate) fn count(&mut self, stamp: Stamp, ending: Ending<'_>)
+    /// Counts the record of a command for the signs of life, also one that can't be written.
+    pub(crate) fn count(&mut self, stamp: Stamp, command: &Wish, ending: Ending<'_>)
         ensures { self.new.signs.counts ≡ counted (ending_seen ending.entry) self.old.signs.counts }
     {
-        self.signs.count(stamp, ending);
+        self.signs.count(stamp, command, ending);
     }
 
     /// Writes before an act what is new of the link and the line, unless nobody watches, and in any case what is new of the
-    /// files.
-    pub(crate) fn report(&mut self, noticed: Noticed, health: LinkHealth, moment: Moment) {
-        let Noticed {
-            odd,
-            is_lost,
-            files,
-            ..
-        } = noticed;
-        let _ = self.signs.see(health, is_lost, moment, &mut self.messages);
-        let _ = self.signs.report_odd(odd, &mut self.messages);
-        self.report_files(files, moment);
+    /// files. Targets have their names among `names`.
+    pub(crate) fn report(
+        &mut self,
+        noticed: Noticed,
+        health: LinkHealth,
+        moment: Moment,
+        names: &[Name],
+    ) {
+        let _ = self
+            .signs
+            .see(health, noticed, moment, names, &mut self.messages);
+        let _ = self.signs.report_odd(noticed.odd, &mut self.messages);
+        self.report_files(noticed.files, moment);
     }
 
     // Writes what is new of the files, also if no signs of life are written.
@@ -78,21 +80,19 @@ impl<E: Write> Reporter<E> {
         }
     }
 
-    /// Writes, of a run that ended because it is stale, since when no answer of a good quality came. `since` is in milliseconds
-    /// since 1970. The line is written also if nobody watches.
-    pub(crate) fn report_stale(&mut self, since: u64) {
-        let _ = self.signs.report_stale(since, &mut self.messages);
-    }
-
-    /// Writes at the end how many commands were skipped that no line reported yet, as `Signs::end` does, clears the status line
-    /// of a terminal, and hands the messages back. What became of the files since the last `report` isn't written.
-    pub(crate) fn end(self) -> E {
+    /// Writes at the end what no line reported yet, as `Signs::end` does, clears the status line of a terminal, and hands the
+    /// messages back. What became of the files since the last `report` isn't written. `stale`: the run ended because it is stale, and
+    /// no answer of a good quality came since this moment, in milliseconds since 1970, which is written, too, also if nobody watches.
+    pub(crate) fn end(self, names: &[Name], stale: Option<u64>) -> E {
         let Reporter {
             mut signs,
             files: _,
             mut messages,
         } = self;
-        let _ = signs.end(&mut messages);
+        let _ = signs.end(names, &mut messages);
+        if let Some(since) = stale {
+            let _ = signs.report_stale(since, &mut messages);
+        }
         messages
     }
 }

@@ -4,11 +4,12 @@ ghost use Rattle.std.specs.Prelude.{◌≡◌};
 ghost use Rattle.gc_station.specs.Tallies.{counted};
 ghost use Rattle.gc_texts.specs.Endings.{ending_seen};
 
+use crate::unwell::{Missed, SECOND, Unwell};
 use crate::wanted::{Wanted, has_lasted};
 use gc_links::Moment;
-use gc_messages::{MINUTE, Oddities, RateLimit, ShortText};
+use gc_messages::{MINUTE, Noticed, Oddities, RateLimit, ShortText};
 use gc_station::{LinkHealth, Tally, is_well};
-use gc_texts::{Ending, Stamp, stamp_text};
+use gc_texts::{Ending, Name, Stamp, Wish, stamp_text};
 use gc_words::Watch;
 use std::io::{self, Write};
 
@@ -20,9 +21,6 @@ const LASTING: u64 = 59_000;
 // How many columns the status line of a terminal has at most.
 const COLUMNS: usize = 79;
 
-// A second, in milliseconds: the status line of a terminal is rewritten once a second at most, and gives ages in seconds.
-const SECOND: u64 = 1_000;
-
 /// What was seen of a station, and what was reported of it.
 #[derive(Clone, Copy)]
 pub(crate) struct Signs {
@@ -32,8 +30,9 @@ pub(crate) struct Signs {
     health: LinkHealth,
     since: Moment,
     elapsed: u64,
-    // Since when an answer is wanted.
+    // Since when an answer is wanted, and how many bytes had arrived at the last look before that.
     wanted: Wanted,
+    arrived: u64,
     // Whether a trouble was reported and no line yet says that it is over; and whether a command was answered since the last
     // report of a trouble, and since the last look without a connection.
     is_troubled: bool,
@@ -43,6 +42,10 @@ pub(crate) struct Signs {
     skipped: u64,
     skipped_before: u64,
     skipped_since: u64,
+    // The commands of cycles that weren't answered well (`None`: there are none), and those that were missed, that no line has
+    // reported yet.
+    unwell: Option<Unwell>,
+    missed: Missed,
     // Since when the setup isn't done, in milliseconds since 1970: a command of it wasn't answered well, and no record of a
     // cycle came since.
     unprepared_since: Option<u64>,
@@ -64,6 +67,8 @@ pub(crate) struct Signs {
     unanswered: RateLimit,
     overrun: RateLimit,
     skipping: RateLimit,
+    refusing: RateLimit,
+    missing: RateLimit,
     shown: RateLimit,
 }
 
@@ -80,11 +85,14 @@ impl Signs {
             },
             elapsed: 0,
             wanted: Wanted::new(),
+            arrived: 0,
             is_troubled: false,
             answers_again: false,
             skipped: 0,
             skipped_before: 0,
             skipped_since: 0,
+            unwell: None,
+            missed: Missed::none(),
             unprepared_since: None,
             cycle: 0,
             counts: Tally::new(),
@@ -98,6 +106,8 @@ impl Signs {
             unanswered: RateLimit::new(),
             overrun: RateLimit::new(),
             skipping: RateLimit::new(),
+            refusing: RateLimit::new(),
+            missing: RateLimit::new(),
             shown: RateLimit::new(),
         }
     }
@@ -107,11 +117,13 @@ impl Signs {
         self.watch != Watch::Nobody
     }
 
-    /// Counts a record by its ending, and notes what it says of the run (`note`).
-    pub(crate) fn count(&mut self, stamp: Stamp, ending: Ending<'_>)
+    /// Counts the record of a command by its ending, and notes what it says of the run (`note`).
+    pub(crate) fn count(&mut self, stamp: Stamp, command: &Wish, ending: Ending<'_>)
         ensures { self.new.counts ≡ counted (ending_seen ending.entry) self.old.counts }
     {
         self.note(stamp, ending);
+        Unwell::note(&mut self.unwell, stamp, command, ending);
+        self.missed.note(stamp.cycle, ending, self.elapsed);
         self.counts.count(ending);
     }
 
@@ -159,14 +171,15 @@ impl Signs {
         self.is_watched() && self.overrun.claim(self.elapsed, MINUTE)
     }
 
-    /// Takes in the health of the link and the moment, and writes the lines that are due. `is_lost`: the last connection was lost
-    /// or couldn't be made. No trouble is reported before the clock is read first (until then the moment is 0). If nobody watches
+    /// Takes in the health of the link, what was noticed of it and the moment, and writes the lines that are due. Targets have their
+    /// names among `names`. No trouble is reported before the clock is read first (until then the moment is 0). If nobody watches
     /// it does nothing. `Err`: the messages couldn't be written, and the lines after that are left out.
     pub(crate) fn see<E: Write>(
         &mut self,
         health: LinkHealth,
-        is_lost: bool,
+        noticed: Noticed,
         moment: Moment,
+        names: &[Name],
         messages: &mut E,
     ) -> io::Result<()> {
         if !self.is_watched() {
@@ -175,11 +188,26 @@ impl Signs {
         let before = self.health;
         self.note_health(health, moment);
         if moment.utc != 0 {
-            self.wanted.look(health, moment);
-            self.report_troubles(before, is_lost, messages)?;
+            self.look_for_answer(health, noticed, moment);
+            self.report_troubles(before, noticed, messages)?;
         }
+        self.report_unwell(names, messages)?;
         self.report_skipped_once_over(messages)?;
+        self.report_missed_once_over(messages)?;
         self.show(messages)
+    }
+
+    // Notes whether an answer is wanted (`Wanted::look`), and how many bytes had arrived before it was. While the setup isn't done
+    // because a command of it was refused, the station closes the connection and pauses: no answer is wanted in that pause.
+    fn look_for_answer(&mut self, health: LinkHealth, noticed: Noticed, moment: Moment) {
+        if self.wanted.since.is_none() {
+            self.arrived = noticed.arrived;
+        }
+        let pauses = health == LinkHealth::Unconnected && !noticed.is_lost;
+        if pauses && self.unprepared_since.is_some() {
+            return;
+        }
+        self.wanted.look(health, moment);
     }
 
     // Notes the health of the link, since when it has been the same, and when it was seen.
@@ -194,17 +222,17 @@ impl Signs {
 
     // Writes the lines on troubles that are due, each kind at most once a minute: on a missing connection, on a setup that isn't
     // done, on a line that isn't quiet, on an answer that doesn't come, and on the end of such a trouble. `before` is the health
-    // of the link at the look before this one, and `is_lost` as in `see`.
+    // of the link at the look before this one.
     fn report_troubles<E: Write>(
         &mut self,
         before: LinkHealth,
-        is_lost: bool,
+        noticed: Noticed,
         messages: &mut E,
     ) -> io::Result<()> {
-        self.report_connection(before, is_lost, messages)?;
+        self.report_connection(before, noticed, messages)?;
         self.report_unprepared(messages)?;
         self.report_unquiet(messages)?;
-        self.report_unanswered(messages)?;
+        self.report_unanswered(noticed, messages)?;
         self.report_recovery(messages)
     }
 
@@ -214,6 +242,14 @@ impl Signs {
             self.report_skipped(messages)?;
         }
         self.skipped_before = self.skipped;
+        Ok(())
+    }
+
+    // Reports which cycles were missed, as `report_missed` does, once the station goes on.
+    fn report_missed_once_over<E: Write>(&mut self, messages: &mut E) -> io::Result<()> {
+        if self.missed.is_over(self.elapsed) {
+            self.report_missed(messages)?;
+        }
         Ok(())
     }
 
@@ -244,23 +280,31 @@ impl Signs {
         Ok(())
     }
 
-    // Reports at most once a minute that there is no connection, if the last one was lost or couldn't be made (`is_lost`), and
-    // the health of the link at the look before this one (`before`) wasn't `Idle`: if it was, a cycle has just begun, and the
-    // station makes a connection at once. Without a connection an earlier answer no longer ends a trouble.
+    // Reports at most once a minute that there is no connection, and why the system refused the last one, if it gave a reason: if
+    // the last one was lost or couldn't be made, and the health of the link at the look before this one (`before`) wasn't `Idle`.
+    // If it was, a cycle has just begun, and the station makes a connection at once. Without a connection an earlier answer no
+    // longer ends a trouble.
     fn report_connection<E: Write>(
         &mut self,
         before: LinkHealth,
-        is_lost: bool,
+        noticed: Noticed,
         messages: &mut E,
     ) -> io::Result<()> {
         if self.health != LinkHealth::Unconnected {
             return Ok(());
         }
         self.answers_again = false;
-        if !is_lost || before == LinkHealth::Idle || !self.unconnected.claim(self.elapsed, MINUTE) {
+        if !noticed.is_lost
+            || before == LinkHealth::Idle
+            || !self.unconnected.claim(self.elapsed, MINUTE)
+        {
             return Ok(());
         }
-        self.report_since(self.since.utc, "no connection", messages)
+        self.begin_since(self.since.utc, "no connection", messages)?;
+        match noticed.why {
+            Some(why) => writeln!(messages, ": {why}"),
+            None => writeln!(messages),
+        }
     }
 
     // Reports at most once a minute that the setup isn't done, if a command of it wasn't answered well and no record of a cycle
@@ -286,8 +330,13 @@ impl Signs {
     }
 
     // Reports at most once a minute that no answer comes, once that has lasted for `LASTING`, whatever became of connections
-    // meanwhile. From then on the want is overdue, also if no line of this kind may be written yet.
-    fn report_unanswered<E: Write>(&mut self, messages: &mut E) -> io::Result<()> {
+    // meanwhile; and how many bytes arrived since an answer is wanted, if any did and no reply was among them. From then on the want
+    // is overdue, also if no line of this kind may be written yet.
+    fn report_unanswered<E: Write>(
+        &mut self,
+        noticed: Noticed,
+        messages: &mut E,
+    ) -> io::Result<()> {
         let Some(since) = self.wanted.lasting(self.elapsed, LASTING) else {
             return Ok(());
         };
@@ -295,7 +344,12 @@ impl Signs {
         if !self.unanswered.claim(self.elapsed, MINUTE) {
             return Ok(());
         }
-        self.report_since(since.utc, "no answer", messages)
+        self.begin_since(since.utc, "no answer", messages)?;
+        let bytes = noticed.arrived.saturating_sub(self.arrived);
+        if bytes == 0 || noticed.replied > self.arrived {
+            return writeln!(messages);
+        }
+        writeln!(messages, ": {bytes} bytes arrived, none a reply")
     }
 
     /// Reports, of a run that ended because it is stale, since when no answer of a good quality came. `since` is in milliseconds
@@ -311,18 +365,33 @@ impl Signs {
     // Reports that `what` has lasted since `utc` (milliseconds since 1970). From then on the station counts as troubled, until a
     // line says that this is over (`report_recovery`).
     fn report_since<E: Write>(&mut self, utc: u64, what: &str, messages: &mut E) -> io::Result<()> {
+        self.begin_since(utc, what, messages)?;
+        writeln!(messages)
+    }
+
+    // As `report_since`, but without the end of the line.
+    fn begin_since<E: Write>(&mut self, utc: u64, what: &str, messages: &mut E) -> io::Result<()> {
         self.is_troubled = true;
         self.answers_again = false;
+        self.write_since(utc, what, messages)
+    }
+
+    // Writes the front of a line on what has lasted since `utc` (milliseconds since 1970), over the status line of a terminal.
+    fn write_since<E: Write>(&mut self, utc: u64, what: &str, messages: &mut E) -> io::Result<()> {
         self.clear(messages)?;
         let since = stamp_text(utc);
         let since = str::from_utf8(&since).unwrap_or("");
-        writeln!(messages, "geocom: {what} since {since}")
+        write!(messages, "geocom: {what} since {since}")
     }
 
     // Reports the end of a trouble, once a command was answered after the last report of a trouble and after the last look
-    // without a connection, unless a line of this kind was written in the last minute.
+    // without a connection, and unless the setup isn't done, or a line of this kind was written in the last minute.
     fn report_recovery<E: Write>(&mut self, messages: &mut E) -> io::Result<()> {
-        if !self.is_troubled || !self.answers_again || !self.connected.claim(self.elapsed, MINUTE) {
+        if !self.is_troubled
+            || !self.answers_again
+            || self.unprepared_since.is_some()
+            || !self.connected.claim(self.elapsed, MINUTE)
+        {
             return Ok(());
         }
         self.is_troubled = false;
@@ -336,12 +405,36 @@ impl Signs {
         if self.skipped == 0 || !self.skipping.claim(self.elapsed, MINUTE) {
             return Ok(());
         }
-        self.clear(messages)?;
         let count = self.skipped;
         self.skipped = 0;
-        let since = stamp_text(self.skipped_since);
-        let since = str::from_utf8(&since).unwrap_or("");
-        writeln!(messages, "geocom: commands skipped since {since}: {count}")
+        self.write_since(self.skipped_since, "commands skipped", messages)?;
+        writeln!(messages, ": {count}")
+    }
+
+    // Writes how many commands of cycles weren't answered well that no line reported yet, if any were, since when, and the last of
+    // them, unless a line of this kind was written in the last minute.
+    fn report_unwell<E: Write>(&mut self, names: &[Name], messages: &mut E) -> io::Result<()> {
+        let Some(unwell) = self.unwell else {
+            return Ok(());
+        };
+        if !self.refusing.claim(self.elapsed, MINUTE) {
+            return Ok(());
+        }
+        self.unwell = None;
+        self.write_since(unwell.since, "commands not answered well", messages)?;
+        unwell.tell(names, messages)
+    }
+
+    // Writes which cycles were missed that no line reported yet, if any were, unless a line of this kind was written in the last
+    // minute.
+    fn report_missed<E: Write>(&mut self, messages: &mut E) -> io::Result<()> {
+        if self.missed.is_none() || !self.missing.claim(self.elapsed, MINUTE) {
+            return Ok(());
+        }
+        self.clear(messages)?;
+        let missed = self.missed;
+        self.missed = Missed::none();
+        missed.tell(messages)
     }
 
     // Writes the status line, over the one that is shown, if somebody watches at a terminal: at most once a second. What has no
@@ -357,8 +450,8 @@ impl Signs {
         messages.write_all(row.bytes.as_slice())
     }
 
-    // Writes the cycle, how many commands were answered, how long ago the last answer came, and the other counts without those
-    // that are 0.
+    // Writes the cycle, how many commands were answered, how many of these were refused, how long ago the last answer came, and the
+    // other counts; counts that are 0 are left out, but that of the answered.
     fn show_counts<E: Write>(&self, row: &mut E) -> io::Result<()> {
         let cycle = self.cycle;
         let answered = self.counts.answered;
@@ -367,23 +460,28 @@ impl Signs {
         show_others(self.counts, row)
     }
 
-    // Writes how many seconds ago the last answer of any kind came, if one did. They count from the last look before the answer,
-    // and are 0 if the clock for deadlines went back since then.
+    // Writes, in parentheses, how many answers were refusals, if any were, and how many seconds ago the last answer of any kind came,
+    // if one did. They count from the last look before the answer, and are 0 if the clock for deadlines went back since then.
     fn show_age<E: Write>(&self, row: &mut E) -> io::Result<()> {
-        match self.last_answer {
-            Some(moment) => {
-                let age = self.elapsed.saturating_sub(moment) / SECOND;
-                write!(row, " (last {age} s ago)")
-            }
-            None => Ok(()),
+        let Some(moment) = self.last_answer else {
+            return Ok(());
+        };
+        let age = self.elapsed.saturating_sub(moment) / SECOND;
+        let refused = self.counts.refused;
+        if refused > 0 {
+            return write!(row, " (refused {refused}, last {age} s ago)");
         }
+        write!(row, " (last {age} s ago)")
     }
 
-    /// Writes at the end of a run how many commands were skipped that no line reported yet, unless nobody watches or a line of
-    /// this kind was written in the last minute, and clears the status line of a terminal.
-    pub(crate) fn end<E: Write>(&mut self, messages: &mut E) -> io::Result<()> {
+    /// Writes at the end of a run how many commands weren't answered well or were skipped, and which cycles were missed, that no
+    /// line reported yet, unless nobody watches or a line of this kind was written in the last minute, and clears the status line
+    /// of a terminal. Targets have their names among `names`.
+    pub(crate) fn end<E: Write>(&mut self, names: &[Name], messages: &mut E) -> io::Result<()> {
         if self.is_watched() {
+            self.report_unwell(names, messages)?;
             self.report_skipped(messages)?;
+            self.report_missed(messages)?;
         }
         self.clear(messages)
     }

@@ -12,6 +12,8 @@ pub struct Spot<'a> {
     pub site: Site<'a>,
     pub station: Settings,
     pub noticed: &'a Cell<Noticed>,
+    /// Why the system refused what it refused last (`Noting::reason`).
+    pub reason: &'a Cell<Option<io::Error>>,
 }
 
 impl<'a> Spot<'a> {

@@ -76,7 +76,7 @@ pub fn measure_at<
     let station = spot.station.begun(moment);
     let spot = Spot { station, ..spot };
     let told = Telling::new(Watched::new(rt, link, spot.site.until));
-    let mut link = Noticing::new(told, spot.noticed);
+    let mut link = Noticing::new(told, spot.noticed, spot.reason);
     match log {
         None => {
             let (streams, ended) = measure_over(alloc, &mut link, spot, streams, kept);

@@ -30,6 +30,8 @@ struct NamedError {
 pub struct Noting<'a, R> {
     rt: &'a R,
     last: Cell<Option<NamedError>>,
+    // Why the system refused that, without its name.
+    reason: Cell<Option<io::Error>>,
 }
 
 impl<'a, R> Noting<'a, R> {
@@ -38,7 +40,13 @@ impl<'a, R> Noting<'a, R> {
         Noting {
             rt,
             last: Cell::new(None),
+            reason: Cell::new(None),
         }
+    }
+
+    /// Why the system refused what is noted. `None`: nothing is noted.
+    pub fn reason(&self) -> &Cell<Option<io::Error>> {
+        &self.reason
     }
 
     // Notes the outcome of a call on `what`, a path, an address or a name, and returns it: a success clears the note, an error is
@@ -46,13 +54,14 @@ impl<'a, R> Noting<'a, R> {
     fn note<N: Display + Drop, T: Drop>(&self, what: N, outcome: io::Result<T>) -> io::Result<T> {
         match outcome {
             Ok(value) => {
-                self.last.set(None);
+                self.forget();
                 Ok(value)
             }
             Err(why) => {
                 let mut name = ShortText::new();
                 let _ = write!(name, "{what}");
                 self.last.set(Some(NamedError { name, why }));
+                self.reason.set(Some(why));
                 Err(why)
             }
         }
@@ -61,6 +70,7 @@ impl<'a, R> Noting<'a, R> {
     /// Clears the note, so that an old error isn't reported as the reason of the next fault.
     pub fn forget(&self) {
         self.last.set(None);
+        self.reason.set(None);
     }
 
     /// If a run ended (`ended`) with a status other than 0, and the messages are open, writes a line with what the system refused
@@ -84,6 +94,7 @@ impl<'a, R> Noting<'a, R> {
     /// Writes a line with what the system refused last, and why, if anything is noted, and clears the note. `Err`: that line couldn't be
     /// written; the note is cleared all the same.
     pub fn tell_last<E: Write>(&self, messages: &mut E) -> io::Result<()> {
+        self.reason.set(None);
         match self.last.take() {
             Some(refusal) => {
                 let why = refusal.why;

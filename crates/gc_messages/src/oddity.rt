@@ -1,5 +1,6 @@
-//! What is noticed of a line beside its replies: what is odd about it (it sends requests back, or changes the ends of lines), and
-//! whether its connection was lost. What became of the station's files is noted with that.
+//! What is noticed of a line beside its replies: what is odd about it (it sends requests back, or changes the ends of lines), how
+//! many bytes arrive that are no reply, and whether its connection was lost, and why none could be made. What became of the
+//! station's files is noted with that.
 
 ghost use Rattle.std.specs.Prelude.{◌≡◌};
 
@@ -8,6 +9,7 @@ use gc_lines::PortFailed;
 use gc_links::{Came, Link, Moment};
 use gc_texts::RunFault;
 use std::cell::Cell;
+use std::io;
 
 /// What is odd about a line.
 #[derive(Clone, Copy, PartialEq, Eq)]
@@ -35,6 +37,13 @@ pub struct Noticed {
     pub odd: Oddities,
     /// Whether the last connection ended or failed, or couldn't be made. That the station closes it changes nothing.
     pub is_lost: bool,
+    /// Why the system refused the last connection. `None`: it was made, or the system gave no reason.
+    pub why: Option<io::Error>,
+    /// How many bytes arrived.
+    pub arrived: u64,
+    /// How many of them had arrived once the last reply was whole: a line that begins as a reply, with an id, and ends with CR LF.
+    /// Bytes that arrived together with its end count, too. 0: none was.
+    pub replied: u64,
     /// The fault that was noted as the one for which the run stopped. `None`: no fault was noted.
     pub fault: Option<RunFault>,
     /// What became of the files.
@@ -47,6 +56,9 @@ impl Noticed {
         Noticed {
             odd: Oddities::none(),
             is_lost: false,
+            why: None,
+            arrived: 0,
+            replied: 0,
             fault: None,
             files: FilesSeen::none(),
         }
@@ -62,6 +74,71 @@ pub fn note_files(noticed: &Cell<Noticed>, files: FilesSeen) {
 // The longest read of a link, in milliseconds: what watches a station between two reads gets its turn at least that often.
 const LONGEST_READ: u64 = 1_000;
 
+// The line that comes, as far as it came.
+#[derive(Clone, Copy)]
+struct ComingLine {
+    // Its first bytes, how many there are, and its last byte so far.
+    front: [u8; 4],
+    count: usize,
+    last: u8,
+    // How many commas it has before its first colon, at most 255, and whether it has a colon.
+    commas: u8,
+    has_colon: bool,
+}
+
+impl ComingLine {
+    // A line of which nothing came yet.
+    fn new() -> ComingLine {
+        ComingLine {
+            front: [0; 4],
+            count: 0,
+            last: 0,
+            commas: 0,
+            has_colon: false,
+        }
+    }
+
+    // Takes the next byte of the line, which is no line feed.
+    fn take(&mut self, byte: u8) {
+        if self.count < self.front.len() {
+            self.front[self.count] = byte;
+            self.count += 1;
+        }
+        if byte == b':' {
+            self.has_colon = true;
+        } else if byte == b',' && !self.has_colon {
+            self.commas = self.commas.saturating_add(1);
+        }
+        self.last = byte;
+    }
+
+    // What is noticed once a line feed has ended the line, of which `seen` was noticed before: it begins as a request (`echoes`); or
+    // it begins as a reply, and has no CR at its end (`bare`), or else an id (`replied`). What was noticed of earlier lines stays, and
+    // a line of less than four bytes is none of these.
+    fn judged(&self, seen: Noticed) -> Noticed {
+        if self.count < self.front.len() {
+            return seen;
+        }
+        let is_reply = self.front == *b"%R1P";
+        let has_cr = self.last == b'\r';
+        let has_id = self.has_colon && self.commas == 2;
+        let odd = Oddities {
+            echoes: seen.odd.echoes || self.front == *b"%R1Q",
+            bare: seen.odd.bare || is_reply && !has_cr,
+        };
+        let replied = if is_reply && has_cr && has_id {
+            seen.arrived
+        } else {
+            seen.replied
+        };
+        Noticed {
+            odd,
+            replied,
+            ..seen
+        }
+    }
+}
+
 /// A link that notices what is odd about its line, and what becomes of its connection. Its acts are those of the link inside. A
 /// read of it lasts no longer than a second.
 #[derive(Drop)]
@@ -69,23 +146,26 @@ pub struct Noticing<'a, L> {
     /// The link inside.
     pub link: L,
     noticed: &'a Cell<Noticed>,
-    // The first bytes of the line that comes, how many there are, and its last byte so far.
-    front: [u8; 4],
-    count: usize,
-    last: u8,
+    // Why the system refused what it refused last.
+    reason: &'a Cell<Option<io::Error>>,
+    line: ComingLine,
 }
 
 impl<'a, L: Link> Noticing<'a, L> {
     /// A link over `link`, over which nothing came yet. What it notices it notes in `noticed`, beside what is noted there already.
-    pub fn new(link: L, noticed: &'a Cell<Noticed>) -> Noticing<'a, L>
+    /// `reason` says why the system refused what it refused last (`Noting::reason`).
+    pub fn new(
+        link: L,
+        noticed: &'a Cell<Noticed>,
+        reason: &'a Cell<Option<io::Error>>,
+    ) -> Noticing<'a, L>
         ensures { result.link ≡ link }
     {
         Noticing {
             link,
             noticed,
-            front: [0; 4],
-            count: 0,
-            last: 0,
+            reason,
+            line: ComingLine::new(),
         }
     }
 }
@@ -98,47 +178,41 @@ impl<'a, L> Noticing<'a, L> {
         let Noticing {
             link,
             noticed: _,
-            front: _,
-            count: _,
-            last: _,
+            reason: _,
+            line: _,
         } = self;
         link
     }
 
-    // Takes bytes that came, and judges each line that they end, also one that began in earlier bytes.
+    // Takes bytes that came: counts them, and judges each line that they end, also one that began in earlier bytes.
     fn look(&mut self, bytes: &[u8])
         ensures { self.new.link ≡ self.old.link }
     {
+        let seen = self.noticed.get();
+        let mut seen = Noticed {
+            arrived: seen.arrived.saturating_add(bytes.len() as u64),
+            ..seen
+        };
         for b in bytes {
             if *b == b'\n' {
-                self.judge();
-                self.count = 0;
-            } else if self.count < self.front.len() {
-                self.front[self.count] = *b;
-                self.count += 1;
+                seen = self.line.judged(seen);
+                self.line = ComingLine::new();
+            } else {
+                self.line.take(*b);
             }
-            self.last = *b;
         }
+        self.noticed.set(seen);
     }
 
-    // Notes what is odd about the line that a line feed has just ended: it begins as a request (`echoes`), or it begins as a
-    // reply and has no CR at its end (`bare`). What was noted of earlier lines stays, and a line of less than four bytes is neither.
-    fn judge(&self) {
-        if self.count < self.front.len() {
-            return;
-        }
+    // Notes whether the connection is lost (`is_lost`): it ended or failed, or couldn't be made, and then why (`why`), if the system
+    // gave a reason.
+    fn note_loss(&self, is_lost: bool, why: Option<io::Error>) {
         let seen = self.noticed.get();
-        let odd = Oddities {
-            echoes: seen.odd.echoes || self.front == *b"%R1Q",
-            bare: seen.odd.bare || self.front == *b"%R1P" && self.last != b'\r',
-        };
-        self.noticed.set(Noticed { odd, ..seen });
-    }
-
-    // Notes whether the connection is lost (`is_lost`): it ended or failed, or couldn't be made.
-    fn note_loss(&self, is_lost: bool) {
-        let seen = self.noticed.get();
-        self.noticed.set(Noticed { is_lost, ..seen });
+        self.noticed.set(Noticed {
+            is_lost,
+            why,
+            ..seen
+        });
     }
 }
 
@@ -156,7 +230,7 @@ impl<'a, L: Link> Link for Noticing<'a, L> {
         let came = self.link.read(buf, millis.min(LONGEST_READ));
         match came {
             Came::Bytes(n, _) => self.look(&buf[..n]),
-            Came::End | Came::Failure => self.note_loss(true),
+            Came::End | Came::Failure => self.note_loss(true, None),
             Came::Silence(_) | Came::NoMoment => {}
         }
         came
@@ -166,21 +240,26 @@ impl<'a, L: Link> Link for Noticing<'a, L> {
     fn put(&mut self, bytes: &[u8]) -> Result<(), usize> {
         let put = self.link.put(bytes);
         if put.is_err() {
-            self.note_loss(true);
+            self.note_loss(true, None);
         }
         put
     }
 
     // Closes, and forgets the front of a line that hasn't ended. Whether the connection is lost stays as it was noted before.
     fn close(&mut self) {
-        self.count = 0;
+        self.line = ComingLine::new();
         self.link.close();
     }
 
-    // Makes a connection, and notes as lost one that couldn't be made; one that was made is noted as not lost.
+    // Makes a connection, and notes as lost one that couldn't be made, with the system's reason; one that was made is noted as not
+    // lost.
     fn open(&mut self) -> Result<(), PortFailed> {
         let opened = self.link.open();
-        self.note_loss(opened.is_err());
+        let why = match opened {
+            Ok(()) => None,
+            Err(_) => self.reason.get(),
+        };
+        self.note_loss(opened.is_err(), why);
         opened
     }
 }

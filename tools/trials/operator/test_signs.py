@@ -11,13 +11,13 @@ from contextlib import contextmanager
 
 import pytest
 
-from far_end import LOSES, closes, good, loses, standing
+from far_end import GOOD, LOSES, closes, good, loses, standing
 from measuring import STAMP, expect_each_once, finished, measuring
 from programs import Run, ended, until
 from records import counts_line, moment
 
 TWO = b"7 5003\n8 5004\n"
-AWAY, AGAIN = f"geocom: no connection since {STAMP}", "geocom: connected again"
+AWAY, AGAIN = f"geocom: no connection since {STAMP}(?:: .+)?", "geocom: connected again"
 
 
 def expect_signs(messages, signs):
@@ -75,6 +75,40 @@ def test_no_answer(program, what, answers, has_lost):
     assert ("no connection" in kinds) == has_lost, f"whether a connection was missed, of {messages}"
 
 
+def without_id(request):
+    """A far end whose replies have no id, as a program that answers by itself may write them."""
+    return b"%%R1P,0:%s\r\n" % GOOD[request.rpc]
+
+
+def measured_data(_):
+    """A far end that sends its measured data in GSI, whatever is asked."""
+    return b"*110001+0000000000000007 21.102+0000000012345670\r\n"
+
+
+@pytest.mark.title("signs of life, bytes that are no reply: {what}")
+@pytest.mark.parametrize("what, answers", [("without an id", without_id), ("measured data", measured_data)])
+def test_no_reply(program, what, answers):
+    """Where bytes arrive, and no reply, their number is in the line on the answer that doesn't come."""
+    with standing(answers) as far:
+        with measuring(program, far.port, "--deadline 1000 --retries 0", TWO) as run:
+            until(lambda: "no answer since" in run.messages(), f"no line within a minute, {what}", 61)
+            line = next(line for line in run.messages().splitlines() if "no answer" in line)
+            found = re.fullmatch(rf"geocom: no answer since {STAMP}: (\d+) bytes arrived, none a reply", line)
+            sent = sum(map(len, far.went))
+    assert found and 0 < int(found[1]) <= sent, f"{line!r} was told, and {sent} bytes were sent"
+
+
+@pytest.mark.title("signs of life, no connection")
+@pytest.mark.parametrize("where, why", [
+    ("/dev/ttyNONE", r"No such file or directory \(os error 2\)"), ("127.0.0.1:1", r"Connection refused \(os error 111\)"),
+])
+def test_why_no_connection(program, where, why):
+    """Where no connection can be made, the line says why, as the system says it."""
+    with measuring(program, where, "--retries 0", TWO) as run:
+        until(lambda: "no connection since" in run.messages(), "no line", 5)
+        expect_signs(run.messages().splitlines()[1:2], [f"geocom: no connection since {STAMP}: {why}"])
+
+
 @pytest.mark.title("signs of life, the start")
 def test_start(program):
     """At its start a run says how many commands it has, where, and what it waits for; with --silent it doesn't."""
@@ -97,7 +131,10 @@ def test_skipped(program):
     with standing(refuses_positions) as far, measuring(program, far.port, "--quiet 200 --deadline 200", text) as run:
         rows, messages = finished(run)
     assert [row["outcome"] for row in rows] == ["answered", "skipped", "skipped", "skipped", "answered"], "the outcomes"
-    expect_signs(messages, [f"geocom: commands skipped since {STAMP}: 3"])
+    expect_signs(messages, [
+        f"geocom: commands not answered well since {STAMP}: 1; the last: target 7, 9027: refused 8704",
+        f"geocom: commands skipped since {STAMP}: 3",
+    ])
 
 
 @contextmanager

@@ -22,9 +22,11 @@ from tagging import tagged
 OF_REPLY = ["fault", "rc_com", "rc", "values", "quality"]
 # What may be told, at most once a minute of each kind.
 SIGNS = [
-    rf"geocom: (no connection) since {STAMP}", rf"geocom: (line not quiet) since {STAMP}", rf"geocom: (no answer) since {STAMP}",
+    rf"geocom: (no connection) since {STAMP}(?:: .+)?", rf"geocom: (line not quiet) since {STAMP}",
+    rf"geocom: (no answer) since {STAMP}(?:: \d+ bytes arrived, none a reply)?",
     r"geocom: (connected again)", r"geocom: (cycle) \d+ was not done when the next was due",
-    rf"geocom: (commands skipped) since {STAMP}: \d+", f"({re.escape(ECHOES)})",
+    rf"geocom: (commands skipped) since {STAMP}: \d+", rf"geocom: (commands not answered well) since {STAMP}: \d+; the last: target .+",
+    r"geocom: (?:\d+ )?(cycles?) (?:\d+ )?missed(?:, from \d+ to \d+)?: \d+ rows? written", f"({re.escape(ECHOES)})",
 ]
 
 
@@ -215,3 +217,9 @@ def faults_of_messages(plan, rows, lines, late_cycles):
     skipped = sum(int(line.split()[-1]) for line in signs if " commands skipped " in line)
     if skipped > sum(row["outcome"] == "skipped" for row in rows):
         yield f"{skipped} told as skipped, and fewer were"
+    unwell = sum(int(found[1]) for found in (re.search(r"not answered well since \S+: (\d+);", line) for line in signs) if found)
+    if unwell > sum(row["cycle"] != "0" and (row["quality"] == "refused" or row["outcome"] in ("unreadable", "elsewhere")) for row in rows):
+        yield f"{unwell} told as not answered well, and fewer were"
+    written = sum(int(found[1]) for found in (re.search(r"missed.*: (\d+) rows? written", line) for line in signs) if found)
+    if written > sum(row["outcome"] == "missed" for row in rows):
+        yield f"{written} rows told as missed, and fewer were"

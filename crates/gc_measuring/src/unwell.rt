@@ -1,0 +1,184 @@
+//! What is reported of commands of cycles that weren't answered well, and of cycles that were missed, while a station measures.
+
+use crate::checking::write_target;
+use gc_lines::{Line, read_reply};
+use gc_texts::{Ending, Name, Quality, Stamp, Wish, name_text};
+use std::io::{self, Write};
+
+/// A second, in milliseconds: the status line of a terminal is rewritten once a second at most, and gives ages in seconds; and missed
+/// cycles are over once none was missed for a second.
+pub(crate) const SECOND: u64 = 1_000;
+
+/// How a command that has a reply wasn't answered well.
+#[derive(Clone, Copy)]
+enum Why {
+    /// The communication code of its reply isn't 0.
+    Communication(u16),
+    /// The return code of its reply is this one, which is neither 0 nor accepted.
+    Code(u16),
+    /// Its values don't read.
+    Unreadable,
+    /// It was measured elsewhere.
+    Elsewhere,
+}
+
+impl Why {
+    // Why a command with this ending wasn't answered well. `None`: it was, or no reply came in time.
+    fn of(ending: Ending<'_>) -> Option<Why> {
+        match ending {
+            Ending::Answered(Quality::Refused, _, line) => Some(Why::of_refusal(line)),
+            Ending::Unreadable(..) => Some(Why::Unreadable),
+            Ending::Elsewhere(_) => Some(Why::Elsewhere),
+            Ending::Answered(..) => None,
+            Ending::Late | Ending::Lost | Ending::Skipped | Ending::Missed => None,
+        }
+    }
+
+    // By which of its codes this reply line is a refusal.
+    fn of_refusal(line: &Line) -> Why {
+        match read_reply(line.as_slice()) {
+            Ok(reply) if reply.rc_com == 0 => Why::Code(reply.rc),
+            Ok(reply) => Why::Communication(reply.rc_com),
+            // Never in practice: the line of an answer reads as a reply.
+            Err(_) => Why::Unreadable,
+        }
+    }
+
+    // Writes it as the end of a line.
+    fn tell<E: Write>(self, messages: &mut E) -> io::Result<()> {
+        match self {
+            Why::Communication(code) => writeln!(messages, "refused, rc_com {code}"),
+            Why::Code(code) => writeln!(messages, "refused {code}"),
+            Why::Unreadable => writeln!(messages, "unreadable"),
+            Why::Elsewhere => writeln!(messages, "elsewhere"),
+        }
+    }
+}
+
+/// Commands of cycles that have a reply and weren't answered well, and that no line has reported yet.
+#[derive(Clone, Copy)]
+pub(crate) struct Unwell {
+    // How many there are.
+    count: u64,
+    /// When the first of them ended, in milliseconds since 1970.
+    pub(crate) since: u64,
+    // The target and the procedure of the last one, and why it wasn't answered well.
+    target: u32,
+    procedure: u16,
+    why: Why,
+}
+
+impl Unwell {
+    /// Takes in a command with this ending: it is added to `unwell` if it is of a cycle, has a reply, and wasn't answered well.
+    pub(crate) fn note(
+        unwell: &mut Option<Unwell>,
+        stamp: Stamp,
+        command: &Wish,
+        ending: Ending<'_>,
+    ) {
+        let Some(why) = Why::of(ending) else {
+            return;
+        };
+        if stamp.cycle == 0 {
+            return;
+        }
+        let (count, since) = match *unwell {
+            Some(before) => (before.count.saturating_add(1), before.since),
+            None => (1, stamp.utc),
+        };
+        *unwell = Some(Unwell {
+            count,
+            since,
+            target: command.target,
+            procedure: command.call.number(),
+            why,
+        });
+    }
+
+    /// Writes the end of the line on them: how many there are, and the last one, whose target has its name among `names`.
+    pub(crate) fn tell<E: Write>(self, names: &[Name], messages: &mut E) -> io::Result<()> {
+        let count = self.count;
+        let procedure = self.procedure;
+        write!(messages, ": {count}; the last: ")?;
+        write_target(self.target, name_text(self.target, names), messages)?;
+        write!(messages, ", {procedure}: ")?;
+        self.why.tell(messages)
+    }
+}
+
+/// Commands that were missed with their cycles, and that no line has reported yet.
+#[derive(Clone, Copy)]
+pub(crate) struct Missed {
+    // How many there are, and of how many cycles; the first and the last of these. All are 0 if there is none.
+    rows: u64,
+    cycles: u64,
+    first: u64,
+    last: u64,
+    // When the last of them came, in milliseconds of the clock for deadlines, and whether a command ended otherwise since the first.
+    moment: u64,
+    is_over: bool,
+}
+
+impl Missed {
+    /// There is none.
+    pub(crate) fn none() -> Missed {
+        Missed {
+            rows: 0,
+            cycles: 0,
+            first: 0,
+            last: 0,
+            moment: 0,
+            is_over: false,
+        }
+    }
+
+    /// Whether there is none.
+    pub(crate) fn is_none(&self) -> bool {
+        self.rows == 0
+    }
+
+    /// Whether the station goes on at `elapsed`, by the clock for deadlines, so that all commands of an outage are there: a command
+    /// ended otherwise, or none was missed for a second.
+    pub(crate) fn is_over(&self, elapsed: u64) -> bool {
+        self.is_over || elapsed.saturating_sub(self.moment) >= SECOND
+    }
+
+    /// Takes in a command of this cycle with this ending at `elapsed`, by the clock for deadlines: it counts if it was missed.
+    pub(crate) fn note(&mut self, cycle: u64, ending: Ending<'_>, elapsed: u64) {
+        if !matches!(ending, Ending::Missed) {
+            self.is_over = self.rows != 0;
+            return;
+        }
+        self.moment = elapsed;
+        if self.rows == 0 {
+            self.first = cycle;
+        }
+        if self.last != cycle {
+            self.cycles = self.cycles.saturating_add(1);
+        }
+        self.last = cycle;
+        self.rows = self.rows.saturating_add(1);
+    }
+
+    /// Writes the line on them.
+    pub(crate) fn tell<E: Write>(self, messages: &mut E) -> io::Result<()> {
+        let Missed {
+            rows,
+            cycles,
+            first,
+            last,
+            moment: _,
+            is_over: _,
+        } = self;
+        if cycles == 1 {
+            write!(messages, "geocom: cycle {first} missed: ")?;
+        } else {
+            write!(
+                messages,
+                "geocom: {cycles} cycles missed, from {first} to {last}: "
+            )?;
+        }
+        let word = if rows == 1 { "row" } else { "rows" };
+        writeln!(messages, "{rows} {word} written")
+    }
+}
