@@ -1,6 +1,6 @@
 -- What it means that rows are true: this project's own. A claim is what a row says of a reply, and a truth is a reply that came, with the
 -- request on whose execution the instrument made it.
-use Rattle.std.specs.Prelude.{◌≡◌, ◌↔◌, ℕ, ◌+◌, ◌<◌, ◌⊎◌, true, List, [], ◌∷◌, slice_get, Some, IfSome, is_some, Result, Ok, Err}
+use Rattle.std.specs.Prelude.{◌≡◌, ◌↔◌, ℕ, ◌+◌, ◌<◌, ◌⊎◌, Bool, true, false, List, [], ◌∷◌, slice_get, Some, IfSome, is_some, Result, Ok, Err}
 use Rattle.gc_catalogue.specs.Asked.{asked_line}
 use Rattle.gc_catalogue.specs.declared.asked.Asked.{Asked}
 use Rattle.gc_nights.specs.declared.book.Seen.{Seen}
@@ -9,7 +9,16 @@ use Rattle.gc_nights.specs.declared.halt.FalseRow.{FalseRow}
 use Rattle.gc_nights.specs.declared.halt.Halt.{Halt}
 use Rattle.gc_nights.specs.declared.halt.Halt.TheVariants.{Fault, Untrue}
 use Rattle.gc_rehearsal.specs.declared.truth.Truth.{Truth}
+use Rattle.gc_texts.specs.Endings.{End, Answered, Unreadable, Elsewhere, Late}
 use Rattle.gc_texts.specs.declared.fault.RunFault.TheVariants.{Memory}
+
+-- whether a row with this ending says that a reply came, in time or late. Such a row makes a claim
+abbrev pub speaks_of_reply : End → Bool
+speaks_of_reply (Answered quality answer line) = true
+speaks_of_reply (Unreadable line fault) = true
+speaks_of_reply (Elsewhere line) = true
+speaks_of_reply Late = true
+speaks_of_reply _ = false
 
 -- these bytes are the request line of what is asked, with one of the ids 0 to 7
 abbrev pub IsRequestFor : Asked → (line : List ℕ) → Type 0

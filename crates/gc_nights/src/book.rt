@@ -3,6 +3,8 @@
 
 ghost use Rattle.std.specs.Prelude.{◌≡◌, true};
 ghost use Rattle.gc_measuring.specs.Measuring.{text_in};
+ghost use Rattle.gc_nights.specs.Claims.{speaks_of_reply};
+ghost use Rattle.gc_texts.specs.Endings.{ending_seen};
 
 use crate::claim::Claim;
 use crate::deadlines::Deadlines;
@@ -68,10 +70,13 @@ impl Seen {
 }
 
 // Whether a row with this ending says that a reply came, in time or late.
-fn speaks_of_reply(ending: Ending<'_>) -> bool {
+fn speaks_of_reply(ending: Ending<'_>) -> bool
+    ensures { result ≡ speaks_of_reply (ending_seen ending.entry) }
+{
     match ending {
+        Ending::Answered(..) | Ending::Unreadable(..) | Ending::Elsewhere(_) => true,
         Ending::Late => true,
-        _ => ending.line().is_some(),
+        Ending::Lost | Ending::Skipped | Ending::Missed => false,
     }
 }
 
