@@ -15,11 +15,12 @@ use std::time::{Clock, Duration, Instant};
 /// The most bytes that are kept of what came while the instrument was busy.
 pub(crate) const EARLY_ROOM: usize = 8192;
 
-/// The clock of an instrument whose replies take time. Its moments are milliseconds since it was made.
+/// The clock of an instrument whose replies take time. Its moments are milliseconds since it was made, and those that were skipped: a
+/// new connection finds the instrument free, also where the one before ended while a reply waited.
 ///
 /// The instrument records here until when it is busy, and the writing end of a connection waits until then. The reading end
-/// records when bytes came. If what arrives while the instrument is busy is to be dropped, the writing end reads it after the
-/// wait, and the reading end hands it on with a moment at which the instrument was still busy.
+/// records when bytes came. The writing end reads, while it waits, what arrives, so that it notices the end of the connection; and
+/// the reading end hands that on with a moment at which the instrument was still busy.
 #[derive(Drop)]
 pub struct BusyClock {
     start: Instant,
@@ -32,12 +33,19 @@ pub struct BusyClock {
     until: Cell<u64>,
     // Whether its reply has still to wait until then.
     waits: Cell<bool>,
+    // How many milliseconds were skipped, and whether the next read skips the time until the instrument is free.
+    skipped: Cell<u64>,
+    skips: Cell<bool>,
+    // Whether the end of the connection came while a reply waited.
+    has_ended: Cell<bool>,
+    // Whether no reply is sent any more over this connection.
+    is_left: Cell<bool>,
     // What came while it was busy, and hasn't been handed on.
     early: RefCell<Early>,
 }
 
-// Bytes that came while the instrument was busy, and how many of them were handed on. `Connection::take_in` reads no more at once
-// than there is room for: further ones wait in the system's buffer, and count as having come when they are read.
+// Bytes that came while the instrument was busy, and how many of them were handed on. No more are read than there is room for: further
+// ones wait in the system's buffer, and count as having come when they are read.
 #[derive(Drop)]
 struct Early {
     bytes: ArrayVec<u8, EARLY_ROOM>,
@@ -57,14 +65,21 @@ impl BusyClock {
             came: Cell::new(0),
             until: Cell::new(0),
             waits: Cell::new(false),
+            skipped: Cell::new(0),
+            skips: Cell::new(false),
+            has_ended: Cell::new(false),
+            is_left: Cell::new(false),
             early: RefCell::new(early),
         })
     }
 
-    /// Prepares for a new connection: no reply waits, and the bytes that came over the last one while the instrument was busy, and weren't
-    /// handed on, are discarded.
+    /// Prepares for a new connection: no reply waits, the bytes that came over the last one while the instrument was busy, and weren't
+    /// handed on, are discarded, and the instrument will be free.
     pub(crate) fn begin(&self) {
         self.waits.set(false);
+        self.skips.set(true);
+        self.has_ended.set(false);
+        self.is_left.set(false);
         if let Ok(mut early) = self.early.try_borrow_mut() {
             early.clear();
         }
@@ -82,9 +97,14 @@ impl BusyClock {
         self.came.get()
     }
 
-    /// Records that a read returned just now, with bytes or without. If the system's clock can't be read, or lies before the
-    /// moment of the last read (`came`), that moment stays as it was.
+    /// Records that a read returned just now, with bytes or without. The first one of a connection skips the time until the instrument is
+    /// free. If the system's clock can't be read, or lies before the moment of the last read (`came`), that moment stays as it was.
     pub(crate) fn note_now<R: Clock>(&self, rt: &R) {
+        if self.skips.get() {
+            self.skips.set(false);
+            let busy = self.until.get().saturating_sub(self.now(rt));
+            self.skipped.set(self.skipped.get().saturating_add(busy));
+        }
         self.came.set(self.now(rt));
     }
 
@@ -94,17 +114,50 @@ impl BusyClock {
         self.waits.set(true);
     }
 
-    /// Sleeps until the instrument is free, if a reply still has to wait for that. Returns whether it slept: it doesn't where
-    /// the instrument is free already.
-    pub(crate) fn wait<R: Clock>(&self, rt: &R) -> bool {
-        let now = self.now(rt);
-        let until = self.until.get();
-        if !self.waits.get() || until <= now {
-            return false;
+    /// For how many milliseconds a reply still has to wait until the instrument is free: 0 if none has to.
+    pub(crate) fn left<R: Clock>(&self, rt: &R) -> u64 {
+        if self.waits.get() && !self.is_left.get() {
+            self.until.get().saturating_sub(self.now(rt))
+        } else {
+            0
         }
+    }
+
+    /// Sleeps until the instrument is free, if a reply still has to wait for that: none has to after this.
+    pub(crate) fn wait<R: Clock>(&self, rt: &R) {
+        let left = self.left(rt);
         self.waits.set(false);
-        thread::sleep(rt, Duration::from_millis(until - now));
-        true
+        if left > 0 {
+            thread::sleep(rt, Duration::from_millis(left));
+        }
+    }
+
+    /// Records that the end of the connection came while a reply waited.
+    pub(crate) fn note_end(&self) {
+        self.has_ended.set(true);
+    }
+
+    /// Whether the end of the connection came while a reply waited.
+    pub(crate) fn has_ended(&self) -> bool {
+        self.has_ended.get()
+    }
+
+    /// Leaves the connection: no reply has to wait any more, and none is to be sent.
+    pub(crate) fn leave(&self) {
+        self.is_left.set(true);
+    }
+
+    /// Whether the connection was left.
+    pub(crate) fn is_left(&self) -> bool {
+        self.is_left.get()
+    }
+
+    /// How many more bytes there is room for of what comes while the instrument is busy.
+    pub(crate) fn room(&self) -> usize {
+        match self.early.try_borrow() {
+            Ok(early) => early.bytes.remaining_capacity(),
+            Err(_) => 0,
+        }
     }
 
     /// Stores bytes that came while the instrument was busy, as far as there is room. Those without room are discarded.
@@ -130,12 +183,12 @@ impl BusyClock {
         n
     }
 
-    // The moment now, in milliseconds since the clock was made. It is never before the moment of the last read (`came`), and it
+    // The moment now, in milliseconds since the clock was made and those skipped. It is never before the moment of the last read (`came`), and it
     // is that moment if the system's clock can't be read.
     fn now<R: Clock>(&self, rt: &R) -> u64 {
         let last = self.came.get();
         match self.start.elapsed(rt) {
-            Ok(time) => millis_of(time).max(last),
+            Ok(time) => millis_of(time).saturating_add(self.skipped.get()).max(last),
             Err(_) => last,
         }
     }

@@ -1,16 +1,25 @@
-//! The connection of a caller who is served: the end at which the instrument answers, with its reading and its writing side.
+//! The connection of a caller who is served: the end at which the instrument answers, with its reading and its writing side. While a
+//! reply waits until it is to be sent, the connection is watched.
 
 ghost use Rattle.std.specs.Io.{ReadsAtMost, WritesAtMost};
 ghost use Rattle.gc_links.specs.Acts.{GivesAtMost};
 
 use crate::busy_clock::{BusyClock, EARLY_ROOM};
+use crate::queue::CallerQueue;
 use crate::simulated::{Simulates, serve_anew};
 use gc_instrument::{ServeFault, Served};
 use gc_lines::{FromReader, ToWriter};
 use gc_links::{Wire, read_stream_within, write_stream};
 use std::io::{self, ErrorKind, Read, Write};
 use std::net::TcpStream;
+use std::thread;
 use std::time::{Clock, Duration};
+
+// For how long a connection is watched at once, in milliseconds, while a reply waits.
+const WATCH: u64 = 100;
+
+// The most bytes of one read while a reply waits.
+const PIECE: usize = 256;
 
 // The most tries of one read: it is tried again each time that it was interrupted.
 const MOST_TRIES: u32 = 1000;
@@ -18,10 +27,19 @@ const MOST_TRIES: u32 = 1000;
 /// The connection of a caller.
 #[derive(Drop)]
 pub(crate) enum Connection<'a, R> {
-    /// Over TCP, and how long a read may wait, which the stream's time-out says already; `None`: without end.
-    Stream(&'a TcpStream, Option<Duration>),
+    /// Over TCP.
+    Stream(&'a TcpStream, Waits<'a>),
     /// Over a device.
     Device(&'a Wire<'a, R>),
+}
+
+/// How long a caller over TCP is waited for.
+#[derive(Clone, Copy)]
+pub(crate) struct Waits<'a> {
+    /// How long a read may wait, which the stream's time-out says already; `None`: without end.
+    pub(crate) longest: Option<Duration>,
+    /// The callers who are served after this one; `None`: there are none.
+    pub(crate) queue: Option<&'a CallerQueue<'a>>,
 }
 
 /// How serving a caller ended.
@@ -61,14 +79,29 @@ impl<'a, R: Clock> Connection<'a, R> {
         }
     }
 
-    // Reads what comes within about a millisecond; over a device only what has come already. `None`: nothing came, or the read was
-    // interrupted. `Some(0)`: the connection has ended. Reads after this one may wait as long as before.
-    fn read_soon(&self, buf: &mut [u8]) -> io::Result<Option<usize>>
+    // Reads what comes within about so many milliseconds. `None`: nothing came, or the read was interrupted. `Some(0)`: the connection
+    // has ended. Reads after this one may wait as long as before.
+    fn read_within(&self, buf: &mut [u8], millis: u64) -> io::Result<Option<usize>>
         ensures { GivesAtMost result buf.new }
     {
         match self {
-            Connection::Stream(stream, longest) => read_stream_within(stream, buf, 1, *longest),
-            Connection::Device(wire) => wire.read_within(buf, 1),
+            Connection::Stream(stream, waits) => {
+                read_stream_within(stream, buf, millis, waits.longest)
+            }
+            Connection::Device(wire) => wire.read_within(buf, millis),
+        }
+    }
+
+    // Whether nobody can take a reply over this connection, whose reading has ended, or another caller waits. Over TCP a caller who has
+    // only ended his writing can't be told from one who went away: he has his reply as long as nobody else calls. A device that has
+    // ended is gone.
+    fn is_to_be_left(&self) -> bool {
+        match self {
+            Connection::Stream(_, waits) => match waits.queue {
+                Some(queue) => queue.has_next(),
+                None => false,
+            },
+            Connection::Device(_) => true,
         }
     }
 
@@ -117,12 +150,58 @@ impl<'a, R: Clock> Connection<'a, R> {
         }
     }
 
-    // Moves into the clock what has come while the instrument was busy, until a read brings nothing or fails, or as many bytes
-    // may have come as the clock has room for.
+    // Waits until the instrument is free, if a reply has to wait for that, and watches the connection meanwhile. `Err`: the connection
+    // failed.
+    fn wait(&self, rt: &R, clock: &BusyClock) -> io::Result<()> {
+        let left = clock.left(rt);
+        if left == 0 {
+            return Ok(());
+        }
+        // As many looks as there are spans of time, and one for each byte that there is room for, as it may end a look.
+        for _ in 0..(left / WATCH).saturating_add(EARLY_ROOM as u64) {
+            if clock.left(rt) <= WATCH {
+                break;
+            }
+            self.watch(rt, clock)?;
+        }
+        clock.wait(rt);
+        if clock.drops() && !clock.is_left() {
+            self.take_in(clock);
+        }
+        Ok(())
+    }
+
+    // Watches the connection for `WATCH` milliseconds, or until something happens: moves what comes into the clock, as long as there is
+    // room, notes its end, and leaves it after its end where `is_to_be_left` says so. `Err`: the connection failed.
+    fn watch(&self, rt: &R, clock: &BusyClock) -> io::Result<()> {
+        if clock.has_ended() && self.is_to_be_left() {
+            clock.leave();
+            return Ok(());
+        }
+        if clock.has_ended() || clock.room() == 0 {
+            thread::sleep(rt, Duration::from_millis(WATCH));
+            return Ok(());
+        }
+        let mut buf = [0u8; PIECE];
+        let most = clock.room().min(PIECE);
+        match self.read_within(&mut buf[..most], WATCH)? {
+            Some(0) => clock.note_end(),
+            Some(n) => clock.store_early(&buf[..n]),
+            None => {}
+        }
+        Ok(())
+    }
+
+    // Moves into the clock what has come while the instrument was busy, until a read brings nothing or fails, or there is no room
+    // left.
     fn take_in(&self, clock: &BusyClock) {
-        let mut buf = [0u8; 256];
-        for _ in 0..EARLY_ROOM / 256 {
-            match self.read_soon(&mut buf) {
+        let mut buf = [0u8; PIECE];
+        for _ in 0..EARLY_ROOM / PIECE {
+            let most = clock.room().min(PIECE);
+            if most == 0 {
+                return;
+            }
+            match self.read_within(&mut buf[..most], 1) {
                 Ok(Some(n)) if n > 0 => clock.store_early(&buf[..n]),
                 _ => return,
             }
@@ -141,13 +220,13 @@ struct ReplyWriter<'a, R> {
 
 // Each write is sent at once, so there is nothing to flush.
 impl<'a, R: Clock> Write for ReplyWriter<'a, R> {
-    // Waits until the instrument is free, if it is busy, and writes. If the instrument drops what comes while it is busy, what came
-    // during the wait is moved into the clock.
+    // Waits until the instrument is free, if it is busy, and writes. Once the connection was left, the bytes are discarded, as the
+    // system discards what is sent to a caller who went away.
     fn write(&mut self, buf: &[u8]) -> io::Result<usize> {
         if let Some(clock) = self.clock {
-            let waited = clock.wait(self.rt);
-            if waited && clock.drops() {
-                self.connection.take_in(clock);
+            self.connection.wait(self.rt, clock)?;
+            if clock.is_left() {
+                return Ok(buf.len());
             }
         }
         self.connection.write_plain(buf)

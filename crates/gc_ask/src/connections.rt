@@ -11,13 +11,14 @@ ghost use Rattle.gc_texts.specs.declared.fault.RunFault.{RunFault};
 
 use crate::address::Address;
 use crate::ask::ask_all;
-use crate::caller::Connection;
+use crate::caller::{Connection, Waits};
 use crate::link::Remote;
 use crate::looped::ask_looped;
+use crate::queue::CallerQueue;
 use crate::simulated::Simulates;
 use gc_instrument::Instrument;
 use gc_lines::{Answers, FromReader, Sink, Source, ToWriter};
-use gc_links::{Place, Unusable, accept, both_ends, connect_here, wire_to};
+use gc_links::{Place, Unusable, both_ends, connect_here, wire_to};
 use gc_texts::{
     Command, CommandStop, RunFault, end_of_serving, read_command_text, read_commands_of,
 };
@@ -158,8 +159,9 @@ pub fn serve_tcp<'c, R: Net<Listener = TcpListener, Stream = TcpStream> + Clock,
 }
 
 /// Accepts `connections` connections of a port one after the other, and serves each with the instrument, which is restarted for
-/// it, in at most `max_reads` reads. A silent caller is waited for without end; further callers wait in the system's queue. The
-/// faults, and how the instrument is left, are as `serve_tcp` has them.
+/// it, in at most `max_reads` reads. A silent caller is waited for without end; further callers wait in the system's queue. Where a
+/// caller has ended his writing and a reply to him waits until it is to be sent, his connection ends without it once one of the further
+/// callers is there. The faults, and how the instrument is left, are as `serve_tcp` has them.
 pub fn serve_on<'c, R: Clock, I: Simulates<'c>>(
     rt: &R,
     listener: &TcpListener,
@@ -167,11 +169,17 @@ pub fn serve_on<'c, R: Clock, I: Simulates<'c>>(
     instrument: &mut I,
     max_reads: u32,
 ) -> Result<(), RunFault> {
-    for _ in 0..connections {
-        let Ok(stream) = accept(listener) else {
+    let queue = CallerQueue::new(listener);
+    for at in 0..connections {
+        let Ok(stream) = queue.next() else {
             return Err(RunFault::Socket);
         };
-        let connection = Connection::Stream(&stream, None);
+        let is_last = connections - at == 1;
+        let waits = Waits {
+            longest: None,
+            queue: if is_last { None } else { Some(&queue) },
+        };
+        let connection = Connection::Stream(&stream, waits);
         let ended = connection.serve(rt, instrument, max_reads);
         end_of_serving(ended.served)?;
     }

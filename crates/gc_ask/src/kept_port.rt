@@ -5,11 +5,11 @@ ghost use Rattle.gc_ask.specs.Keeping.{ServesConnections, most_callers};
 ghost use Rattle.gc_texts.specs.declared.fault.RunFault.{RunFault};
 
 use crate::address::Address;
-use crate::caller::Connection;
+use crate::caller::{Connection, Waits};
 use crate::callers::{CallerFault, Callers, PAUSE, end_of_caller, keep};
+use crate::queue::CallerQueue;
 use crate::simulated::Simulates;
 use gc_instrument::ServeFault;
-use gc_links::accept;
 use gc_texts::RunFault;
 use std::io::{self, Write};
 use std::net::{Net, TcpListener, TcpStream};
@@ -68,7 +68,8 @@ pub fn keep_tcp<
     Ok(keep_on(rt, &listener, keeping, instrument, messages))
 }
 
-/// Serves the connections of a port that is bound, as `keep_tcp` does. Further callers wait in the system's queue. Returns
+/// Serves the connections of a port that is bound, as `keep_tcp` does. Further callers wait in the system's queue. A caller who has
+/// ended his writing is left without a reply that waits until it is to be sent, once a further one is there (`serve_on`). Returns
 /// whether the lines of all faults were written.
 pub fn keep_on<'c, R: Clock, I: Simulates<'c>, E: Write>(
     rt: &'c R,
@@ -79,9 +80,10 @@ pub fn keep_on<'c, R: Clock, I: Simulates<'c>, E: Write>(
 ) -> bool
     ensures { ServesConnections keeping.connections result (E.contents messages.old) (E.contents messages.new) }
 {
+    let queue = CallerQueue::new(listener);
     let mut callers = PortCallers {
         rt,
-        listener,
+        queue: &queue,
         instrument,
         idle: Duration::from_secs(u64::from(keeping.idle.max(1))),
         max_reads: keeping.max_reads,
@@ -93,7 +95,7 @@ pub fn keep_on<'c, R: Clock, I: Simulates<'c>, E: Write>(
 #[derive(Drop)]
 struct PortCallers<'a, 'c, R, I> {
     rt: &'c R,
-    listener: &'a TcpListener,
+    queue: &'a CallerQueue<'a>,
     instrument: &'a mut I,
     idle: Duration,
     max_reads: u32,
@@ -106,14 +108,18 @@ impl<'a, 'c, R: Clock, I: Simulates<'c>> Callers for PortCallers<'a, 'c, R, I> {
     // seconds; or the connection's time-outs couldn't be set. A read that timed out is the fault `Idle`, and any other failed
     // read one of serving.
     fn serve_next(&mut self) -> Result<(), CallerFault> {
-        let Ok(stream) = accept(self.listener) else {
+        let Ok(stream) = self.queue.next() else {
             thread::sleep(self.rt, Duration::from_secs(PAUSE));
             return Err(CallerFault::Socket);
         };
         let Ok(()) = bound_waits(&stream, self.idle) else {
             return Err(CallerFault::Socket);
         };
-        let connection = Connection::Stream(&stream, Some(self.idle));
+        let waits = Waits {
+            longest: Some(self.idle),
+            queue: Some(self.queue),
+        };
+        let connection = Connection::Stream(&stream, waits);
         let ended = connection.serve(self.rt, self.instrument, self.max_reads);
         match ended.served {
             Err(ServeFault::Read { .. }) if ended.is_idle => Err(CallerFault::Idle),

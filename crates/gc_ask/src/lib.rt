@@ -14,6 +14,7 @@ mod kept_port;
 pub mod laws;
 mod link;
 mod looped;
+mod queue;
 mod shown;
 mod simulated;
 mod slow;

@@ -6,8 +6,8 @@
 //!     do shut, leave           the last caller writes no more, or goes away
 //!     do serve 2 9             so many callers are served, in that many reads each
 //!     do keep 3                so many callers are served at a kept port, which closes on one that is idle for a second
-//!     do slow drop 5003 200    a caller is served by an instrument whose reply to this procedure takes this many milliseconds,
-//!                              and that drops what comes meanwhile, or queues it (`queue`)
+//!     do slow drop 5003 200 2  so many callers, or one, are served by an instrument whose reply to this procedure takes this many
+//!                              milliseconds, and that drops what comes meanwhile, or queues it (`queue`)
 //!     do hear 0                what this caller, counted from 0, has heard at the end of its connection, or `it waits` if no end
 //!                              comes
 //!     do ask 9 7 5003\n        these commands are asked at the port, in that many reads
@@ -233,12 +233,15 @@ impl<'a> PortRows<'a> {
         tell_end(end, came)
     }
 
-    // Serves a caller, in at most 99 reads, with an instrument whose reply to a procedure takes time. `what` is `drop` or
-    // `queue`, the procedure and the time in milliseconds. Reports how serving ended, and `late` if it took at least that time
-    // by the clock; or `no clock`, with nobody served, if the clock can't be read.
+    // Serves callers, each in at most 99 reads, with an instrument whose reply to a procedure takes time. `what` is `drop` or
+    // `queue`, the procedure, the time in milliseconds, and the number of callers if it isn't one. Reports how serving ended, and
+    // `late` if it took at least that time by the clock; or `no clock`, with nobody served, if the clock can't be read.
     fn serve_slowly(&mut self, what: &str, came: &mut Told) {
         let (busy, rest) = cut_word(what);
-        let (rpc, ms) = cut_word(rest);
+        let (rpc, rest) = cut_word(rest);
+        let (ms, callers) = cut_word(rest);
+        let callers = if callers.is_empty() { "1" } else { callers };
+        let count = came.number_in(callers);
         let delay = Delay {
             rpc: came.number_in(rpc),
             ms: came.number_in(ms),
@@ -248,7 +251,7 @@ impl<'a> PortRows<'a> {
             return came.text("no clock");
         };
         let mut instrument = Slow::new(&clock, slow);
-        let end = serve_on(self.rt, &self.listener, 1, &mut instrument, 99);
+        let end = serve_on(self.rt, &self.listener, count, &mut instrument, 99);
         tell_end(end, came);
         if has_passed(self.rt, &begun, delay.ms) {
             came.text(" late");

@@ -1,10 +1,11 @@
 """Scenes with delays: a slow pointing, what becomes of a line that comes meanwhile, and addresses beyond 127.0.0.1."""
 
+import socket
 import time
 
 import pytest
 
-from asking import REPLY, REQUEST, ask
+from asking import REPLY, REQUEST, ask, reset
 from programs import Run, connect, ended, free_port
 
 # A pointing takes three seconds, so a reply is late below this and punctual above.
@@ -52,6 +53,39 @@ def test_slow_pointing(program, folder, words):
         caller.sendall(BEHIND)
         came, after = heard(caller, len(NAMED), begun)
         assert (came, after < 1) == (NAMED, True), f"a reply without a delay came after {after:.3f} s"
+
+
+@pytest.mark.title("delay: a client that goes away before its replies, and the next one")
+@pytest.mark.parametrize("leave", [lambda caller: caller.close(), reset], ids=["close", "reset"])
+@pytest.mark.parametrize("busy", ["queue", "drop"])
+def test_client_that_goes_away(program, folder, leave, busy):
+    """Whoever calls next is served at once, although the replies would take hours."""
+    scene = scene_of(folder, "delay 9027 3600000", f"busy {busy}")
+    port = free_port()
+    with Run([program, "serve", port, "--scene", scene, "--keep", "--idle", "5"]) as run:
+        for _ in range(2):
+            gone = connect(port)
+            gone.sendall(POINTING * 3)
+            time.sleep(0.5)
+            leave(gone)
+            begun = time.monotonic()
+            with connect(port) as caller:
+                ask(caller, REQUEST, REPLY)
+            assert time.monotonic() - begun < 2, f"the next one waited {time.monotonic() - begun:.3f} s"
+        assert run.is_running(), "it ended"
+
+
+@pytest.mark.title("delay: a client that ends its writing")
+def test_ended_writing(program, folder):
+    """It has its reply, when it is due, where nobody else calls."""
+    scene = scene_of(folder, "delay 9027 3000")
+    port = free_port()
+    with Run([program, "serve", port, "--scene", scene]), connect(port) as caller:
+        begun = time.monotonic()
+        caller.sendall(POINTING)
+        caller.shutdown(socket.SHUT_WR)
+        came, after = heard(caller, len(POINTED), begun)
+        assert (came, after >= DELAY - 0.01) == (POINTED, True), f"the reply to the pointing came after {after:.3f} s"
 
 
 @pytest.mark.title("busy queue: what comes meanwhile is answered behind the slow reply")
