@@ -1,8 +1,9 @@
 -- What a check of a log writes of each of its lines: this project's own. `given` are the bytes that the source gave, `rest` those
 -- of a line that no line feed has ended, and `old` and `new` what the sink had taken before and has taken after, where that is
 -- known.
-use Rattle.std.specs.Prelude.{◌≡◌, ℕ, ◌-◌, ◌<◌, ◌≤◌, ◌==◌, ◌&&◌, Bool, true, false, not, nat_lt, List, [], ◌++◌, length, take, get_or, Option, Result, if◌then◌else◌, codes}
-use Rattle.gc_lines.specs.Answering.{IsRunOverPorts, Ports}
+use Rattle.std.specs.Prelude.{◌≡◌, ℕ, ◌+◌, ◌-◌, ◌<◌, ◌≤◌, ◌==◌, ◌&&◌, Bool, true, false, not, nat_lt, List, [], ◌∷◌, ◌++◌, length, take, get_or, map, Option, Some, None, Result, if◌then◌else◌, codes}
+use Rattle.std.specs.Io.KnownBytes.{Appends}
+use Rattle.gc_lines.specs.Answering.{IsRunOverPorts, Ports, all_of}
 use Rattle.gc_lines.specs.Frames.{ends_in_return, pieces_behind, rest_behind}
 use Rattle.gc_lines.specs.declared.served.Served.{Served}
 use Rattle.gc_lines.specs.declared.served.ServeFault.{ServeFault}
@@ -94,6 +95,68 @@ TakesPiece before after piece old new =
 abbrev pub TakesPieceInPart : (before after : LogCheck) → (piece : List ℕ) → (old new : Option (List ℕ)) → (bytes : ℕ) → Type 0
 TakesPieceInPart before after piece old new bytes =
     (rest : List ℕ) → KeepsLine before.kept rest → WritesVerdictsInPart rest piece old new before.replies after.replies bytes
+
+-- Of verdicts that wait to be written. No part of a promise.
+
+-- no text waits
+abbrev pub NoneWait : LogCheck → Type 0
+NoneWait check = (check.text.items ≡ []) × (check.lengths.items ≡ [])
+
+-- a check has room for one more text, and for its length
+abbrev pub HasRoom : LogCheck → Type 0
+HasRoom check = (length check.text.items + 4300 ≤ 8192) × (length check.lengths.items < 256)
+
+-- how many texts of a check went out whole, or wait
+abbrev pub texts_in : LogCheck → ℕ
+texts_in check = check.replies + length check.lengths.items
+
+-- how many bytes are left of a piece, if something is
+abbrev pub bytes_left : Option (List ℕ) → ℕ
+bytes_left None = 0
+bytes_left (Some bytes) = length bytes
+
+-- the check has judged the lines that end in the piece, and keeps what follows the last line feed: the first verdicts, `done`, went
+-- out, and the others, `held`, wait, with their lengths. `count` is how many had gone out before
+pub record HasJudged (check : LogCheck) (rest piece : List ℕ) (old new : Option (List ℕ)) (count : ℕ) : Type 0 where
+  pub keeps : KeepsLine check.kept (rest_behind rest piece)
+  pub done : List (List ℕ)
+  pub held : List (List ℕ)
+  pub are : AreLogVerdicts (pieces_behind rest piece) (done ++ held)
+  pub took : Appends old new (all_of done)
+  pub counts : check.replies ≡ count + length done
+  pub text_is : check.text.items ≡ all_of held
+  pub lengths_are : check.lengths.items ≡ map length held
+
+-- a check that has judged any piece has also judged these further bytes after it (`HasJudged`)
+abbrev pub JudgesMore : (before after : LogCheck) → (more : List ℕ) → (old new : Option (List ℕ)) → Type 0
+JudgesMore before after more old new =
+    (rest piece : List ℕ) (start : Option (List ℕ)) (count : ℕ)
+    → HasJudged before rest piece start old count → HasJudged after rest (piece ++ more) start new count
+
+-- the bytes through the first line feed were judged, and `behind` is what follows it; all bytes, if there is none
+abbrev pub TakesLine : (before after : LogCheck) → (bytes : List ℕ) → (behind : Option (List ℕ)) → (old new : Option (List ℕ)) → Type 0
+TakesLine before after bytes None old new = JudgesMore before after bytes old new
+TakesLine before after bytes (Some behind) old new =
+    (line : List ℕ) × (bytes ≡ line ++ 10 ∷ behind) × JudgesMore before after (line ++ 10 ∷ []) old new
+
+-- what is written of the line that the check keeps joins the texts that wait, and the next line begins
+pub record JudgesLine (before after : LogCheck) (line : List ℕ) : Type 0 where
+  pub text : List ℕ
+  pub is : IsLogVerdict line text
+  pub longer : after.text.items ≡ before.text.items ++ text
+  pub counted : after.lengths.items ≡ before.lengths.items ++ length text ∷ []
+
+-- all texts that waited went out, and what was judged is still the same (`HasJudged`)
+abbrev pub WritesWaiting : (before after : LogCheck) → (old new : Option (List ℕ)) → Type 0
+WritesWaiting before after old new =
+    (rest piece : List ℕ) (start : Option (List ℕ)) (count : ℕ)
+    → HasJudged before rest piece start old count → HasJudged after rest piece start new count
+
+-- the sink failed while texts that waited were written, after the first `bytes` bytes of one of them
+abbrev pub StopsWriting : (before after : LogCheck) → (old new : Option (List ℕ)) → (bytes : ℕ) → Type 0
+StopsWriting before after old new bytes =
+    (rest piece : List ℕ) (start : Option (List ℕ)) (count : ℕ)
+    → HasJudged before rest piece start old count → WritesVerdictsInPart rest piece start new count after.replies bytes
 
 -- Of a whole log.
 

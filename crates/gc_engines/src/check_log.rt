@@ -1,15 +1,17 @@
 //! `check --log`: each line of a log, with its verdict.
 
-ghost use Rattle.std.specs.Prelude.{◌≡◌, ◌+◌, ◌<◌, ◌≤◌, ◌++◌, ℕ, List, [], ◌∷◌, length, codes, ◌^◌, OnOk, IfErr};
-ghost use Rattle.arrayvec.specs.ArrayVec.{array_vec_len};
-ghost use Rattle.gc_lines.specs.Ports.{FailsWith};
+ghost use Rattle.std.specs.Prelude.{◌≡◌, ◌+◌, ◌<◌, ◌≤◌, ◌++◌, ℕ, List, [], ◌∷◌, length, ◌^◌, OnOk, IfOk, IfErr, true};
+ghost use Rattle.std.specs.Option.{option_copied};
 ghost use Rattle.gc_engines.specs.LogChecking.{IsWholeVerdict, IsMarkedVerdictLine, part_verdict, ends_cleared, IsMarkedVerdict, IsLogVerdict, KeepsLine, TakesPiece, TakesPieceInPart, IsCheckingLog};
+ghost use Rattle.gc_engines.specs.LogChecking.{HasRoom, JudgesLine, JudgesMore, NoneWait, StopsWriting, TakesLine, WritesWaiting, bytes_left, texts_in};
 ghost use Rattle.gc_lines.specs.Answering.{AppendsText, ports_of};
+ghost use Rattle.gc_lines.specs.Passing.{whole_and_part};
+ghost use Rattle.gc_lines.specs.Ports.{FailsWith};
 
 use crate::verdict::{Verdict, line_verdict, push_verdict};
 use arrayvec::ArrayVec;
 use gc_lines::{Outgoing, ServeFault, Served, Sink, Source, append, write_whole};
-use gc_texts::{LogLine, LogMark, append_escaped, read_log_line};
+use gc_texts::{LogLine, LogMark, append_escaped, cut_at, read_log_line};
 
 // The most bytes of one read.
 const PIECE: usize = 256;
@@ -17,7 +19,13 @@ const PIECE: usize = 256;
 // The bytes of the longest line of a log, without its line feed, and some to spare.
 const LOG_LINE_MOST: usize = 2100;
 
-// The bytes that came since the last line feed: the first `LOG_LINE_MOST` of them, and whether more came.
+// The most bytes of what is written of one line of a log: its moment, mark and verdict, or its words.
+const TEXT_MOST: usize = 4300;
+
+// How many texts wait to be written at most.
+const WAITING_MOST: usize = 256;
+
+// The bytes that came since the last line feed, as long as they are at most `LOG_LINE_MOST`, and whether there are more.
 #[derive(Drop)]
 struct PartialLine {
     bytes: ArrayVec<u8, LOG_LINE_MOST>,
@@ -35,22 +43,33 @@ impl PartialLine {
         }
     }
 
-    // Appends one more byte. If there is no room for it, the byte is discarded and the line is too long.
-    fn keep(&mut self, b: u8)
-        ensures { (rest : List ℕ) → KeepsLine self.old rest → KeepsLine self.new (rest ++ b ∷ []) }
+    // Appends further bytes. If there is no room for them, they are discarded and the line is too long.
+    fn keep(&mut self, bytes: &[u8])
+        ensures { (rest : List ℕ) → KeepsLine self.old rest → KeepsLine self.new (rest ++ bytes.now) }
     {
-        if self.bytes.is_full() {
-            self.is_long = true;
+        if bytes.len() <= self.bytes.remaining_capacity() {
+            append(&mut self.bytes, bytes);
         } else {
-            self.bytes.push(b);
+            self.is_long = true;
         }
+    }
+
+    // Begins the next line: no byte of it came yet.
+    fn clear(&mut self)
+        ensures { KeepsLine self.new [] }
+    {
+        self.bytes.clear();
+        self.is_long = false;
     }
 }
 
-// How far a check has come: the bytes since the last line feed, and how many verdicts went out whole.
+// How far a check has come: the bytes since the last line feed; the texts that wait to be written, one after the other, with the
+// length of each; and how many texts went out whole.
 #[derive(Drop)]
 struct LogCheck {
     kept: PartialLine,
+    text: Outgoing,
+    lengths: ArrayVec<usize, WAITING_MOST>,
     replies: u64,
 }
 
@@ -66,7 +85,8 @@ struct LogCheck {
 ///
 /// For a line that hasn't the form of a log's lines, or has more than 2100 bytes, or whose text after the mark stands for more
 /// than 514 bytes, it writes `no log line`. Bytes after the last line feed get no line. `replies` in the result, also in a fault,
-/// counts the lines that went out whole. It takes no memory.
+/// counts the lines that went out whole. The lines of one read go out together, before the next read; earlier, where they are long. It
+/// takes no memory.
 ///
 /// It returns [`Served`] exactly where the last read was the end. Over ports that hadn't failed before, it fails with `Read` (42)
 /// exactly where the source failed, with `Write` (43) exactly where the sink did, and with `TooManyReads` (44) exactly where all
@@ -81,10 +101,7 @@ pub fn run_check_log<S: Source, K: Sink>(
         (ports_of S.Source source.new K.Sink sink.new)
         max_reads result }
 {
-    let mut check = LogCheck {
-        kept: PartialLine::new(),
-        replies: 0,
-    };
+    let mut check = LogCheck::new();
     let mut buf = [0u8; PIECE];
     for _ in 0..max_reads {
         match source.read(&mut buf) {
@@ -92,7 +109,7 @@ pub fn run_check_log<S: Source, K: Sink>(
                 replies: check.replies,
             }),
             Ok(n) => {
-                if let Err(bytes) = check_piece(&mut check, sink, &buf[..n]) {
+                if let Err(bytes) = check.check_piece(sink, &buf[..n]) {
                     return Err(ServeFault::Write {
                         replies: check.replies,
                         bytes,
@@ -109,84 +126,185 @@ pub fn run_check_log<S: Source, K: Sink>(
     })
 }
 
-// Checks the lines of a log that end in a piece, and adds to `replies` how many verdicts went out whole. After `Ok` what came
-// after the last line feed is in `kept`. `Err(n)`: the sink took the first n bytes of one more verdict's line, which aren't all,
-// and failed; what comes after that line in the piece isn't looked at.
-fn check_piece<K: Sink>(check: &mut LogCheck, sink: &mut K, piece: &[u8]) -> Result<(), usize>
-    requires { check.old.replies + length piece.now < 2 ^ 64 }
-    ensures failed { FailsWith result (K.failed sink.old) (K.failed sink.new) }
-    ensures ok { OnOk result (TakesPiece check.old check.new piece.now (K.taken sink.old) (K.taken sink.new)) }
-    ensures err { IfErr result (TakesPieceInPart check.old check.new piece.now (K.taken sink.old) (K.taken sink.new)) }
-    ensures few { OnOk result (check.new.replies ≤ check.old.replies + length piece.now) }
-{
-    for b in piece {
-        if let Err(n) = check_byte(check, sink, *b) {
-            return Err(n);
+impl LogCheck {
+    // A check of which nothing came yet.
+    fn new() -> LogCheck
+        ensures kept { KeepsLine result.kept [] }
+        ensures nothing { NoneWait result }
+        ensures replies { result.replies ≡ 0 }
+    {
+        LogCheck {
+            kept: PartialLine::new(),
+            text: Outgoing::new(),
+            lengths: ArrayVec::new(),
+            replies: 0,
         }
     }
-    Ok(())
+
+    // Checks the lines of a log that end in a piece, writes what is written of each, and adds to `replies` how many texts went out
+    // whole. After `Ok` what came after the last line feed is in `kept`, and no text waits. `Err(n)`: the sink took the first n
+    // bytes of one more text, which aren't all, and failed; what comes after that line in the piece may not be looked at.
+    fn check_piece<K: Sink>(&mut self, sink: &mut K, piece: &[u8]) -> Result<(), usize>
+        requires count { self.old.replies + length piece.now < 2 ^ 64 }
+        requires nothing { NoneWait self.old }
+        ensures nothing { OnOk result (NoneWait self.new) }
+        ensures failed { FailsWith result (K.failed sink.old) (K.failed sink.new) }
+        ensures ok { OnOk result (TakesPiece self.old self.new piece.now (K.taken sink.old) (K.taken sink.new)) }
+        ensures err { IfErr result (TakesPieceInPart self.old self.new piece.now (K.taken sink.old) (K.taken sink.new)) }
+        ensures few { OnOk result (self.new.replies ≤ self.old.replies + length piece.now) }
+    {
+        let mut left = Some(piece);
+        while let Some(bytes) = left {
+            left = self.take_line(sink, bytes)?;
+        }
+        self.write_waiting(sink)?;
+        Ok(())
+    }
+
+    // Takes bytes of a log through their first line feed, with which a line ends (`end_line`), and returns what follows it. Without a line
+    // feed all bytes are kept, and nothing follows.
+    fn take_line<'a, K: Sink>(
+        &mut self,
+        sink: &mut K,
+        bytes: &'a [u8],
+    ) -> Result<Option<&'a [u8]>, usize>
+        requires { texts_in self.old + length bytes.now < 2 ^ 64 }
+        ensures failed { FailsWith result (K.failed sink.old) (K.failed sink.new) }
+        ensures ok { IfOk result (λ behind. TakesLine self.old self.new bytes.now (option_copied behind) (K.taken sink.old) (K.taken sink.new)) }
+        ensures err { IfErr result (StopsWriting self.old self.new (K.taken sink.old) (K.taken sink.new)) }
+        ensures few { IfOk result (λ behind. texts_in self.new + bytes_left (option_copied behind) ≤ texts_in self.old + length bytes.now) }
+    {
+        let (line, behind) = cut_at(b'\n', bytes);
+        self.kept.keep(line);
+        match behind {
+            None => Ok(None),
+            Some(rest) => {
+                self.end_line(sink)?;
+                Ok(Some(rest))
+            }
+        }
+    }
+
+    // Ends a line of the log, whose bytes are `kept`: what is written of it joins the texts that wait, and the next line begins. If
+    // there is no room for one more text, those that wait are written first.
+    fn end_line<K: Sink>(&mut self, sink: &mut K) -> Result<(), usize>
+        requires { texts_in self.old + 1 < 2 ^ 64 }
+        ensures failed { FailsWith result (K.failed sink.old) (K.failed sink.new) }
+        ensures ok { OnOk result (JudgesMore self.old self.new (10 ∷ []) (K.taken sink.old) (K.taken sink.new)) }
+        ensures err { IfErr result (StopsWriting self.old self.new (K.taken sink.old) (K.taken sink.new)) }
+        ensures few { OnOk result (texts_in self.new ≤ texts_in self.old + 1) }
+    {
+        if self.has_room() {
+            self.judge_line();
+            return Ok(());
+        }
+        self.write_waiting(sink)?;
+        self.judge_line();
+        Ok(())
+    }
+
+    // Whether there is room for one more text, and for its length.
+    fn has_room(&self) -> bool
+        ensures { result ≡ true → HasRoom self.now }
+    {
+        self.text.remaining_capacity() >= TEXT_MOST && !self.lengths.is_full()
+    }
+
+    // Appends what is written of the line of which `kept` has the bytes to the texts that wait, and begins the next line.
+    fn judge_line(&mut self)
+        requires { HasRoom self.old }
+        ensures judges { (rest : List ℕ) → KeepsLine self.old.kept rest → JudgesLine self.old self.new rest }
+        ensures kept { KeepsLine self.new.kept [] }
+        ensures replies { self.new.replies ≡ self.old.replies }
+        ensures one { length self.new.lengths.items ≡ length self.old.lengths.items + 1 }
+    {
+        let before = self.text.len();
+        push_log_verdict(&mut self.text, &self.kept);
+        self.lengths.push(self.text.len() - before);
+        self.kept.clear();
+    }
+
+    // Writes all texts that wait, and counts those that went out whole. `Err(n)`: the sink took only the first n bytes of one of them,
+    // which aren't all, and failed.
+    fn write_waiting<K: Sink>(&mut self, sink: &mut K) -> Result<(), usize>
+        requires { texts_in self.old < 2 ^ 64 }
+        ensures nothing { OnOk result (NoneWait self.new) }
+        ensures failed { FailsWith result (K.failed sink.old) (K.failed sink.new) }
+        ensures ok { OnOk result (WritesWaiting self.old self.new (K.taken sink.old) (K.taken sink.new)) }
+        ensures err { IfErr result (StopsWriting self.old self.new (K.taken sink.old) (K.taken sink.new)) }
+        ensures few { OnOk result (self.new.replies ≡ texts_in self.old) }
+    {
+        match write_whole(sink, self.text.as_slice()) {
+            Ok(()) => {
+                self.replies += self.lengths.len() as u64;
+                self.text.clear();
+                self.lengths.clear();
+                Ok(())
+            }
+            Err(taken) => Err(self.count_part(taken)),
+        }
+    }
+
+    // Where the sink took the first `taken` bytes of the texts that wait: counts the texts that it took whole, and returns how many bytes
+    // of the next text it took.
+    fn count_part(&mut self, taken: usize) -> usize
+        requires { texts_in self.old < 2 ^ 64 }
+        ensures { (self.new.replies, result) ≡ whole_and_part self.old.replies taken self.old.lengths.items }
+    {
+        let (replies, bytes) = whole_and_part(self.replies, taken, self.lengths.as_slice());
+        self.replies = replies;
+        bytes
+    }
 }
 
-// Takes one more byte of a log. A line feed ends a line of the log: that line's verdict is written and counted in `replies`, and the next
-// line begins. Any other byte goes to `PartialLine::keep`. `Err(n)`: the sink took the first n bytes of the verdict's line, which
-// aren't all, and failed; the verdict isn't counted then.
-fn check_byte<K: Sink>(check: &mut LogCheck, sink: &mut K, b: u8) -> Result<(), usize>
-    requires { check.old.replies + 1 < 2 ^ 64 }
-    ensures failed { FailsWith result (K.failed sink.old) (K.failed sink.new) }
-    ensures ok { OnOk result (TakesPiece check.old check.new (b ∷ []) (K.taken sink.old) (K.taken sink.new)) }
-    ensures err { IfErr result (TakesPieceInPart check.old check.new (b ∷ []) (K.taken sink.old) (K.taken sink.new)) }
-    ensures few { OnOk result (check.new.replies ≤ check.old.replies + 1) }
+// Where a sink took the first `taken` bytes of texts with these lengths: returns how many texts it took whole, `whole` earlier ones
+// included, and how many bytes of the next text it took.
+fn whole_and_part(whole: u64, taken: usize, lengths: &[usize]) -> (u64, usize)
+    requires { whole + length lengths.now < 2 ^ 64 }
+    ensures { result ≡ whole_and_part whole taken lengths.now }
 {
-    if b != b'\n' {
-        check.kept.keep(b);
-        return Ok(());
+    let mut count = whole;
+    let mut bytes = taken;
+    for length in lengths {
+        if bytes < *length {
+            return (count, bytes);
+        }
+        bytes -= *length;
+        count += 1;
     }
-    let text = log_verdict_of(&check.kept);
-    check.kept = PartialLine::new();
-    if let Err(n) = write_whole(sink, &text) {
-        return Err(n);
-    }
-    check.replies += 1;
-    Ok(())
+    (count, bytes)
 }
 
-// What is written of a complete line of the log, whose bytes are `kept`: its moment, mark and verdict, or `no log line` if it has more
-// than 2100 bytes or doesn't read as a log line. The text ends in a line feed.
-fn log_verdict_of(kept: &PartialLine) -> Outgoing
-    ensures { (rest : List ℕ) → KeepsLine kept.now rest → IsLogVerdict rest result.items }
+// Appends what is written of a complete line of the log, whose bytes are `kept`: its moment, mark and verdict, or `no log line` if it
+// has more than 2100 bytes or doesn't read as a log line. The text ends in a line feed.
+fn push_log_verdict(text: &mut Outgoing, kept: &PartialLine)
+    requires { length text.old.items + 4300 ≤ 8192 }
+    ensures longer { length text.old.items ≤ length text.new.items }
+    ensures verdict { (rest : List ℕ) → KeepsLine kept.now rest → AppendsText (IsLogVerdict rest) text.old.items text.new.items }
 {
     if kept.is_long {
-        return no_log_line();
+        append(text, b"no log line\n");
+        return;
     }
     match read_log_line(&kept.bytes) {
-        Some(line) => log_line_verdict(&line),
-        None => no_log_line(),
+        Some(line) => push_line_verdict(text, &line),
+        None => append(text, b"no log line\n"),
     }
 }
 
-// What is written of a line that isn't in the form of a log's lines: `no log line`, and a line feed.
-fn no_log_line() -> Outgoing
-    ensures { result.items ≡ codes "no log line\n" }
+// Appends what is written of a log line: its moment and mark, the verdict on its bytes, and a line feed.
+fn push_line_verdict(text: &mut Outgoing, line: &LogLine<'_>)
+    requires short { length line.now.moment.now ≤ 2100 }
+    requires room { length text.old.items + 4300 ≤ 8192 }
+    ensures bytes { length line.now.bytes.items ≤ 514 }
+    ensures verdict { AppendsText (IsMarkedVerdictLine line.now.moment.now line.now.mark line.now.bytes.items) text.old.items text.new.items }
 {
-    let mut text = Outgoing::new();
-    append(&mut text, b"no log line\n");
-    text
-}
-
-// What is written of a log line: its moment and mark, the verdict on its bytes, and a line feed.
-fn log_line_verdict(line: &LogLine<'_>) -> Outgoing
-    requires { length line.now.moment.now ≤ 2100 }
-    ensures room { length line.now.bytes.items ≤ 514 }
-    ensures verdict { IsMarkedVerdictLine line.now.moment.now line.now.mark line.now.bytes.items result.items }
-{
-    let mut text = Outgoing::new();
-    append(&mut text, line.moment);
-    append(&mut text, b" ");
-    append(&mut text, line.mark.text());
-    append(&mut text, b" ");
-    push_marked_verdict(&mut text, line.mark, &line.bytes);
-    append(&mut text, b"\n");
-    text
+    append(text, line.moment);
+    append(text, b" ");
+    append(text, line.mark.text());
+    append(text, b" ");
+    push_marked_verdict(text, line.mark, &line.bytes);
+    append(text, b"\n");
 }
 
 // Appends what is written of a log line's bytes, by its mark: the verdict on a whole line, or on bytes that are no whole line; or

@@ -1,10 +1,11 @@
 use Rattle.std.proofs.Common.{◌≡◌, ◌+◌, ◌*◌, ◌<◌, ◌≤◌, [], length, false}
 use Rattle.gc_lines.specs.Answering.{GaveInReads}
-use Rattle.gc_engines.specs.LogChecking.{HasChecked}
+use Rattle.gc_engines.specs.LogChecking.{HasChecked, NoneWait}
 use Rattle.gc_engines.proofs.check_log.run_check_log.Given as goal
 
 -- the check is done with all bytes read so far (`HasChecked`), in `counter` reads, at most 256 verdicts for each; the last read, if
--- there was one, wasn't the end; whether a port has failed is as at the start; and the buffer has room for 256 bytes
+-- there was one, wasn't the end; whether a port has failed is as at the start; no
+-- text waits; and the buffer has room for 256 bytes
 abbrev pub invariant-loop : goal.invariant-loop
 invariant-loop g l = record {
   so : GaveInReads (g.S.Source.remaining l.initial.source) (g.S.Source.remaining l.source) l.counter
@@ -14,5 +15,6 @@ invariant-loop g l = record {
   source : g.S.Source.failed l.source ≡ g.S.Source.failed l.initial.source;
   sink : g.K.Sink.failed l.sink ≡ g.K.Sink.failed l.initial.sink;
   few : l.check.replies ≤ 256 * l.counter;
+  nothing : NoneWait l.check;
   room : length l.buf ≡ 256;
 }
