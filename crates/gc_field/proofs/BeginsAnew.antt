@@ -1,5 +1,5 @@
 -- A run that resynchronizes, in the field, computed.
-use Rattle.std.proofs.Common.{◌≡◌, List, [], ◌∷◌, refl, sym, subst}
+use Rattle.std.proofs.Common.{◌≡◌, inl, List, [], ◌∷◌, refl, sym, subst}
 use Rattle.std.specs.Prelude.{codes, map, take, drop}
 use Rattle.std.specs.Fmt.{digits}
 use Rattle.gc_lines.specs.Readers.{header_at, reply_at}
@@ -65,7 +65,7 @@ runs_anew =
 -- after the acts `acts_until_anew`, by the end of which seven requests have timed out, the station resynchronizes at the next act
 resynchronizes_next : SynchronizesAnew plan commands scope acts_until_anew (Told (at 115))
 unfolding is_elsewhere header_at reply_at digits
-resynchronizes_next = record { resynchronizes = record { renews = refl; moment = at 115; told = refl; seven = refl; given_up = refl }; word = refl; client = refl }
+resynchronizes_next = record { resynchronizes = record { renews = refl; moment = at 115; told = refl; why = inl refl; given_up = refl }; word = refl; client = refl }
 
 -- the answer was made on executing the last command's request, the client's first one after the new synchronization
 was_made : WasMadeOn WINDOW counting from moves_anew 8 (Table InstrumentNo) answer

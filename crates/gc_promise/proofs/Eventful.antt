@@ -1,6 +1,6 @@
 -- The eventful run, computed. Which function says what replies say (`reads`) is left open here. `patched` is that function with
 -- the readings of the five replies that answer commands put before it; no other reply of the run is looked at.
-use Rattle.std.proofs.Common.{◌≡◌, ℕ, zero, suc, List, [], ◌∷◌, ◌++◌, Option, Some, None, refl, sym, subst, ap, arith, lit<}
+use Rattle.std.proofs.Common.{◌≡◌, inl, ℕ, zero, suc, List, [], ◌∷◌, ◌++◌, Option, Some, None, refl, sym, subst, ap, arith, lit<}
 use Rattle.std.specs.Prelude.{codes, map, option_map, take, drop}
 use Rattle.std.specs.Fmt.{digits}
 use Rattle.gc_lines.specs.Readers.{header_at, reply_at}
@@ -247,7 +247,7 @@ module _ (reads : Asked → List ℕ → Reading) where
   -- station resynchronize
   begins_anew : SynchronizesAnew plan commands patched_scope acts_until_anew (Told (at 365))
   unfolding is_elsewhere is_near header_at reply_at digits rounded
-  begins_anew = record { resynchronizes = record { renews = refl; moment = at 365; told = refl; seven = refl; given_up = refl }; word = refl; client = refl }
+  begins_anew = record { resynchronizes = record { renews = refl; moment = at 365; told = refl; why = inl refl; given_up = refl }; word = refl; client = refl }
 
   -- with the patched readings the run is eventful
   patched_is_eventful : IsEventful (patched reads)

@@ -55,9 +55,9 @@ reporting = tells_its_state {State = List ℕ} (λ text. text) []
 -- The station.
 
 -- the plan of this run: at most seven requests at a time, a deadline of 100 ms for null procedures, three cycles, one of which
--- is due every 150 ms, a quiet time of 10 ms, and at most three reconnects in a row
+-- is due every 182 ms, a quiet time of 10 ms, and at most three reconnects in a row
 abbrev pub plan : Plan
-plan = record (plan_of_width 7) { every = 150; cycles = 3; retries = 3 }
+plan = record (plan_of_width 7) { every = 182; cycles = 3; retries = 3 }
 
 -- the turn of a command at this place, in the first attempt: a command that is chained is the second of its chain, and any other
 -- the first
@@ -441,13 +441,13 @@ records =
     ∷ ended_record (Some 95) 365 1 4 2 (Table InstrumentNo) end.Lost
     ∷ ended_record (Some 95) 365 1 5 3 (Table InstrumentNo) end.Lost
     ∷ ended_record (Some 95) 365 1 6 4 (Table InstrumentNo) end.Lost
-    ∷ ended_record None 190 2 0 7 points end.Missed
-    ∷ ended_record None 190 2 1 7 reads_all end.Missed
-    ∷ ended_record None 190 2 2 8 reads_all end.Missed
-    ∷ ended_record None 190 2 3 1 (Table InstrumentNo) end.Missed
-    ∷ ended_record None 190 2 4 2 (Table InstrumentNo) end.Missed
-    ∷ ended_record None 190 2 5 3 (Table InstrumentNo) end.Missed
-    ∷ ended_record None 190 2 6 4 (Table InstrumentNo) end.Missed
+    ∷ ended_record None 222 2 0 7 points end.Missed
+    ∷ ended_record None 222 2 1 7 reads_all end.Missed
+    ∷ ended_record None 222 2 2 8 reads_all end.Missed
+    ∷ ended_record None 222 2 3 1 (Table InstrumentNo) end.Missed
+    ∷ ended_record None 222 2 4 2 (Table InstrumentNo) end.Missed
+    ∷ ended_record None 222 2 5 3 (Table InstrumentNo) end.Missed
+    ∷ ended_record None 222 2 6 4 (Table InstrumentNo) end.Missed
     ∷ points_record
     ∷ chained_record
     ∷ elsewhere_record

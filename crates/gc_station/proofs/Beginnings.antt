@@ -102,7 +102,7 @@ module _ (plan : Plan) (commands : List Task) where
       (word_before_act s act ids (has_begun s.progress) refl runs.0 (word_among_heard u acts runs.1 begun))
 
 -- if a command is next, or a null procedure that isn't of a synchronization, the station has synchronized
-asking_begun : (plan : Plan) (s : Model) (o : Action) → IsAsking o → HoldsBefore plan s.progress (waiting_of s) o → has_begun s.progress ≡ true
+pub asking_begun : (plan : Plan) (s : Model) (o : Action) → IsAsking o → HoldsBefore plan s.progress (waiting_of s) o → has_begun s.progress ≡ true
 asking_begun plan s actions.Prepare asks needs = needs.1
 asking_begun plan s actions.Send asks needs = needs.1
 asking_begun plan s actions.Flush asks needs = needs.1
@@ -151,7 +151,7 @@ module _ (plan : Plan) (commands : List Task) (scope : Scope) (acts : List Act) 
       let it = renews_only plan commands here (action_at plan here) act obeys begun (ap has_begun (sym far) ∙ begins) in
       let full = renews_needs plan commands here (action_at plan here) (invariant_holds plan commands scope acts) it.0 (action_for plan here.progress (waiting_of here)) in
       record {
-        resynchronizes = record { renews = it.0; moment = it.1; told = it.2; seven = full.0; given_up = full.1 };
+        resynchronizes = record { renews = it.0; moment = it.1; told = it.2; why = full.0; given_up = full.1 };
         word = ap (λ (x : Model). x.progress.word) on ∙ word_if_resynchronizing plan commands here act obeys begun (ap (λ (x : Model). has_begun x.progress) (sym on) ∙ begins);
         client = (invariant_holds plan commands scope (acts ++ act ∷ [])).begins begins;
       }

@@ -3,15 +3,15 @@
 -- fields of a progress are `next_is_chained`, whether the next command waits for the answer of the one before it, and
 -- `chain_unbroken`. `Cycling` says which cycle the station is in, and when it began; `Begun` says that it is in one, or that none
 -- has begun yet.
-use Rattle.std.proofs.Common.{◌≡◌, ◌⊎◌, inl, inr, ℕ, suc, ◌+◌, ◌-◌, ◌<◌, ◌≤◌, ◌||◌, Bool, true, false, List, [], ◌∷◌, ◌++◌, length, drop, min, nat_lt, nat_le, nat_eq, refl, sym, ap, ◌∙◌, subst, arith, append_assoc}
-use Rattle.std.proofs.lemmas.Bool.{lt-ltb, ne_eqb, eq-eqb, leb-true, leb-false, or_from, or_left, cond-true, cond-false, both_ways, false_from_ne_true}
+use Rattle.std.proofs.Common.{◌≡◌, ◌⊎◌, inl, inr, ℕ, suc, ◌+◌, ◌-◌, ◌<◌, ◌≤◌, Bool, true, false, List, [], ◌∷◌, ◌++◌, length, drop, min, nat_lt, nat_le, nat_eq, refl, sym, ap, ◌∙◌, subst, arith, append_assoc}
+use Rattle.std.proofs.lemmas.Bool.{lt-ltb, ne_eqb, leb-true, leb-false, or_left, cond-false, both_ways, false_from_ne_true}
 use Rattle.gc_texts.specs.declared.tasks.Task.{Task}
 use Rattle.gc_links.specs.Acts.{Act, Told, Untold, Gave, Silent, Ended, Broke, Closed, Opened, Unopened}
 use Rattle.gc_links.specs.declared.link.Moment.{Moment}
 use Rattle.gc_station.specs.Chains.{IsChained}
-use Rattle.gc_station.specs.Cycles.{ClockRises, due_after, BeginsAt, BeginsLate, LastBegan, CyclesBeginWhenDue, SentOnlyInTime}
+use Rattle.gc_station.specs.Cycles.{ClockRises, first_due, due_after, BeginsAt, BeginsLate, LastBegan, CyclesBeginWhenDue, SentOnlyInTime}
 use Rattle.gc_station.specs.Deciding.{is_due}
-use Rattle.gc_station.specs.Progressing.{turned, moment_noted, cycle_begun, cycle_start, lateness, failing, time_passed, quieted, closed}
+use Rattle.gc_station.specs.Progressing.{turned, moment_noted, due_at, cycle_begun, cycle_start, lateness, failing, time_passed, quieted, closed}
 use Rattle.gc_station.specs.Reasons.{HoldsBefore, MayGo}
 use Rattle.gc_station.specs.Runs.{state_after}
 use Rattle.gc_station.specs.Scopes.{Scope}
@@ -35,7 +35,7 @@ use Rattle.gc_station.proofs.EachRun.{invariant_holds}
 use Rattle.gc_station.proofs.Facts.{action_for, begin_due, or_second, and_second}
 use Rattle.gc_station.proofs.Invariant.{Invariant}
 use Rattle.gc_station.proofs.Walk.{asked_along, came_along, quieted_along, closed_along, moved_changed, walk}
-use Rattle.gc_station.proofs.Ticking.{Ticks, began_kept, rises_front, rises_last, latest_more, last_ticks}
+use Rattle.gc_station.proofs.Ticking.{Ticks, began_kept, began_at_start, rises_front, rises_last, latest_more, last_ticks}
 use Rattle.gc_station.proofs.Staying.{Stays, stays}
 
 -- Acts that stay in their cycle.
@@ -106,9 +106,9 @@ module _ (plan : Plan) (commands : List Task) (scope : Scope) (some : 0 < plan.e
     pub held : p.missed ≡ true → (p.next_is_chained ≡ true) × (p.chain_unbroken ≡ false)
     pub chained : p.next_is_chained ≡ true → WaitsForAnswer p
 
-  -- no cycle has begun yet, and nothing is unsent; or `Cycling` holds
+  -- no cycle has begun yet, nothing is unsent, and the start of the clock counts as the beginning; or `Cycling` holds
   abbrev pub Begun : List Act → Progress → Type 0
-  Begun acts p = ((p.left ≡ plan.cycles) × (p.unsent ≡ 0)) ⊎ Cycling acts p
+  Begun acts p = ((p.left ≡ plan.cycles) × (p.unsent ≡ 0) × (p.began ≡ 0)) ⊎ Cycling acts p
 
   -- a cycle that began among acts began among them and more
   pub at_more : (acts more : List Act) (n : ℕ) (m : Moment) → BeginsAt plan commands scope acts n m → BeginsAt plan commands scope (acts ++ more) n m
@@ -152,7 +152,7 @@ module _ (plan : Plan) (commands : List Task) (scope : Scope) (some : 0 < plan.e
   -- `Begun` is preserved by an act that stays in its cycle (`Stays`) and reads moments as `Ticks` says, if the clock doesn't go
   -- back
   pub begun_stays : (acts : List Act) (act : Act) (p q : Progress) → Stays p q → Ticks p act q → ClockRises p.moment.elapsed (act ∷ []) → Begun acts p → Begun (acts ++ act ∷ []) q
-  begun_stays acts act p q k t rises (inl none) = inl (k.still.left ∙ none.0, k.still.unsent ∙ none.1)
+  begun_stays acts act p q k t rises (inl none) = inl (k.still.left ∙ none.0, k.still.unsent ∙ none.1, began_at_start p q act t none.2)
   begun_stays acts act p q k t rises (inr c) =
       let place_is : place_next commands q ≡ place_next commands p = ap (λ (x : ℕ). length commands - x) k.still.unsent in
       inr (cycling_on acts act p q k.still.left k.still.missed k.due t rises
@@ -223,14 +223,19 @@ module _ (plan : Plan) (commands : List Task) (scope : Scope) (some : 0 < plan.e
         chained = λ e. inl e;
       }
 
-  -- the first cycle has a `Start`: it is due at the moment at which it begins
-  pub start_first : (acts : List Act) (m : Moment) (p : Progress) → BeginsNow acts m p → p.left ≡ plan.cycles → Start acts m p
-  start_first acts m p begins all =
+  -- where cycles have due moments, a cycle that begins at the moment m counts as begun when it was due, or at m if that is earlier
+  start_is : (m : Moment) (p : Progress) → cycle_start plan m p ≡ min (due_at plan p) m.elapsed
+  start_is m p = cond-false (nat_eq plan.every 0) _ _ (ne_eqb plan.every 0 (λ e. omega (arith, e, some)))
+
+  -- the first cycle has a `Start`: it is due at the moment at which it begins, or a period after the start of the clock if that is
+  -- earlier
+  pub start_first : (acts : List Act) (m : Moment) (p : Progress) → BeginsNow acts m p → p.left ≡ plan.cycles → p.began ≡ 0 → (rises : ClockRises p.moment.elapsed (Told m ∷ [])) → Start acts m p
+  start_first acts m p begins all from rises =
       let none : cycles_begun plan p ≡ 0 = omega (arith, all) in
       let here = subst (λ (n : ℕ). BeginsAt plan commands scope (acts ++ Told m ∷ []) n m) none begins in
-      let start : cycle_start plan m p ≡ m.elapsed =
-      cond-true (nat_eq p.left plan.cycles || nat_eq plan.every 0) _ _ (or_left (nat_eq p.left plan.cycles) (nat_eq plan.every 0) (eq-eqb p.left plan.cycles all)) in
-      let grid : m.elapsed + (m.elapsed - cycle_start plan m p) ≡ m.elapsed = omega (arith, start) in
+      let most = rises.1 in
+      let start : cycle_start plan m p ≡ first_due plan m = start_is m p ∙ omega (arith, from, most) in
+      let grid : first_due plan m + (m.elapsed - cycle_start plan m p) ≡ m.elapsed = omega (arith, start) in
       record {
         earlier = 0;
         past = omega (arith, start);
@@ -248,16 +253,14 @@ module _ (plan : Plan) (commands : List Task) (scope : Scope) (some : 0 < plan.e
       let before = c.began in
       let last_grid = c.begins.grid in
       let apart : nat_eq p.left plan.cycles ≡ false = ne_eqb p.left plan.cycles (λ e. omega (arith, e, few)) in
-      let never : nat_eq plan.every 0 ≡ false = ne_eqb plan.every 0 (λ e. omega (arith, e, some)) in
       let long : plan.every ≤ p.moment.elapsed - p.began = leb-true plan.every (p.moment.elapsed - p.began)
       (sym (cond-false (nat_eq p.left plan.cycles) true (nat_le plan.every (p.moment.elapsed - p.began)) apart) ∙ due) in
       let now = rises.0 in
       let most = rises.1 in
       let here = subst (λ (n : ℕ). BeginsAt plan commands scope (acts ++ Told m ∷ []) n m) c.count begins in
-      let last : due_after c.begins.first.elapsed plan.every c.earlier ≡ p.began = omega (arith, last_grid, before) in
-      let start : cycle_start plan m p ≡ p.began + plan.every =
-      cond-false (nat_eq p.left plan.cycles || nat_eq plan.every 0) _ _ (or_from (nat_eq p.left plan.cycles) (nat_eq plan.every 0) apart never) ∙ omega (arith, long, past, now, most) in
-      let grid : (due_after c.begins.first.elapsed plan.every c.earlier + plan.every) + (m.elapsed - cycle_start plan m p) ≡ m.elapsed = omega (arith, start, last, long, past, now) in
+      let last : due_after (first_due plan c.begins.first) plan.every c.earlier ≡ p.began = omega (arith, last_grid, before) in
+      let start : cycle_start plan m p ≡ p.began + plan.every = start_is m p ∙ omega (arith, long, past, now, most) in
+      let grid : (due_after (first_due plan c.begins.first) plan.every c.earlier + plan.every) + (m.elapsed - cycle_start plan m p) ≡ m.elapsed = omega (arith, start, last, long, past, now) in
       record {
         earlier = suc c.earlier;
         past = omega (arith, start, long, past, now);
@@ -273,7 +276,7 @@ module _ (plan : Plan) (commands : List Task) (scope : Scope) (some : 0 < plan.e
   -- a cycle that begins when it is due, the first or a further one, has a `Start`, if the clock doesn't go back
   pub starts : (acts : List Act) (m : Moment) (p : Progress) → BeginsNow acts m p
       → (due : is_due plan p ≡ true) → (rises : ClockRises p.moment.elapsed (Told m ∷ [])) → Begun acts p → Start acts m p
-  starts acts m p begins due rises (inl none) = start_first acts m p begins none.0
+  starts acts m p begins due rises (inl none) = start_first acts m p begins none.0 none.2 rises
   starts acts m p begins due rises (inr c) = start_more acts m p begins due rises c
 
   -- Acts.
@@ -452,7 +455,7 @@ module _ (plan : Plan) (commands : List Task) (scope : Scope) (some : 0 < plan.e
   -- `BegunIfClockRises` holds after every run
   pub begun_if_clock_rises : (acts : List Act) → Runs plan commands (opening plan scope) acts → BegunIfClockRises acts
   begun_if_clock_rises acts runs = always plan commands (opening plan scope) (λ (xs : List Act) (t : Model). BegunIfClockRises xs) (λ done act before. begun_step done act)
-      (λ rises. (refl, inl (refl, refl))) acts runs
+      (λ rises. (refl, inl (refl, refl, refl))) acts runs
 
   -- if the cycle that a station is within (`Cycling`) isn't missed, it is the last that began, and it began before the next one
   -- was due

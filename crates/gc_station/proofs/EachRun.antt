@@ -16,7 +16,7 @@ use Rattle.gc_station.specs.declared.plan.Plan.{Plan}
 use Rattle.gc_station.specs.declared.cause.Cause.{Cause}
 use Rattle.gc_station.specs.declared.cause.Cause.TheVariants as cause
 use Rattle.gc_station.specs.declared.progress.Phase.{Phase}
-use Rattle.gc_station.specs.declared.progress.Phase.TheVariants.{Clearing, Draining, Ready, Over}
+use Rattle.gc_station.specs.declared.progress.Phase.TheVariants.{Clearing, Draining, Ready, Closing, Over}
 use Rattle.gc_station.specs.declared.progress.Action.{Action}
 use Rattle.gc_station.specs.declared.progress.Action.TheVariants as action
 use Rattle.gc_station.specs.declared.progress.Progress.{Progress}
@@ -27,7 +27,7 @@ use Rattle.gc_station.specs.Deciding.{later, has_begun, is_up}
 use Rattle.gc_station.specs.EachOnce.{EachOnce, Interleave, RunRequest, commands_reached, of_record, all_cycles, of_text, AreRecordedOnce, reached}
 use Rattle.gc_station.specs.Marks.{commands_in}
 use Rattle.gc_station.specs.Progressing.{turned, moment_noted, unsent_at, early_noted, cycle_begun, skipped, attempts_left_out, cleared, request_noted, null_sent, resynchronized, sent, is_over, is_over_in, setup_sent}
-use Rattle.gc_station.specs.Reasons.{HoldsBefore}
+use Rattle.gc_station.specs.Reasons.{HoldsBefore, IsGoingOn, IsReadyOrOverdue}
 use Rattle.gc_station.specs.Records.{Record}
 use Rattle.gc_station.specs.Runs.{state_after}
 use Rattle.gc_station.specs.Tasked.{EachRecordIsOfItsTask}
@@ -54,15 +54,32 @@ ready_fits phase left unsent rest marks is =
       finished = λ e. absurd (both_ways (says_done phase) (ap says_done is) e);
     }
 
--- the beginning of a cycle preserves `HoldsMidAct`, in the phase `Ready`, if a cycle is left and no command of the one before is
+-- a phase in which the run goes on (`IsGoingOn`) is `PhaseFits` whatever the counts and marks are, if it was with others
+going_fits : (phase : Phase) (left unsent left' unsent' : ℕ) (rest : List ℕ) (marks marks' : List (Option Mark)) → IsGoingOn phase
+    → PhaseFits phase left unsent rest marks → PhaseFits phase left' unsent' rest marks'
+going_fits phase left unsent left' unsent' rest marks marks' going fits =
+    record { empty = fits.empty; finished = λ e. absurd (both_ways (says_done phase) (undone phase going) e) } where
+      -- such a phase doesn't say that all is done
+      undone : (at : Phase) → IsGoingOn at → says_done at ≡ false
+      undone Clearing g = absurd g
+      undone (Closing why) g = absurd g
+      undone (Over why) g = absurd g
+      undone other g = refl
+
+-- in the phase `Ready`, and where the cycle is overdue, the run goes on
+going_on : (plan : Plan) (p : Progress) (w : Waiting) → IsReadyOrOverdue plan p w → IsGoingOn p.phase
+going_on plan p w (inl is) = subst IsGoingOn (sym is) tt
+going_on plan p w (inr over) = over.2
+
+-- the beginning of a cycle preserves `HoldsMidAct`, while the run goes on, if a cycle is left and no command of the one before is
 -- unsent
-mid_begun : (plan : Plan) (commands : List Task) (s : Model) (m : Moment) → (is_ready : s.progress.phase ≡ Ready) → (none_unsent : s.progress.unsent ≡ 0)
+mid_begun : (plan : Plan) (commands : List Task) (s : Model) (m : Moment) → (going : IsGoingOn s.progress.phase) → (none_unsent : s.progress.unsent ≡ 0)
     → (some : 0 < s.progress.left) → HoldsMidAct plan commands s
     → HoldsMidAct plan commands (with_progress (cycle_begun plan (cycle_length plan commands) m) s)
 mid_begun plan commands s m is none some mid =
     let p = s.progress in (
       sound_begun plan commands (ledger_at s p) none some mid.0,
-      ready_fits p.phase (p.left - 1) (cycle_length plan commands) s.rest s.marks is,
+      going_fits p.phase p.left p.unsent (p.left - 1) (cycle_length plan commands) s.rest s.marks s.marks is mid.1,
     )
 
 -- a line feed that was sent in the phase `Clearing` preserves `HoldsMidAct`
@@ -119,7 +136,7 @@ module _ (plan : Plan) (commands : List Task) (next : Upcoming) (s : Model) wher
   -- in the phase `Ready`, if a command is unsent and none is outstanding
   mid_skips : (m : Moment) (left : List Task)
       → (there : commands_left commands s.progress ≡ left)
-      → (is_ready : s.progress.phase ≡ Ready) → (some : 0 < s.progress.unsent) → (settled : commands_in s.marks ≡ 0) → HoldsMidAct plan commands s
+      → (going : IsGoingOn s.progress.phase) → (some : 0 < s.progress.unsent) → (settled : commands_in s.marks ≡ 0) → HoldsMidAct plan commands s
       → HoldsMidAct plan commands (with_progress (λ p. early_noted plan (commands_in s.marks) (skipped next m p))
       (with_more_records (first_unsent_record s.progress m (mark_next plan commands s.progress) left) s))
   mid_skips m [] at is some none mid =
@@ -130,12 +147,12 @@ module _ (plan : Plan) (commands : List Task) (next : Upcoming) (s : Model) wher
       let p = s.progress in (
         sound_skipped plan commands (ledger_at s p) (unsent_at m p) (end_unsent p.missed)
             (mark_next plan commands p).expected task others none some at (unsent_end p.missed) mid.0,
-        ready_fits p.phase p.left (p.unsent - 1) s.rest s.marks is,
+        going_fits p.phase p.left p.unsent p.left (p.unsent - 1) s.rest s.marks s.marks is mid.1,
       )
 
   -- an act that is to record the next command of a cycle without sending it preserves `HoldsMidAct`, in the phase `Ready`, with a
   -- command unsent and none outstanding
-  mid_skip : (act : Act) → s.progress.phase ≡ Ready → 0 < s.progress.unsent
+  mid_skip : (act : Act) → IsGoingOn s.progress.phase → 0 < s.progress.unsent
       → commands_in s.marks ≡ 0 → HoldsMidAct plan commands s
       → HoldsMidAct plan commands (after_clock (λ m p. early_noted plan (commands_in s.marks) (skipped next m p))
       (with_listed (listed_after_skip plan commands s act) (with_more_records (unsent_record plan commands s.progress act) s)) act)
@@ -146,7 +163,7 @@ module _ (plan : Plan) (commands : List Task) (next : Upcoming) (s : Model) wher
   mid_skip act is some none mid = mid_fail plan commands (with_more_records [] s) cause.Clock refl (mid_nothing plan commands s mid)
 
 -- an act that leaves out the further attempts of a chain preserves `HoldsMidAct`, in the phase `Ready`, if a command is unsent
-mid_pass : (plan : Plan) (commands : List Task) (s : Model) (act : Act) → s.progress.phase ≡ Ready → 0 < s.progress.unsent → HoldsMidAct plan commands s
+mid_pass : (plan : Plan) (commands : List Task) (s : Model) (act : Act) → IsGoingOn s.progress.phase → 0 < s.progress.unsent → HoldsMidAct plan commands s
     → HoldsMidAct plan commands (after_pass plan commands s act)
 mid_pass plan commands s (Told m) is some mid =
     let p = s.progress in
@@ -154,7 +171,7 @@ mid_pass plan commands s (Told m) is some mid =
     mid_moment plan commands (with_progress (λ q. early_noted plan (commands_in s.marks) (attempts_left_out (upcoming_after n commands p) m q))
     (with_more_passes (next_left_out plan commands p) s)) m (
       sound_passed plan commands (ledger_at s p) n some mid.0,
-      ready_fits p.phase p.left (p.unsent - n) s.rest s.marks is,
+      going_fits p.phase p.left p.unsent p.left (p.unsent - n) s.rest s.marks s.marks is mid.1,
     )
 mid_pass plan commands s act is some mid = mid_fail plan commands s cause.Clock refl mid
 
@@ -177,7 +194,7 @@ mid_moved plan commands s action.Renew act fine is =
 mid_moved plan commands s action.Begin act fine is =
     let t = with_progress turned s in
     let mid = mid_act_of plan commands s fine in
-    mid_clock plan commands (cycle_begun plan (cycle_length plan commands)) t act mid (λ m. mid_begun plan commands t m is.0 is.2 is.4 mid)
+    mid_clock plan commands (cycle_begun plan (cycle_length plan commands)) t act mid (λ m. mid_begun plan commands t m (going_on plan s.progress (waiting_of s) is.0) is.2 is.4 mid)
 mid_moved plan commands s action.Open act fine is = mid_open plan commands (with_progress turned s) act is (mid_act_of plan commands s fine)
 mid_moved plan commands s action.Clear act fine is =
     let t = with_progress turned s in mid_put plan commands _ (with_progress cleared) t act (mid_cleared plan commands t is (mid_act_of plan commands s fine))
@@ -194,8 +211,8 @@ mid_moved plan commands s action.Send act fine is =
     is.0 is.2 is.3.1 (mid_act_of plan commands s fine))
 mid_moved plan commands s action.Skip act fine is =
     let t = with_progress turned s in
-    mid_skip plan commands (upcoming_after 1 commands t.progress) t act is.0 is.2 is.3 (mid_act_of plan commands s fine)
-mid_moved plan commands s action.Pass act fine is = mid_pass plan commands (with_progress turned s) act is.0 is.2 (mid_act_of plan commands s fine)
+    mid_skip plan commands (upcoming_after 1 commands t.progress) t act (going_on plan s.progress (waiting_of s) is.0) is.2 is.3 (mid_act_of plan commands s fine)
+mid_moved plan commands s action.Pass act fine is = mid_pass plan commands (with_progress turned s) act (going_on plan s.progress (waiting_of s) is.0) is.2 (mid_act_of plan commands s fine)
 mid_moved plan commands s action.Flush act fine is =
     let t = with_progress turned s in
     mid_put plan commands _ (λ (x : Model). with_progress request_noted (asks_for (null_request plan) x)) t act (mid_flushed plan commands t is.0 is.4.1 (mid_act_of plan commands s fine))

@@ -1,7 +1,7 @@
 -- What holds if an action is next: its conditions (`HoldsBefore`), that a cycle begins only if it is due, and whether the moment
 -- was read (`Timely`, `Wakes`). `Holds` has all of these, and is shown once for each function that decides.
-use Rattle.std.proofs.Common.{◌≡◌, ℕ, ◌<◌, ◌≤◌, ◌⊎◌, ◌&&◌, ◌||◌, Bool, true, false, not, nat_lt, nat_le, nat_eq, refl, sym, ap, ◌∙◌, subst, inl, inr, arith}
-use Rattle.std.proofs.lemmas.Bool.{ltb-true, ltb-false, leb-true, eqb-true, not-true, and_parts, and_cases, not-false, false_from_ne_true, cond_both}
+use Rattle.std.proofs.Common.{◌≡◌, ℕ, ◌-◌, ◌<◌, ◌≤◌, ◌⊎◌, ◌&&◌, ◌||◌, Bool, true, false, not, if◌then◌else◌, nat_lt, nat_le, nat_eq, refl, sym, ap, ◌∙◌, subst, inl, inr, arith}
+use Rattle.std.proofs.lemmas.Bool.{ltb-true, ltb-false, leb-true, leb-false, le-leb, eqb-true, not-true, and_parts, and_cases, not-false, false_from_ne_true, cond_both}
 use Rattle.std.proofs.lemmas.Bool.Decides.{nat_tests}
 use Rattle.gc_client.specs.declared.window.TheConstants.{WINDOW}
 use Rattle.gc_station.specs.declared.plan.Plan.{Plan}
@@ -14,8 +14,8 @@ use Rattle.gc_station.specs.declared.progress.Action.TheVariants as action
 use Rattle.gc_station.specs.declared.progress.Progress.{Progress}
 use Rattle.gc_station.specs.declared.progress.Until.TheVariants.{Limit, Due}
 use Rattle.gc_station.specs.declared.progress.Waiting.{Waiting}
-use Rattle.gc_station.specs.Reasons.{HoldsBefore, IsBetweenChains, IsFinished, IsHeld, HasRoomToAsk, MayGo, MayRetry, IsAtItsEnd, IsResting, StaysInItsChain, HasConnectionFor, MayPrepare, WantsNull}
-use Rattle.gc_station.specs.Deciding.{width_of, has_begun, is_up, is_unquiet, is_silent, is_dead, is_due, is_idle, is_finished, has_room_to_ask, action_of, action_in, action_on, action_of_phase, may_go, waits_for_all, action_again, action_ready, action_begun, action_beginning, action_held, action_settled, action_done, action_to_send, action_room, action_waiting, action_without_turns, is_stale, is_between_chains, is_resting, is_cut, is_stopping, is_held_back, action_cycle, action_to_prepare, action_preparing, is_preparing}
+use Rattle.gc_station.specs.Reasons.{HoldsBefore, IsBetweenChains, IsFinished, IsHeld, HasRoomToAsk, MayGo, MayRetry, NothingMayGo, WaitsForWhatIsInFlight, IsAtItsEnd, IsResting, StaysInItsChain, HasConnectionFor, MayPrepare, WantsNull, IsOutOfTime, IsGoingOn, IsOverdue, IsPreparedOrOverdue}
+use Rattle.gc_station.specs.Deciding.{width_of, has_begun, is_up, is_unquiet, is_silent, is_dead, is_due, is_idle, is_finished, has_room_to_ask, action_of, action_in, action_on, action_of_phase, may_go, waits_for_all, action_again, action_ready, action_begun, action_beginning, action_held, action_settled, action_done, action_to_send, action_room, action_waiting, action_without_turns, is_stale, is_between_chains, is_resting, is_cut, is_stopping, is_held_back, action_cycle, action_to_prepare, action_preparing, is_preparing, is_out_of_time, waits_out, has_no_time_left, is_overdue, action_overdue, may_abandon, setup_permits}
 use Rattle.gc_station.specs.Stations.{SuitsAction}
 
 -- Tests.
@@ -71,7 +71,10 @@ CanRead p = (p.clock_due ≡ false) × (p.phase ≡ Clearing → ⊥)
 -- moment was read; and if it reads, a read may be made (`CanRead`)
 abbrev pub Timely : Plan → Progress → Action → Type 0
 Timely plan p action.ReadClock = p.clock_due ≡ true
-Timely plan p action.Begin = is_due plan p ≡ true
+Timely plan p action.Begin = (is_due plan p ≡ true) × (p.clock_due ≡ false)
+Timely plan p action.Renew = p.clock_due ≡ false
+Timely plan p action.Skip = p.clock_due ≡ false
+Timely plan p action.Pass = p.clock_due ≡ false
 Timely plan p action.Open = p.clock_due ≡ false
 Timely plan p (action.Read until) = CanRead p
 Timely plan p _ = Unit {0}
@@ -86,7 +89,7 @@ Awake p = (p.clock_due ≡ false) × (p.phase ≡ Ready)
 -- if this action sends a request, resynchronizes, or closes a dead line, `Awake` holds; or, for that close, the phase says
 -- already that the connection is to be closed
 abbrev pub Wakes : Progress → Action → Type 0
-Wakes p action.Renew = Awake p
+Wakes p action.Renew = (p.clock_due ≡ false) × ((p.phase ≡ Ready) ⊎ Unit {0})
 Wakes p action.Ask = Awake p
 Wakes p action.Prepare = Awake p
 Wakes p action.Send = Awake p
@@ -121,22 +124,23 @@ awake_reads p (now, is) = (now, λ c. let other : Ready ≡ Clearing = sym is �
 abbrev SevenIfAllTimedOut : Waiting → Type 0
 SevenIfAllTimedOut w = w.current ≡ 0 → WINDOW ≤ w.all
 
--- for a station at work, `Holds` is true of `action_waiting`, if seven requests are outstanding where all have timed out and the
--- line isn't dead
-waiting_for : (plan : Plan) (p : Progress) (w : Waiting) → IsAtWork p → (is_dead plan p w ≡ false → SevenIfAllTimedOut w) → Holds plan p w (action_waiting plan p w)
-waiting_for plan p w work full =
+-- for a station at work, `Holds` is true of `action_waiting`, if no command may be sent where something is in flight that hasn't timed
+-- out, and seven requests are outstanding where all have timed out and the line isn't dead
+waiting_for : (plan : Plan) (p : Progress) (w : Waiting) → IsAtWork p → (0 < w.current → NothingMayGo plan p w) → (is_dead plan p w ≡ false → SevenIfAllTimedOut w) → Holds plan p w (action_waiting plan p w)
+waiting_for plan p w work nothing full =
     let P = Holds plan p w in
     let up = awake_up p work.awake in
     cond_both (is_dead plan p w) (action.Close cause.Dead) _ P (λ d. ((up, inr (closes d)), tt, inr work.awake))
     (λ d. cond_both (nat_eq w.current 0) action.Renew (action.Read Limit) P
-    (λ e. let none = eqb-true w.current 0 e in ((work.awake.1, work.begun, none, full d none), tt, work.awake)) (λ e. (tt, awake_reads p work.awake, tt))) where
+    (λ e. let none = eqb-true w.current 0 e in ((inl work.awake.1, work.begun, none, inl (full d none)), work.awake.0, (work.awake.0, inl work.awake.1)))
+    (λ e. let some = above_zero w.current e in (inr (inr (work.awake.1, inr (inl (nothing some, some)))), awake_reads p work.awake, tt))) where
       -- a dead line is closed, since the station has synchronized
       closes : is_dead plan p w ≡ true → IsAtItsEnd plan p w cause.Dead
       closes d = let it = dead_parts plan p w d in (it.0, it.1, λ not_begun. let both : true ≡ false = sym work.begun ∙ not_begun in cc)
 
--- for a station at work, `Holds` is true of `action_waiting` if a request is outstanding that hasn't timed out
-waiting_for_reply : (plan : Plan) (p : Progress) (w : Waiting) → IsAtWork p → 0 < w.current → Holds plan p w (action_waiting plan p w)
-waiting_for_reply plan p w work some = waiting_for plan p w work (λ alive none. absurd (omega (arith, none, some)))
+-- for a station at work, `Holds` is true of `action_waiting` if the station waits for what is in flight
+waiting_for_reply : (plan : Plan) (p : Progress) (w : Waiting) → IsAtWork p → 0 < w.current → WaitsForWhatIsInFlight plan p w → Holds plan p w (action_waiting plan p w)
+waiting_for_reply plan p w work some waits = waiting_for plan p w work (λ _. inr (inr waits)) (λ alive none. absurd (omega (arith, none, some)))
 
 -- at least one request may be in flight
 width_above_zero : (plan : Plan) → 0 < width_of plan
@@ -152,6 +156,15 @@ seven_if_alive : (plan : Plan) (p : Progress) (w : Waiting) → (has_room_to_ask
 seven_if_alive plan p w (inl none) alive = seven_if_no_room plan w (and_cases (nat_lt w.current (width_of plan)) (nat_lt w.all WINDOW) none)
 seven_if_alive plan p w (inr dead) alive = let both : true ≡ false = sym (not-false (is_dead plan p w) dead) ∙ alive in cc
 
+-- if there is no room, or the line is dead, no command may be sent where something is in flight that hasn't timed out
+nothing_if_no_room : (plan : Plan) (p : Progress) (w : Waiting) → (has_room_to_ask plan w ≡ false) ⊎ (not (is_dead plan p w) ≡ false) → 0 < w.current → NothingMayGo plan p w
+nothing_if_no_room plan p w (inl none) some = by_test (and_cases (nat_lt w.current (width_of plan)) (nat_lt w.all WINDOW) none) where
+  -- the lemma above, by which test fails
+  by_test : LacksRoom plan w → NothingMayGo plan p w
+  by_test (inl full) = inl (ltb-false w.current (width_of plan) full)
+  by_test (inr full) = inr (inl (ltb-false w.all WINDOW full))
+nothing_if_no_room plan p w (inr dead) some = let none = (dead_parts plan p w (not-false (is_dead plan p w) dead)).1 in absurd (omega (arith, none, some))
+
 -- `action_room` is the action o if there is room for a request and the line isn't dead, and else the action of a station that
 -- waits. For a station at work, `Holds` is true of it, if `Holds` is true of o where there is room and the line isn't dead
 room_for : (plan : Plan) (p : Progress) (w : Waiting) (o : Action) → IsAtWork p → (HasRoomToAsk plan w → is_dead plan p w ≡ false → Holds plan p w o)
@@ -159,7 +172,7 @@ room_for : (plan : Plan) (p : Progress) (w : Waiting) (o : Action) → IsAtWork 
 room_for plan p w o work step =
     cond_both (has_room_to_ask plan w && not (is_dead plan p w)) o _ (Holds plan p w)
     (λ e. let it = and_parts (has_room_to_ask plan w) (not (is_dead plan p w)) e in step (room_by_test plan w it.0) (not-true (is_dead plan p w) it.1))
-    (λ e. waiting_for plan p w work (seven_if_alive plan p w (and_cases (has_room_to_ask plan w) (not (is_dead plan p w)) e)))
+    (λ e. let lacks = and_cases (has_room_to_ask plan w) (not (is_dead plan p w)) e in waiting_for plan p w work (nothing_if_no_room plan p w lacks) (seven_if_alive plan p w lacks))
 
 -- for a station at work, `Holds` is true of `action_to_send` with the action o, if it is true of o
 -- where there is room, the line isn't dead and the count `behind` is below seven, and a null procedure is wanted where that
@@ -171,7 +184,7 @@ to_send_for plan p w o work near far =
     cond_both (nat_lt p.behind WINDOW) _ _ P (λ below. room_for plan p w o work (near (ltb-true p.behind WINDOW below)))
     (λ above. let many = ltb-false p.behind WINDOW above in cond_both (nat_eq w.current 0) _ _ P
     (λ given. room_for plan p w action.Flush work (λ room alive. ((work.awake.1, work.begun, far many, eqb-true w.current 0 given, room, alive), tt, work.awake)))
-    (λ current. waiting_for_reply plan p w work (above_zero w.current current)))
+    (λ current. waiting_for_reply plan p w work (above_zero w.current current) (inr (inl many))))
 
 -- for a station in its cycles (`IsMeasuring`), `Holds` is true of `action_to_send` with `Send` if a command is unsent, it may be
 -- sent (`MayGo`, `MayRetry`), and it goes on with its chain if the end of the run was asked for
@@ -266,7 +279,9 @@ has_connection_for why p up = up
 -- for a station at work, `Holds` is true of `action_waiting`, if a further chain is held back
 held_back_for : (plan : Plan) (p : Progress) (w : Waiting) → IsAtWork p → is_held_back p w ≡ true → Holds plan p w (action_waiting plan p w)
 held_back_for plan p w work held =
-    let it = and_parts (p.stops && is_between_chains p) (nat_lt 0 w.current) held in waiting_for_reply plan p w work (ltb-true 0 w.current it.1)
+    let it = and_parts (p.stops && is_between_chains p) (nat_lt 0 w.current) held in
+    let asked = and_parts p.stops (is_between_chains p) it.0 in
+    waiting_for_reply plan p w work (ltb-true 0 w.current it.1) (inr (inr (inl (asked.0, between_by_test p asked.1))))
 
 -- for a station in its cycles (`IsMeasuring`), `Holds` is true of `action_done` if no command of the cycle is unsent or
 -- outstanding, and the end of the run wasn't asked for
@@ -276,7 +291,7 @@ done_for plan p w m sent settled unasked =
     let P = Holds plan p w in
     cond_both (nat_eq p.left 0) (action.Close cause.Done) _ P (λ e. ((awake_up p m.work.awake, inr (eqb-true p.left 0 e, sent, settled)), tt, tt))
     (λ e. cond_both (is_due plan p) action.Begin (action.Read Due) P
-    (λ d. ((m.work.awake.1, m.work.begun, sent, settled, above_zero p.left e, unasked, m.set_up), d, tt)) (λ d. (tt, awake_reads p m.work.awake, tt)))
+    (λ d. ((inl m.work.awake.1, inl m.work.begun, sent, settled, above_zero p.left e, unasked, inl m.set_up), (d, m.work.awake.0), tt)) (λ d. ((m.work.awake.1, inr (sent, settled, d)), awake_reads p m.work.awake, tt)))
 
 -- if no command may be sent before those that are outstanding are settled (`IsHeld`), one is unsent, and it begins no further
 -- attempt, that one is chained
@@ -293,7 +308,7 @@ again_for plan p w m some settled more stays =
     cond_both (w.listed && not p.next_is_chained) _ action.Pass (Holds plan p w)
     (λ e. let it = and_parts w.listed (not p.next_is_chained) e in
     send_for plan p w m some (inl (not-true p.next_is_chained it.1)) (inr (settled, it.0)) stays)
-    (λ e. ((m.work.awake.1, m.work.begun, some, settled, more, by_test (and_cases w.listed (not p.next_is_chained) e), m.set_up), tt, tt)) where
+    (λ e. ((inl m.work.awake.1, inl m.work.begun, some, settled, more, inl (by_test (and_cases w.listed (not p.next_is_chained) e)), inl m.set_up), m.work.awake.0, tt)) where
       -- why the attempt is left out, by which of the two tests fails
       by_test : ((w.listed ≡ false) ⊎ (not p.next_is_chained ≡ false)) → (w.listed ≡ false) ⊎ (p.next_is_chained ≡ true)
       by_test (inl none) = inl none
@@ -308,7 +323,7 @@ settled_for plan p w m held settled only =
     (λ e. cond_both (nat_lt 0 p.next_others) _ _ P (λ more. again_for plan p w m (above_zero p.unsent e) settled (ltb-true 0 p.next_others more) (λ stops. (only stops).1))
     (λ first. let none = zero_if_not_above p.next_others first in cond_both (may_go p w) _ action.Skip P
     (λ well. let it = and_parts w.well p.chain_unbroken well in send_for plan p w m (above_zero p.unsent e) (inr (settled, it.0, it.1)) (inl none) (λ stops. (only stops).1))
-    (λ broken. ((m.work.awake.1, m.work.begun, above_zero p.unsent e, settled, held_is_chained p held e none, broken, m.set_up), tt, tt))))
+    (λ broken. ((inl m.work.awake.1, inl m.work.begun, above_zero p.unsent e, settled, inl (held_is_chained p held e none, broken), inl m.set_up), m.work.awake.0, tt))))
 
 -- for a station in its cycles (`IsMeasuring`), `Holds` is true of `action_held` if no command may be sent before all that were
 -- sent are settled (`IsHeld`), and a chain goes on if the end of the run was asked for
@@ -319,7 +334,7 @@ held_for plan p w m held only =
     (λ e. cond_both (nat_eq w.current 0) _ _ P
     (λ given. room_for plan p w action.Flush m.work (λ room alive.
     ((m.work.awake.1, m.work.begun, inl (inl held, above_zero w.commands e), eqb-true w.current 0 given, room, alive), tt, m.work.awake)))
-    (λ some. waiting_for_reply plan p w m.work (above_zero w.current some)))
+    (λ some. waiting_for_reply plan p w m.work (above_zero w.current some) (inl (inl held, above_zero w.commands e))))
 
 -- if no command is left, or the next one is sent only once all are settled, `IsHeld` holds
 held_by_test : (p : Progress) → (nat_lt 0 p.unsent && not (waits_for_all p)) ≡ false → IsHeld p
@@ -375,7 +390,7 @@ to_prepare_for : (plan : Plan) (p : Progress) (w : Waiting) → (work : IsAtWork
     → Holds plan p w (action_to_prepare plan p w)
 to_prepare_for plan p w work unasked on first =
     cond_both (nat_lt p.prepared plan.setup) _ (action.Read Limit) (Holds plan p w) (λ e. prepare_for plan p w work unasked (on, ltb-true p.prepared plan.setup e, first))
-    (λ e. (tt, awake_reads p work.awake, tt))
+    (λ e. (inr (inr (work.awake.1, inr (inr (on, ltb-false p.prepared plan.setup e)))), awake_reads p work.awake, tt))
 
 -- for a station at work, `Holds` is true of `action_preparing`, if it is preparing, and the end of
 -- the run wasn't asked for
@@ -383,7 +398,7 @@ preparing_for : (plan : Plan) (p : Progress) (w : Waiting) → IsAtWork p → p.
 preparing_for plan p w work unasked on =
     let P = Holds plan p w in
     cond_both (is_finished w.commands p) (action.Close cause.Done) _ P (λ none. ((awake_up p work.awake, inr (finished_by_test w.commands p none)), tt, tt))
-    (λ more. cond_both (is_idle plan p) (action.Read Due) _ P (λ idle. (tt, awake_reads p work.awake, tt))
+    (λ more. cond_both (is_idle plan p) (action.Read Due) _ P (λ idle. ((work.awake.1, inl (idle, inr on)), awake_reads p work.awake, tt))
     (λ busy. cond_both (nat_eq p.prepared 0) _ _ P (λ e. to_prepare_for plan p w work unasked on (inl (eqb-true p.prepared 0 e)))
     (λ sent. cond_both (nat_eq w.commands 0) _ _ P
     (λ e. cond_both w.well _ (action.Close cause.SetUp) P (λ well. to_prepare_for plan p w work unasked on (inr (eqb-true w.commands 0 e, well)))
@@ -391,30 +406,48 @@ preparing_for plan p w work unasked on =
     (λ waiting. cond_both (nat_eq w.current 0) _ _ P
     (λ given. room_for plan p w action.Flush work (λ room alive.
     ((work.awake.1, work.begun, inl (inr (on, above_zero p.prepared sent), above_zero w.commands waiting), eqb-true w.current 0 given, room, alive), tt, work.awake)))
-    (λ some. waiting_for_reply plan p w work (above_zero w.current some))))))
+    (λ some. waiting_for_reply plan p w work (above_zero w.current some) (inl (inr (on, above_zero p.prepared sent), above_zero w.commands waiting)))))))
+
+-- where the test says that the cycle is out of time, it is
+pub out_of_time_by_test : (plan : Plan) (p : Progress) → is_out_of_time plan p ≡ true → IsOutOfTime plan p
+out_of_time_by_test plan p e =
+    let it = and_parts (nat_lt 0 plan.every) (nat_le plan.every ((p.moment.elapsed - p.began) - plan.every)) e in
+    (ltb-true 0 plan.every it.0, leb-true plan.every ((p.moment.elapsed - p.began) - plan.every) it.1)
+
+-- for a station at work, `Holds` is true of `action_waiting`, if the cycle is out of time and something is in flight
+waits_out_for : (plan : Plan) (p : Progress) (w : Waiting) → IsAtWork p → waits_out plan p w ≡ true → Holds plan p w (action_waiting plan p w)
+waits_out_for plan p w work cut =
+    let it = and_parts (is_out_of_time plan p) (nat_lt 0 w.current) (and_parts (is_out_of_time plan p && nat_lt 0 w.current) _ cut).0 in
+    waiting_for_reply plan p w work (ltb-true 0 w.current it.1) (inr (inr (inr (out_of_time_by_test plan p it.0))))
 
 -- for a station at work, `Holds` is true of `action_begun`, unless the run ends because that was
 -- asked for (`is_stopping`)
 begun_for : (plan : Plan) (p : Progress) (w : Waiting) → IsAtWork p → is_stopping p w ≡ false → Holds plan p w (action_begun plan p w)
 begun_for plan p w work goes =
     cond_both (is_held_back p w) (action_waiting plan p w) _ (Holds plan p w) (λ held. held_back_for plan p w work held)
-    (λ free. let only = in_chain_if_stopping p w (awake_up p work.awake) work.begun goes free in cond_both (is_preparing plan p w) _ _ (Holds plan p w)
-    (λ on. preparing_for plan p w work (unasked only (and_parts p.preparing _ on).0) on) (λ done. cycle_for plan p w (record { work = work; set_up = done }) only)) where
+    (λ free. cond_both (waits_out plan p w) (action_waiting plan p w) (if is_preparing plan p w then action_preparing plan p w else action_cycle plan p w) (Holds plan p w)
+    (λ cut. waits_out_for plan p w work cut) (λ uncut. uncut_for (in_chain_if_stopping p w (awake_up p work.awake) work.begun goes free))) where
       -- while the setup isn't done, the end of the run wasn't asked for
       unasked : IsInChainIfStopping p → p.preparing ≡ true → p.stops ≡ false
       unasked only on = false_from_ne_true p.stops (λ stops. let ready = (only stops).2 in let both : true ≡ false = sym on ∙ ready in cc)
+
+      -- the action if nothing is held back or cut: that of the setup until it is done, and then that of the cycle
+      uncut_for : IsInChainIfStopping p → Holds plan p w (if is_preparing plan p w then action_preparing plan p w else action_cycle plan p w)
+      uncut_for only =
+          cond_both (is_preparing plan p w) (action_preparing plan p w) (action_cycle plan p w) (Holds plan p w)
+          (λ on. preparing_for plan p w work (unasked only (and_parts p.preparing _ on).0) on) (λ done. cycle_for plan p w (record { work = work; set_up = done }) only)
 
 -- for a station that is `Awake` and synchronizes, `Holds` is true of `action_beginning`
 beginning_for : (plan : Plan) (p : Progress) (w : Waiting) → Awake p → has_begun p ≡ false → Holds plan p w (action_beginning plan p w)
 beginning_for plan p w awake begun =
     let P = Holds plan p w in
     cond_both (is_finished w.commands p) (action.Close cause.Done) _ P (λ none. ((awake_up p awake, inr (finished_by_test w.commands p none)), tt, tt))
-    (λ more. cond_both (is_idle plan p) (action.Read Due) _ P (λ idle. (tt, awake_reads p awake, tt))
+    (λ more. cond_both (is_idle plan p) (action.Read Due) _ P (λ idle. ((awake.1, inl (idle, inl begun)), awake_reads p awake, tt))
     (λ busy. cond_both (nat_le p.again p.moment.elapsed) _ (action.Read Limit) P
     (λ past. cond_both (is_dead plan p w) (action.Close cause.Dead) action.Ask P
     (λ d. let it = dead_parts plan p w d in ((awake_up p awake, inr (it.0, it.1, λ not_begun. leb-true p.again p.moment.elapsed past)), tt, inr awake))
     (λ alive. ((awake.1, begun, leb-true p.again p.moment.elapsed past, busy, alive), tt, awake)))
-    (λ e. (tt, awake_reads p awake, tt))))
+    (λ e. (inr (inr (awake.1, inl (begun, leb-false p.again p.moment.elapsed e))), awake_reads p awake, tt))))
 
 -- for a station that is `Awake`, `Holds` is true of `action_ready`, unless the run ends because that was asked for
 -- (`is_stopping`)
@@ -430,9 +463,12 @@ closing_wakes p why is = tt
 -- (`is_stopping`)
 of_phase_for : (plan : Plan) (phase : Phase) (p : Progress) (w : Waiting) → p.phase ≡ phase → p.clock_due ≡ false → is_stopping p w ≡ false → Holds plan p w (action_of_phase plan phase p w)
 of_phase_for plan Down p w is now goes = (is, now, tt)
-of_phase_for plan Pausing p w is now goes = (tt, (now, λ c. let other : Pausing ≡ Clearing = sym is ∙ c in cc), tt)
+of_phase_for plan Pausing p w is now goes = (inl is, (now, λ c. let other : Pausing ≡ Clearing = sym is ∙ c in cc), tt)
 of_phase_for plan Clearing p w is now goes = (is, tt, tt)
-of_phase_for plan Draining p w is now goes = (tt, (now, λ c. let other : Draining ≡ Clearing = sym is ∙ c in cc), tt)
+of_phase_for plan Draining p w is now goes =
+    cond_both (is_finished w.commands p) (action.Close cause.Done) (action.Read Limit) (Holds plan p w)
+    (λ done. ((ap is_up is, inr (finished_by_test w.commands p done)), tt, tt))
+    (λ more. (inr (inl is), (now, λ c. let other : Draining ≡ Clearing = sym is ∙ c in cc), tt))
 of_phase_for plan Ready p w is now goes = ready_for plan p w (now, is) goes
 of_phase_for plan (Closing why) p w is now goes = ((has_connection_for why p (ap is_up is), inl is), tt, closing_wakes p why is)
 of_phase_for plan (Over why) p w is now goes = ((ap is_up is, inl is), tt, tt)
@@ -442,6 +478,75 @@ without_turns_for : (plan : Plan) (p : Progress) (w : Waiting) (up : Bool) → i
 without_turns_for plan p w true is none = ((is, inr none), tt, tt)
 without_turns_for plan p w false is none = ((is, inr (refl, none)), tt, tt)
 
+-- a cycle that is out of time is past the moment at which the next one is due
+due_if_out_of_time : (plan : Plan) (p : Progress) → IsOutOfTime plan p → is_due plan p ≡ true
+due_if_out_of_time plan p late =
+    let long = late.1 in
+    cond_both (nat_eq p.left plan.cycles) true (nat_le plan.every (p.moment.elapsed - p.began)) (λ (b : Bool). b ≡ true) (λ first. refl)
+    (λ further. le-leb plan.every (p.moment.elapsed - p.began) (omega (arith, long)))
+
+-- in a phase in which the station may tell of commands, the run goes on
+going_by_test : (at : Phase) → may_abandon at ≡ true → IsGoingOn at
+going_by_test Clearing e = cc
+going_by_test (Closing why) e = cc
+going_by_test (Over why) e = cc
+going_by_test at e = tt
+
+-- `Holds` is true of `action_overdue`, if the moment was read, and the cycle is overdue
+overdue_for : (plan : Plan) (p : Progress) (w : Waiting) → p.clock_due ≡ false → is_overdue plan p w ≡ true → Holds plan p w (action_overdue p w)
+overdue_for plan p w now over =
+    let P = Holds plan p w in
+    let it = and_parts (has_no_time_left plan p) _ over in
+    let how = and_parts (nat_eq w.current 0 && may_abandon p.phase) _ it.1 in
+    let there = and_parts (nat_eq w.current 0) (may_abandon p.phase) how.0 in
+    let rests = and_parts (setup_permits plan p w) _ how.1 in
+    let more = and_parts (has_begun p || nat_eq w.commands 0) (not (is_finished w.commands p)) rests.1 in
+    let time = no_time_by_test it.0 in
+    let none = eqb-true w.current 0 there.0 in
+    let overdue : IsOverdue plan p w = (why time, none, going_by_test p.phase there.1) in
+    cond_both (nat_lt 0 w.commands) action.Renew _ P
+    (λ some. let many = ltb-true 0 w.commands some in
+    ((inr overdue, or_first (has_begun p) (nat_eq w.commands 0) more.0 (not_zero w.commands many), none, inr (overdue, many)), now, (now, inr tt)))
+    (λ settled. let zero_left = zero_if_not_above w.commands settled in let ready = ready_by_test (is_preparing plan p w) (nat_eq p.prepared 0) (nat_lt 0 w.commands) overdue refl refl rests.0 settled in cond_both (nat_eq p.unsent 0) action.Begin _ P
+    (λ sent. let all_sent = eqb-true p.unsent 0 sent in
+    let late = late_if_sent time all_sent in
+    ((inr overdue, inr overdue, all_sent, zero_left, some_left p.left p.unsent w.commands (not-true (is_finished w.commands p) more.1) all_sent zero_left, late.1, ready), (due_if_out_of_time plan p late.0, now), tt))
+    (λ unsent. let here = above_zero p.unsent unsent in cond_both (nat_lt 0 p.next_others) action.Pass action.Skip P
+    (λ others. ((inr overdue, inr overdue, here, zero_left, ltb-true 0 p.next_others others, inr overdue, ready), now, tt))
+    (λ first. ((inr overdue, inr overdue, here, zero_left, inr overdue, ready), now, tt)))) where
+      -- why no time is left for the cycle
+      NoTime : Type 0
+      NoTime = ((p.missed ≡ true) × (0 < p.unsent)) ⊎ (IsOutOfTime plan p × (p.stops ≡ false))
+
+      -- where the test says that no time is left, none is
+      no_time_by_test : has_no_time_left plan p ≡ true → NoTime
+      no_time_by_test e = by_test (p.missed && nat_lt 0 p.unsent) refl e where
+        -- the lemma above, by whether the cycle is missed, with commands left
+        by_test : (b : Bool) → (p.missed && nat_lt 0 p.unsent) ≡ b → (b || (is_out_of_time plan p && not p.stops)) ≡ true → NoTime
+        by_test true m f = let both = and_parts p.missed (nat_lt 0 p.unsent) m in inl (both.0, ltb-true 0 p.unsent both.1)
+        by_test false m f = let both = and_parts (is_out_of_time plan p) (not p.stops) f in inr (out_of_time_by_test plan p both.0, not-true p.stops both.1)
+
+      -- the same without the end of the run
+      why : NoTime → ((p.missed ≡ true) × (0 < p.unsent)) ⊎ IsOutOfTime plan p
+      why (inl missed) = inl missed
+      why (inr late) = inr late.0
+
+      -- if no command is left, the cycle is out of time, and the end of the run wasn't asked for
+      late_if_sent : NoTime → p.unsent ≡ 0 → IsOutOfTime plan p × (p.stops ≡ false)
+      late_if_sent (inl missed) sent = let here = missed.1 in absurd (omega (arith, here, sent))
+      late_if_sent (inr late) sent = late
+
+      -- the setup is done, or nothing of it was sent, if no command is outstanding
+      ready_by_test : (on none some : Bool) → IsOverdue plan p w → is_preparing plan p w ≡ on → nat_eq p.prepared 0 ≡ none → (not on || (none || some)) ≡ true → some ≡ false → IsPreparedOrOverdue plan p w
+      ready_by_test false none some overdue e f t s = inl e
+      ready_by_test true true some overdue e f t s = inr (eqb-true p.prepared 0 f, overdue)
+      ready_by_test true false true overdue e f t s = cc
+      ready_by_test true false false overdue e f t s = cc
+
+      -- a cycle is left, if not all is done, but no command is unsent or outstanding
+      some_left : (left unsent commands : ℕ) → (nat_eq left 0 && nat_eq unsent 0 && nat_eq commands 0) ≡ false → unsent ≡ 0 → commands ≡ 0 → 0 < left
+      some_left left unsent commands e sent settled = grind (arith, nat_tests, e, sent, settled)
+
 -- `Holds` is true of `action_on`
 on_for : (plan : Plan) (p : Progress) (w : Waiting) → Holds plan p w (action_on plan p w)
 on_for plan p w =
@@ -450,7 +555,8 @@ on_for plan p w =
     (λ e. cond_both (is_stale plan p w) (action.Close cause.Stale) _ P (λ old. ((tt, inr old), tt, tt))
     (λ some. cond_both (is_stopping p w) (action.Close cause.Stopped) _ P
     (λ asked. let it = and_parts p.stops (is_resting p w) asked in ((tt, inr (it.0, resting_by_test p w it.1)), tt, tt))
-    (λ goes. cond_both p.clock_due action.ReadClock _ P (λ old. (tt, old, tt)) (λ now. of_phase_for plan p.phase p w refl now goes))))
+    (λ goes. cond_both p.clock_due action.ReadClock _ P (λ old. (tt, old, tt))
+    (λ now. cond_both (is_overdue plan p w) _ _ P (λ over. overdue_for plan p w now over) (λ _. of_phase_for plan p.phase p w refl now goes)))))
 
 -- `Holds` is true of `action_in` in each phase
 in_for : (plan : Plan) (phase : Phase) (p : Progress) (w : Waiting) → p.phase ≡ phase → Holds plan p w (action_in phase plan p w)
@@ -469,7 +575,7 @@ action_timely plan p w = (in_for plan p.phase p w refl).1
 
 -- if the beginning of a cycle is next, the cycle is due
 pub begin_due : (plan : Plan) (p : Progress) (w : Waiting) → action_of plan p w ≡ action.Begin → is_due plan p ≡ true
-begin_due plan p w is = subst (λ (next : Action). Timely plan p next) is (action_timely plan p w)
+begin_due plan p w is = (subst (λ (next : Action). Timely plan p next) is (action_timely plan p w)).0
 
 -- the action that is next is as `Wakes` says: it sends a request, resynchronizes or closes a dead line only if requests may be
 -- sent and the moment was read, or the phase says already that the dead line is to be closed

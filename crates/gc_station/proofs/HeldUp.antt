@@ -181,10 +181,10 @@ module _ (plan : Plan) (commands : List Task) where
   none_behind : (s : Model) (o : Action) (act : Act) → HoldsBefore plan s.progress (waiting_of s) o → Performs commands s o act → has_begun s.progress ≡ false → NoneBehind s
       → NoneBehind (moved plan commands o (with_progress turned s) act)
   none_behind s action.Renew act is obeys begins e = absurd (both_ways (has_begun s.progress) begins is.1)
-  none_behind s action.Begin act is obeys begins e = absurd (both_ways (has_begun s.progress) begins is.1)
+  none_behind s action.Begin act is obeys begins e = walk plan commands (λ a. NoneBehind) action.Begin (with_progress turned s) act obeys (λ m. e, λ n. e)
   none_behind s action.Prepare act is obeys begins e = absurd (both_ways (has_begun s.progress) begins is.1)
   none_behind s action.Send act is obeys begins e = absurd (both_ways (has_begun s.progress) begins is.1)
-  none_behind s action.Skip act is obeys begins e = absurd (both_ways (has_begun s.progress) begins is.1)
+  none_behind s action.Skip act is obeys begins e = walk plan commands (λ a. NoneBehind) action.Skip (with_progress turned s) act obeys (λ m. e, λ n. e)
   none_behind s action.Flush act is obeys begins e = absurd (both_ways (has_begun s.progress) begins is.1)
   none_behind s action.Ask act is obeys begins e = walk plan commands (λ a. NoneBehind) action.Ask (with_progress turned s) act obeys (λ m. refl, λ n. refl)
   none_behind s (action.Read until) act is obeys begins e =

@@ -73,3 +73,6 @@ pub mod GoesBehind
 mod HeldUp
 mod Stopping
 mod Unbroken
+mod Outages
+mod InFlight
+mod InTime

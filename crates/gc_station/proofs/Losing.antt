@@ -160,7 +160,7 @@ module _ (plan : Plan) (commands : List Task) (scope : Scope) (acts : List Act) 
     renews true begun begins =
         let it = renews_only plan commands s (action_at plan s) act obeys begun begins in
         let full = renews_needs plan commands s (action_at plan s) fine it.0 (action_for plan s.progress (waiting_of s)) in
-        inr (inl (record { renews = it.0; moment = it.1; told = it.2; seven = full.0; given_up = full.1 }))
+        inr (inl (record { renews = it.0; moment = it.1; told = it.2; why = full.0; given_up = full.1 }))
 
     -- the lemma above, by whether the run is over after the act (`true`)
     by_test : (b : Bool) → is_over t.progress ≡ b → (not (has_begun t.progress) || b) ≡ true → Unwritten t.marks ⊎ EndsPart

@@ -168,7 +168,7 @@ module _ (plan : Plan) (commands : List Task) where
 
   -- the client of the model t is new, and t has the marks and the records of the model s, from before the act
   abbrev KeepsNewClient : (s t : Model) → Type 0
-  KeepsNewClient s t = (t.client ≡ fresh) × (t.marks ≡ s.marks) × (t.records ≡ s.records)
+  KeepsNewClient s t = (t.client ≡ fresh) × (t.marks ≡ s.marks) × (sent_of t.records ≡ sent_of s.records)
 
   -- while the station synchronizes, a piece leaves the client new, and the marks and the records as they are
   keeps_came : (heard : Bool) (word piece : List ℕ) (s : Model) → is_none_left word ≡ false → s.client ≡ fresh
@@ -186,11 +186,16 @@ module _ (plan : Plan) (commands : List Task) where
   pub keeps_new_client : (s : Model) (o : Action) (act : Act) → HoldsBefore plan s.progress (waiting_of s) o → Performs commands s o act → has_begun s.progress ≡ false
       → s.client ≡ fresh → KeepsNewClient s (moved plan commands o (with_progress turned s) act)
   keeps_new_client s action.Renew act is obeys begins new = absurd (both_ways (has_begun s.progress) begins is.1)
-  keeps_new_client s action.Begin act is obeys begins new = absurd (both_ways (has_begun s.progress) begins is.1)
+  keeps_new_client s action.Begin act is obeys begins new = walk plan commands (λ a. KeepsNewClient s) action.Begin (with_progress turned s) act obeys
+      (λ m. (new_told s m new, refl, refl), λ n. (new, refl, refl))
   keeps_new_client s action.Prepare act is obeys begins new = absurd (both_ways (has_begun s.progress) begins is.1)
   keeps_new_client s action.Send act is obeys begins new = absurd (both_ways (has_begun s.progress) begins is.1)
-  keeps_new_client s action.Skip act is obeys begins new = absurd (both_ways (has_begun s.progress) begins is.1)
-  keeps_new_client s action.Pass act is obeys begins new = absurd (both_ways (has_begun s.progress) begins is.1)
+  keeps_new_client s action.Skip act is obeys begins new = walk plan commands (λ a. KeepsNewClient s) action.Skip (with_progress turned s) act obeys (
+    λ m. (new_told s m new, refl, unsent_add_none s.records (unsent_record plan commands (turned s.progress) (Told m)) (skips_unsent (with_progress turned s) m)),
+    λ n. (new, refl, unsent_add_none s.records [] refl),
+  )
+  keeps_new_client s action.Pass act is obeys begins new = walk plan commands (λ a. KeepsNewClient s) action.Pass (with_progress turned s) act obeys
+      (λ m. (new_told s m new, refl, refl), λ n. (new, refl, refl))
   keeps_new_client s action.Flush act is obeys begins new = absurd (both_ways (has_begun s.progress) begins is.1)
   keeps_new_client s action.ReadClock act is obeys begins new = walk plan commands (λ a. KeepsNewClient s) action.ReadClock (with_progress turned s) act obeys
       (λ m. (new_told s m new, refl, refl), λ n. (new, refl, refl))
@@ -207,12 +212,12 @@ module _ (plan : Plan) (commands : List Task) where
   keeps_new_client s o act is obeys begins new = walk plan commands (λ a. KeepsNewClient s) o (with_progress turned s) act obeys (λ m. (new, refl, refl), λ n. (new, refl, refl))
 
   -- steps of a synchronization lead on to a model with the same client, marks and records
-  leads_with_same_client : (s : Model) (sync_steps : List SyncStep) (t : Model) → s.client ≡ t.client → s.marks ≡ t.marks → s.records ≡ t.records → Leads commands s (only_sync_steps sync_steps) t
+  leads_with_same_client : (s : Model) (sync_steps : List SyncStep) (t : Model) → s.client ≡ t.client → s.marks ≡ t.marks → sent_of s.records ≡ sent_of t.records → Leads commands s (only_sync_steps sync_steps) t
   leads_with_same_client s sync_steps t c ms rs =
       let books = Books s.reads commands s.client s.marks (sent_of s.records) (only_sync_steps sync_steps) in
       subst (λ (x : ById Asked). books x t.marks (sent_of t.records)) c
       (subst (λ (x : List (Option Mark)). books s.client x (sent_of t.records)) ms
-      (subst (λ (x : List Record). books s.client s.marks (sent_of x)) rs (books_sync_steps s.reads commands s.client s.marks (sent_of s.records) sync_steps)))
+      (subst (λ (x : List Record). books s.client s.marks x) rs (books_sync_steps s.reads commands s.client s.marks (sent_of s.records) sync_steps)))
 
   -- while the station synchronizes, an act of each action leads on by its part, if `Invariant` holds before it, and `HoldsBefore`
   -- of the action

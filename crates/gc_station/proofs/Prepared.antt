@@ -2,7 +2,7 @@
 -- the station synchronized. No command of the setup is sent before each one before it was answered well, since then, too.
 use Rattle.std.proofs.Common.{◌≡◌, ◌⊎◌, inl, inr, ℕ, zero, suc, ◌+◌, ◌<◌, ◌≤◌, ◌&&◌, ◌||◌, Bool, true, false, not, nat_eq, nat_le, nat_lt, min, List, [], ◌∷◌, ◌++◌, length, drop, map, refl, sym, ap, ◌∙◌, subst, arith, append_assoc, append-nil, leb-true, eqb-true, lt-ltb}
 use Rattle.std.proofs.lemmas.List.{map-append, append_cancel_left}
-use Rattle.std.proofs.lemmas.Bool.{and_parts, both_ways}
+use Rattle.std.proofs.lemmas.Bool.{and_parts, both_ways, eq-eqb, ne_eqb}
 use Rattle.std.proofs.lemmas.Bool.Decides.{leb_tells}
 use Rattle.gc_texts.specs.declared.tasks.Task.{Task}
 use Rattle.gc_links.specs.Acts.{Act, Told, Opened}
@@ -14,7 +14,7 @@ use Rattle.gc_station.specs.Deciding.{is_preparing, is_up, has_begun}
 use Rattle.gc_station.specs.Marks.{last_well, commands_in}
 use Rattle.gc_station.specs.Progressing.{turned, is_over_in, loses_all}
 use Rattle.gc_station.specs.Quiet.{KeepsOpen}
-use Rattle.gc_station.specs.Reasons.{HoldsBefore}
+use Rattle.gc_station.specs.Reasons.{HoldsBefore, IsPreparedOrOverdue}
 use Rattle.gc_station.specs.Records.{Record}
 use Rattle.gc_station.specs.Runs.{state_after}
 use Rattle.gc_station.specs.Scopes.{Scope}
@@ -308,6 +308,30 @@ module _ (plan : Plan) (commands : List Task) (scope : Scope) where
         inr (subst (λ (c : Bool). SetupFits c (state (acts ++ act ∷ [])).progress.prepared (acts ++ act ∷ []))
         (sym (ap (λ (p : Progress). p.preparing) (progress_after o is) ∙ b)) (on, prepared_more plan.setup acts act keeps on it.1))
 
+    -- after an act that begins a cycle, or tells of commands that aren't sent, `SetupFitsNow` holds, if `SetupFitsAt` held before it:
+    -- the setup is done, or nothing of it was sent
+    fits_told : (o : Action) → (is_next : action_at plan s ≡ o) → (performs : Performs commands s o act) → (other : o ≡ action.Renew → ⊥) → (keeps : KeepsOpen act)
+        → (flag : (t o).progress.preparing ≡ (s.progress.preparing && nat_eq s.progress.prepared 0)) → (same_place : (t o).progress.prepared ≡ s.progress.prepared)
+        → IsPreparedOrOverdue plan s.progress (waiting_of s) → SetupFitsAt acts → SetupFitsNow (acts ++ act ∷ [])
+    fits_told o is obeys other keeps flag same why h = by_flag s.progress.preparing refl why where
+      -- if the setup is done, it is over
+      over_if_done : (b : Bool) → s.progress.preparing ≡ b → is_preparing plan s.progress (waiting_of s) ≡ false → (t o).progress.preparing ≡ false
+      over_if_done false e done = flag ∙ ap (λ (b : Bool). b && nat_eq s.progress.prepared 0) e
+      over_if_done true e done =
+          let it = all_three (nat_le plan.setup s.progress.prepared) (nat_eq (commands_in s.marks) 0) (last_well false s.records)
+          (sym (ap (λ (b : Bool). b && not (nat_le plan.setup s.progress.prepared && nat_eq (commands_in s.marks) 0 && last_well false s.records)) e) ∙ done) in
+          let enough = leb-true plan.setup s.progress.prepared it.0 in
+          flag ∙ ap (λ (b : Bool). b && nat_eq s.progress.prepared 0) e ∙ ne_eqb s.progress.prepared 0 (λ none. omega (arith, none, enough, some))
+
+      -- the lemma above, by `preparing`
+      by_flag : (b : Bool) → s.progress.preparing ≡ b → IsPreparedOrOverdue plan s.progress (waiting_of s) → SetupFitsNow (acts ++ act ∷ [])
+      by_flag b e (inl done) = fits_once_done o is obeys other keeps (over_if_done b e done) done h
+      by_flag false e (inr none) =
+          let done : is_preparing plan s.progress (waiting_of s) ≡ false = ap (λ (b : Bool). b && not (nat_le plan.setup s.progress.prepared && nat_eq (commands_in s.marks) 0 && last_well false s.records)) e in
+          fits_once_done o is obeys other keeps (over_if_done false e done) done h
+      by_flag true e (inr none) =
+          fits_restarted o is (flag ∙ ap (λ (b : Bool). b && nat_eq s.progress.prepared 0) e ∙ eq-eqb s.progress.prepared 0 none.0 ∙ sym (lt-ltb 0 plan.setup some)) (same ∙ none.0)
+
     -- after an act that sends a command of the setup, `SetupFitsNow` holds, if `SetupFitsAt` held before it
     fits_sent : action_at plan s ≡ action.Prepare → Performs commands s action.Prepare act → HoldsBefore plan s.progress (waiting_of s) action.Prepare
         → SetupFitsAt acts → SetupFitsNow (acts ++ act ∷ [])
@@ -339,9 +363,9 @@ module _ (plan : Plan) (commands : List Task) (scope : Scope) where
     fits_after action.Send act is obeys needs h =
         fits_once_done some within acts act action.Send is obeys (λ e. cc) (stays_open plan commands action.Send (state acts) act obeys (λ why e. cc))
         (not_preparing_after_send plan commands (with_progress turned (state acts)) act) needs.8 h
-    fits_after action.Begin (Told m) is obeys needs h = fits_once_done some within acts (Told m) action.Begin is obeys (λ e. cc) tt refl needs.6 h
-    fits_after action.Skip (Told m) is obeys needs h = fits_once_done some within acts (Told m) action.Skip is obeys (λ e. cc) tt refl needs.6 h
-    fits_after action.Pass (Told m) is obeys needs h = fits_once_done some within acts (Told m) action.Pass is obeys (λ e. cc) tt refl needs.6 h
+    fits_after action.Begin (Told m) is obeys needs h = fits_told some within acts (Told m) action.Begin is obeys (λ e. cc) tt refl refl needs.6 h
+    fits_after action.Skip (Told m) is obeys needs h = fits_told some within acts (Told m) action.Skip is obeys (λ e. cc) tt refl refl needs.5 h
+    fits_after action.Pass (Told m) is obeys needs h = fits_told some within acts (Told m) action.Pass is obeys (λ e. cc) tt refl refl needs.6 h
     fits_after action.Renew (Told m) is obeys needs h = fits_restarted some within acts (Told m) action.Renew is refl refl
     fits_after action.Open Opened is obeys needs h = fits_unchanged some within acts Opened action.Open is (begins some within acts Opened action.Open is obeys (λ e. cc)) tt refl refl refl h
     fits_after action.Open act is obeys needs h = fits_restarted some within acts act action.Open is refl refl

@@ -22,7 +22,8 @@ use Rattle.gc_station.specs.Beginnings.{IsClearedAndQuiet}
 use Rattle.gc_station.specs.Deciding.{has_begun, is_quiet}
 use Rattle.gc_station.specs.Progressing.{turned, time_passed, drained}
 use Rattle.gc_station.specs.Quiet.{SendsRequest, TellsMoment, IsListening, IsSilent, StaysConnected}
-use Rattle.gc_station.specs.Reasons.{HoldsBefore}
+use Rattle.gc_station.specs.Reasons.{HoldsBefore, IsGoingOn, IsReadyOrOverdue}
+use Rattle.gc_station.specs.declared.progress.Waiting.{Waiting}
 use Rattle.gc_station.specs.Runs.{state_after}
 use Rattle.gc_station.specs.Model.{Model, null_text, next_request_text, first_text, opening, action_at, waiting_of, with_progress, lines_completed, is_heard, Performs, Runs, text_or_null}
 use Rattle.gc_station.specs.NextCommand.{place_next}
@@ -77,6 +78,7 @@ tells_listening since act e = absurd e
 -- a read that gave nothing sends nothing, and keeps the connection
 silent_listening : (act : Act) → IsSilent act → IsListening act
 silent_listening (Silent m) e = refl
+silent_listening (Told m) e = refl
 silent_listening act e = absurd e
 
 -- an act that only listens keeps the connection
@@ -174,9 +176,9 @@ drained_clears since acts d =
 drained_anew : (since now : ℕ) (acts : List Act) (act : Act) → TellsMoment now act → IsDrained since acts → IsDrained now (acts ++ act ∷ [])
 drained_anew since now acts act tells d = since_now (Drains now) acts act (drained_clears since acts d, tells, tt)
 
--- the quiet time goes on if a read gave nothing
-drained_longer : (since : ℕ) (acts : List Act) (m : Moment) → IsDrained since acts → IsDrained since (acts ++ Silent m ∷ [])
-drained_longer since acts m d = since_on (Drains since) (Drains since) acts (Silent m ∷ []) (λ before start behind order h. (h.0, h.1, all_append IsSilent behind (Silent m ∷ []) h.2 (tt, tt))) d
+-- the quiet time goes on if a read gave nothing, or the clock alone was read
+drained_longer : (since : ℕ) (acts : List Act) (act : Act) → IsSilent act → IsDrained since acts → IsDrained since (acts ++ act ∷ [])
+drained_longer since acts act calm d = since_on (Drains since) (Drains since) acts (act ∷ []) (λ before start behind order h. (h.0, h.1, all_append IsSilent behind (act ∷ []) h.2 (calm, tt))) d
 
 -- a connection that is `IsDrained` since some moment was quiet after one more read that gave nothing, if by then the quiet time
 -- since that moment is long enough
@@ -206,12 +208,13 @@ bounded_as_long now since false e =
     ap (λ n. now - n) (min-eq_right less) ∙ omega (arith, low)
 
 -- if a read gave nothing, the quiet time goes on, or starts again if the clock went back (`rises` is false)
-drained_if_silent : (since : ℕ) (m : Moment) (acts : List Act) (rises : Bool) → nat_le since m.elapsed ≡ rises → IsDrained since acts → IsDrained (min since m.elapsed) (acts ++ Silent m ∷ [])
-drained_if_silent since m acts true e d = subst (λ n. IsDrained n (acts ++ Silent m ∷ [])) (sym (min-eq_left (leb-true since m.elapsed e))) (drained_longer since acts m d)
-drained_if_silent since m acts false e d =
+drained_if_silent : (since : ℕ) (m : Moment) (acts : List Act) (act : Act) → IsSilent act → TellsMoment m.elapsed act → (rises : Bool) → nat_le since m.elapsed ≡ rises
+    → IsDrained since acts → IsDrained (min since m.elapsed) (acts ++ act ∷ [])
+drained_if_silent since m acts act calm tells true e d = subst (λ n. IsDrained n (acts ++ act ∷ [])) (sym (min-eq_left (leb-true since m.elapsed e))) (drained_longer since acts act calm d)
+drained_if_silent since m acts act calm tells false e d =
     let low = leb-false since m.elapsed e in
     let less : m.elapsed ≤ since = omega (arith, low) in
-    subst (λ n. IsDrained n (acts ++ Silent m ∷ [])) (sym (min-eq_right less)) (drained_anew since m.elapsed acts (Silent m) refl d)
+    subst (λ n. IsDrained n (acts ++ act ∷ [])) (sym (min-eq_right less)) (drained_anew since m.elapsed acts act tells d)
 
 module _ (plan : Plan) (commands : List Task) (scope : Scope) where
   -- `Stage` of this run
@@ -273,6 +276,19 @@ module _ (plan : Plan) (commands : List Task) (scope : Scope) where
   stage_in : (p : Progress) (at : Phase) (acts : List Act) → p.phase ≡ at → StageHereAt p acts → StageHere (has_begun p) p.clock_due p.since at acts
   stage_in p at acts is st = subst (λ (x : Phase). StageHere (has_begun p) p.clock_due p.since x acts) is st
 
+  -- where the phase is `Ready` or the cycle is overdue, the phase isn't `Clearing`
+  no_clearing : (plan : Plan) (p : Progress) (w : Waiting) → IsReadyOrOverdue plan p w → p.phase ≡ phase.Clearing → ⊥
+  no_clearing plan p w (inl is) at = let other : phase.Ready ≡ phase.Clearing = sym is ∙ at in cc
+  no_clearing plan p w (inr over) at = subst IsGoingOn at over.2
+
+  -- `Stage` is preserved by an act that reads the clock to tell of commands, or to resynchronize, if the moment was read before, and
+  -- the phase isn't `Clearing`
+  stage_told : (begun begun' : Bool) (p : Progress) (acts : List Act) (m : Moment) → p.clock_due ≡ false → (p.phase ≡ phase.Clearing → ⊥)
+      → StageHere begun p.clock_due p.since p.phase acts → StageHere begun' false (min p.since m.elapsed) p.phase (acts ++ Told m ∷ [])
+  stage_told begun begun' p acts m now never st =
+      stage_on begun begun' p.clock_due p.since (min p.since m.elapsed) p.phase acts (Told m) tt (λ is _. never is)
+      (λ d. drained_if_silent p.since m acts (Told m) tt refl (nat_le p.since m.elapsed) refl (draining_read p.clock_due p.since acts now d)) st
+
   -- `Stage` is preserved by an act of any action that leaves a connection in use, if `HoldsBefore` and `Timely` hold of the
   -- action
   stage_line : (next : Action) (s : Model) (acts : List Act) → has_begun (state_after plan commands scope acts).progress ≡ has_begun s.progress
@@ -295,7 +311,7 @@ module _ (plan : Plan) (commands : List Task) (scope : Scope) where
             (lines_completed s.rest bytes) always) _) (always begun),
         λ m. (
           stage_on begun begun p.clock_due p.since (min p.since m.elapsed) p.phase acts (Silent m) tt (λ is now. time.1 is)
-              (λ d. drained_if_silent p.since m acts (nat_le p.since m.elapsed) refl (draining_read p.clock_due p.since acts time.0 d)) st,
+              (λ d. drained_if_silent p.since m acts (Silent m) tt refl (nat_le p.since m.elapsed) refl (draining_read p.clock_due p.since acts time.0 d)) st,
           λ is past. stage_drained until m (turned p) acts past (draining_read p.clock_due p.since acts time.0 (stage_in p phase.Draining acts is st)),
         ),
       )
@@ -311,8 +327,14 @@ module _ (plan : Plan) (commands : List Task) (scope : Scope) where
       (Put (first_text s.progress.moment.utc s.client (drop (place_next commands p) commands))) tt needs.0 st
   stage_line actions.Flush s acts there needs time st = let p = s.progress in
       λ m. stage_ready (has_begun p) (has_begun p) p.clock_due true p.since p.since p.phase acts (Put (next_request_text s.client (Table NullProc))) tt needs.0 st
-  stage_line actions.Renew s acts there needs time st = let p = s.progress in λ m. stage_ready (has_begun p) false p.clock_due false p.since m.elapsed p.phase acts (Told m) tt needs.0 st
-  stage_line next s acts there needs time st = let p = s.progress in λ m. stage_ready (has_begun p) (has_begun p) p.clock_due false p.since m.elapsed p.phase acts (Told m) tt needs.0 st
+  stage_line actions.Renew s acts there needs time st =
+      λ m. stage_told (has_begun s.progress) false s.progress acts m time (no_clearing plan s.progress (waiting_of s) needs.0) st
+  stage_line actions.Begin s acts there needs time st =
+      λ m. stage_told (has_begun s.progress) (has_begun s.progress) s.progress acts m time.1 (no_clearing plan s.progress (waiting_of s) needs.0) st
+  stage_line actions.Skip s acts there needs time st =
+      λ m. stage_told (has_begun s.progress) (has_begun s.progress) s.progress acts m time (no_clearing plan s.progress (waiting_of s) needs.0) st
+  stage_line actions.Pass s acts there needs time st =
+      λ m. stage_told (has_begun s.progress) (has_begun s.progress) s.progress acts m time (no_clearing plan s.progress (waiting_of s) needs.0) st
 
   -- Whole runs.
 

@@ -18,7 +18,7 @@ use Rattle.gc_station.proofs.Walk.{moved_changed, model_sent, sent_same}
 use Rattle.std.proofs.lemmas.Bool.{ltb-true, ltb-false, both_ways}
 use Rattle.gc_station.specs.declared.cause.Cause.TheVariants as cause
 use Rattle.gc_station.specs.declared.progress.Waiting.{Waiting}
-use Rattle.gc_station.specs.Reasons.{HoldsBefore}
+use Rattle.gc_station.specs.Reasons.{HoldsBefore, IsOverdue}
 use Rattle.gc_station.specs.Retries.{HasListed, IsFurtherAttempt, MayLeaveOut, FurtherAttemptsHaveACause, EachRecordHasItsTurn, HasItsTurn}
 use Rattle.gc_station.proofs.Always.{always_of_progress}
 use Rattle.gc_station.proofs.Chaining.{chained_as_text_says, no_next_command}
@@ -116,7 +116,7 @@ module _ (plan : Plan) (commands : List Task) (scope : Scope) where
 
   -- if attempts are left out, they are further ones, each command before them is settled, and there is a reason (`MayLeaveOut`)
   passes_over : (acts : List Act) → Runs plan commands (opening plan scope) acts → action_at plan (state acts) ≡ actions.Pass
-      → IsFurtherAttempt plan commands (state acts) × (commands_in (state acts).marks ≡ 0) × MayLeaveOut scope.reads commands (state acts)
+      → IsFurtherAttempt plan commands (state acts) × (commands_in (state acts).marks ≡ 0) × MayLeaveOut plan scope.reads commands (state acts)
   passes_over acts runs is = ((above, further), needs.3, by_why needs.5) where
     -- the model after these acts
     s : Model
@@ -144,15 +144,16 @@ module _ (plan : Plan) (commands : List Task) (scope : Scope) where
     further = subst (λ (n : ℕ). 0 < n) (as_text.0 above) needs.4
 
     -- why a command counts as chained: its cycle is missed, or the text says so
-    by_missed : (b c : Bool) → s.progress.missed ≡ b → (b || c) ≡ true → (s.progress.missed ≡ true) ⊎ (c ≡ true)
+    by_missed : (b c : Bool) → s.progress.missed ≡ b → (b || c) ≡ true → (s.progress.missed ≡ true) ⊎ ((c ≡ true) ⊎ IsOverdue plan s.progress (waiting_of s))
     by_missed true c missed e = inl missed
-    by_missed false c missed e = inr e
+    by_missed false c missed e = inr (inl e)
 
     -- why the attempt is left out
-    by_why : ((s.listed ≡ false) ⊎ (s.progress.next_is_chained ≡ true))
-        → MayLeaveOut scope.reads commands s
-    by_why (inl none) = inl (λ h. both_ways s.listed none ((kept_all plan commands scope acts).listed ∙ listed_if_has scope.reads commands s.records false (each_has_its_turn plan commands scope acts) h))
-    by_why (inr bound) =
+    by_why : (((s.listed ≡ false) ⊎ (s.progress.next_is_chained ≡ true)) ⊎ IsOverdue plan s.progress (waiting_of s))
+        → MayLeaveOut plan scope.reads commands s
+    by_why (inr over) = inr (inr (inr over))
+    by_why (inl (inl none)) = inl (λ h. both_ways s.listed none ((kept_all plan commands scope acts).listed ∙ listed_if_has scope.reads commands s.records false (each_has_its_turn plan commands scope acts) h))
+    by_why (inl (inr bound)) =
         inr (by_missed s.progress.missed (first_is_chained (drop (place_next commands s.progress) commands)) refl (sym (chained_as_text_says plan commands scope acts runs above) ∙ bound))
 
 -- the law: further attempts of a chain are sent, and left out, only for a cause

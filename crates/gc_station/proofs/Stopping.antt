@@ -207,7 +207,7 @@ least-append n [] ys = refl
 least-append n (x ∷ xs) ys = least-append (least_moment n (x ∷ [])) xs ys
 
 -- whether the end was asked for in two lists of acts is known from the second list, and from that of the first
-asked-append : (b : Bool) (xs ys : List Act) → asked_after b (xs ++ ys) ≡ asked_after (asked_after b xs) ys
+pub asked-append : (b : Bool) (xs ys : List Act) → asked_after b (xs ++ ys) ≡ asked_after (asked_after b xs) ys
 asked-append b [] ys = refl
 asked-append b (x ∷ xs) ys = asked-append (asked_after b (x ∷ [])) xs ys
 
@@ -412,7 +412,7 @@ moved_asked plan commands next s act o =
     walk plan commands (λ (a : Act) (t : Model). t.progress.stops ≡ asked_after s.progress.stops (a ∷ [])) next (with_progress turned s) act o (λ m. refl, λ n. refl)
 
 -- after each run, whether the end was asked for is what its moments say
-stops_as_asked : (plan : Plan) (commands : List Task) (scope : Scope) (acts : List Act) → Runs plan commands (opening plan scope) acts
+pub stops_as_asked : (plan : Plan) (commands : List Task) (scope : Scope) (acts : List Act) → Runs plan commands (opening plan scope) acts
     → (state_after plan commands scope acts).progress.stops ≡ asked_after false acts
 stops_as_asked plan commands scope acts runs =
     always_of_progress plan commands (opening plan scope) (λ (p : Progress) (done : List Act). p.stops ≡ asked_after false done) (λ done act runs' o e.

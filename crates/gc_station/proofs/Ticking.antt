@@ -39,6 +39,13 @@ began_kept p q (Gave bytes m) t rises past = began_kept_at_moment p q m t rises.
 began_kept p q (Silent m) t rises past = began_kept_at_moment p q m t rises.0 past
 began_kept p q act t rises past = began_kept_without_moment p q t past
 
+-- if the start of the clock counts as the beginning of the cycle, it does after an act, too
+pub began_at_start : (p q : Progress) (act : Act) → Ticks p act q → p.began ≡ 0 → q.began ≡ 0
+began_at_start p q (Told m) t e = t.1 ∙ omega (arith, e)
+began_at_start p q (Gave bytes m) t e = t.1 ∙ omega (arith, e)
+began_at_start p q (Silent m) t e = t.1 ∙ omega (arith, e)
+began_at_start p q act t e = t.1 ∙ e
+
 -- if the clock doesn't go back in acts, it doesn't in the acts before the last
 pub rises_front : (now : ℕ) (xs : List Act) (act : Act) → ClockRises now (xs ++ act ∷ []) → ClockRises now xs
 rises_front now [] act h = tt

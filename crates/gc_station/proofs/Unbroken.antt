@@ -1,7 +1,7 @@
 -- A chain that isn't broken goes on over a connection, once the station has synchronized. `preparing` of a progress is true if
 -- there is a setup, and since the connection was made and the station synchronized no cycle began or went on. An act is one call
 -- on the link, with its result.
-use Rattle.std.proofs.Common.{◌≡◌, ◌<◌, Bool, true, false, List, [], inl, inr, ◌⊎◌, if◌then◌else◌, refl, sym, ap, ◌∙◌, subst, arith}
+use Rattle.std.proofs.Common.{◌≡◌, ◌&&◌, ◌<◌, Bool, true, false, List, [], inl, inr, ◌⊎◌, if◌then◌else◌, nat_eq, refl, sym, ap, ◌∙◌, subst, arith}
 use Rattle.std.proofs.lemmas.Bool.{and_parts, false_from_ne_true, both_ways}
 use Rattle.gc_texts.specs.declared.tasks.Task.{Task}
 use Rattle.gc_links.specs.Acts.{Act, Told, Cut, Opened}
@@ -120,11 +120,11 @@ module _ (plan : Plan) (commands : List Task) where
   not_preparing_kept s actions.Send act c was = not_preparing_after_send (with_progress turned s) act
   not_preparing_kept s actions.Renew (Told m) c was = cc
   not_preparing_kept s actions.Renew act c was = was
-  not_preparing_kept s actions.Begin (Told m) c was = refl
+  not_preparing_kept s actions.Begin (Told m) c was = ap (λ (b : Bool). b && nat_eq s.progress.prepared 0) was
   not_preparing_kept s actions.Begin act c was = was
-  not_preparing_kept s actions.Skip (Told m) c was = refl
+  not_preparing_kept s actions.Skip (Told m) c was = ap (λ (b : Bool). b && nat_eq s.progress.prepared 0) was
   not_preparing_kept s actions.Skip act c was = was
-  not_preparing_kept s actions.Pass (Told m) c was = refl
+  not_preparing_kept s actions.Pass (Told m) c was = ap (λ (b : Bool). b && nat_eq s.progress.prepared 0) was
   not_preparing_kept s actions.Pass act c was = was
   not_preparing_kept s actions.Open Opened c was = was
   not_preparing_kept s actions.Open act c was = cc

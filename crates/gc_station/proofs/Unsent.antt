@@ -1,7 +1,7 @@
 -- Each record of a missed or a skipped command is of one that was missed or skipped for its cause, where cycles have due
 -- moments and the clock doesn't go back. An act is one call on the link, with its result. A piece is the bytes that one read
 -- gave.
-use Rattle.std.proofs.Common.{◌≡◌, inl, inr, ℕ, ◌<◌, Bool, true, false, List, [], ◌∷◌, ◌++◌, drop, Option, None, refl, sym, ap, ◌∙◌, subst, arith, append_assoc}
+use Rattle.std.proofs.Common.{◌≡◌, ◌⊎◌, inl, inr, ℕ, ◌<◌, Bool, true, false, List, [], ◌∷◌, ◌++◌, drop, Option, None, refl, sym, ap, ◌∙◌, subst, arith, append_assoc}
 use Rattle.std.specs.List.{AllByRecursion}
 use Rattle.std.proofs.lemmas.Bool.{leb-true, cond-true, cond-false, both_ways}
 use Rattle.gc_catalogue.specs.declared.asked.Asked.{Asked}
@@ -12,14 +12,16 @@ use Rattle.gc_texts.specs.declared.tasks.Task.{Task}
 use Rattle.gc_links.specs.Acts.{Act, Told, Gave}
 use Rattle.gc_links.specs.declared.link.Moment.{Moment}
 use Rattle.gc_station.specs.Chains.{IsChained}
-use Rattle.gc_station.specs.Cycles.{ClockRises, IsMissedIn, IsSkippedIn, UnsentIsJustified, UnsentForACause}
+use Rattle.gc_station.specs.Cycles.{ClockRises, IsMissedIn, IsSkippedIn, IsBroken, UnsentIsJustified, UnsentForACause}
 use Rattle.gc_station.specs.Marks.{record_of, records_of}
 use Rattle.gc_station.specs.Parts.{went_out}
 use Rattle.gc_station.specs.Progressing.{turned, moment_noted, cycle_begun, unsent_at, loses_all}
 use Rattle.gc_station.specs.Records.{Record}
+use Rattle.gc_station.specs.Reasons.{IsOverdue}
 use Rattle.gc_station.specs.Runs.{state_after}
 use Rattle.gc_station.specs.Scopes.{Scope, Reads}
-use Rattle.gc_station.specs.Model.{Model, opening, action_at, is_heard, with_progress, with_moment, end_unsent, first_unsent_record, after_piece, moved, losing, Performs, Runs}
+use Rattle.gc_station.specs.Model.{waiting_of, Model, opening, action_at, is_heard, with_progress, with_moment, end_unsent, first_unsent_record, after_piece, moved, losing, Performs, Runs}
+use Rattle.gc_station.specs.Deciding.{may_go}
 use Rattle.gc_station.specs.NextCommand.{cycles_begun, place_next, mark_next}
 use Rattle.gc_station.specs.declared.mark.Mark.{Mark}
 use Rattle.gc_station.specs.declared.plan.Plan.{Plan}
@@ -33,7 +35,7 @@ use Rattle.gc_station.proofs.Going.{after_all-append}
 use Rattle.gc_station.proofs.Lists.{all_append, all_on}
 use Rattle.gc_station.proofs.Walk.{came_along, losing_along, moved_changed}
 use Rattle.gc_station.proofs.Ticking.{rises_front}
-use Rattle.gc_station.proofs.Cycles.{Begun, late_more, begun_if_clock_rises, last_began, WaitsForAnswer}
+use Rattle.gc_station.proofs.Cycles.{Begun, Cycling, late_more, begun_if_clock_rises, last_began, WaitsForAnswer}
 
 module _ (plan : Plan) (commands : List Task) (scope : Scope) (some : 0 < plan.every) where
   -- the model after these acts
@@ -80,8 +82,7 @@ module _ (plan : Plan) (commands : List Task) (scope : Scope) (some : 0 < plan.e
           skips = x.skips;
           cycle = x.cycle;
           place = x.place;
-          chained = x.chained;
-          broken = x.broken;
+          why = x.why;
           last = x.last;
           in_time = x.in_time;
           sent = x.sent;
@@ -156,12 +157,18 @@ module _ (plan : Plan) (commands : List Task) (scope : Scope) (some : 0 < plan.e
     s : Model
     s = state acts
 
+    -- why the command is skipped, in a cycle that isn't missed: its chain is broken, or the cycle is overdue
+    by_why : Cycling plan commands scope some acts s.progress
+        → ((s.progress.next_is_chained ≡ true) × (may_go s.progress (waiting_of s) ≡ false)) ⊎ IsOverdue plan s.progress (waiting_of s)
+        → IsBroken plan commands s ⊎ IsOverdue plan s.progress (waiting_of s)
+    by_why c (inl broken) = inl (waits_in_its_chain s.progress (c.chained broken.0) free, broken.1)
+    by_why c (inr over) = inr over
+
     -- the lemma above, by whether a cycle has begun: one has, as a command is unsent
     by_begun : HasBegun acts (state acts).progress → IsSkippedIn plan commands scope (acts ++ Told m ∷ []) r
     by_begun (inl none) = let here = (needs_of plan s actions.Skip is).2 in let nothing = none.1 in absurd (omega (arith, nothing, here))
     by_begun (inr c) =
         let needs = needs_of plan (state acts) actions.Skip is in
-        let chain = waits_in_its_chain (state acts).progress (c.chained needs.4) free in
         let last = last_began plan commands scope some acts (state acts).progress refl c free in
         record {
           before = acts;
@@ -171,8 +178,7 @@ module _ (plan : Plan) (commands : List Task) (scope : Scope) (some : 0 < plan.e
           skips = is;
           cycle = cycle;
           place = place;
-          chained = chain;
-          broken = needs.5;
+          why = by_why c needs.4;
           last = last.0;
           in_time = last.1;
           sent = sent;

@@ -1,7 +1,7 @@
 -- What an act leaves of a station's word, the ids of its synchronization that aren't answered: what the lines that the act
 -- brings leave, unless the station resynchronizes. An act is one call on the link, with its result. A piece is the bytes that
 -- one read gave.
-use Rattle.std.proofs.Common.{◌≡◌, ℕ, Bool, true, false, List, [], ◌∷◌, length, if◌then◌else◌, refl, sym, ap, ◌∙◌, subst, arith}
+use Rattle.std.proofs.Common.{◌≡◌, ℕ, ◌<◌, ◌≤◌, ◌⊎◌, inl, inr, Bool, true, false, List, [], ◌∷◌, length, if◌then◌else◌, refl, sym, ap, ◌∙◌, subst, arith}
 use Rattle.std.proofs.lemmas.List.{nil_from_length}
 use Rattle.std.proofs.lemmas.Bool.{both_ways}
 use Rattle.gc_lines.specs.Frames.{rest_behind}
@@ -17,7 +17,9 @@ use Rattle.gc_station.specs.declared.progress.Progress.{Progress}
 use Rattle.gc_station.specs.Beginnings.{lines_heard_at, unanswered_after}
 use Rattle.gc_station.specs.Deciding.{has_begun, is_none_left}
 use Rattle.gc_station.specs.Progressing.{turned, line_synchronizing, lines_synchronizing, time_passed}
-use Rattle.gc_station.specs.Reasons.{HoldsBefore}
+use Rattle.gc_station.specs.Reasons.{HoldsBefore, IsOverdue}
+use Rattle.gc_station.specs.Ends.{MayResynchronize}
+use Rattle.gc_station.specs.Marks.{commands_in}
 use Rattle.gc_station.specs.Model.{Model, waiting_of, with_progress, with_rest, lines_completed, is_heard, after_piece, Performs, moved}
 use Rattle.gc_station.proofs.Invariant.{Invariant}
 use Rattle.gc_station.proofs.Walk.{lines_along, quieted_along, closed_along, walk, piece_before}
@@ -92,12 +94,14 @@ module _ (plan : Plan) (commands : List Task) where
   renews_only s actions.Renew act obeys begun begins = absurd (both_ways (has_begun s.progress) begins begun)
   renews_only s o act obeys begun begins = absurd (both_ways (has_begun (moved plan commands o (with_progress turned s) act).progress) begins (begun_unless_renewed s o act obeys (λ e. cc) begun))
 
--- if `Invariant` holds, and `HoldsBefore` of the action, which is to resynchronize (`Renew`), seven requests are outstanding, and
--- all of them have timed out
+-- if `Invariant` holds, and `HoldsBefore` of the action, which is to resynchronize (`Renew`), it may (`MayResynchronize`), and all
+-- requests that are outstanding have timed out
 pub renews_needs : (plan : Plan) (commands : List Task) (s : Model) (o : Action) → Invariant plan commands s → o ≡ actions.Renew
-    → HoldsBefore plan s.progress (waiting_of s) o → (length s.client.waiting ≡ WINDOW) × (deadlines s.client.waiting ≡ [])
+    → HoldsBefore plan s.progress (waiting_of s) o → MayResynchronize plan s × (deadlines s.client.waiting ≡ [])
 renews_needs plan commands s o fine is needs =
     let it = subst (λ (x : Action). HoldsBefore plan s.progress (waiting_of s) x) is needs in
-    let most = fine.window in
-    let least = it.3 in
-    (omega (arith, most, least), nil_from_length (deadlines s.client.waiting) it.2)
+    (by_why it.3, nil_from_length (deadlines s.client.waiting) it.2) where
+      -- why it may, by the two reasons
+      by_why : ((WINDOW ≤ length s.client.waiting) ⊎ (IsOverdue plan s.progress (waiting_of s) × (0 < commands_in s.marks))) → MayResynchronize plan s
+      by_why (inl least) = let most = fine.window in inl (omega (arith, most, least))
+      by_why (inr over) = inr over

@@ -1,7 +1,7 @@
 -- When cycles begin, and which commands aren't sent, in the acts' own moments: this project's own. Cycles are due on a grid:
--- the first when it begins, and each other one `every` milliseconds after the one before it. An act is one call on the link,
--- with its result.
-use Rattle.std.specs.Prelude.{◌≡◌, ℕ, zero, suc, ◌+◌, ◌-◌, ◌<◌, ◌≤◌, false, List, [], ◌∷◌, ◌++◌, None, MatchOption}
+-- the first when it begins, but at the latest `every` milliseconds after the start of the clock, and each other one `every`
+-- milliseconds after the one before it. An act is one call on the link, with its result.
+use Rattle.std.specs.Prelude.{◌≡◌, ℕ, zero, suc, ◌+◌, ◌-◌, ◌<◌, ◌≤◌, ◌⊎◌, false, min, List, [], ◌∷◌, ◌++◌, None, MatchOption}
 use Rattle.std.specs.List.{AllByRecursion}
 use Rattle.gc_texts.specs.Endings.{Skipped, Missed}
 use Rattle.gc_texts.specs.declared.tasks.Task.{Task}
@@ -9,10 +9,11 @@ use Rattle.gc_links.specs.Acts.{Act, Told}
 use Rattle.gc_links.specs.declared.link.Moment.{Moment}
 use Rattle.gc_station.specs.ActKinds.{moment_in}
 use Rattle.gc_station.specs.Deciding.{may_go}
+use Rattle.gc_station.specs.Reasons.{IsOverdue}
 use Rattle.gc_station.specs.Records.{Record}
 use Rattle.gc_station.specs.Runs.{state_after, OfEachRun, WhereNext}
 use Rattle.gc_station.specs.Scopes.{Scope}
-use Rattle.gc_station.specs.Model.{opening, action_at, waiting_of, Runs}
+use Rattle.gc_station.specs.Model.{Model, opening, action_at, waiting_of, Runs}
 use Rattle.gc_station.specs.NextCommand.{cycles_begun, place_next}
 use Rattle.gc_station.specs.declared.plan.Plan.{Plan}
 use Rattle.gc_station.specs.declared.progress.Action.TheVariants.{Begin, Send, Skip}
@@ -25,7 +26,12 @@ ClockRises now [] = Unit {0}
 ClockRises now (act ∷ acts) =
     MatchOption (moment_in act) (ClockRises now acts) (λ m. (now ≤ m.elapsed) × (m.elapsed ≤ 18446744073709551615) × ClockRises m.elapsed acts)
 
--- the due moment of the cycle that has `n` cycles before it, if the first one began at the moment `first`, and cycles are due
+-- the due moment of the first cycle, if it begins at the moment `first`: that moment, but at the latest a period after the start of
+-- the clock
+abbrev pub first_due : Plan → (first : Moment) → ℕ
+first_due plan first = min plan.every first.elapsed
+
+-- the due moment of the cycle that has `n` cycles before it, if the first one was due at the moment `first`, and cycles are due
 -- `every` milliseconds apart
 abbrev pub due_after : (first every n : ℕ) → ℕ
 due_after first every zero = first
@@ -45,7 +51,7 @@ pub record BeginsLate (plan : Plan) (commands : List Task) (scope : Scope) (acts
   pub first : Moment
   pub first_begins : BeginsAt plan commands scope acts 0 first
   pub begins : BeginsAt plan commands scope acts n m
-  pub grid : due_after first.elapsed plan.every n + late ≡ m.elapsed
+  pub grid : due_after (first_due plan first) plan.every n + late ≡ m.elapsed
 
 -- one of `acts` begins the cycle `cycle`, counted from 1: how many cycles began before it (`n`), the moment at which it begins,
 -- and how many milliseconds after its due moment that is (`late`)
@@ -82,6 +88,11 @@ pub record IsMissedIn (plan : Plan) (commands : List Task) (scope : Scope) (acts
   pub sent : r.sent ≡ None
   pub due : r.utc ≡ its.moment.utc - its.late
 
+-- the next command of a station that has the model `s` goes on with a chain, and the command before it wasn't answered well, or since
+-- that was sent a connection was closed or the station resynchronized
+abbrev pub IsBroken : Plan → List Task → Model → Type 0
+IsBroken plan commands s = IsChained plan commands s.progress × (may_go s.progress (waiting_of s) ≡ false)
+
 -- the command of the record `r` is skipped: one of `acts` reads the clock at the moment `moment` to record that the cycle's next
 -- command isn't sent
 pub record IsSkippedIn (plan : Plan) (commands : List Task) (scope : Scope) (acts : List Act) (r : Record) : Type 0 where
@@ -92,10 +103,9 @@ pub record IsSkippedIn (plan : Plan) (commands : List Task) (scope : Scope) (act
   pub skips : action_at plan (state_after plan commands scope before) ≡ Skip
   pub cycle : r.cycle ≡ cycles_begun plan (state_after plan commands scope before).progress
   pub place : r.place ≡ place_next commands (state_after plan commands scope before).progress
-  -- the command goes on with a chain
-  pub chained : IsChained plan commands (state_after plan commands scope before).progress
-  -- the command before it wasn't answered well, or since that was sent a connection was closed or the station resynchronized
-  pub broken : may_go (state_after plan commands scope before).progress (waiting_of (state_after plan commands scope before)) ≡ false
+  -- its chain is broken, or its cycle is overdue
+  pub why : IsBroken plan commands (state_after plan commands scope before)
+      ⊎ IsOverdue plan (state_after plan commands scope before).progress (waiting_of (state_after plan commands scope before))
   -- its cycle began before the next one was due
   pub last : LastBegan plan commands scope before
   pub in_time : last.late < plan.every

@@ -214,11 +214,23 @@ action_cycle plan p w = if nat_lt 0 p.unsent && not (waits_for_all p) then actio
 abbrev pub is_preparing : Plan → Progress → Waiting → Bool
 is_preparing plan p w = p.preparing && not (nat_le plan.setup p.prepared && nat_eq w.commands 0 && w.well)
 
+-- whether the cycle that began last is out of time: cycles have due moments, and two periods have passed since this one's (`began`), so
+-- that the cycle after the next one is due
+abbrev pub is_out_of_time : Plan → Progress → Bool
+is_out_of_time plan p = nat_lt 0 plan.every && nat_le plan.every ((p.moment.elapsed - p.began) - plan.every)
+
+-- whether the cycle is out of time, but something is in flight that hasn't timed out: then nothing more is sent, until that is
+-- settled or has timed out. A setup of which something was sent goes on all the same
+abbrev pub waits_out : Plan → Progress → Waiting → Bool
+waits_out plan p w = (is_out_of_time plan p && nat_lt 0 w.current) && (not (is_preparing plan p w) || nat_eq p.prepared 0)
+
 -- the next action once the station has synchronized: that of a station that waits, if it only waits for what is in flight
--- before the run ends (`is_held_back`); that of the setup until it is done; and then that of the cycle
+-- before the run ends (`is_held_back`), or before the cycle is abandoned (`waits_out`); that of the setup until it is done; and then
+-- that of the cycle
 abbrev pub action_begun : Plan → Progress → Waiting → Action
 action_begun plan p w =
     if is_held_back p w then action_waiting plan p w
+    else if waits_out plan p w then action_waiting plan p w
     else if is_preparing plan p w then action_preparing plan p w
     else action_cycle plan p w
 
@@ -227,12 +239,16 @@ action_begun plan p w =
 abbrev pub action_ready : Plan → Progress → Waiting → Action
 action_ready plan p w = if has_begun p then action_begun plan p w else action_beginning plan p w
 
+-- the next action until a connection is quiet: to read, and to close it once all is done, as cycles may be abandoned meanwhile
+abbrev pub action_draining : Progress → Waiting → Action
+action_draining p w = if is_finished w.commands p then Close Done else Read Limit
+
 -- the next action in this phase, if turns are left, the run doesn't end here, and the clock needn't be read first
 abbrev pub action_of_phase : Plan → Phase → Progress → Waiting → Action
 action_of_phase plan phase.Down p w = Open
 action_of_phase plan phase.Pausing p w = Read Limit
 action_of_phase plan phase.Clearing p w = Clear
-action_of_phase plan phase.Draining p w = Read Limit
+action_of_phase plan phase.Draining p w = action_draining p w
 action_of_phase plan phase.Ready p w = action_ready plan p w
 action_of_phase plan (phase.Closing cause) p w = Close cause
 action_of_phase plan (phase.Over cause) p w = Stop cause
@@ -242,6 +258,45 @@ abbrev pub action_without_turns : (connected : Bool) → Action
 action_without_turns true = Close Turns
 action_without_turns false = Stop Turns
 
+-- whether a cycle may be abandoned in this phase, with a connection or without one: the run isn't over, the connection isn't to be
+-- closed, and none was just made, on which the line feed comes first
+abbrev pub may_abandon : Phase → Bool
+may_abandon phase.Down = true
+may_abandon phase.Pausing = true
+may_abandon phase.Clearing = false
+may_abandon phase.Draining = true
+may_abandon phase.Ready = true
+may_abandon (phase.Closing cause) = false
+may_abandon (phase.Over cause) = false
+
+-- whether the setup doesn't keep a cycle from being abandoned: it is done, or nothing of it was sent since the connection was made and
+-- the station synchronized, or commands are outstanding, with which it begins anew
+abbrev pub setup_permits : Plan → Progress → Waiting → Bool
+setup_permits plan p w = not (is_preparing plan p w) || (nat_eq p.prepared 0 || nat_lt 0 w.commands)
+
+-- whether no time is left for the cycle: it is missed, and some of its commands are left; or it is out of time
+-- (`is_out_of_time`), and the end of the run wasn't asked for
+abbrev pub has_no_time_left : Plan → Progress → Bool
+has_no_time_left plan p = (p.missed && nat_lt 0 p.unsent) || (is_out_of_time plan p && not p.stops)
+
+-- whether the cycle that began last is overdue, so that it is abandoned: no time is left for it (`has_no_time_left`),
+-- nothing is in flight that hasn't timed out, the phase and the setup let the cycle be abandoned (`may_abandon`, `setup_permits`), and
+-- the run isn't done (`is_finished`). While the station synchronizes no command is outstanding, so the test for that never fails
+abbrev pub is_overdue : Plan → Progress → Waiting → Bool
+is_overdue plan p w =
+    has_no_time_left plan p
+    && ((nat_eq w.current 0 && may_abandon p.phase) && (setup_permits plan p w && ((has_begun p || nat_eq w.commands 0) && not (is_finished w.commands p))))
+
+-- the next action if the cycle is overdue, with or without a connection. Each such action only reads the clock. Commands that are
+-- outstanding are lost, as the station resynchronizes; then the cycle's other commands are recorded without being sent, and further
+-- attempts are left out; then the next cycle begins, which is missed
+abbrev pub action_overdue : Progress → Waiting → Action
+action_overdue p w =
+    if nat_lt 0 w.commands then Renew
+    else if nat_eq p.unsent 0 then Begin
+    else if nat_lt 0 p.next_others then Pass
+    else Skip
+
 -- the next action if the run isn't over and the connection isn't to be closed for a cause already
 abbrev pub action_on : Plan → Progress → Waiting → Action
 action_on plan p w =
@@ -249,6 +304,7 @@ action_on plan p w =
     else if is_stale plan p w then Close Stale
     else if is_stopping p w then Close Stopped
     else if p.clock_due then ReadClock
+    else if is_overdue plan p w then action_overdue p w
     else action_of_phase plan p.phase p w
 
 -- the next action in this phase: `Stop` if the run is over, `Close` if the connection is to be closed, and else that of

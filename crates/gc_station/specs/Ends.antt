@@ -1,8 +1,9 @@
 -- How a request ends that has no answer, in an operator's words, this project's own. Late: its own request was sent, then a
 -- moment at or past its deadline was read, and only then a line came with its id. Lost: its own request was sent, and at the
 -- act that recorded it as lost a line came with the id of a request that was put after it, or the station resynchronizes,
--- because seven are outstanding that have all timed out, or the run stopped. An act is one call on the link, with its result.
-use Rattle.std.specs.Prelude.{◌≡◌, ◌⊎◌, ℕ, ◌≤◌, List, [], ◌∷◌, ◌++◌, length, Some, IsSomeAnd}
+-- because all that is outstanding has timed out, and seven requests are or the cycle is overdue, or the run stopped. An act is one
+-- call on the link, with its result.
+use Rattle.std.specs.Prelude.{◌≡◌, ◌⊎◌, ℕ, ◌<◌, ◌≤◌, List, [], ◌∷◌, ◌++◌, length, Some, IsSomeAnd}
 use Rattle.gc_catalogue.specs.declared.asked.Asked.{Asked}
 use Rattle.gc_client.specs.Ids.{Waits}
 use Rattle.gc_client.specs.Rule.{deadlines, heard}
@@ -19,7 +20,9 @@ use Rattle.gc_station.specs.Quiet.{IsAsking}
 use Rattle.gc_station.specs.Records.{Record}
 use Rattle.gc_station.specs.Runs.{state_after}
 use Rattle.gc_station.specs.ActKinds.{Puts, moment_in}
-use Rattle.gc_station.specs.Model.{action_at, next_request_text, Model}
+use Rattle.gc_station.specs.Marks.{commands_in}
+use Rattle.gc_station.specs.Reasons.{IsOverdue}
+use Rattle.gc_station.specs.Model.{action_at, next_request_text, waiting_of, Model}
 use Rattle.gc_station.specs.Scopes.{Scope}
 
 -- the act reads a moment at or past `deadline`
@@ -59,13 +62,17 @@ pub record IsOvertaken (plan : Plan) (commands : List Task) (scope : Scope) (bef
   pub came : Completes (state_after plan commands scope (before ++ request ∷ between)).rest piece line
   pub id : heard line ≡ Some (state_after plan commands scope (before ++ request ∷ first)).client.next
 
--- the act, before which a station has the model `s`, resynchronizes it: the act reads the clock, and seven requests are
--- outstanding, which have all timed out
+-- why a station that has the model `s` resynchronizes: seven requests are outstanding; or commands are, and the cycle is overdue
+abbrev pub MayResynchronize : Plan → Model → Type 0
+MayResynchronize plan s = (length s.client.waiting ≡ WINDOW) ⊎ (IsOverdue plan s.progress (waiting_of s) × (0 < commands_in s.marks))
+
+-- the act, before which a station has the model `s`, resynchronizes it: the act reads the clock; seven requests are outstanding, or
+-- the cycle is overdue; and all that is outstanding has timed out
 pub record Resynchronizes (plan : Plan) (s : Model) (act : Act) : Type 0 where
   pub renews : action_at plan s ≡ Renew
   pub moment : Moment
   pub told : act ≡ Told moment
-  pub seven : length s.client.waiting ≡ WINDOW
+  pub why : MayResynchronize plan s
   pub given_up : deadlines s.client.waiting ≡ []
 
 -- the act `act`, made after `acts`, is the last one: no act comes after it (`behind`), and the run stops

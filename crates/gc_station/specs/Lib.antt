@@ -43,3 +43,4 @@ pub mod Pauses
 pub mod Nearness
 pub mod Qualities
 pub mod Stopping
+pub mod RecordedInTime

@@ -9,7 +9,7 @@ use Rattle.gc_station.specs.declared.progress.Phase.TheVariants as phase
 use Rattle.gc_station.specs.declared.progress.Progress.{Progress}
 use Rattle.gc_station.specs.declared.progress.Until.{Until}
 use Rattle.gc_station.specs.declared.progress.Until.TheVariants.{Limit, Due}
-use Rattle.gc_station.specs.Deciding.{later, has_begun, is_due}
+use Rattle.gc_station.specs.Deciding.{later, has_begun, is_due, is_out_of_time}
 use Rattle.gc_station.specs.NextCommand.{cycles_begun}
 use Rattle.gc_station.specs.Progressing.{is_idle, due_at}
 
@@ -47,11 +47,15 @@ abbrev pub read_end : Plan → Progress → Until → (deadline : Option ℕ) �
 read_end plan p until (Some deadline) = min deadline (read_end_without_deadline plan p until)
 read_end plan p until None = read_end_without_deadline plan p until
 
--- how many milliseconds a read waits: until `read_end`, or until the run is stale if that is earlier, but at least one and at
--- most `longest_timeout`. `fresh` is as in `stale_at`, and `deadline` is the next deadline of a request, if any
+-- the moment at which the cycle that began last is out of time, if cycles have due moments and it isn't yet; else the greatest `u64`
+abbrev pub out_of_time_at : Plan → Progress → ℕ
+out_of_time_at plan p = if nat_lt 0 plan.every && not (is_out_of_time plan p) then later (due_at plan p) plan.every else 18446744073709551615
+
+-- how many milliseconds a read waits: until `read_end`, or until the run is stale or the cycle out of time if that is earlier, but at
+-- least one and at most `longest_timeout`. `fresh` is as in `stale_at`, and `deadline` is the next deadline of a request, if any
 abbrev pub read_timeout : Plan → Progress → (fresh : ℕ) → Until → (deadline : Option ℕ) → ℕ
 read_timeout plan p fresh until deadline =
-    min (max (min (read_end plan p until deadline) (stale_at plan fresh) - p.moment.elapsed) 1) (longest_timeout plan)
+    min (max (min (min (read_end plan p until deadline) (stale_at plan fresh)) (out_of_time_at plan p) - p.moment.elapsed) 1) (longest_timeout plan)
 
 -- whether no command of the cycle is left, as before the first cycle, and none is outstanding: `waiting` is how many commands
 -- are outstanding, of a cycle or of the setup

@@ -67,17 +67,21 @@ moment_noted m p = record p {
   stops = p.stops || m.stops;
 }
 
+-- the progress once the moment `m` was read to begin a cycle, to record commands or leave them out, or to resynchronize: as
+-- `moment_noted`, but a pause and the quiet time go on, as an overdue cycle is abandoned meanwhile. If the clock went back, so that
+-- their start (`since`) lies after `m`, it becomes `m`
+abbrev pub moment_noted_meanwhile : Moment → Progress → Progress
+moment_noted_meanwhile m p = let q = moment_noted m p in record q { since = min p.since m.elapsed }
+
 -- the moment at which the next cycle is due: `every` milliseconds after `began`, the moment that counts as the beginning of the
--- last one. It isn't that of the first cycle, which is due at once
+-- last one. The first cycle may begin at once; if it can't, it is due here, where `began` is the start of the clock
 abbrev pub due_at : Plan → Progress → ℕ
 due_at plan p = later p.began plan.every
 
--- the moment that counts as the beginning of a cycle that is begun at the moment `m`. For the first cycle, and where cycles
--- have no due moment, it is `m`; for any other cycle the moment at which it was due, or `m` if that is earlier
+-- the moment that counts as the beginning of a cycle that is begun at the moment `m`: where cycles have no due moment, it is `m`;
+-- otherwise the moment at which the cycle was due, or `m` if that is earlier
 abbrev pub cycle_start : Plan → Moment → Progress → ℕ
-cycle_start plan m p =
-    if nat_eq p.left plan.cycles || nat_eq plan.every 0 then m.elapsed
-    else min (due_at plan p) m.elapsed
+cycle_start plan m p = if nat_eq plan.every 0 then m.elapsed else min (due_at plan p) m.elapsed
 
 -- how late a cycle begins that is begun at the moment `m`: how long before `m` it counts as begun (`cycle_start`)
 abbrev pub lateness : Plan → Moment → Progress → ℕ
@@ -93,10 +97,15 @@ is_missed_at plan m p = nat_lt 0 plan.every && nat_le plan.every (lateness plan 
 abbrev pub due_of : Plan → Moment → Progress → ℕ
 due_of plan m p = m.utc - lateness plan m p
 
+-- whether the setup is still to be done once a cycle began or went on: it is if it was (`preparing`) and nothing of it was sent, but
+-- no longer once a command of a cycle was sent (`were_sent`)
+abbrev pub still_prepares : (were_sent : Bool) → Progress → Bool
+still_prepares were_sent p = (not were_sent && p.preparing) && nat_eq p.prepared 0
+
 -- the progress after a cycle of `count` commands began at the moment `m`. If the cycle is missed, none of them is sent
 abbrev pub cycle_begun : Plan → (count : ℕ) → Moment → Progress → Progress
 cycle_begun plan count m p =
-    let q = moment_noted m p in
+    let q = moment_noted_meanwhile m p in
     record q {
       began = cycle_start plan m p;
       due = due_of plan m p;
@@ -107,7 +116,7 @@ cycle_begun plan count m p =
       next_is_chained = is_missed_at plan m p;
       next_others = 0;
       chain_unbroken = false;
-      preparing = false;
+      preparing = still_prepares false p;
     }
 
 -- the moment in the record of a command that isn't sent, by the clock of time stamps: if its cycle is missed, the moment at which
@@ -124,17 +133,17 @@ advanced count next were_sent p = record p {
   next_is_chained = next.is_chained;
   next_others = next.others;
   chain_unbroken = were_sent;
-  preparing = false;
+  preparing = still_prepares were_sent p;
 }
 
 -- the progress once the next command was recorded at the moment `m` without being sent. `next` is noted of the command after it
 abbrev pub skipped : (next : Upcoming) → Moment → Progress → Progress
-skipped next m p = advanced 1 next false (moment_noted m p)
+skipped next m p = advanced 1 next false (moment_noted_meanwhile m p)
 
 -- the progress after the further attempt that the next command begins, and those of its chain after it, were left out at the
 -- moment `m`. `next` is noted of the command after all these attempts
 abbrev pub attempts_left_out : (next : Upcoming) → Moment → Progress → Progress
-attempts_left_out next m p = advanced p.next_others next false (moment_noted m p)
+attempts_left_out next m p = advanced p.next_others next false (moment_noted_meanwhile m p)
 
 -- the progress after a call that failed for `cause`: the connection is to be closed, and without a connection the run is over
 abbrev pub failing : Cause → Progress → Progress
@@ -220,7 +229,7 @@ null_sent plan p = let q = request_noted p in record q { again = later p.moment.
 -- null procedure
 abbrev pub resynchronized : Plan → Moment → Progress → Progress
 resynchronized plan m p =
-    let q = moment_noted m p in
+    let q = moment_noted_meanwhile m p in
     setup_restarted plan (record q { word = the_word; again = 0; asked = p.asked && goes_on plan q; chain_unbroken = false; behind = 0 })
 
 -- the progress after the cycle's next command was sent. `next` is noted of the one after it

@@ -5,7 +5,7 @@ use Rattle.std.specs.List.{AllByRecursion}
 use Rattle.gc_links.specs.declared.link.Moment.{Moment}
 use Rattle.gc_station.specs.declared.progress.Action.{Action}
 use Rattle.gc_station.specs.declared.progress.Action.TheVariants.{Prepare, Send, Flush}
-use Rattle.gc_links.specs.Acts.{Act, Put, Cut, Silent, Closed, Opened, Unopened}
+use Rattle.gc_links.specs.Acts.{Act, Told, Put, Cut, Silent, Closed, Opened, Unopened}
 use Rattle.gc_station.specs.ActKinds.{moment_in}
 
 -- one of these acts is the last, and `Holds` is true of the acts before it and of it
@@ -34,9 +34,10 @@ TellsMoment elapsed act = IsSomeAnd (moment_in act) (λ m. m.elapsed ≡ elapsed
 abbrev pub IsListening : Act → Type 0
 IsListening act = IsSome (moment_in act)
 
--- the act is a read that gave nothing
+-- the act is a read that gave nothing, or reads the clock alone
 abbrev pub IsSilent : Act → Type 0
 IsSilent (Silent m) = Unit {0}
+IsSilent (Told m) = Unit {0}
 IsSilent _ = ⊥
 
 -- the act doesn't close the connection
@@ -52,8 +53,9 @@ StaysConnected Unopened = ⊥
 StaysConnected _ = Unit {0}
 
 -- `acts` begin with a quiet time of `quiet` milliseconds, before anything is sent. First bytes may come (`drain`); then `start`
--- reads the moment `from`; and the reads after it (`silence`) give nothing, until one reads a moment (`last`) at least `quiet`
--- milliseconds later by the clock. A quiet time of 0 has always passed, also if the clock went back
+-- reads the moment `from`; and the acts after it (`silence`) are reads that give nothing, and readings of the clock, until a read
+-- that gives nothing reads a moment (`last`) at least `quiet` milliseconds later by the clock. A quiet time of 0 has always passed,
+-- also if the clock went back
 pub record IsQuietFirst (quiet : ℕ) (acts : List Act) : Type 0 where
   pub drain : List Act
   pub start : Act

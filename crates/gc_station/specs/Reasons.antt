@@ -1,16 +1,19 @@
 -- Reasons, this project's own: what has to hold if an act is the next one. It is said apart from the tests of `Deciding`, some of
 -- which decide the same, so that the laws check these.
-use Rattle.std.specs.Prelude.{◌≡◌, ℕ, ◌<◌, ◌≤◌, ◌⊎◌, true, false}
+use Rattle.std.specs.Prelude.{◌≡◌, ℕ, ◌-◌, ◌<◌, ◌≤◌, ◌⊎◌, true, false}
 use Rattle.gc_client.specs.declared.window.TheConstants.{WINDOW}
 use Rattle.gc_station.specs.declared.plan.Plan.{Plan}
 use Rattle.gc_station.specs.declared.cause.Cause.{Cause}
 use Rattle.gc_station.specs.declared.cause.Cause.TheVariants.{Done, Dead, Turns, Stale, Stopped, SetUp}
+use Rattle.gc_station.specs.declared.progress.Phase.{Phase}
 use Rattle.gc_station.specs.declared.progress.Phase.TheVariants as phase
 use Rattle.gc_station.specs.declared.progress.Action.{Action}
 use Rattle.gc_station.specs.declared.progress.Action.TheVariants as action
 use Rattle.gc_station.specs.declared.progress.Progress.{Progress}
+use Rattle.gc_station.specs.declared.progress.Until.{Until}
+use Rattle.gc_station.specs.declared.progress.Until.TheVariants.{Limit, Due}
 use Rattle.gc_station.specs.declared.progress.Waiting.{Waiting}
-use Rattle.gc_station.specs.Deciding.{width_of, has_begun, is_up, is_unquiet, is_idle, is_silent, is_dead, is_stale, may_go, is_preparing}
+use Rattle.gc_station.specs.Deciding.{width_of, has_begun, is_up, is_unquiet, is_due, is_idle, is_silent, is_dead, is_stale, may_go, is_preparing}
 
 -- another request may be sent: fewer that haven't timed out are in flight than `width_of` allows, and fewer are outstanding in
 -- all than the window has places
@@ -48,6 +51,41 @@ SetUpHasBegun plan p w = (is_preparing plan p w ≡ true) × (0 < p.prepared)
 -- the next command, of a cycle (`IsHeld`) or of the setup (`SetUpHasBegun`), isn't sent before all that were sent are settled
 abbrev pub AwaitsSettlements : Plan → Progress → Waiting → Type 0
 AwaitsSettlements plan p w = IsHeld p ⊎ SetUpHasBegun plan p w
+
+-- the cycle that began last is out of time: cycles have due moments, and two periods have passed since this one's (`began`)
+abbrev pub IsOutOfTime : Plan → Progress → Type 0
+IsOutOfTime plan p = (0 < plan.every) × (plan.every ≤ (p.moment.elapsed - p.began) - plan.every)
+
+-- the run goes on in this phase: neither is it over, nor is the connection to be closed or to be cleared
+abbrev pub IsGoingOn : Phase → Type 0
+IsGoingOn phase.Clearing = ⊥
+IsGoingOn (phase.Closing why) = ⊥
+IsGoingOn (phase.Over why) = ⊥
+IsGoingOn _ = Unit {0}
+
+-- the run goes on, with or without a connection, nothing is in flight that hasn't timed out, and the cycle that began last is out of
+-- time (`IsOutOfTime`), or missed with commands left: so this cycle is abandoned
+abbrev pub IsOverdue : Plan → Progress → Waiting → Type 0
+IsOverdue plan p w = (((p.missed ≡ true) × (0 < p.unsent)) ⊎ IsOutOfTime plan p) × (w.current ≡ 0) × IsGoingOn p.phase
+
+-- the setup, if there is one, is done; or nothing of it was sent, and the cycle is overdue
+abbrev pub IsPreparedOrOverdue : Plan → Progress → Waiting → Type 0
+IsPreparedOrOverdue plan p w = (is_preparing plan p w ≡ false) ⊎ ((p.prepared ≡ 0) × IsOverdue plan p w)
+
+-- the phase is `Ready`, in which requests may be sent; or the cycle is overdue (`IsOverdue`)
+abbrev pub IsReadyOrOverdue : Plan → Progress → Waiting → Type 0
+IsReadyOrOverdue plan p w = (p.phase ≡ phase.Ready) ⊎ IsOverdue plan p w
+
+-- no command may be sent before what is in flight is settled or has timed out, for one of four reasons: commands are outstanding, and
+-- the next one waits until they are settled; or none of the last seven requests is a call of the table that a reply ended; or the end
+-- of the run was asked for, and the station is between two chains; or the cycle is out of time
+abbrev pub WaitsForWhatIsInFlight : Plan → Progress → Waiting → Type 0
+WaitsForWhatIsInFlight plan p w =
+    (AwaitsSettlements plan p w × (0 < w.commands)) ⊎ ((WINDOW ≤ p.behind) ⊎ (((p.stops ≡ true) × IsBetweenChains p) ⊎ IsOutOfTime plan p))
+
+-- no command may be sent: there is no room for a request (`HasRoomToAsk`); or the station waits for what is in flight
+abbrev pub NothingMayGo : Plan → Progress → Waiting → Type 0
+NothingMayGo plan p w = (width_of plan ≤ w.current) ⊎ ((WINDOW ≤ w.all) ⊎ WaitsForWhatIsInFlight plan p w)
 
 -- the next command may be sent, as far as its chain goes: it is the first of its chain, or of a further attempt, of which
 -- `MayRetry` says more; or all that were sent are settled, the one before it was answered well, and since that was sent no
@@ -95,15 +133,37 @@ HasConnectionFor Stale p = Unit {0}
 HasConnectionFor Stopped p = Unit {0}
 HasConnectionFor _ p = is_up p.phase ≡ true
 
+-- what a read waits for that ends when the next cycle is due: that moment hasn't come, and each command of the cycle is settled; or
+-- the cycle was done before it, and the station hasn't synchronized on this connection, or its setup isn't done
+abbrev pub AwaitsDueMoment : Plan → Progress → Waiting → Type 0
+AwaitsDueMoment plan p w =
+    ((is_idle plan p ≡ true) × ((has_begun p ≡ false) ⊎ (is_preparing plan p w ≡ true)))
+    ⊎ ((p.unsent ≡ 0) × (w.commands ≡ 0) × (is_due plan p ≡ false))
+
+-- what another read waits for where requests may be sent: the reply to a null procedure of the synchronization, whose deadline hasn't
+-- come; or something in flight that hasn't timed out, while no command may be sent. In the last case the setup isn't done, though
+-- each of its commands was sent and answered well: that never happens
+abbrev pub AwaitsReply : Plan → Progress → Waiting → Type 0
+AwaitsReply plan p w =
+    ((has_begun p ≡ false) × (p.moment.elapsed < p.again))
+    ⊎ ((NothingMayGo plan p w × (0 < w.current)) ⊎ ((is_preparing plan p w ≡ true) × (plan.setup ≤ p.prepared)))
+
+-- what a read waits for: the end of a pause, or of a draining; a reply (`AwaitsReply`); or the next due moment (`AwaitsDueMoment`)
+abbrev pub AwaitsSomething : Plan → Progress → Waiting → Until → Type 0
+AwaitsSomething plan p w Limit = (p.phase ≡ phase.Pausing) ⊎ ((p.phase ≡ phase.Draining) ⊎ ((p.phase ≡ phase.Ready) × AwaitsReply plan p w))
+AwaitsSomething plan p w Due = (p.phase ≡ phase.Ready) × AwaitsDueMoment plan p w
+
 -- what holds at the progress `p` with the outstanding requests `w` if this action is the next one; nothing is said of reading
--- the clock and of a read. No request is sent over a dead line
+-- the clock. No request is sent over a dead line
 abbrev pub HoldsBefore : Plan → Progress → Waiting → Action → Type 0
 HoldsBefore plan p w action.ReadClock = Unit {0}
--- the station resynchronizes where seven are outstanding, which have all timed out
-HoldsBefore plan p w action.Renew = (p.phase ≡ phase.Ready) × (has_begun p ≡ true) × (w.current ≡ 0) × (WINDOW ≤ w.all)
+-- the station resynchronizes where seven are outstanding, which have all timed out; or, with or without a connection, where
+-- commands are outstanding and the cycle is overdue
+HoldsBefore plan p w action.Renew =
+    IsReadyOrOverdue plan p w × (has_begun p ≡ true) × (w.current ≡ 0) × ((WINDOW ≤ w.all) ⊎ (IsOverdue plan p w × (0 < w.commands)))
 HoldsBefore plan p w action.Begin =
-    (p.phase ≡ phase.Ready) × (has_begun p ≡ true) × (p.unsent ≡ 0) × (w.commands ≡ 0) × (0 < p.left) × (p.stops ≡ false)
-    × (is_preparing plan p w ≡ false)
+    IsReadyOrOverdue plan p w × ((has_begun p ≡ true) ⊎ IsOverdue plan p w) × (p.unsent ≡ 0) × (w.commands ≡ 0) × (0 < p.left)
+    × (p.stops ≡ false) × IsPreparedOrOverdue plan p w
 HoldsBefore plan p w action.Open = p.phase ≡ phase.Down
 HoldsBefore plan p w action.Clear = p.phase ≡ phase.Clearing
 -- the null procedure of a synchronization is sent, and again at its deadline, unless the cycle is done and the next isn't due
@@ -118,15 +178,20 @@ HoldsBefore plan p w action.Send =
     (p.phase ≡ phase.Ready) × (has_begun p ≡ true) × (0 < p.unsent) × HasRoomToAsk plan w × MayGo p w × (p.behind < WINDOW) × MayRetry p w
     × StaysInItsChain p × (is_preparing plan p w ≡ false) × (is_dead plan p w ≡ false)
 HoldsBefore plan p w action.Skip =
-    (p.phase ≡ phase.Ready) × (has_begun p ≡ true) × (0 < p.unsent) × (w.commands ≡ 0) × (p.next_is_chained ≡ true)
-    × (may_go p w ≡ false) × (is_preparing plan p w ≡ false)
+    IsReadyOrOverdue plan p w × ((has_begun p ≡ true) ⊎ IsOverdue plan p w) × (0 < p.unsent) × (w.commands ≡ 0)
+    × (((p.next_is_chained ≡ true) × (may_go p w ≡ false)) ⊎ IsOverdue plan p w) × IsPreparedOrOverdue plan p w
 -- the further attempts of a chain are left out if all that were sent are settled, and no command of the attempt before ended as
 -- its rule names; or if nothing is sent, because the cycle is missed
 HoldsBefore plan p w action.Pass =
-    (p.phase ≡ phase.Ready) × (has_begun p ≡ true) × (0 < p.unsent) × (w.commands ≡ 0) × (0 < p.next_others)
-    × ((w.listed ≡ false) ⊎ (p.next_is_chained ≡ true)) × (is_preparing plan p w ≡ false)
+    IsReadyOrOverdue plan p w × ((has_begun p ≡ true) ⊎ IsOverdue plan p w) × (0 < p.unsent) × (w.commands ≡ 0) × (0 < p.next_others)
+    × (((w.listed ≡ false) ⊎ (p.next_is_chained ≡ true)) ⊎ IsOverdue plan p w) × IsPreparedOrOverdue plan p w
 HoldsBefore plan p w action.Flush = (p.phase ≡ phase.Ready) × (has_begun p ≡ true) × WantsNull plan p w × (w.current ≡ 0) × HasRoomToAsk plan w
     × (is_dead plan p w ≡ false)
-HoldsBefore plan p w (action.Read until) = Unit {0}
+HoldsBefore plan p w (action.Read until) = AwaitsSomething plan p w until
 HoldsBefore plan p w (action.Close cause) = HasConnectionFor cause p × ((p.phase ≡ phase.Closing cause) ⊎ IsAtItsEnd plan p w cause)
 HoldsBefore plan p w (action.Stop cause) = (is_up p.phase ≡ false) × ((p.phase ≡ phase.Over cause) ⊎ ((cause ≡ Turns) × (p.turns ≡ 0)))
+
+-- the next command of the cycle may be sent: all conditions of its action hold, the cycle isn't out of time, and the end of the run
+-- wasn't asked for
+abbrev pub MayBeSent : Plan → Progress → Waiting → Type 0
+MayBeSent plan p w = HoldsBefore plan p w action.Send × (p.stops ≡ false) × (IsOutOfTime plan p → ⊥)

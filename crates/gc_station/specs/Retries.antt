@@ -10,7 +10,8 @@ use Rattle.gc_texts.specs.declared.near.Expected.{Expected}
 use Rattle.gc_texts.specs.declared.tasks.Task.{Task}
 use Rattle.gc_station.specs.Attempts.{code_in}
 use Rattle.gc_station.specs.Marks.{commands_in}
-use Rattle.gc_station.specs.Model.{Model}
+use Rattle.gc_station.specs.Model.{Model, waiting_of}
+use Rattle.gc_station.specs.Reasons.{IsOverdue}
 use Rattle.gc_station.specs.NextCommand.{place_next, commands_left, expected_at, expected_of_setup, first_is_chained, others_in}
 use Rattle.gc_station.specs.Records.{Record}
 use Rattle.gc_station.specs.Runs.{state_after, WhereNext, OfAnyRecord}
@@ -56,11 +57,11 @@ IsFurtherAttempt plan commands s = (plan.setup < place_next commands s.progress)
 
 -- the station, which has the model `s`, has a reason to leave out the further attempt that the next command begins: none of the
 -- attempt before ended as its rule names; or the cycle is missed; or the next command is chained, which the first one of an
--- attempt never is in a text
-abbrev pub MayLeaveOut : Reads → List Task → Model → Type 0
-MayLeaveOut reads commands s =
+-- attempt never is in a text; or the cycle is overdue
+abbrev pub MayLeaveOut : Plan → Reads → List Task → Model → Type 0
+MayLeaveOut plan reads commands s =
     (HasListed reads commands s.records → ⊥)
-    ⊎ ((s.progress.missed ≡ true) ⊎ (first_is_chained (commands_left commands s.progress) ≡ true))
+    ⊎ ((s.progress.missed ≡ true) ⊎ ((first_is_chained (commands_left commands s.progress) ≡ true) ⊎ IsOverdue plan s.progress (waiting_of s)))
 
 -- why further attempts are sent or left out
 pub record FurtherAttemptsHaveACause : Type 0 where
@@ -72,7 +73,7 @@ pub record FurtherAttemptsHaveACause : Type 0 where
   -- only further attempts are left out, once all commands that were sent are settled, and only for a reason (`MayLeaveOut`)
   pub passes : WhereNext Pass (λ plan commands scope acts.
       let s = state_after plan commands scope acts in
-      IsFurtherAttempt plan commands s × (commands_in s.marks ≡ 0) × MayLeaveOut scope.reads commands s)
+      IsFurtherAttempt plan commands s × (commands_in s.marks ≡ 0) × MayLeaveOut plan scope.reads commands s)
 
 -- the record `r` has the turn of the command at its cycle and place (`expected_of`); if it is of the setup nothing is said of the
 -- attempt in it

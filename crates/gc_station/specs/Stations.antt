@@ -26,7 +26,7 @@ use Rattle.gc_station.specs.Marks.{commands_in, last_well}
 use Rattle.gc_station.specs.NextCommand.{upcoming_after}
 use Rattle.gc_station.specs.Runs.{RunSeen}
 use Rattle.gc_station.specs.Scopes.{AreReadings}
-use Rattle.gc_station.specs.Progressing.{failing, moment_noted, advanced, early_noted}
+use Rattle.gc_station.specs.Progressing.{failing, moment_noted_meanwhile, advanced, early_noted}
 use Rattle.gc_station.specs.Records.{Record, texts_of, WritesPart}
 use Rattle.gc_station.specs.Model.{Model, Performs, moved, stepped, waiting_by, lines_taken, sent_to, unsent_record, listed_unsent}
 use Rattle.gc_station.specs.Tallies.{empty_counts, tallied}
@@ -203,7 +203,7 @@ ReadsMoment told told' old new None = AddsActs told told' (Untold ∷ []) × (ne
 abbrev pub station_advancing : Plan → List Task → (count : ℕ) → Moment → Station → Station
 station_advancing plan commands count moment station =
     let p = station.progress in
-    let past = advanced count (upcoming_after count commands p) false (moment_noted moment p) in
+    let past = advanced count (upcoming_after count commands p) false (moment_noted_meanwhile moment p) in
     record station { progress = early_noted plan (commands_in station.marks.items) past }
 
 -- the station once the record of its next command, which isn't sent, is written at the moment `moment`, counted and noted

@@ -1,11 +1,19 @@
 //! What a station does next, by how far it is and what is outstanding. All decisions are made here, by looking at nothing else.
 //!
-//! In all phases but `Closing` and `Over` four cases come first, in this order:
+//! A cycle has until the cycle after the next is due, two periods after its own due moment. Then it is out of time: nothing more is
+//! sent, and once nothing is in flight that hasn't timed out, the cycle is overdue and is abandoned, whether there is a connection
+//! or not. What isn't settled is lost, what wasn't sent is skipped, and the next cycle, which has no time left, begins at once and is
+//! missed.
+//!
+//! In all phases but `Closing` and `Over` five cases come first, in this order:
 //! 1. No turn is left: `Close(Turns)`, or without a connection `Stop(Turns)`.
 //! 2. No answer of a good quality was recorded for as long as the plan allows: `Close(Stale)`, with or without a connection.
 //! 3. The end of the run was asked for, and the run may end here (`is_resting`): `Close(Stopped)`, with or without a connection.
 //! 4. Something was sent, or a connection was closed or couldn't be made, since a moment was read (`clock_due`): `ReadClock`,
 //!    which times out the requests whose deadline has come, and changes no phase.
+//! 5. The cycle is overdue (`is_overdue`; never in `Clearing`): `Renew` if commands are outstanding; else `Begin` if no command is
+//!    unsent; else `Pass` if the next command begins a further attempt; else `Skip`. These only read the clock. They change no phase,
+//!    and a pause and the quiet time go on meanwhile.
 //!
 //! In any other case the table lists the actions that may be next in each phase, of which the first that fits is taken, and the
 //! phase after each.
@@ -15,13 +23,15 @@
 //! | `Down` | | `Open` | makes a connection | `Clearing`; if none could be made, as after `Close(Open)` |
 //! | `Pausing` | | `Read(Limit)` | waits | `Down`, once the pause is over and a connection is wanted |
 //! | `Clearing` | | `Clear` | sends a lone line feed | `Draining`; `Ready` if the station synchronizes |
-//! | `Draining` | | `Read(Limit)` | discards what comes | `Ready`, once nothing came for the quiet time |
+//! | `Draining` | no command is unsent, none is outstanding, and no cycle is left | `Close(Done)` | closes the connection | `Over(Done)` |
+//! | | else | `Read(Limit)` | discards what comes | `Ready`, once nothing came for the quiet time |
 //! | `Ready`: the station synchronizes | no command is unsent, and no cycle is left | `Close(Done)` | closes the connection | `Over(Done)` |
 //! | | the cycle is done, and the next isn't due | `Read(Due)` | hears what comes | `Ready` |
 //! | | the null procedure that was sent last hasn't timed out | `Read(Limit)` | hears what comes | `Ready`; the station has synchronized once the eighth is answered |
 //! | | the line is dead | `Close(Dead)` | closes the connection | as below |
 //! | | else | `Ask` | sends the null procedure of the first id that isn't answered, for the first time or again at its deadline | `Ready` |
 //! | `Ready`: the station has synchronized | the end of the run was asked for, the station is between two chains, and something hasn't timed out | as if the station waits | | |
+//! | | the cycle is out of time, something hasn't timed out, and the setup is done or nothing of it was sent | as if the station waits | | |
 //! | | the setup isn't done, no command is unsent, none is outstanding, and no cycle is left | `Close(Done)` | closes the connection | `Over(Done)` |
 //! | | the setup isn't done, the cycle is done, and the next isn't due | `Read(Due)` | hears what comes | `Ready` |
 //! | | the setup isn't done, and nothing of it was sent | as if the next command may be sent, with `Prepare` for `Send` | | |
@@ -56,7 +66,7 @@
 //! follows, and without a connection `Over`.
 
 ghost use Rattle.std.specs.Prelude.{◌≡◌};
-ghost use Rattle.gc_station.specs.Deciding.{is_silent, is_dead, is_due, goes_on, is_finished, has_room_to_ask, may_go, waits_for_all, action_again, action_of, action_on, action_ready, action_begun, action_beginning, action_to_send, action_room, action_flush, action_held, action_settled, action_done, action_waiting, is_stale, is_between_chains, is_cut, is_resting, is_stopping, is_held_back, action_cycle, action_to_prepare, action_preparing, is_preparing};
+ghost use Rattle.gc_station.specs.Deciding.{is_silent, is_dead, is_due, goes_on, is_finished, has_room_to_ask, may_go, waits_for_all, action_again, action_of, action_on, action_ready, action_begun, action_beginning, action_to_send, action_room, action_flush, action_held, action_settled, action_done, action_waiting, is_stale, is_between_chains, is_cut, is_resting, is_stopping, is_held_back, action_cycle, action_to_prepare, action_preparing, is_preparing, is_out_of_time, waits_out, has_no_time_left, is_overdue, action_overdue, action_draining, setup_permits};
 
 use crate::cause::Cause;
 use crate::plan::Plan;
@@ -184,14 +194,28 @@ impl Progress {
         if self.clock_due {
             return Action::ReadClock;
         }
+        if self.is_overdue(plan, waiting) {
+            return self.action_overdue(waiting);
+        }
         match self.phase {
             Phase::Down => Action::Open,
             Phase::Pausing => Action::Read(Until::Limit),
             Phase::Clearing => Action::Clear,
-            Phase::Draining => Action::Read(Until::Limit),
+            Phase::Draining => self.action_draining(waiting),
             Phase::Ready => self.action_ready(plan, waiting),
             Phase::Closing(cause) => Action::Close(cause),
             Phase::Over(cause) => Action::Stop(cause),
+        }
+    }
+
+    // The next action until a connection is quiet: to read, and to close it once all is done, as cycles may be abandoned meanwhile.
+    fn action_draining(&self, waiting: Waiting) -> Action
+        ensures { result ≡ action_draining self.now waiting }
+    {
+        if !self.is_finished(waiting.commands) {
+            Action::Read(Until::Limit)
+        } else {
+            Action::Close(Cause::Done)
         }
     }
 
@@ -249,16 +273,81 @@ impl Progress {
     }
 
     // The next action once the station has synchronized: that of a station that waits, if it only waits for what is in flight
-    // before the run ends (`is_held_back`); that of the setup until it is done; and then that of the cycle.
+    // before the run ends (`is_held_back`), or before the cycle is abandoned (`waits_out`); that of the setup until it is done; and
+    // then that of the cycle.
     fn action_begun(&self, plan: &Plan, waiting: Waiting) -> Action
         ensures { result ≡ action_begun plan.now self.now waiting }
     {
         if self.is_held_back(waiting) {
             self.action_waiting(plan, waiting)
+        } else if self.waits_out(plan, waiting) {
+            self.action_waiting(plan, waiting)
         } else if self.is_preparing(plan, waiting) {
             self.action_preparing(plan, waiting)
         } else {
             self.action_cycle(plan, waiting)
+        }
+    }
+
+    // Whether the cycle that began last is out of time: cycles have due moments, and two periods have passed since this one's.
+    pub(crate) fn is_out_of_time(&self, plan: &Plan) -> bool
+        ensures { result ≡ is_out_of_time plan.now self.now }
+    {
+        let since = self.moment.elapsed.saturating_sub(self.began);
+        plan.every > 0 && plan.every <= since.saturating_sub(plan.every)
+    }
+
+    // Whether the cycle is out of time, but something is in flight that hasn't timed out: then nothing more is sent, until that is
+    // settled or has timed out. A setup of which something was sent goes on all the same.
+    fn waits_out(&self, plan: &Plan, waiting: Waiting) -> bool
+        ensures { result ≡ waits_out plan.now self.now waiting }
+    {
+        (self.is_out_of_time(plan) && waiting.current > 0)
+            && (!self.is_preparing(plan, waiting) || self.prepared == 0)
+    }
+
+    // Whether the setup doesn't keep a cycle from being abandoned: it is done, or nothing of it was sent since the connection was made
+    // and the station synchronized, or commands are outstanding, with which it begins anew.
+    fn setup_permits(&self, plan: &Plan, waiting: Waiting) -> bool
+        ensures { result ≡ setup_permits plan.now self.now waiting }
+    {
+        !self.is_preparing(plan, waiting) || (self.prepared == 0 || waiting.commands > 0)
+    }
+
+    // Whether no time is left for the cycle: it is missed, and some of its commands are left; or it is out of time,
+    // and the end of the run wasn't asked for.
+    fn has_no_time_left(&self, plan: &Plan) -> bool
+        ensures { result ≡ has_no_time_left plan.now self.now }
+    {
+        (self.missed && self.unsent > 0) || (self.is_out_of_time(plan) && !self.stops)
+    }
+
+    // Whether the cycle is overdue, so that it is abandoned: no time is left for it, nothing is in flight that hasn't
+    // timed out, the phase and the setup let the cycle be abandoned, and the run isn't done.
+    fn is_overdue(&self, plan: &Plan, waiting: Waiting) -> bool
+        ensures { result ≡ is_overdue plan.now self.now waiting }
+    {
+        self.has_no_time_left(plan)
+            && ((waiting.current == 0 && self.phase.may_abandon())
+                && (self.setup_permits(plan, waiting)
+                    && ((self.has_begun() || waiting.commands == 0)
+                        && !self.is_finished(waiting.commands))))
+    }
+
+    // The next action if the cycle is overdue, with or without a connection: commands that are outstanding are lost, as the station
+    // resynchronizes; the cycle's other commands are recorded without being sent, or left out; and the next cycle begins, which is
+    // missed.
+    fn action_overdue(&self, waiting: Waiting) -> Action
+        ensures { result ≡ action_overdue self.now waiting }
+    {
+        if waiting.commands > 0 {
+            Action::Renew
+        } else if self.unsent == 0 {
+            Action::Begin
+        } else if self.next_others > 0 {
+            Action::Pass
+        } else {
+            Action::Skip
         }
     }
 

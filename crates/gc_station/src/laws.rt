@@ -1,7 +1,8 @@
 //! Laws of a station's runs, whatever its link does. A run is the list of its acts: an act is one call of the link, with its
 //! result. A run is given a number of turns: each act takes one, and once none is left, a connection that is still open is closed
 //! by one act more. A run begins with its synchronization, eight null procedures that are sent one after the other; then it sends
-//! the commands of its text, cycle by cycle. It resynchronizes where seven requests are outstanding that have all timed out. A
+//! the commands of its text, cycle by cycle. It resynchronizes where seven requests are outstanding that have all timed out, or
+//! commands are and the cycle is overdue: two periods have passed since its due moment, and all that is outstanding has timed out. A
 //! request is sent where its bytes are written, all of them or some. It is outstanding until it is settled, also once it has timed
 //! out at its deadline. A chain is a row of commands for one target, each sent only once the one before it was answered well.
 
@@ -38,6 +39,7 @@ ghost use Rattle.gc_station.specs.Setups.{EachSetUpOnce, SetUpsGoOn, NoneBeforeT
 ghost use Rattle.gc_station.specs.Silences.{HasAllTimedOut, IsMuteFor};
 ghost use Rattle.gc_station.specs.Stopping.{ClosesStale, StopsAtItsClose, EndsOnceStale, GoesOnInItsChain, ClosesBetweenChains};
 ghost use Rattle.gc_station.specs.Tasked.{EachRecordIsOfItsTask};
+ghost use Rattle.gc_station.specs.RecordedInTime.{RecordsOnceTimedOut, RecordsInTime, ReadsClockBefore, ReadsAwaitSomething, RecordingEnds};
 ghost use Rattle.gc_station.specs.Model.{action_at};
 ghost use Rattle.gc_station.specs.Tries.{StopsOnlyAfterAllTries};
 
@@ -82,14 +84,15 @@ pub fn some_function_says_what_each_reply_says()
     ensures { SomeReadings }
 {}
 
-/// Each act of a run performs the action that was next, and the conditions of that action held; for an action that only reads the
-/// clock or the link there are none. When a request was sent, the line wasn't dead. When a command was sent, fewer requests were in
+/// Each act of a run performs the action that was next, and the conditions of that action held; for the action that only reads the
+/// clock there are none. When a request was sent, the line wasn't dead. When a command was sent, fewer requests were in
 /// flight and not timed out than the plan's width (taken as 1 to 7), fewer than seven were outstanding in all, and the bytes are
 /// the line of the next command, of the cycle or of the setup. A command of a cycle was sent only if the setup was done on that
 /// connection and since the station synchronized: each of its commands was sent, and the last one was answered well. When a null
 /// procedure of a synchronization was sent, nothing was outstanding, the client was new, and the bytes are the line of the null
-/// procedure with the first id that wasn't answered. When the station resynchronized, seven requests were outstanding, all timed
-/// out.
+/// procedure with the first id that wasn't answered. When the station resynchronized, all outstanding requests had timed out, and
+/// they were seven, or commands were among them and the cycle was overdue. When the link was read, the station awaited something
+/// (`a_read_awaits_something`).
 pub fn each_act_is_due()
     ensures { OfEachAct (λ plan commands scope earlier act. IsReasoned plan commands (state_after plan commands scope earlier) act) }
 {}
@@ -146,9 +149,9 @@ pub fn late_ones_came_late()
 {}
 
 /// Each lost record has a cause: its own request, of the same cycle and place, was sent, and the act at which the record was
-/// written is one of three. It brought a line with the id of a later outstanding request; or it read the clock while seven
-/// requests were outstanding, all timed out, and the station resynchronizes there; or it is the last act of the run, which
-/// stops there.
+/// written is one of three. It brought a line with the id of a later outstanding request; or it read the clock once all outstanding
+/// requests had timed out, which were seven, or whose cycle was overdue, and the station resynchronizes there; or it is the last act
+/// of the run, which stops there.
 pub fn lost_ones_are_lost_for_a_cause()
     ensures { OfEachRecord LostIsJustified }
 {}
@@ -178,7 +181,7 @@ pub fn ends_for_turns_only_after_as_many_acts()
 
 /// When a request is sent, its connection was cleared: as soon as it was made, a line feed was sent, alone and complete. Unless
 /// a synchronization goes on with it, it was quiet, too: before anything else was sent on it, nothing arrived for the quiet
-/// time, by the clock.
+/// time, by the clock, which may have been read alone meanwhile.
 pub fn each_connection_is_cleared_and_quiet()
     ensures { OfEachAct (λ plan commands scope earlier act. SendsRequest act → IsClearedAndQuiet plan commands scope earlier) }
 {}
@@ -198,8 +201,8 @@ pub fn no_command_goes_out_before_the_last_answer()
 
 /// A run begins with eight null procedures, with ids 6, 5, 4, 3, 2, 1, 0 and 7. While it synchronizes no request of the client
 /// is outstanding, and what is sent is the null procedure of the first of these ids that isn't answered. Only a reply with that
-/// id answers it, and the next one is sent then, also if the connection was closed in between. A run resynchronizes only when
-/// seven requests are outstanding, all timed out.
+/// id answers it, and the next one is sent then, also if the connection was closed in between. A run resynchronizes only when all
+/// that is outstanding has timed out, and seven requests are outstanding, or commands are and the cycle is overdue.
 pub fn each_synchronization_goes_on_by_its_answers()
     ensures { OfEachAct SynchronizesInOrder }
 {}
@@ -253,8 +256,8 @@ pub fn good_without_accept_is_an_answer()
 
 /// A further attempt of a chain is sent only once all commands sent are settled, and one of the attempt before ended as its
 /// rule names. Further attempts are left out only if none of the attempt before did, or the cycle is missed, or the next command
-/// is chained, which in a station's text the first one of an attempt never is. A command of the setup that is sent between two
-/// attempts belongs to neither.
+/// is chained, which in a station's text the first one of an attempt never is, or the cycle is overdue. A command of the setup that is
+/// sent between two attempts belongs to neither.
 pub fn each_further_attempt_has_a_cause()
     ensures { FurtherAttemptsHaveACause }
 {}
@@ -285,7 +288,8 @@ pub fn each_request_has_room()
 {}
 
 /// If the plan's `every` is above 0 and the clock doesn't go back, each cycle begins at or after it is due: the first is due
-/// when it begins, and each further one `every` milliseconds after the one before it was due.
+/// when it begins, but at the latest `every` milliseconds after the start of the clock, and each further one `every` milliseconds
+/// after the one before it was due.
 pub fn cycles_begin_when_due()
     ensures { CyclesBeginWhenDue }
 {}
@@ -296,10 +300,38 @@ pub fn missed_cycles_are_not_sent()
     ensures { SentOnlyInTime }
 {}
 
+/// Silence is bounded, with or without a connection. If the plan's `every` is above 0 and the clock doesn't go back:
+/// - `once`: whenever a station connects, sends a request or reads, with nothing in flight that hasn't timed out, each command of
+///   each cycle that was due two periods before the moment read last has its record, or was left out. The end of the run wasn't
+///   asked for; and of a setup, if there is one, all is done, nothing was sent, or commands are outstanding.
+/// - `always`: where no deadline is longer than `longest`, so has each command of a cycle that was due two periods and `longest`
+///   before, whatever is in flight. The end of the run wasn't asked for, and there is no setup.
+///
+/// The first cycle is due when it begins, but at the latest one period after the start of the clock. For each plan and each clock:
+/// - `reads`: an action that connects, sends a request or reads comes directly after an act that read a moment, but for the first
+///   of the run. So the moment read last is older than now by what one call of the link takes at most.
+/// - `goes`: what is left to be recorded never grows, and each act that begins a cycle, or records commands without sending them,
+///   makes it less. So such acts come to an end, and one of the actions above is next, or the run ends.
+pub fn each_due_cycle_is_recorded_in_time()
+    ensures once { RecordsOnceTimedOut }
+    ensures always { RecordsInTime }
+    ensures reads { ReadsClockBefore }
+    ensures goes { RecordingEnds }
+{}
+
+/// A station doesn't wait needlessly:
+/// - `awaits`: it reads only in a pause or a draining; while a null procedure of the synchronization hasn't timed out; while
+///   something is in flight that hasn't timed out, and no command may be sent; or until the next cycle is due.
+/// - `sends`: where the next command of a cycle may be sent, and neither the cycle is out of time nor the end of the run was asked
+///   for, it doesn't read.
+pub fn a_read_awaits_something()
+    ensures { ReadsAwaitSomething }
+{}
+
 /// If the plan's `every` is above 0 and the clock doesn't go back, each record of a missed or skipped command is justified, and
 /// has no time of sending. Missed: its cycle began when the next one was due, or later, and the record has the time at which
-/// its cycle was due. Skipped: its cycle wasn't missed, it isn't the first of its chain, and the command before it wasn't
-/// answered well, or after that command was sent a connection was closed or the station resynchronized.
+/// its cycle was due. Skipped: its cycle wasn't missed, and was overdue; or it isn't the first of its chain, and the command before
+/// it wasn't answered well, or after that command was sent a connection was closed or the station resynchronized.
 pub fn unsent_ones_are_so_for_a_cause()
     ensures { UnsentForACause }
 {}

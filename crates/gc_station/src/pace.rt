@@ -8,7 +8,7 @@ ghost use Rattle.std.specs.Io.KnownBytes.{Appends};
 ghost use Rattle.gc_client.specs.Rule.{IsEarliest, deadlines};
 ghost use Rattle.gc_station.specs.Marks.{commands_in};
 ghost use Rattle.gc_station.specs.NextCommand.{cycles_begun};
-ghost use Rattle.gc_station.specs.Pace.{retry_at, stale_at, longest_timeout, read_end_in, read_end_without_deadline, read_end, read_timeout, is_cycle_done, health_in, overrun};
+ghost use Rattle.gc_station.specs.Pace.{out_of_time_at, retry_at, stale_at, longest_timeout, read_end_in, read_end_without_deadline, read_end, read_timeout, is_cycle_done, health_in, overrun};
 ghost use Rattle.gc_station.specs.Progressing.{due_at};
 
 use crate::book::{Book, LinkHealth};
@@ -37,7 +37,8 @@ fn longest_timeout(plan: &Plan) -> u64
 }
 
 impl Progress {
-    // The moment at which the next cycle is due. It isn't that of the first cycle, which is due at once.
+    // The moment at which the next cycle is due. The first may begin at once; if it can't, it is due here, a period after the start of
+    // the clock.
     pub(crate) fn due_at(&self, plan: &Plan) -> u64
         ensures { result ≡ due_at plan.now self.now }
     {
@@ -98,6 +99,17 @@ impl Progress {
         }
     }
 
+    // The moment at which the cycle that began last is out of time, if cycles have due moments and it isn't yet; else `u64::MAX`.
+    fn out_of_time_at(&self, plan: &Plan) -> u64
+        ensures { result ≡ out_of_time_at plan.now self.now }
+    {
+        if plan.every > 0 && !self.is_out_of_time(plan) {
+            later(self.due_at(plan), plan.every)
+        } else {
+            u64::MAX
+        }
+    }
+
     // The number of the cycle that began last, counted from 1; 0 before the first.
     pub(crate) fn cycle(&self, plan: &Plan) -> u64
         ensures { result ≡ cycles_begun plan.now self.now }
@@ -125,8 +137,8 @@ impl Progress {
 }
 
 impl Station {
-    // How many milliseconds the next read waits for bytes: until `read_end`, or until the run is stale if that is earlier, but at
-    // least 1 and at most `longest_timeout`.
+    // How many milliseconds the next read waits for bytes: until `read_end`, or until the run is stale or the cycle out of time if
+    // that is earlier, but at least 1 and at most `longest_timeout`.
     pub(crate) fn read_timeout(&self, plan: &Plan, until: Until) -> u64
         ensures { (deadline : Option ℕ) × IsEarliest (deadlines self.now.client.ids.waiting) deadline
             × (result ≡ read_timeout plan.now self.now.progress self.now.recorded.fresh until deadline) }
@@ -135,6 +147,7 @@ impl Station {
         self.progress
             .read_end(plan, until, deadline)
             .min(stale_at(plan, self.recorded.fresh))
+            .min(self.progress.out_of_time_at(plan))
             .saturating_sub(self.progress.moment.elapsed)
             .max(1)
             .min(longest_timeout(plan))

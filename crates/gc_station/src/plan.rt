@@ -9,8 +9,9 @@ pub struct Plan {
     /// procedure of a synchronization is sent again after this time. After twice this time without a reply line a line is
     /// dead, once all outstanding requests have timed out.
     pub deadline: u64,
-    /// How far apart the cycles are due, counted from when the first one begins. 0: each begins when the one before it is done.
-    /// A cycle that can't begin before the next is due is missed.
+    /// How far apart the cycles are due, counted from when the first one begins, or from so long after the start of the link's
+    /// clock for deadlines if that is earlier. 0: each begins when the one before it is done. A cycle that can't begin before the
+    /// next is due is missed, and one that isn't done when the cycle after the next is due is abandoned.
     pub every: u64,
     /// How many cycles are measured or missed.
     pub cycles: u64,

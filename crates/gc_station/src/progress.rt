@@ -1,7 +1,7 @@
 //! Progress: how far a station is. What it does next is decided in `deciding.rt`, by looking at nothing else.
 
 ghost use Rattle.std.specs.Prelude.{◌≡◌};
-ghost use Rattle.gc_station.specs.Deciding.{width_of, is_up, is_unquiet, is_past, is_quiet, has_begun, dead_after};
+ghost use Rattle.gc_station.specs.Deciding.{width_of, is_up, is_unquiet, may_abandon, is_past, is_quiet, has_begun, dead_after};
 ghost use Rattle.gc_station.specs.Keeping.{reads_clock_alone};
 ghost use Rattle.gc_station.specs.Progressing.{at_start};
 ghost use Rattle.gc_station.specs.Model.{is_heard};
@@ -127,8 +127,8 @@ pub(crate) struct Progress {
     /// Whether a request was sent on this connection, and since then no reply line came and the station didn't resynchronize
     /// between two cycles.
     pub asked: bool,
-    /// The moment that counts as the beginning of the cycle: its due moment, or if it has none, as the first, the one at which
-    /// it began; an earlier one if the clock went back past it since.
+    /// The moment that counts as the beginning of the cycle: its due moment, or the one at which it began if it has none, or the
+    /// first began before it was due; an earlier one if the clock went back past it since. 0 before the first cycle.
     pub began: u64,
     /// Whether the cycle was done before the next was due.
     pub early: bool,
@@ -226,6 +226,22 @@ impl Phase {
             Phase::Clearing => true,
             Phase::Draining => true,
             Phase::Ready => false,
+            Phase::Closing(_) => false,
+            Phase::Over(_) => false,
+        }
+    }
+
+    // Whether a cycle may be abandoned in this phase: the run isn't over, the connection isn't to be closed, and none was just made,
+    // on which the line feed comes first.
+    pub(crate) fn may_abandon(self) -> bool
+        ensures { result ≡ may_abandon self }
+    {
+        match self {
+            Phase::Down => true,
+            Phase::Pausing => true,
+            Phase::Clearing => false,
+            Phase::Draining => true,
+            Phase::Ready => true,
             Phase::Closing(_) => false,
             Phase::Over(_) => false,
         }

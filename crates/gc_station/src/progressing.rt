@@ -7,7 +7,7 @@ ghost use Rattle.gc_client.specs.Hearing.{HearsInto};
 ghost use Rattle.gc_client.specs.Rule.{ById};
 ghost use Rattle.gc_client.specs.declared.settlement.Settlement.{Settlement};
 ghost use Rattle.gc_station.specs.Deciding.{later};
-ghost use Rattle.gc_station.specs.Progressing.{turned, moment_noted, cycle_start, lateness, is_missed_at, due_of, cycle_begun, advanced, unsent_at, failing, opened, is_finished, is_idle, is_spared, phase_again, pause_again, after_failure, cleared, request_noted, null_sent, resynchronized, line_synchronizing, sent, behind_noted, line_noted, early_after, bytes_noted, pause_ended, drained, quieted, time_passed, silent, early_noted, ended_for, closed, is_over, loses_all, next_attempt, setup_restarted, setup_sent, gives_back};
+ghost use Rattle.gc_station.specs.Progressing.{still_prepares, turned, moment_noted, moment_noted_meanwhile, cycle_start, lateness, is_missed_at, due_of, cycle_begun, advanced, unsent_at, failing, opened, is_finished, is_idle, is_spared, phase_again, pause_again, after_failure, cleared, request_noted, null_sent, resynchronized, line_synchronizing, sent, behind_noted, line_noted, early_after, bytes_noted, pause_ended, drained, quieted, time_passed, silent, early_noted, ended_for, closed, is_over, loses_all, next_attempt, setup_restarted, setup_sent, gives_back};
 ghost use Rattle.gc_station.specs.Lines.{is_reply};
 
 use crate::cause::Cause;
@@ -76,12 +76,23 @@ impl Progress {
         self.stops = self.stops || moment.stops;
     }
 
-    // The moment that counts as the beginning of a cycle that is begun at `moment`: that moment for the first cycle, and where
-    // cycles have no due moment; for any other the moment at which it was due, or `moment` if that is earlier.
+    // Notes a moment that was read to begin a cycle, to record commands or leave them out, or to resynchronize: as `note_moment` does,
+    // but a pause and the quiet time go on, as an overdue cycle is abandoned meanwhile. They count from when they did, or from this
+    // moment if the clock went back.
+    pub(crate) fn note_moment_meanwhile(&mut self, moment: Moment)
+        ensures { self.new ≡ moment_noted_meanwhile moment self.old }
+    {
+        let since = self.since.min(moment.elapsed);
+        self.note_moment(moment);
+        self.since = since;
+    }
+
+    // The moment that counts as the beginning of a cycle that is begun at `moment`: that moment where cycles have no due moment;
+    // otherwise the moment at which the cycle was due, or `moment` if that is earlier.
     fn cycle_start(&self, plan: &Plan, moment: Moment) -> u64
         ensures { result ≡ cycle_start plan.now moment self.now }
     {
-        if self.left == plan.cycles || plan.every == 0 {
+        if plan.every == 0 {
             moment.elapsed
         } else {
             self.due_at(plan).min(moment.elapsed)
@@ -121,7 +132,7 @@ impl Progress {
         let began = self.cycle_start(plan, moment);
         let missed = self.is_missed_at(plan, moment);
         let due = self.due_of(plan, moment);
-        self.note_moment(moment);
+        self.note_moment_meanwhile(moment);
         self.began = began;
         self.due = due;
         self.missed = missed;
@@ -131,7 +142,15 @@ impl Progress {
         self.next_is_chained = missed;
         self.next_others = 0;
         self.chain_unbroken = false;
-        self.preparing = false;
+        self.preparing = self.still_prepares(false);
+    }
+
+    // Whether the setup is still to be done once a cycle began or went on: it is if it was (`preparing`) and nothing of it was sent,
+    // but no longer once a command of a cycle was sent (`were_sent`).
+    fn still_prepares(&self, were_sent: bool) -> bool
+        ensures { result ≡ still_prepares were_sent self.now }
+    {
+        (!were_sent && self.preparing) && self.prepared == 0
     }
 
     // The moment in the record of a command that isn't sent, in milliseconds since 1970-01-01, UTC: where its cycle is missed, the
@@ -151,7 +170,7 @@ impl Progress {
         self.next_is_chained = next.is_chained;
         self.next_others = next.others;
         self.chain_unbroken = were_sent;
-        self.preparing = false;
+        self.preparing = self.still_prepares(were_sent);
     }
 
     // Notes the cause of a failure: a connection is to be closed for it next, and without a connection the run is over for it.
@@ -298,7 +317,7 @@ impl Progress {
     pub(crate) fn resynchronize(&mut self, plan: &Plan, moment: Moment)
         ensures { self.new ≡ resynchronized plan.now moment self.old }
     {
-        self.note_moment(moment);
+        self.note_moment_meanwhile(moment);
         self.word = Beginning::new();
         self.again = 0;
         self.asked = self.asked && self.goes_on(plan);

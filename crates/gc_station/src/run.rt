@@ -97,6 +97,10 @@ pub(crate) fn run<L: Link, B: Book>(
 /// is sent only if a command of the attempt before ended as the chain's rule (`again`) names; else it is left out, without a
 /// record. In a missed cycle nothing is sent: its commands are written as missed, and further attempts are left out.
 ///
+/// A cycle has until the cycle after the next is due. What isn't settled by then is written as lost, what wasn't sent as skipped,
+/// and the next cycle, which had no time left, as missed, once nothing is in flight that hasn't timed out. So it is whether there
+/// is a connection or not, unless a setup was begun that isn't done, or the end of the run was asked for.
+///
 /// A connection that failed, ended or is dead is closed. The outstanding requests stay outstanding on the next connection,
 /// and the ids go on. Before each new attempt to connect the station pauses: for the quiet time, at each further failure
 /// twice as long, up to a minute, but never below the quiet time. Once a cycle is done it connects again only when the next is

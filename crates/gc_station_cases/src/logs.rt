@@ -1,18 +1,18 @@
 //! A case's run over a link with a log; and, for a case without tasks, the log of a link that is only read, without a station.
 
 use crate::running::{Outcome, Scene, run_scene};
-use crate::script::{START, Script};
+use crate::script::{Script, TIME_AT_START};
 use gc_links::{Link, Telling};
 use gc_logs::Logged;
 use gc_probes::PieceSink;
 
 // The link of a case, with a log whose sink takes each line in one write, and fails after `writes` writes, or once memory runs
-// out. Until the link reads a moment, the log's lines have the moment `START`, also where the link's time of day is ahead of its
-// clock (`ahead`).
+// out. Until the link reads a moment, the log's lines have the time `TIME_AT_START`, also where the link's time of day is ahead of that
+// (`ahead`).
 fn logged_link<'a>(scene: Scene<'a>, writes: u64) -> Logged<Script<'a>, PieceSink> {
     // More bytes for each write than a line of the log has.
     let sink = PieceSink::new(scene.alloc, 10_000, writes);
-    Logged::new(Script::new(scene.steps, scene.setting), sink, START)
+    Logged::new(Script::new(scene.steps, scene.setting), sink, TIME_AT_START)
 }
 
 /// Runs a station over a link with a log, and takes what came of it into `outcome`. A log whose sink failed is reported as

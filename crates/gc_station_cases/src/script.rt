@@ -37,8 +37,9 @@ pub enum Step<'a> {
     NoMoment,
 }
 
-/// The moment at which the clock of a link starts, in milliseconds.
-pub const START: u64 = 1000;
+/// The time of day at which a link starts, in milliseconds since 1970, unless it is `ahead`. Its clock for deadlines starts at 0, as
+/// that of the program's link does.
+pub const TIME_AT_START: u64 = 1000;
 
 // The ids of a synchronization's null procedures, in the order in which they are sent.
 const NULL_IDS: [u8; 8] = *b"65432107";
@@ -65,7 +66,7 @@ pub struct Script<'a> {
     calls: u64,
     // How many attempts to connect there were.
     attempts: u64,
-    // The moment now, in milliseconds.
+    // The moment now, in milliseconds since the start.
     clock: u64,
     // Whether there is a connection.
     up: bool,
@@ -94,7 +95,7 @@ impl<'a> Script<'a> {
             answered: 0,
             calls: 0,
             attempts: 0,
-            clock: START,
+            clock: 0,
             up: false,
             nulls: 0,
             first: 0,
@@ -110,7 +111,7 @@ impl<'a> Script<'a> {
         note(&mut self.text, word);
         if self.setting.timed {
             note(&mut self.text, b"@");
-            note_number(&mut self.text, clock.saturating_sub(START));
+            note_number(&mut self.text, clock);
         }
         note(&mut self.text, b" ");
     }
@@ -195,8 +196,11 @@ impl<'a> Script<'a> {
         self.clock = self.clock.saturating_add(later);
         Moment {
             elapsed: self.clock,
-            utc: self.clock.saturating_add(self.setting.ahead),
-            stops: self.setting.until <= self.clock.saturating_sub(START),
+            utc: self
+                .clock
+                .saturating_add(TIME_AT_START)
+                .saturating_add(self.setting.ahead),
+            stops: self.setting.until <= self.clock,
         }
     }
 

@@ -30,7 +30,7 @@ pub struct Setting {
     pub split: u64,
     /// From when on the end of the run is asked for, in milliseconds since the start.
     pub until: u64,
-    /// How many milliseconds the clock of time stamps is ahead of the link's other clock.
+    /// How many milliseconds the clock of time stamps is ahead of `TIME_AT_START` at the start.
     pub ahead: u64,
     /// Whether the clock can't be read by itself. After a read of the link there is a moment all the same.
     pub blind: bool,

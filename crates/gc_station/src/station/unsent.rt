@@ -63,7 +63,7 @@ impl Station {
     {
         let waiting = self.commands_waiting();
         let next = self.upcoming_after(count, commands);
-        self.progress.note_moment(moment);
+        self.progress.note_moment_meanwhile(moment);
         self.progress.advance(count, next, false);
         self.progress.note_early(plan, waiting);
     }

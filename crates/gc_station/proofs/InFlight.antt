@@ -1,0 +1,197 @@
+-- What is in flight has timed out in time: a request that hasn't timed out was sent before the cycle was out of time, so that its
+-- deadline comes at most the longest deadline after that. An act is one call on the link, with its result.
+use Rattle.std.proofs.Common.{◌≡◌, ℕ, ◌+◌, ◌*◌, ◌-◌, ◌<◌, ◌≤◌, ◌||◌, Bool, true, false, not, if◌then◌else◌, List, [], ◌∷◌, length, map, filter, drop, min, Option, Some, None, nat_le, nat_eq, refl, sym, ap, ◌∙◌, subst, arith}
+use Rattle.std.proofs.lemmas.Bool.{leb-false, cond_both}
+use Rattle.std.specs.List.{AllByRecursion}
+use Rattle.gc_values.proofs.Every.{every_drop}
+use Rattle.gc_catalogue.specs.declared.asked.Asked.{Asked}
+use Rattle.gc_client.specs.declared.pending.Pending.{Pending}
+use Rattle.gc_client.specs.declared.window.TheConstants.{WINDOW}
+use Rattle.gc_client.specs.Rule.{ById, send_unless_full, hears, heard, expired, deadlines, pending_of, settles_at, fits, place_in}
+use Rattle.gc_texts.specs.declared.tasks.Task.{Task}
+use Rattle.gc_texts.specs.declared.wish.Wish.{Wish}
+use Rattle.gc_links.specs.Acts.{Act, Told}
+use Rattle.gc_links.specs.declared.link.Moment.{Moment}
+use Rattle.gc_station.specs.Cycles.{ClockRises}
+use Rattle.gc_catalogue.specs.declared.asked.Asked.TheVariants.{Table}
+use Rattle.gc_catalogue.specs.declared.call.Call.TheVariants.{NullProc}
+use Rattle.gc_station.specs.Deciding.{later}
+use Rattle.gc_station.specs.Progressing.{turned, moment_noted, cycle_start, due_at, time_passed, loses_all}
+use Rattle.gc_station.specs.Model.{Model, sent_to, client_sent, with_progress, with_moment, with_rest, waiting_of, line_came, lines_completed, is_heard, piece_at, Performs, moved, asks_first, null_request, with_losses}
+use Rattle.gc_station.specs.NextCommand.{place_next, mark_next}
+use Rattle.gc_station.specs.Requests.{command_at}
+use Rattle.gc_station.specs.Quiet.{IsAsking}
+use Rattle.gc_station.specs.declared.plan.Plan.{Plan}
+use Rattle.gc_station.specs.declared.progress.Action.{Action}
+use Rattle.gc_station.specs.declared.progress.Action.TheVariants as actions
+use Rattle.gc_station.specs.declared.progress.Progress.{Progress}
+use Rattle.gc_station.specs.declared.progress.Until.{Until}
+use Rattle.gc_station.proofs.Lists.{all_append}
+use Rattle.gc_station.proofs.Walk.{asked_along, came_along, quieted_along, closed_along, losing_along, walk}
+
+-- if the request hasn't timed out, its deadline is `limit` or earlier
+abbrev pub EndsBy : (limit : ℕ) → Pending Asked → Type 0
+EndsBy limit q = q.given_up ≡ false → q.deadline ≤ limit
+
+-- if the request hasn't timed out, its deadline is after `now`
+abbrev pub EndsAfter : (now : ℕ) → Pending Asked → Type 0
+EndsAfter now q = q.given_up ≡ false → now < q.deadline
+
+-- if `limit` has come, none of these requests is in flight that hasn't timed out
+pub none_in_flight : (limit now : ℕ) (ws : List (Pending Asked)) → limit ≤ now → AllByRecursion (EndsBy limit) ws → AllByRecursion (EndsAfter now) ws → deadlines ws ≡ []
+none_in_flight limit now [] past by after = refl
+none_in_flight limit now (q ∷ ws) past by after = by_test (none_in_flight limit now ws past by.1 after.1) q.given_up refl where
+  -- the lemma above, whether the first request has timed out
+  by_test : deadlines ws ≡ [] → (b : Bool) → q.given_up ≡ b → deadlines (q ∷ ws) ≡ []
+  by_test others true e = ap (λ (b : Bool). map (λ (p : Pending Asked). p.deadline) (if not b then q ∷ filter (λ (p : Pending Asked). not p.given_up) ws else filter (λ (p : Pending Asked). not p.given_up) ws)) e
+      ∙ others
+  by_test others false e = let low = by.0 e in let high = after.0 e in absurd (omega (arith, low, high, past))
+
+-- after the moment `now`, each request that hasn't timed out has its deadline after that
+pub expired_after : (now : ℕ) (ws : List (Pending Asked)) → AllByRecursion (EndsAfter now) (map (expired now) ws)
+expired_after now [] = tt
+expired_after now (q ∷ ws) = (one q.given_up, expired_after now ws) where
+  -- the lemma above for the first request
+  one : (b : Bool) → (b || nat_le q.deadline now) ≡ false → now < q.deadline
+  one true e = cc
+  one false e = leb-false q.deadline now e
+
+-- a moment moves no deadline
+pub expired_by : (limit limit' now : ℕ) (ws : List (Pending Asked)) → limit ≤ limit' → AllByRecursion (EndsBy limit) ws → AllByRecursion (EndsBy limit') (map (expired now) ws)
+expired_by limit limit' now [] more by = tt
+expired_by limit limit' now (q ∷ ws) more by = (one q.given_up refl, expired_by limit limit' now ws more by.1) where
+  -- the lemma above for the first request
+  one : (b : Bool) → q.given_up ≡ b → (b || nat_le q.deadline now) ≡ false → q.deadline ≤ limit'
+  one true is e = cc
+  one false is e = let low = by.0 is in omega (arith, low, more)
+
+-- a line leaves of the requests some of the last ones
+pub all_heard : (P : Pending Asked → Type 0) (c : ById Asked) (line : List ℕ) (id : Option ℕ) → AllByRecursion P c.waiting → AllByRecursion P (hears c line id).client.waiting
+all_heard P c line None all = all
+all_heard P c line (Some id) all = by_test (fits c (Some id)) where
+  -- the lemma above, whether the line settles requests
+  by_test : (b : Bool) → AllByRecursion P (settles_at c line (place_in c id) b).client.waiting
+  by_test true = every_drop P c.waiting (place_in c id + 1) all
+  by_test false = all
+
+-- a send adds at most its own request
+pub all_sent : (P : Pending Asked → Type 0) (width : ℕ) (c : ById Asked) (command : Wish) (now wait : ℕ) → AllByRecursion P c.waiting
+    → P (pending_of command.target command.call (later now wait)) → AllByRecursion P (sent_to width c command now wait).waiting
+all_sent P width c command now wait all one = by_test (nat_eq (length c.waiting) width) refl where
+  -- the lemma above, whether the window is full
+  by_test : (b : Bool) → nat_eq (length c.waiting) width ≡ b → AllByRecursion P (sent_to width c command now wait).waiting
+  by_test true e = subst (λ (b : Bool). AllByRecursion P (client_sent c (send_unless_full c command.target command.call (later now wait) b)).waiting) (sym e) all
+  by_test false e = subst (λ (b : Bool). AllByRecursion P (client_sent c (send_unless_full c command.target command.call (later now wait) b)).waiting) (sym e) (all_append P c.waiting (pending_of command.target command.call (later now wait) ∷ []) all (one, tt))
+
+module _ (plan : Plan) (longest : ℕ) where
+  -- of a station whose last cycle counts as begun at `began`, with the moment `now` read last, which is out of date (`due`) or not, and
+  -- with these requests outstanding: the cycle didn't begin after `now`; each request that hasn't timed out has its deadline at most
+  -- the longest one after the moment at which the cycle is out of time; and after `now`, unless that is out of date
+  abbrev pub TimesOutAt : (began now : ℕ) (due : Bool) → List (Pending Asked) → Type 0
+  TimesOutAt began now due ws =
+      (began ≤ now) × AllByRecursion (EndsBy ((began + 2 * plan.every) + longest)) ws × (due ≡ false → AllByRecursion (EndsAfter now) ws)
+
+  -- `TimesOutAt` of the progress p
+  abbrev pub TimesOutIn : Progress → List (Pending Asked) → Type 0
+  TimesOutIn p ws = TimesOutAt p.began p.moment.elapsed p.clock_due ws
+
+  -- `TimesOutAt` of a model
+  abbrev pub TimesOut : Model → Type 0
+  TimesOut s = TimesOutIn s.progress s.client.waiting
+
+  -- `TimesOutAt` holds after a moment, if the cycle's beginning doesn't go back, and isn't after that moment
+  out_told : (began began' now before : ℕ) (due : Bool) (ws : List (Pending Asked)) → TimesOutAt began before due ws → began ≤ began' → began' ≤ now
+      → TimesOutAt began' now false (map (expired now) ws)
+  out_told began began' now before due ws h on past =
+      (past, expired_by ((began + 2 * plan.every) + longest) ((began' + 2 * plan.every) + longest) now ws (omega (arith, on)) h.1, λ e. expired_after now ws)
+
+  -- the same after a moment that begins no cycle
+  out_noted : (p : Progress) (m : Moment) (ws : List (Pending Asked)) → TimesOutIn p ws → ClockRises p.moment.elapsed (Told m ∷ [])
+      → TimesOutAt (min p.began m.elapsed) m.elapsed false (map (expired m.elapsed) ws)
+  out_noted p m ws h rises =
+      let past = h.0 in
+      let now = rises.0 in
+      out_told p.began (min p.began m.elapsed) m.elapsed p.moment.elapsed p.clock_due ws h (omega (arith, past, now)) (omega arith)
+
+  -- the beginning of a cycle isn't before that of the last one
+  start_after : (m : Moment) (p : Progress) → p.began ≤ p.moment.elapsed → ClockRises p.moment.elapsed (Told m ∷ []) → (p.began ≤ cycle_start plan m p) × (cycle_start plan m p ≤ m.elapsed)
+  start_after m p past rises =
+      let now = rises.0 in
+      let most = rises.1 in
+      cond_both (nat_eq plan.every 0) m.elapsed (min (due_at plan p) m.elapsed) (λ (x : ℕ). (p.began ≤ x) × (x ≤ m.elapsed))
+      (λ e. (omega (arith, past, now), omega arith)) (λ e. (omega (arith, past, now, most), omega arith))
+
+  -- a line preserves `TimesOut`
+  out_line : (x : Model) (line : List ℕ) → TimesOut x → TimesOut (line_came x line)
+  out_line x line h = (
+    h.0,
+    all_heard (EndsBy ((x.progress.began + 2 * plan.every) + longest)) x.client line (heard line) h.1,
+    λ e. all_heard (EndsAfter x.progress.moment.elapsed) x.client line (heard line) (h.2 e),
+  )
+
+  -- a request that is sent while the cycle isn't out of time ends in time
+  ends_in_time : (p : Progress) (wait : ℕ) (target : ℕ) (call : Asked) → p.began ≤ p.moment.elapsed → p.moment.elapsed - p.began < 2 * plan.every → wait ≤ longest
+      → EndsBy ((p.began + 2 * plan.every) + longest) (pending_of target call (later p.moment.elapsed wait))
+  ends_in_time p wait target call past short few e = omega (arith, past, short, few)
+
+  module _ (commands : List Task) (few : plan.deadline ≤ longest) (all_few : AllByRecursion (λ (task : Task). task.deadline ≤ longest) commands) where
+    -- after an act from the model s on: `TimesOut`, if the clock doesn't go back at it
+    abbrev OutAfter : Model → Act → Model → Type 0
+    OutAfter s act t = ClockRises s.progress.moment.elapsed (act ∷ []) → TimesOut t
+
+    -- a read that gave bytes preserves `TimesOut`
+    out_gave : (s : Model) (until : Until) (bytes : List ℕ) (m : Moment) → TimesOut s → ClockRises s.progress.moment.elapsed (Told m ∷ []) → TimesOut (piece_at plan until bytes m s)
+    out_gave s until bytes m h rises =
+        let mid = with_moment m (with_progress (moment_noted m) s) in
+        let told = out_noted s.progress m s.client.waiting h rises in
+        came_along TimesOut out_line (is_heard s.progress.phase) s.progress.word bytes mid told
+        (asked_along (λ (q : Progress). TimesOutIn q mid.client.waiting) (λ q line e. e) mid.progress (lines_completed mid.rest bytes) told) told
+
+    -- an act of each action preserves `TimesOut`, if a request is sent only while the cycle isn't out of time, and none of a setup
+    pub out_moved : (s : Model) (o : Action) (act : Act) → Performs commands s o act → (IsAsking o → s.progress.moment.elapsed - s.progress.began < 2 * plan.every) → (o ≡ actions.Prepare → ⊥)
+        → TimesOut s → OutAfter s act (moved plan commands o (with_progress turned s) act)
+    out_moved s actions.Begin act obeys short other h =
+        walk plan commands (OutAfter s) actions.Begin (with_progress turned s) act obeys (
+          λ m rises. let start = start_after m (turned s.progress) h.0 rises in out_told s.progress.began (cycle_start plan m (turned s.progress)) m.elapsed s.progress.moment.elapsed s.progress.clock_due s.client.waiting h start.0 start.1,
+          λ n rises. h,
+        )
+    out_moved s actions.Open act obeys short other h = walk plan commands (OutAfter s) actions.Open (with_progress turned s) act obeys (λ m rises. h, λ n rises. (h.0, h.1, λ e. cc))
+    out_moved s actions.Clear act obeys short other h = walk plan commands (OutAfter s) actions.Clear (with_progress turned s) act obeys (λ m rises. (h.0, h.1, λ e. cc), λ n rises. (h.0, h.1, λ e. cc))
+    out_moved s actions.Ask act obeys short other h = walk plan commands (OutAfter s) actions.Ask (with_progress turned s) act obeys (λ m rises. (h.0, h.1, λ e. cc), λ n rises. (h.0, h.1, λ e. cc))
+    out_moved s actions.Prepare act obeys short other h = absurd (other refl)
+    out_moved s actions.Send act obeys short other h =
+        let p = s.progress in
+        let left = drop (place_next commands p) commands in
+        let all = by_left left (every_drop (λ (task : Task). task.deadline ≤ longest) commands (place_next commands p) all_few) in
+        walk plan commands (OutAfter s) actions.Send (with_progress turned s) act obeys (λ m rises. (h.0, all, λ e. cc), λ n rises. (h.0, all, λ e. cc)) where
+          -- all requests end in time once the first of these commands was sent
+          by_left : (left : List Task) → AllByRecursion (λ (task : Task). task.deadline ≤ longest) left
+              → AllByRecursion (EndsBy ((s.progress.began + 2 * plan.every) + longest)) (asks_first (mark_next plan commands (turned s.progress)) left (with_progress turned s)).client.waiting
+          by_left [] within = h.1
+          by_left (task ∷ others) within =
+              let command = command_at (mark_next plan commands (turned s.progress)).sent task in
+              all_sent (EndsBy ((s.progress.began + 2 * plan.every) + longest)) WINDOW s.client command s.progress.moment.elapsed task.deadline h.1
+              (ends_in_time s.progress task.deadline command.target command.call h.0 (short tt) within.0)
+    out_moved s actions.Flush act obeys short other h =
+        let all = all_sent (EndsBy ((s.progress.began + 2 * plan.every) + longest)) WINDOW s.client (null_request plan).command s.progress.moment.elapsed plan.deadline h.1
+        (ends_in_time s.progress plan.deadline 0 (Table NullProc) h.0 (short tt) few) in
+        walk plan commands (OutAfter s) actions.Flush (with_progress turned s) act obeys (λ m rises. (h.0, all, λ e. cc), λ n rises. (h.0, all, λ e. cc))
+    out_moved s (actions.Read until) act obeys short other h =
+        walk plan commands (OutAfter s) (actions.Read until) (with_progress turned s) act obeys (
+          λ bytes m rises. out_gave (with_progress turned s) until bytes m h rises,
+          λ m rises. let told = out_noted s.progress m s.client.waiting h rises in
+              quieted_along (λ (q : Progress). TimesOutIn q (map (expired m.elapsed) s.client.waiting)) plan s.progress.phase (time_passed until m (turned s.progress)) told told told,
+          λ rises. h,
+          λ rises. h,
+          λ rises. h,
+        )
+    out_moved s (actions.Close why) act obeys short other h =
+        walk plan commands (OutAfter s) (actions.Close why) (with_progress turned s) act obeys
+        (λ rises. closed_along (λ (q : Progress). TimesOutIn q s.client.waiting) plan (waiting_of (with_rest [] (with_progress turned s))) why (turned s.progress) h (h.0, h.1, λ e. cc))
+    out_moved s (actions.Stop why) act obeys short other h = absurd obeys
+    out_moved s o act obeys short other h =
+        walk plan commands (OutAfter s) o (with_progress turned s) act obeys (λ m rises. out_noted s.progress m s.client.waiting h rises, λ n rises. h)
+
+    -- the loss of what is outstanding preserves `TimesOut`
+    pub out_losses : (t : Model) → TimesOut t → TimesOut (with_losses t)
+    out_losses t h = losing_along TimesOut (loses_all t.progress) t (h.0, tt, λ e. tt) h

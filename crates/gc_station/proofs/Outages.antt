@@ -1,0 +1,490 @@
+-- Each due cycle is recorded in time, whatever the line does. An act is one call on the link, with its result.
+use Rattle.std.proofs.Common.{◌≡◌, ◌⊎◌, inl, inr, ℕ, zero, suc, ◌+◌, ◌*◌, ◌-◌, ◌<◌, ◌≤◌, ◌&&◌, ◌||◌, Bool, true, false, not, if◌then◌else◌, List, [], ◌∷◌, ◌++◌, length, map, nat_lt, nat_le, nat_eq, refl, sym, ap, ◌∙◌, subst, arith, append-nil}
+use Rattle.std.proofs.lemmas.Bool.{ltb-true, ltb-false, leb-true, leb-false, eq-eqb, cond_both, both_ways}
+use Rattle.std.proofs.lemmas.List.{nil_from_length}
+use Rattle.gc_catalogue.specs.declared.asked.Asked.{Asked}
+use Rattle.gc_client.specs.Rule.{ById}
+use Rattle.gc_texts.specs.declared.tasks.Task.{Task}
+use Rattle.gc_links.specs.Acts.{Act, Told, Untold}
+use Rattle.gc_station.specs.Cycles.{first_due, due_after}
+use Rattle.gc_station.specs.Deciding.{has_begun, is_out_of_time, is_overdue, setup_permits, is_stale, is_stopping, is_preparing, is_finished, is_up, may_abandon, action_in, action_on, action_overdue, action_of_phase, action_without_turns}
+use Rattle.gc_station.specs.EachOnce.{Interleave, RunRequest, of_record, still_waiting, all_cycles, of_text}
+use Rattle.gc_station.specs.Marks.{commands_in}
+use Rattle.gc_station.specs.Model.{Model, opening, action_at, waiting_of, with_progress, with_rest, cycle_length, moved, Performs}
+use Rattle.gc_station.specs.Progressing.{turned}
+use Rattle.gc_station.specs.NextCommand.{cycles_begun, place_next}
+use Rattle.gc_station.specs.Reasons.{HoldsBefore, IsFinished, MayGo, MayRetry, NothingMayGo, AwaitsSettlements, AwaitsReply, AwaitsSomething, MayBeSent}
+use Rattle.gc_station.specs.Runs.{state_after}
+use Rattle.gc_station.specs.Scopes.{Scope}
+use Rattle.gc_station.specs.RecordedInTime.{MayTakeTime, AreRecorded, DueOnesAreRecorded, IsInTime, IsUnhindered, RecordsOnceTimedOut, RecordsInTime, ReadsClockBefore, ReadsAwaitSomething, acts_to_record, left_to_record, RecordsUnsent, RecordingEnds}
+use Rattle.gc_station.specs.declared.progress.Until.{Until}
+use Rattle.gc_station.specs.declared.progress.Until.TheVariants.{Limit, Due}
+use Rattle.gc_station.specs.Quiet.{IsListening}
+use Rattle.gc_station.specs.declared.cause.Cause.{Cause}
+use Rattle.gc_station.specs.declared.cause.Cause.TheVariants as cause
+use Rattle.gc_station.specs.declared.plan.Plan.{Plan}
+use Rattle.gc_station.specs.declared.progress.Action.{Action}
+use Rattle.gc_station.specs.declared.progress.Action.TheVariants as actions
+use Rattle.gc_station.specs.declared.progress.Phase.{Phase}
+use Rattle.gc_station.specs.declared.progress.Phase.TheVariants as phase
+use Rattle.gc_station.specs.declared.progress.Progress.{Progress}
+use Rattle.gc_station.specs.declared.progress.Waiting.{Waiting}
+use Rattle.gc_station.proofs.Always.{progress_after_act}
+use Rattle.gc_station.proofs.Closings.{needs_of, runs_split}
+use Rattle.gc_station.proofs.Cycles.{Cycling, begun_if_clock_rises}
+use Rattle.gc_station.proofs.Each.{row_settled, reached_whole}
+use Rattle.gc_station.proofs.EachRun.{invariant_holds}
+use Rattle.gc_station.proofs.Counts.{KeepsCounts, ChangesCounts, moved_counts}
+use Rattle.gc_station.proofs.Facts.{finished_by_test, action_for}
+use Rattle.gc_station.proofs.InTime.{times_out, short_if_punctual, never_prepares}
+use Rattle.gc_station.proofs.Stopping.{stops_as_asked}
+use Rattle.gc_station.proofs.Walk.{closed_along, walk}
+use Rattle.gc_station.proofs.InFlight.{none_in_flight, TimesOut}
+
+-- Which actions are next once the cycle is overdue.
+
+-- no overdue action may take its time
+overdue_takes_no_time : (p : Progress) (w : Waiting) → MayTakeTime (action_overdue p w) → ⊥
+overdue_takes_no_time p w on =
+    cond_both (nat_lt 0 w.commands) actions.Renew _ Off (λ e o. o)
+    (λ e. cond_both (nat_eq p.unsent 0) actions.Begin _ Off (λ e o. o) (λ e. cond_both (nat_lt 0 p.next_others) actions.Pass actions.Skip Off (λ e o. o) (λ e o. o))) on where
+      -- the action may not take its time
+      Off : Action → Type 0
+      Off next = MayTakeTime next → ⊥
+
+-- if the action of a run that isn't closing or over may take its time, the cycle isn't overdue, and the phase isn't `Clearing`
+not_overdue_on : (plan : Plan) (p : Progress) (w : Waiting) → MayTakeTime (action_on plan p w) → is_overdue plan p w ≡ false
+not_overdue_on plan p w on =
+    cond_both (nat_eq p.turns 0) _ _ Not (λ e. without_turns (is_up p.phase))
+    (λ e. cond_both (is_stale plan p w) (actions.Close cause.Stale) _ Not (λ _ o. absurd o)
+    (λ _. cond_both (is_stopping p w) (actions.Close cause.Stopped) _ Not (λ _ o. absurd o)
+    (λ _. cond_both p.clock_due actions.ReadClock _ Not (λ _ o. absurd o)
+    (λ _. cond_both (is_overdue plan p w) (action_overdue p w) (action_of_phase plan p.phase p w) Not (λ _ o. absurd (overdue_takes_no_time p w o)) (λ over o. over))))) on where
+      -- if the action may take its time, the cycle isn't overdue
+      Not : Action → Type 0
+      Not next = MayTakeTime next → is_overdue plan p w ≡ false
+
+      -- without turns no action takes its time
+      without_turns : (up : Bool) → Not (action_without_turns up)
+      without_turns true o = absurd o
+      without_turns false o = absurd o
+
+-- if the action that is next may take its time, the phase is one in which a cycle may be abandoned
+may_abandon_there : (plan : Plan) (p : Progress) (w : Waiting) (at : Phase) → p.phase ≡ at → MayTakeTime (action_in at plan p w) → may_abandon at ≡ true
+may_abandon_there plan p w phase.Down is on = refl
+may_abandon_there plan p w phase.Pausing is on = refl
+may_abandon_there plan p w phase.Draining is on = refl
+may_abandon_there plan p w phase.Ready is on = refl
+may_abandon_there plan p w (phase.Closing why) is on = absurd on
+may_abandon_there plan p w (phase.Over why) is on = absurd on
+may_abandon_there plan p w phase.Clearing is on = absurd (cleared on) where
+  -- the action in the phase `Clearing` doesn't take its time
+  cleared : MayTakeTime (action_on plan p w) → ⊥
+  cleared =
+      let Off = λ (next : Action). MayTakeTime next → ⊥ in
+      cond_both (nat_eq p.turns 0) _ _ Off (λ e. without_turns (is_up p.phase))
+      (λ e. cond_both (is_stale plan p w) (actions.Close cause.Stale) _ Off (λ _ o. o)
+      (λ _. cond_both (is_stopping p w) (actions.Close cause.Stopped) _ Off (λ _ o. o)
+      (λ _. cond_both p.clock_due actions.ReadClock _ Off (λ _ o. o)
+      (λ _. cond_both (is_overdue plan p w) (action_overdue p w) (action_of_phase plan p.phase p w) Off (λ _ o. overdue_takes_no_time p w o)
+      (λ over. subst (λ (x : Phase). MayTakeTime (action_of_phase plan x p w) → ⊥) (sym is) (λ o. o)))))) where
+        -- without turns no action takes its time
+        without_turns : (up : Bool) → MayTakeTime (action_without_turns up) → ⊥
+        without_turns true o = o
+        without_turns false o = o
+
+-- if the action that is next may take its time, the cycle isn't overdue
+not_overdue : (plan : Plan) (p : Progress) (w : Waiting) (at : Phase) → p.phase ≡ at → MayTakeTime (action_in at plan p w) → is_overdue plan p w ≡ false
+not_overdue plan p w (phase.Closing why) is on = absurd on
+not_overdue plan p w (phase.Over why) is on = absurd on
+not_overdue plan p w at is on = not_overdue_on plan p w on
+
+-- by the tests of `is_overdue`: if the cycle isn't overdue, though the end of the run wasn't asked for (`goes`), nothing is in flight
+-- (`none`), the phase (`there`) and the setup (`ready`) let it be abandoned, and no command waits that can't be lost (`fits`), it isn't
+-- out of time (`late`), or all is done
+out_of_time_or_done : (missed late goes none there ready fits done : Bool) → ((missed || (late && goes)) && ((none && there) && (ready && (fits && not done)))) ≡ false
+    → none ≡ true → there ≡ true → goes ≡ true → ready ≡ true → fits ≡ true → (late ≡ false) ⊎ (done ≡ true)
+out_of_time_or_done missed false goes none there ready fits done e a b c d f = inl refl
+out_of_time_or_done missed true goes none there ready fits true e a b c d f = inr refl
+out_of_time_or_done true true true true true true true false e a b c d f = cc
+out_of_time_or_done false true true true true true true false e a b c d f = cc
+out_of_time_or_done missed true goes false there ready fits false e a b c d f = cc
+out_of_time_or_done missed true goes true false ready fits false e a b c d f = cc
+out_of_time_or_done missed true false true true ready fits false e a b c d f = cc
+out_of_time_or_done missed true true true true false fits false e a b c d f = cc
+out_of_time_or_done missed true true true true true false false e a b c d f = cc
+
+-- Due moments.
+
+-- later cycles are due later
+due_rises : (first every n k : ℕ) → n ≤ k → due_after first every n ≤ due_after first every k
+due_rises first every n zero le = let none : zero ≡ n = omega (arith, le) in subst (λ (m : ℕ). due_after first every m ≤ first) none (omega arith)
+due_rises first every n (suc k) le = cond_both (nat_le n k) zero zero (λ _. due_after first every n ≤ due_after first every (suc k))
+    (λ e. let before = due_rises first every n k (leb-true n k e) in omega (arith, before))
+    (λ e. let past = leb-false n k e in let same : n ≡ suc k = omega (arith, le, past) in subst (λ (m : ℕ). due_after first every n ≤ due_after first every m) same (omega arith))
+
+module _ (plan : Plan) (commands : List Task) (scope : Scope) where
+  -- the model after these acts
+  abbrev at : List Act → Model
+  at acts = state_after plan commands scope acts
+
+  -- if no command is unsent or outstanding, all commands of the cycles that began are recorded
+  recorded_if_settled : (acts behind : List Act) → (at acts).progress.unsent ≡ 0 → commands_in (at acts).marks ≡ 0
+      → AreRecorded plan commands scope (acts ++ behind) (cycles_begun plan (at acts).progress)
+  recorded_if_settled acts behind sent settled =
+      let s = at acts in
+      let n = cycles_begun plan s.progress in
+      record {
+        before = acts;
+        behind = behind;
+        order = refl;
+        all = subst (λ (xs : List RunRequest). Interleave (of_text commands xs) s.passes (all_cycles plan.setup commands n)) (row_settled s.marks s.client.waiting s.records settled)
+            (subst (λ (all : List RunRequest). Interleave (of_text commands (map of_record s.records ++ still_waiting s.marks s.client.waiting)) s.passes all)
+            (reached_whole plan.setup commands n (place_next commands s.progress) (omega (arith, sent))) (invariant_holds plan commands scope acts).each);
+      }
+
+  -- a cycle that was due `wait` milliseconds ago was due before the one that began last, if that began less than that ago
+  before_this : (n k first began now wait : ℕ) → due_after first plan.every k ≡ began → now - began < wait → began ≤ now → due_after first plan.every n + wait ≤ now → n < k
+  before_this n k first began now wait here short past due = cond_both (nat_lt n k) zero zero (λ _. n < k) (λ e. ltb-true n k e)
+      (λ e. let on = due_rises first plan.every k n (ltb-false n k e) in absurd (omega (arith, on, here, short, past, due)))
+
+  -- where a cycle has begun, less than `wait` milliseconds ago, each cycle that was due that long ago is recorded
+  pub recorded_before : (acts : List Act) (some : 0 < plan.every) (wait : ℕ) → Cycling plan commands scope some acts (at acts).progress → (at acts).progress.moment.elapsed - (at acts).progress.began < wait
+      → DueOnesAreRecorded plan commands scope wait acts
+  recorded_before acts some wait c short =
+      let p = (at acts).progress in
+      let b = c.begins in
+      let it = b.begins in
+      let grid = b.grid in
+      let began = c.began in
+      let needs = needs_of plan (at it.before) actions.Begin it.begins in
+      let past = c.past in
+      let here : due_after (first_due plan b.first) plan.every c.earlier ≡ p.began = omega (arith, grid, began) in
+      record {
+        count = c.earlier;
+        are = subst (λ (xs : List Act). AreRecorded plan commands scope xs c.earlier) (sym it.order)
+            (subst (λ (n : ℕ). AreRecorded plan commands scope (it.before ++ Told c.moment ∷ it.behind) n) it.number
+            (recorded_if_settled it.before (Told c.moment ∷ it.behind) needs.2 needs.3));
+        first = b.first;
+        begins = b.first_begins;
+        each = λ n below due. before_this n c.earlier (first_due plan b.first) p.began p.moment.elapsed wait here short past due;
+      }
+
+  -- once all is done, each cycle is recorded
+  pub recorded_at_end : (acts : List Act) (some : 0 < plan.every) (wait : ℕ) → Cycling plan commands scope some acts (at acts).progress → IsFinished (commands_in (at acts).marks) (at acts).progress
+      → DueOnesAreRecorded plan commands scope wait acts
+  recorded_at_end acts some wait c all =
+      let left = all.0 in
+      record {
+        count = plan.cycles;
+        are = subst (λ (xs : List Act). AreRecorded plan commands scope xs plan.cycles) (append-nil acts)
+            (subst (λ (n : ℕ). AreRecorded plan commands scope (acts ++ []) n) (omega (arith, left)) (recorded_if_settled acts [] all.1 all.2));
+        first = c.begins.first;
+        begins = c.begins.first_begins;
+        each = λ n below due. below;
+      }
+
+  -- with nothing in flight that hasn't timed out, a run that goes on with an action that may take its time isn't in a cycle that is out
+  -- of time, or all is done
+  pub in_time_if_slow : (acts : List Act) → IsUnhindered plan commands scope acts → MayTakeTime (action_at plan (at acts)) → (waiting_of (at acts)).current ≡ 0
+      → (is_out_of_time plan (at acts).progress ≡ false) ⊎ IsFinished (commands_in (at acts).marks) (at acts).progress
+  in_time_if_slow acts way on none =
+      by_test (out_of_time_or_done (s.progress.missed && nat_lt 0 s.progress.unsent) (is_out_of_time plan s.progress) (not s.progress.stops) (nat_eq (waiting_of s).current 0) (may_abandon s.progress.phase) (setup_permits plan s.progress (waiting_of s))
+      (has_begun s.progress || nat_eq (commands_in s.marks) 0) (is_finished (commands_in s.marks) s.progress)
+      (not_overdue plan s.progress (waiting_of s) s.progress.phase refl on) (eq-eqb (waiting_of s).current 0 none) (may_abandon_there plan s.progress (waiting_of s) s.progress.phase refl on)
+      (ap not way.0) way.1 (fits (has_begun s.progress) refl)) where
+        -- the model after these acts
+        s : Model
+        s = at acts
+
+        -- while the station synchronizes, no command is outstanding
+        fits : (b : Bool) → has_begun s.progress ≡ b → (b || nat_eq (commands_in s.marks) 0) ≡ true
+        fits true e = refl
+        fits false e = eq-eqb (commands_in s.marks) 0 (ap commands_in (nil_from_length s.marks
+            (let fine = invariant_holds plan commands scope acts in fine.paired ∙ ap (λ (c : ById Asked). length c.waiting) (fine.begins e))))
+
+        -- the lemma above, by the tests
+        by_test : (is_out_of_time plan s.progress ≡ false) ⊎ (is_finished (commands_in s.marks) s.progress ≡ true) → (is_out_of_time plan s.progress ≡ false) ⊎ IsFinished (commands_in s.marks) s.progress
+        by_test (inl punctual) = inl punctual
+        by_test (inr done) = inr (finished_by_test (commands_in s.marks) s.progress done)
+
+-- if the action that is next may take its time, the moment was read
+read_if_slow : (plan : Plan) (p : Progress) (w : Waiting) (at : Phase) → p.phase ≡ at → MayTakeTime (action_in at plan p w) → p.clock_due ≡ false
+read_if_slow plan p w (phase.Closing why) is on = absurd on
+read_if_slow plan p w (phase.Over why) is on = absurd on
+read_if_slow plan p w at is on =
+    cond_both (nat_eq p.turns 0) _ _ Now (λ e. without_turns (is_up p.phase))
+    (λ e. cond_both (is_stale plan p w) (actions.Close cause.Stale) _ Now (λ e o. absurd o)
+    (λ e. cond_both (is_stopping p w) (actions.Close cause.Stopped) _ Now (λ e o. absurd o)
+    (λ e. cond_both p.clock_due actions.ReadClock _ Now (λ e o. absurd o) (λ now o. now)))) on where
+      -- if the action may take its time, the moment was read
+      Now : Action → Type 0
+      Now next = MayTakeTime next → p.clock_due ≡ false
+
+      -- without turns no action takes its time
+      without_turns : (up : Bool) → Now (action_without_turns up)
+      without_turns true o = absurd o
+      without_turns false o = absurd o
+
+-- the law: silence is bounded, once what is in flight has timed out
+pub records_once_timed_out : RecordsOnceTimedOut
+records_once_timed_out plan commands scope acts runs some rises way on none =
+    by_begun ((begun_if_clock_rises plan commands scope some acts runs) rises).1 (in_time_if_slow plan commands scope acts way on none) where
+      -- the model after these acts
+      s : Model
+      s = state_after plan commands scope acts
+
+      -- the lemma above, by whether a cycle has begun, and isn't out of time, or all is done
+      by_begun : ((s.progress.left ≡ plan.cycles) × (s.progress.unsent ≡ 0) × (s.progress.began ≡ 0)) ⊎ Cycling plan commands scope some acts s.progress
+          → (is_out_of_time plan s.progress ≡ false) ⊎ IsFinished (commands_in s.marks) s.progress
+          → IsInTime plan commands scope (2 * plan.every) acts
+      by_begun (inl none_begun) (inl punctual) =
+          let start = none_begun.2 in
+          let short = short_if_punctual plan s.progress some punctual in
+          inl (none_begun.0, inl (omega (arith, start, short)))
+      by_begun (inl none_begun) (inr all) = inl (none_begun.0, inr (sym none_begun.0 ∙ all.0))
+      by_begun (inr c) (inl punctual) = inr (recorded_before plan commands scope acts some (2 * plan.every) c (short_if_punctual plan s.progress some punctual))
+      by_begun (inr c) (inr all) = inr (recorded_at_end plan commands scope acts some (2 * plan.every) c all)
+
+-- the law: silence is bounded
+pub records_in_time : RecordsInTime
+records_in_time longest plan commands scope acts runs some none few all_few rises unasked on =
+    by_time ((begun_if_clock_rises plan commands scope some acts runs) rises).1 (nat_le ((s.progress.began + 2 * plan.every) + longest) s.progress.moment.elapsed) refl where
+      -- the model after these acts
+      s : Model
+      s = state_after plan commands scope acts
+
+      -- what is claimed
+      Claim : Type 0
+      Claim = IsInTime plan commands scope (2 * plan.every + longest) acts
+
+      -- what is in flight times out in time
+      out : TimesOut plan longest s
+      out = times_out plan commands scope longest some none few all_few acts runs rises unasked
+
+      -- the run is under way
+      way : IsUnhindered plan commands scope acts
+      way = (
+        stops_as_asked plan commands scope acts runs ∙ unasked,
+        ap (λ (b : Bool). not (b && not (nat_le plan.setup s.progress.prepared && nat_eq (waiting_of s).commands 0 && (waiting_of s).well)) || (nat_eq s.progress.prepared 0 || nat_lt 0 (waiting_of s).commands))
+            (never_prepares plan commands none scope acts runs),
+      )
+
+      -- a cycle has begun, or none has
+      Where : Type 0
+      Where = ((s.progress.left ≡ plan.cycles) × (s.progress.unsent ≡ 0) × (s.progress.began ≡ 0)) ⊎ Cycling plan commands scope some acts s.progress
+
+      -- the lemma above, if the cycle isn't out of time, or all is done
+      by_why : Where → (is_out_of_time plan s.progress ≡ false) ⊎ IsFinished (commands_in s.marks) s.progress → Claim
+      by_why (inl begins) (inl punctual) =
+          let start = begins.2 in
+          let short = short_if_punctual plan s.progress some punctual in
+          inl (begins.0, inl (omega (arith, start, short)))
+      by_why (inl begins) (inr all) = inl (begins.0, inr (sym begins.0 ∙ all.0))
+      by_why (inr c) (inl punctual) =
+          let short = short_if_punctual plan s.progress some punctual in
+          inr (recorded_before plan commands scope acts some (2 * plan.every + longest) c (omega (arith, short)))
+      by_why (inr c) (inr all) = inr (recorded_at_end plan commands scope acts some (2 * plan.every + longest) c all)
+
+      -- the lemma above, by whether all that is in flight has timed out for sure
+      by_time : Where → (b : Bool) → nat_le ((s.progress.began + 2 * plan.every) + longest) s.progress.moment.elapsed ≡ b → Claim
+      by_time at true e =
+          let gone = none_in_flight ((s.progress.began + 2 * plan.every) + longest) s.progress.moment.elapsed s.client.waiting
+          (leb-true ((s.progress.began + 2 * plan.every) + longest) s.progress.moment.elapsed e) out.1 (out.2 (read_if_slow plan s.progress (waiting_of s) s.progress.phase refl on)) in
+          by_why at (in_time_if_slow plan commands scope acts way on (ap length gone))
+      by_time (inl begins) false e =
+          let start = begins.2 in
+          let low = leb-false ((s.progress.began + 2 * plan.every) + longest) s.progress.moment.elapsed e in
+          inl (begins.0, inl (omega (arith, low, start)))
+      by_time (inr c) false e =
+          let low = leb-false ((s.progress.began + 2 * plan.every) + longest) s.progress.moment.elapsed e in
+          let past = out.0 in
+          inr (recorded_before plan commands scope acts some (2 * plan.every + longest) c (omega (arith, low, past)))
+
+-- The clock is read before what takes its time.
+
+-- at this progress no action that may take its time is next: the moment read last is out of date; or the phase lets no cycle be
+-- abandoned, as the connection is to be cleared or closed, or the run is over
+abbrev IsOutOfDate : Progress → Type 0
+IsOutOfDate p = (p.clock_due ≡ true) ⊎ (may_abandon p.phase ≡ false)
+
+-- after a call that failed, the connection is to be closed, or the run is over
+failed_closes : (up : Bool) (why : Cause) → may_abandon (if up then phase.Closing why else phase.Over why) ≡ false
+failed_closes true why = refl
+failed_closes false why = refl
+
+-- after an act of each action: the act read a moment, or `IsOutOfDate` holds
+out_of_date : (plan : Plan) (commands : List Task) (s : Model) (o : Action) (act : Act) → Performs commands s o act
+    → IsListening act ⊎ IsOutOfDate (moved plan commands o (with_progress turned s) act).progress
+out_of_date plan commands s o act obeys = by_action o obeys where
+  -- what is claimed of an act and the model after it
+  Claim : Act → Model → Type 0
+  Claim a t = IsListening a ⊎ IsOutOfDate t.progress
+
+  -- after a call that failed for the cause `why`
+  failed : (why : Cause) → may_abandon (if is_up s.progress.phase then phase.Closing why else phase.Over why) ≡ false
+  failed why = failed_closes (is_up s.progress.phase) why
+
+  -- the lemma above, by the action
+  by_action : (o : Action) → Performs commands s o act → Claim act (moved plan commands o (with_progress turned s) act)
+  by_action actions.Open b = walk plan commands Claim actions.Open (with_progress turned s) act b (λ m. inr (inr refl), λ n. inr (inl refl))
+  by_action actions.Clear b = walk plan commands Claim actions.Clear (with_progress turned s) act b (λ m. inr (inl refl), λ n. inr (inl refl))
+  by_action actions.Ask b = walk plan commands Claim actions.Ask (with_progress turned s) act b (λ m. inr (inl refl), λ n. inr (inl refl))
+  by_action actions.Prepare b = walk plan commands Claim actions.Prepare (with_progress turned s) act b (λ m. inr (inl refl), λ n. inr (inl refl))
+  by_action actions.Send b = walk plan commands Claim actions.Send (with_progress turned s) act b (λ m. inr (inl refl), λ n. inr (inl refl))
+  by_action actions.Flush b = walk plan commands Claim actions.Flush (with_progress turned s) act b (λ m. inr (inl refl), λ n. inr (inl refl))
+  by_action (actions.Read until) b =
+      walk plan commands Claim (actions.Read until) (with_progress turned s) act b
+      (λ bytes m. inl refl, λ m. inl refl, inr (inr (failed cause.End)), inr (inr (failed cause.Read)), inr (inr (failed cause.Clock)))
+  by_action (actions.Close why) b =
+      walk plan commands Claim (actions.Close why) (with_progress turned s) act b
+      (inr (closed_along IsOutOfDate plan (waiting_of (with_rest [] (with_progress turned s))) why (turned s.progress) (inr refl) (inl refl)))
+  by_action (actions.Stop why) b = absurd b
+  by_action o b = walk plan commands Claim o (with_progress turned s) act b (λ m. inl refl, λ n. inr (inr (failed cause.Clock)))
+
+-- the law: the clock is read before what takes its time
+pub reads_clock_before : ReadsClockBefore
+reads_clock_before plan commands scope earlier act runs on = by_case (out_of_date plan commands s (action_at plan s) act (runs_split plan commands (opening plan scope) earlier [] act runs).1) where
+  -- the model before the act
+  s : Model
+  s = state_after plan commands scope earlier
+
+  -- the model after it
+  t : Model
+  t = state_after plan commands scope (earlier ++ act ∷ [])
+
+  -- the lemma above, by whether the act read a moment
+  by_case : IsListening act ⊎ IsOutOfDate (moved plan commands (action_at plan s) (with_progress turned s) act).progress → IsListening act
+  by_case (inl listens) = listens
+  by_case (inr (inl due)) =
+      absurd (both_ways t.progress.clock_due (read_if_slow plan t.progress (waiting_of t) t.progress.phase refl on)
+      (ap (λ (p : Progress). p.clock_due) (progress_after_act plan commands scope earlier act) ∙ due))
+  by_case (inr (inr closed)) =
+      absurd (both_ways (may_abandon t.progress.phase) (ap (λ (p : Progress). may_abandon p.phase) (progress_after_act plan commands scope earlier act) ∙ closed)
+      (may_abandon_there plan t.progress (waiting_of t) t.progress.phase refl on))
+
+-- A read awaits something.
+
+-- what is awaited where a read is next isn't awaited where a command may be sent
+no_read_if_sent : (plan : Plan) (p : Progress) (w : Waiting) (until : Until) → AwaitsSomething plan p w until → MayBeSent plan p w → ⊥
+no_read_if_sent plan p w until awaits may = by_until until awaits where
+  -- no command waits for what is in flight
+  not_held : AwaitsSettlements plan p w → 0 < w.commands → ⊥
+  not_held (inl (inl none)) some = let here = may.0.2 in omega (arith, none, here)
+  not_held (inl (inr (inl bound))) some = by_going may.0.4 where
+    -- a chained command goes only once all are settled
+    by_going : MayGo p w → ⊥
+    by_going (inl free) = both_ways p.next_is_chained free bound
+    by_going (inr going) = let none = going.0 in omega (arith, none, some)
+  not_held (inl (inr (inr more))) some = by_retry may.0.6 where
+    -- a further attempt goes only once all are settled
+    by_retry : MayRetry p w → ⊥
+    by_retry (inl none) = omega (arith, none, more)
+    by_retry (inr listed) = let none = listed.0 in omega (arith, none, some)
+  not_held (inr set_up) some = both_ways (is_preparing plan p w) may.0.8 set_up.0
+
+  -- something may go
+  not_nothing : NothingMayGo plan p w → ⊥
+  not_nothing (inl full) = let room = may.0.3.0 in omega (arith, full, room)
+  not_nothing (inr (inl seven)) = let room = may.0.3.1 in omega (arith, seven, room)
+  not_nothing (inr (inr (inl held))) = not_held held.0 held.1
+  not_nothing (inr (inr (inr (inl far)))) = let few = may.0.5 in omega (arith, few, far)
+  not_nothing (inr (inr (inr (inr (inl asked))))) = both_ways p.stops may.1 asked.0
+  not_nothing (inr (inr (inr (inr (inr late))))) = may.2 late
+
+  -- no reply is awaited
+  no_reply : AwaitsReply plan p w → ⊥
+  no_reply (inl begins) = both_ways (has_begun p) begins.0 may.0.1
+  no_reply (inr (inl nothing)) = not_nothing nothing.0
+  no_reply (inr (inr set_up)) = both_ways (is_preparing plan p w) may.0.8 set_up.0
+
+  -- the lemma above, by what the read waits for
+  by_until : (until : Until) → AwaitsSomething plan p w until → ⊥
+  by_until Limit (inl pausing) = let other : phase.Pausing ≡ phase.Ready = sym pausing ∙ may.0.0 in cc
+  by_until Limit (inr (inl draining)) = let other : phase.Draining ≡ phase.Ready = sym draining ∙ may.0.0 in cc
+  by_until Limit (inr (inr ready)) = no_reply ready.1
+  by_until Due (is, inl (idle, inl begins)) = both_ways (has_begun p) begins may.0.1
+  by_until Due (is, inl (idle, inr on)) = both_ways (is_preparing plan p w) may.0.8 on
+  by_until Due (is, inr done) = let here = may.0.2 in let none = done.0 in omega (arith, none, here)
+
+-- the law: a read awaits something, and isn't next where a command may be sent
+pub reads_await : ReadsAwaitSomething
+reads_await = record {
+  awaits = λ until plan commands scope acts runs is. needs_of plan (state_after plan commands scope acts) (actions.Read until) is;
+  sends = λ until plan commands scope acts runs is may.
+      let s = state_after plan commands scope acts in no_read_if_sent plan s.progress (waiting_of s) until (needs_of plan s (actions.Read until) is) may;
+}
+
+-- Each act that records commands without sending them leaves less to be recorded.
+
+-- with a cycle begun less is left to be recorded, also if all its commands are
+less_begun : (count left left' : ℕ) → left' ≡ left - 1 → 0 < left → acts_to_record count left' + count < acts_to_record count left
+less_begun count zero left' e some = absurd (omega (arith, some))
+less_begun count (suc n) left' e some = let is : left' ≡ n = omega (arith, e) in subst (λ (k : ℕ). acts_to_record count k + count < suc count + acts_to_record count n) (sym is) (omega arith)
+
+module _ (plan : Plan) (commands : List Task) where
+  -- less is left to be recorded from p to q
+  abbrev Less : (p q : Progress) → Type 0
+  Less p q = left_to_record plan commands q < left_to_record plan commands p
+
+  -- no more is left to be recorded from p to q
+  abbrev NoMore : (p q : Progress) → Type 0
+  NoMore p q = left_to_record plan commands q ≤ left_to_record plan commands p
+
+  -- where the counts stay, as much is left
+  same_left : (p q : Progress) → KeepsCounts p q → NoMore p q
+  same_left p q k = let unsent = k.unsent in let left = ap (acts_to_record (cycle_length plan commands)) k.left in omega (arith, unsent, left)
+
+  -- with a cycle begun, less is left, if one was left, and no command was unsent
+  begun_left : (p q : Progress) → 0 < p.left → q.left ≡ p.left - 1 → q.unsent ≡ cycle_length plan commands → Less p q
+  begun_left p q some left unsent = let less = less_begun (cycle_length plan commands) p.left q.left left some in omega (arith, less, unsent)
+
+  -- with fewer commands unsent, no more is left, and less if some were
+  fewer_left : (p q : Progress) → q.left ≡ p.left → q.unsent ≤ p.unsent → NoMore p q
+  fewer_left p q left fewer = let same = ap (acts_to_record (cycle_length plan commands)) left in omega (arith, same, fewer)
+
+  -- the same, where some were unsent
+  less_left : (p q : Progress) → q.left ≡ p.left → q.unsent < p.unsent → Less p q
+  less_left p q left fewer = let same = ap (acts_to_record (cycle_length plan commands)) left in omega (arith, same, fewer)
+
+  -- an act of each action leaves no more to be recorded
+  no_more : (o : Action) (p q : Progress) → (begins : o ≡ actions.Begin → 0 < p.left) → ChangesCounts (cycle_length plan commands) o p q → NoMore p q
+  no_more actions.Begin p q begins (inl k) = same_left p q k
+  no_more actions.Begin p q begins (inr k) = let less = begun_left p q (begins refl) k.left k.unsent in omega (arith, less)
+  no_more actions.Send p q begins k = let unsent = k.unsent in fewer_left p q k.left (omega (arith, unsent))
+  no_more actions.Skip p q begins (inl k) = same_left p q k
+  no_more actions.Skip p q begins (inr k) = let unsent = k.unsent in fewer_left p q k.left (omega (arith, unsent))
+  no_more actions.Pass p q begins (inl k) = same_left p q k
+  no_more actions.Pass p q begins (inr k) = let unsent = k.unsent in fewer_left p q k.left (omega (arith, unsent))
+  no_more o p q begins k = same_left p q k
+
+  -- an act that records commands without sending them leaves less to be recorded, if it reads the clock
+  leaves_less : (s : Model) (o : Action) (act : Act) → Performs commands s o act → HoldsBefore plan s.progress (waiting_of s) o → RecordsUnsent o → IsListening act
+      → Less s.progress (moved plan commands o (with_progress turned s) act).progress
+  leaves_less s actions.Begin (Told m) obeys needs records listens =
+      begun_left s.progress (moved plan commands actions.Begin (with_progress turned s) (Told m)).progress needs.4 refl refl
+  leaves_less s actions.Skip (Told m) obeys needs records listens =
+      let here = needs.2 in less_left s.progress (moved plan commands actions.Skip (with_progress turned s) (Told m)).progress refl (omega (arith, here))
+  leaves_less s actions.Pass (Told m) obeys needs records listens =
+      let here = needs.2 in let more = needs.4 in less_left s.progress (moved plan commands actions.Pass (with_progress turned s) (Told m)).progress refl (omega (arith, here, more))
+  leaves_less s actions.Begin Untold obeys needs records listens = cc
+  leaves_less s actions.Skip Untold obeys needs records listens = cc
+  leaves_less s actions.Pass Untold obeys needs records listens = cc
+  leaves_less s actions.Begin act obeys needs records listens = absurd obeys
+  leaves_less s actions.Skip act obeys needs records listens = absurd obeys
+  leaves_less s actions.Pass act obeys needs records listens = absurd obeys
+  leaves_less s o act obeys needs records listens = absurd records
+
+-- the law: each act that records commands without sending them leaves less to be recorded, and none more
+pub recording_ends : RecordingEnds
+recording_ends plan commands scope earlier later act runs =
+    let s = state_after plan commands scope earlier in
+    let o = action_at plan s in
+    let needs = action_for plan s.progress (waiting_of s) in
+    let obeys = (runs_split plan commands (opening plan scope) earlier later act runs).1 in
+    let there = progress_after_act plan commands scope earlier act in
+    let t = moved plan commands o (with_progress turned s) act in (
+      subst (λ (q : Progress). NoMore plan commands s.progress q) (sym there) (no_more plan commands o (turned s.progress) t.progress
+          (λ is. (subst (λ (x : Action). HoldsBefore plan s.progress (waiting_of s) x) is needs).4) (moved_counts plan commands o (with_progress turned s) act)),
+      λ records listens. subst (λ (q : Progress). Less plan commands s.progress q) (sym there) (leaves_less plan commands s o act obeys needs records listens),
+    )

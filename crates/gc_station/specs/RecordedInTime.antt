@@ -1,0 +1,124 @@
+-- By when the commands of a due cycle have their records: this project's own. An act is one call on the link, with its result.
+use Rattle.std.specs.Prelude.{◌≡◌, ◌⊎◌, ℕ, zero, suc, ◌+◌, ◌*◌, ◌<◌, ◌≤◌, true, false, List, [], ◌∷◌, ◌++◌}
+use Rattle.std.specs.List.{AllByRecursion}
+use Rattle.gc_texts.specs.declared.tasks.Task.{Task}
+use Rattle.gc_links.specs.Acts.{Act}
+use Rattle.gc_links.specs.declared.link.Moment.{Moment}
+use Rattle.gc_station.specs.Cycles.{ClockRises, first_due, due_after, BeginsAt}
+use Rattle.gc_station.specs.Deciding.{setup_permits}
+use Rattle.gc_station.specs.EachOnce.{AreRecordedOnce, all_cycles}
+use Rattle.gc_station.specs.Model.{opening, action_at, waiting_of, cycle_length, Runs}
+use Rattle.gc_station.specs.Quiet.{IsListening}
+use Rattle.gc_station.specs.Runs.{state_after, OfEachRun, OfEachAct, WhereNext}
+use Rattle.gc_station.specs.Reasons.{AwaitsSomething, MayBeSent}
+use Rattle.gc_station.specs.Scopes.{Scope}
+use Rattle.gc_station.specs.Stopping.{asked_after}
+use Rattle.gc_station.specs.declared.plan.Plan.{Plan}
+use Rattle.gc_station.specs.declared.progress.Action.{Action}
+use Rattle.gc_station.specs.declared.progress.Action.TheVariants.{ReadClock, Renew, Begin, Clear, Skip, Pass, Read, Close, Stop}
+use Rattle.gc_station.specs.declared.progress.Progress.{Progress}
+use Rattle.gc_station.specs.declared.progress.Until.{Until}
+
+-- the call of this action may take its time: it makes a connection, sends a request or reads. The others are taken as quick: they read
+-- the clock alone, send the line feed directly after a connection was made, close a connection, or end the run
+abbrev pub MayTakeTime : Action → Type 0
+MayTakeTime ReadClock = ⊥
+MayTakeTime Renew = ⊥
+MayTakeTime Begin = ⊥
+MayTakeTime Skip = ⊥
+MayTakeTime Pass = ⊥
+MayTakeTime Clear = ⊥
+MayTakeTime (Close why) = ⊥
+MayTakeTime (Stop why) = ⊥
+MayTakeTime _ = Unit {0}
+
+-- each command of the first `n` cycles had its record, in order, or was left out with its attempt, after the first of `acts`
+-- (`before`). By the law `records_stay` these records stay
+pub record AreRecorded (plan : Plan) (commands : List Task) (scope : Scope) (acts : List Act) (n : ℕ) : Type 0 where
+  pub before : List Act
+  pub behind : List Act
+  pub order : acts ≡ before ++ behind
+  pub all : AreRecordedOnce commands (state_after plan commands scope before) (all_cycles plan.setup commands n)
+
+-- cycles are due every `every` milliseconds, from the due moment of the first one on, which began at the moment `first`. Each cycle
+-- that was due at least `wait` milliseconds before the moment read last is recorded: all its commands have their records, or were left out. `count`
+-- is how many of the first cycles are
+pub record DueOnesAreRecorded (plan : Plan) (commands : List Task) (scope : Scope) (wait : ℕ) (acts : List Act) : Type 0 where
+  pub count : ℕ
+  pub are : AreRecorded plan commands scope acts count
+  pub first : Moment
+  pub begins : BeginsAt plan commands scope acts 0 first
+  pub each : (n : ℕ) → n < plan.cycles → due_after (first_due plan first) plan.every n + wait ≤ (state_after plan commands scope acts).progress.moment.elapsed → n < count
+
+-- no cycle has begun, and the moment read last is less than `wait` milliseconds after the start of the clock; or there is no cycle
+abbrev pub NoneHasBegun : Plan → List Task → Scope → (wait : ℕ) → List Act → Type 0
+NoneHasBegun plan commands scope wait acts =
+    let p = (state_after plan commands scope acts).progress in (p.left ≡ plan.cycles) × ((p.moment.elapsed < wait) ⊎ (plan.cycles ≡ 0))
+
+-- each cycle that was due `wait` milliseconds before the moment read last is recorded; or none has begun, and less time than that has
+-- passed since the start of the clock
+abbrev pub IsInTime : Plan → List Task → Scope → (wait : ℕ) → List Act → Type 0
+IsInTime plan commands scope wait acts = NoneHasBegun plan commands scope wait acts ⊎ DueOnesAreRecorded plan commands scope wait acts
+
+-- nothing but what is in flight keeps a cycle that is out of time from being abandoned: the end of the run wasn't asked for; and the
+-- setup, if there is one, is done, or nothing of it was sent since the connection was made and the station synchronized, or commands
+-- are outstanding
+abbrev pub IsUnhindered : Plan → List Task → Scope → List Act → Type 0
+IsUnhindered plan commands scope acts =
+    let s = state_after plan commands scope acts in
+    (s.progress.stops ≡ false) × (setup_permits plan s.progress (waiting_of s) ≡ true)
+
+-- whenever a run goes on with an action that may take its time (`MayTakeTime`), with nothing in flight that hasn't timed out, each
+-- cycle that was due two periods before the moment read last is recorded
+abbrev pub RecordsOnceTimedOut : Type 0
+RecordsOnceTimedOut = OfEachRun (λ plan commands scope acts.
+    0 < plan.every → ClockRises 0 acts → IsUnhindered plan commands scope acts
+    → let s = state_after plan commands scope acts in MayTakeTime (action_at plan s) → (waiting_of s).current ≡ 0
+    → IsInTime plan commands scope (2 * plan.every) acts)
+
+-- without a setup, and while the end of the run isn't asked for: whenever a run goes on with an action that may take its time, each
+-- cycle that was due two periods and `longest` before the moment read last is recorded, where no deadline is longer than `longest`
+abbrev pub RecordsInTime : Type 0
+RecordsInTime = (longest : ℕ) → OfEachRun (λ plan commands scope acts.
+    0 < plan.every → plan.setup ≡ 0 → plan.deadline ≤ longest → AllByRecursion (λ (task : Task). task.deadline ≤ longest) commands
+    → ClockRises 0 acts → asked_after false acts ≡ false → MayTakeTime (action_at plan (state_after plan commands scope acts))
+    → IsInTime plan commands scope (2 * plan.every + longest) acts)
+
+-- an action that may take its time (`MayTakeTime`) comes directly after an act that read a moment, unless it is the first of the run
+abbrev pub ReadsClockBefore : Type 0
+ReadsClockBefore =
+    (plan : Plan) (commands : List Task) (scope : Scope) (earlier : List Act) (act : Act) → Runs plan commands (opening plan scope) (earlier ++ act ∷ [])
+    → MayTakeTime (action_at plan (state_after plan commands scope (earlier ++ act ∷ []))) → IsListening act
+
+-- a read is next only while something is awaited (`AwaitsSomething`); and never where the next command of the cycle may be sent
+pub record ReadsAwaitSomething : Type 0 where
+  pub awaits : (until : Until) → WhereNext (Read until) (λ plan commands scope acts.
+      AwaitsSomething plan (state_after plan commands scope acts).progress (waiting_of (state_after plan commands scope acts)) until)
+  pub sends : (until : Until) → WhereNext (Read until) (λ plan commands scope acts.
+      MayBeSent plan (state_after plan commands scope acts).progress (waiting_of (state_after plan commands scope acts)) → ⊥)
+
+-- how many acts it takes at most to record `left` cycles of `count` commands without sending any: one to begin each, and one for each
+-- command
+abbrev pub acts_to_record : (count left : ℕ) → ℕ
+acts_to_record count zero = 0
+acts_to_record count (suc n) = suc count + acts_to_record count n
+
+-- the same of all that is left at the progress `p`: the cycles that haven't begun, and the unsent commands of this one
+abbrev pub left_to_record : Plan → List Task → Progress → ℕ
+left_to_record plan commands p = acts_to_record (cycle_length plan commands) p.left + p.unsent
+
+-- the action begins a cycle, or records commands without sending them, or leaves them out
+abbrev pub RecordsUnsent : Action → Type 0
+RecordsUnsent Begin = Unit {0}
+RecordsUnsent Skip = Unit {0}
+RecordsUnsent Pass = Unit {0}
+RecordsUnsent _ = ⊥
+
+-- no act leaves more to be recorded than there was; and one that begins a cycle, records commands without sending them, or leaves them
+-- out, leaves less, if the clock could be read
+abbrev pub RecordingEnds : Type 0
+RecordingEnds = OfEachAct (λ plan commands scope earlier act.
+    let s = state_after plan commands scope earlier in
+    let t = state_after plan commands scope (earlier ++ act ∷ []) in
+    (left_to_record plan commands t.progress ≤ left_to_record plan commands s.progress)
+    × (RecordsUnsent (action_at plan s) → IsListening act → left_to_record plan commands t.progress < left_to_record plan commands s.progress))
