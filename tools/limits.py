@@ -1,10 +1,13 @@
 """Limits: what a row of a target is compared with, and which rows are outside. All that decides on an alarm lives here.
 
-What is decided follows from the rows alone, in their order, and from the table of limits; no clock is read.
+What is decided follows from the rows in their order, the table of limits, and when each row came, on a scale of seconds that nobody sets:
+the caller reads the clocks.
 """
 
 import csv
+import datetime
 import json
+import re
 from dataclasses import dataclass, field
 from decimal import Decimal, InvalidOperation
 
@@ -13,9 +16,14 @@ import records
 from angles import difference, in_face_one
 
 COLUMNS = ["target", "column", "reference", "tolerance", "outside", "of"]
-# The word in place of a column that asks for a good row within so many cycles.
+# The word in place of a column that asks for a good row within so many cycles or seconds, and that in place of a target for all of a file.
 SILENCE = "silence"
+ALL = "*"
 MOST_ROWS = 10_000
+MOST_SECONDS = 10_000_000
+# What stands for all quantities of a row, in place of the columns of a target whose limits name none: of a procedure that measures where a
+# target is, and of another one.
+MEASURED, WHOLE = "measured", "whole"
 
 
 class Faulty(Exception):
@@ -25,7 +33,7 @@ class Faulty(Exception):
 @dataclass(frozen=True)
 class Limit:
     """A limit of a target: a line where at least `outside` of its last `of` good rows are further than the tolerance from the
-    reference, and the row itself is. Of a silence: where it had no good row for `of` cycles."""
+    reference, and the row itself is. Of a silence: where it, or no target at all, had a good row for `of` cycles, or for so many seconds."""
 
     target: str
     column: str
@@ -33,10 +41,12 @@ class Limit:
     tolerance: Decimal
     outside: int
     of: int
+    seconds: int = None
 
     def key(self):
         """What stands for it in the state: another limit starts afresh."""
-        return json.dumps([self.target, self.column, *map(str, (self.reference, self.tolerance, self.outside, self.of))])
+        of = self.of if self.seconds is None else f"{self.seconds}s"
+        return json.dumps([self.target, self.column, *map(str, (self.reference, self.tolerance, self.outside, of))])
 
 
 def decimal(text, what):
@@ -55,16 +65,28 @@ def count(text, what):
     return int(text)
 
 
+def silence_of(target, row):
+    """The silence of a row of the table: of cycles, or with an `s` of seconds."""
+    if row["reference"] or row["tolerance"] or row["outside"]:
+        raise Faulty("a silence has no reference, tolerance and outside")
+    in_seconds = re.fullmatch(r"([0-9]{1,8})s", row["of"], re.ASCII)
+    if not in_seconds:
+        return Limit(target, SILENCE, None, None, None, count(row["of"], "of"))
+    if not 1 <= int(in_seconds[1]) <= MOST_SECONDS:
+        raise Faulty(f"of is no number of seconds from 1 to {MOST_SECONDS}: {ascii(row['of'])}")
+    return Limit(target, SILENCE, None, None, None, None, int(in_seconds[1]))
+
+
 def limit_of(row):
     """The limit of a row of the table."""
-    if not (row["target"].isascii() and row["target"].isdigit()):
+    if row["target"] == ALL and row["column"] != SILENCE:
+        raise Faulty(f"target {ALL} has a silence alone")
+    if row["target"] != ALL and not (row["target"].isascii() and row["target"].isdigit()):
         raise Faulty(f"target is no number: {ascii(row['target'])}")
-    target = str(int(row["target"]))
-    of = count(row["of"], "of")
+    target = ALL if row["target"] == ALL else str(int(row["target"]))
     if row["column"] == SILENCE:
-        if row["reference"] or row["tolerance"] or row["outside"]:
-            raise Faulty("a silence has no reference, tolerance and outside")
-        return Limit(target, SILENCE, None, None, None, of)
+        return silence_of(target, row)
+    of = count(row["of"], "of")
     if not row["column"]:
         raise Faulty("no column is named")
     outside, tolerance = count(row["outside"], "outside"), decimal(row["tolerance"], "tolerance")
@@ -122,61 +144,133 @@ def shown(number):
     return (text.rstrip("0").rstrip(".") or "0") if "." in text else text
 
 
+def later(text, seconds):
+    """The moment so many seconds after that of a row."""
+    return records.moment_text(records.moment(text) + datetime.timedelta(seconds=seconds))
+
+
 @dataclass
 class Watch:
-    """What is known of the limits from the rows so far. `vars` of it is the state that is kept."""
+    """What is known of the limits from the rows so far. `vars` of it is the state that is kept.
+
+    A target is good in a cycle once each column that a limit of it names has a value, in one of its rows there or in several. Where no
+    limit names one, it is good once a row has all that its procedure returns; of a target that is measured, only such a row counts.
+    """
 
     # Of each limit whether the last good rows of earlier cycles were outside, and those of the current cycle, each with its place.
     windows: dict = field(default_factory=dict)
     now: dict = field(default_factory=dict)
-    # Of each silence how many cycles it lasts; the current cycle, and the places and targets that had a good row in it.
+    # Of each silence how many cycles it lasts; the current cycle, and the columns of targets that had a value in it, each with its place.
     silent: dict = field(default_factory=dict)
     names: dict = field(default_factory=dict)
     cycle: list = None
-    good: list = field(default_factory=list)
-    # The places and attempts of the current cycle.
+    seen: list = field(default_factory=list)
+    # The places and attempts of the current cycle; the targets that are measured.
     taken: list = field(default_factory=list)
+    measured: list = field(default_factory=list)
+    # When each target was good last: the row's time, and the second of the scale. The same of the first row, or of the first look.
+    heard: dict = field(default_factory=dict)
+    begun: list = None
+    # The limits that an alarm stands for, each with how often it was reported.
+    standing: dict = field(default_factory=dict)
 
-    def take(self, limits, fields):
-        """Takes a row; gives the lines that are to be reported."""
+    def take(self, limits, fields, at=0.0, repeats=True):
+        """Takes a row that came at a second of the scale; gives the lines that are to be reported."""
         if records.is_of_setup(fields):
             return []
-        lines = self.begin(limits, fields)
+        self.begun = self.begun or [fields["time"], at]
+        lines = self.begin(limits, fields, repeats)
         target, place = str(int(fields["target"])), int(fields["place"])
         if records.attempt_of(fields) > 1:
             self.forget(place)
         self.names[target] = fields["name"]
-        # A reading is good where it measured, or, as of a reduction, has what a limit asks for.
-        if any(limit.target == target and limit.column != SILENCE and value_of(fields, limit.column) is not None for limit in limits) or (
-                quantities.quantities(fields)):
-            self.good.append([place, target])
+        if quantities.measures(fields) and target not in self.measured:
+            self.measured.append(target)
+        new = [[place, target, column] for column in self.columns(limits, fields)]
+        self.seen += new
+        if new and self.is_good(limits, target):
+            lines += self.hear(limits, target, fields["time"], at, repeats)
         for limit in limits:
             if limit.target == target and limit.column != SILENCE:
-                lines += self.compare(limit, fields)
+                lines += self.compare(limit, fields, repeats)
         self.taken.append([place, records.attempt_of(fields)])
         return lines
 
     def forget(self, place):
         """Forgets what an earlier attempt of this command came to in the cycle: the last one counts."""
-        self.good = [each for each in self.good if each[0] != place]
+        self.seen = [each for each in self.seen if each[0] != place]
         self.now = {key: [each for each in rows if each[0] != place] for key, rows in self.now.items()}
 
-    def begin(self, limits, fields):
-        """Where a row begins a cycle, the one before it is over: whose silence it made long enough."""
+    @staticmethod
+    def columns(limits, fields):
+        """The columns in which a row has a value: of those that limits of its target name, and of those that stand for all quantities."""
+        target = str(int(fields["target"]))
+        found = {limit.column for limit in limits if limit.target == target and limit.column != SILENCE and value_of(fields, limit.column) is not None}
+        if quantities.is_whole(fields):
+            found.add(MEASURED if quantities.measures(fields) else WHOLE)
+        return sorted(found)
+
+    def is_good(self, limits, target):
+        """Whether a target is good in the current cycle."""
+        columns = {limit.column for limit in limits if limit.target == target and limit.column != SILENCE}
+        wanted = columns or {MEASURED if target in self.measured else WHOLE}
+        return wanted <= {column for _, other, column in self.seen if other == target}
+
+    def counts(self, limit, target):
+        """Whether a target's good rows end a silence. Where targets are measured, what is asked of the instrument besides ends none of all."""
+        return limit.target == target or limit.target == ALL and (target in self.measured or not self.measured)
+
+    def good(self, limits):
+        """The targets that are good in the current cycle."""
+        return {target for target in {each[1] for each in self.seen} if self.is_good(limits, target)}
+
+    def begin(self, limits, fields, repeats):
+        """Where a row begins a cycle, the one before it is over: whose silence it made long enough, or ended."""
         at, lines = [fields.get("run", ""), int(fields["cycle"])], []
-        if self.cycle is not None and at != self.cycle:
-            for limit in (each for each in limits if each.column == SILENCE):
-                cycles = 0 if any(target == limit.target for _, target in self.good) else self.silent.get(limit.key(), 0) + 1
+        if at == self.cycle:
+            return []
+        if self.cycle is not None:
+            good = self.good(limits)
+            for limit in (each for each in limits if each.column == SILENCE and each.seconds is None):
+                cycles = 0 if any(self.counts(limit, target) for target in good) else self.silent.get(limit.key(), 0) + 1
                 self.silent[limit.key()] = cycles
-                if cycles == limit.of:
-                    lines.append(f"{fields['time']} {self.called(limit)}: no good row for {limit.of} cycles; cycle {self.cycle[1]}")
-        if at != self.cycle:
-            for key, rows in self.now.items():
-                self.windows[key] = (self.windows.get(key, []) + [is_outside for _, is_outside in rows])[-MOST_ROWS:]
-            self.cycle, self.good, self.now, self.taken = at, [], {}, []
+                if cycles and cycles % limit.of == 0:
+                    said = f"{fields['time']} {self.called(limit)}: no good row for {cycles} cycles; cycle {self.cycle[1]}"
+                    lines += self.stands(limit, said, repeats)
+                elif not cycles:
+                    lines += self.ends(limit, f"{fields['time']} {self.called(limit)}: a good row again; cycle {self.cycle[1]}")
+        for key, rows in self.now.items():
+            self.windows[key] = (self.windows.get(key, []) + [is_outside for _, is_outside in rows])[-MOST_ROWS:]
+        self.cycle, self.seen, self.now, self.taken = at, [], {}, []
         return lines
 
-    def compare(self, limit, fields):
+    def hear(self, limits, target, time, at, repeats):
+        """Takes that a target is good. A silence that lasted long enough before it is reported, also where nobody looked at its time."""
+        lines = []
+        for limit in (each for each in limits if each.seconds is not None and self.counts(each, target)):
+            lines += self.judge_one(limit, at, repeats)
+            lines += self.ends(limit, f"{time} {self.called(limit)}: a good row again")
+        self.heard[target] = [time, at]
+        return lines
+
+    def judge(self, limits, time, at, repeats=True):
+        """What is to be reported at a second of the scale, which is this time by the clock, though no row came."""
+        self.begun = self.begun or [time, at]
+        return [line for limit in limits if limit.seconds is not None for line in self.judge_one(limit, at, repeats)]
+
+    def judge_one(self, limit, at, repeats):
+        """The line of a silence of seconds whose time has come."""
+        heard = [self.heard[target] for target in self.heard if self.counts(limit, target)]
+        time, last = max(heard, key=lambda each: each[1], default=self.begun)
+        times = int(max(0, at - last) // limit.seconds)
+        if times <= self.standing.get(limit.key(), 0) or limit.key() in self.standing and not repeats:
+            return []
+        said = f"the last was at {time}" if heard else f"none since {time}"
+        line = f"{later(time, times * limit.seconds)} {self.called(limit)}: no good row for {times * limit.seconds} s; {said}"
+        self.standing[limit.key()] = times
+        return [line]
+
+    def compare(self, limit, fields, repeats):
         """Compares a row with a limit."""
         value = value_of(fields, limit.column)
         if value is None:
@@ -186,16 +280,38 @@ class Watch:
         self.now.setdefault(limit.key(), []).append([int(fields["place"]), int(abs(apart) > limit.tolerance)])
         self.windows[limit.key()] = self.windows.get(limit.key(), [])[-limit.of:]
         window = (self.windows[limit.key()] + [is_outside for _, is_outside in self.now[limit.key()]])[-limit.of:]
-        if not window[-1] or sum(window) < limit.outside:
+        said = f"{fields['time']} {self.called(limit)}: {limit.column} is {shown(value)}, "
+        if window[-1] and sum(window) >= limit.outside:
+            return self.stands(limit, f"{said}{shown(abs(apart))} {'below' if apart < 0 else 'above'} {shown(limit.reference)} "
+                               f"({shown(limit.tolerance)} allowed): {sum(window)} of the last {limit.of} outside; cycle {fields['cycle']}", repeats)
+        if not window[-1] and sum(window) < limit.outside:
+            return self.ends(limit, f"{said}within {shown(limit.tolerance)} of {shown(limit.reference)} again; cycle {fields['cycle']}")
+        return []
+
+    def stands(self, limit, line, repeats):
+        """The line of an alarm, where it is new or is reported again."""
+        times = self.standing.get(limit.key(), 0)
+        self.standing[limit.key()] = times + 1
+        return [line] if repeats or not times else []
+
+    def ends(self, limit, line):
+        """The line for the end of an alarm that stood, which says whether it was the last one."""
+        if self.standing.pop(limit.key(), None) is None:
             return []
-        return [f"{fields['time']} {self.called(limit)}: {limit.column} is {shown(value)}, {shown(abs(apart))} "
-                f"{'below' if apart < 0 else 'above'} {shown(limit.reference)} ({shown(limit.tolerance)} allowed): {sum(window)} of the last "
-                f"{limit.of} outside; cycle {fields['cycle']}"]
+        return [f"{line}; {f'{len(self.standing)} more alarms' if self.standing else 'all is well'}"]
+
+    def begin_again(self, limits, at):
+        """Goes on at a start, at this second of the scale: without the alarms of limits that the table doesn't have any more. No row came
+        later than that, though the clock may have been set back."""
+        keys = {limit.key() for limit in limits}
+        self.standing = {key: times for key, times in self.standing.items() if key in keys}
+        self.heard = {target: [time, min(then, at)] for target, (time, then) in self.heard.items()}
+        self.begun = self.begun and [self.begun[0], min(self.begun[1], at)]
 
     def called(self, limit):
         """What a line calls a target."""
         name = self.names.get(limit.target)
-        return f"target {limit.target}" + (f" ({name})" if name else "")
+        return "station" if limit.target == ALL else f"target {limit.target}" + (f" ({name})" if name else "")
 
     def is_behind(self, fields):
         """Whether a row comes after those that were taken, by its run, its cycle, its place and its attempt. The attempts of a chain come

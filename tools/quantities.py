@@ -23,6 +23,8 @@ QUANTITIES = {
     5011: ["temperature_c"],
 }
 NAMES = list(dict.fromkeys(name for names in QUANTITIES.values() for name in names))
+# The procedures that measure where a target is; the others tell of the instrument.
+MEASURING = [procedure for procedure, names in QUANTITIES.items() if "hz_rad" in names]
 
 
 def has_values(fields):
@@ -39,7 +41,18 @@ def quantities(fields):
     return {name: item for name, item in zip(names, items) if re.match(NUMBER, item)}
 
 
-# The same in SQL.
+def is_whole(fields):
+    """Whether a row has each quantity of its procedure, and its procedure has one."""
+    names = QUANTITIES.get(int(fields["procedure"]))
+    return bool(names) and set(names) <= quantities(fields).keys()
+
+
+def measures(fields):
+    """Whether a row is of a procedure that measures where a target is, whatever came of it."""
+    return int(fields["procedure"]) in MEASURING
+
+
+# `has_values` in SQL.
 HAS_VALUES = f"""(quality IN ({', '.join(f"'{word}'" for word in GOOD)})
     OR quality IS NULL AND outcome = 'answered' AND rc_com = 0 AND rc = 0)"""
 

@@ -33,11 +33,11 @@ def row(cycle, target, values, quality="ok", procedure=2108, rc=0, attempt=1):
     return text.getvalue().encode()
 
 
-def lines_of(words, given=b"", patience=60):
-    """The lines of an alarm that ends by itself with status 0."""
-    found = ended(tool("alarm", *words, *([] if words[0] == "-" else ["--once"])), given, patience=patience)
+def lines_of(words, given=b"", patience=60, ends=False):
+    """The lines of an alarm that ends by itself with status 0, and reports an alarm again; those of its end where they are asked for."""
+    found = ended(tool("alarm", *words, "--repeat", *([] if words[0] == "-" else ["--once"])), given, patience=patience)
     assert found.status == 0, found.messages
-    return found.output.decode().splitlines()
+    return [line for line in found.output.decode().splitlines() if ends or " again" not in line]
 
 
 def test_compares_on_the_circle(folder):
@@ -70,7 +70,7 @@ def test_a_tolerance_is_within(folder):
 
 
 def test_silence(folder):
-    """No good row for 3 cycles: reported once when the third is over, and again after a good one."""
+    """No good row for 3 cycles: reported when the third is over, and again after a good one."""
     good, refused = ["2,1.5,50"], ["", "refused", 2108, 1285]
     data = b""
     for cycle, each in enumerate([good, refused, refused, refused, refused, good, refused, refused, refused, good], 1):
@@ -148,13 +148,13 @@ def test_alarms_go_on_behind_kills(folder, kills, note):
     words[0].unlink()
     grows = Growing(words[0], 5, line=lambda _, number: whole[number % len(whole)], rest=0.03)
     out = folder / "out"
-    command = ["sh", "-c", f'exec "$@" >> {out}', "sh", *tool("alarm", *words, "--rest", "0.02")]
+    command = ["sh", "-c", f'exec "$@" >> {out}', "sh", *tool("alarm", *words, "--repeat", "--rest", "0.02")]
     try:
         kill_again_and_again(kills, 9, command)
     finally:
         grows.end()
     with open(out, "ab") as file:
-        file.write(ended(tool("alarm", *words, "--once"), patience=60).output)
+        file.write(ended(tool("alarm", *words, "--repeat", "--once"), patience=60).output)
     wanted = lines_of([words[0], words[1], folder / "other"])
     # A kill may cut a line, which comes again.
     found = Counter(line for line in out.read_text(encoding="utf-8").splitlines() if line in wanted)
@@ -186,7 +186,7 @@ def test_a_command_is_bounded_in_rate(folder):
     def lines():
         return sum(int(count) for count, _ in runs())
 
-    with Run(tool("alarm", *words, "--rest", "0.02", "--run", command, "--apart", "2")) as run:
+    with Run(tool("alarm", *words, "--repeat", "--rest", "0.02", "--run", command, "--apart", "2")) as run:
         for cycle in range(1, 41):
             with open(words[0], "ab") as file:
                 file.write(row(cycle, 7, "2,1.5,51"))
@@ -203,15 +203,15 @@ def test_a_command_that_fails_is_tried_again(folder):
     words = laid(folder, "7,distance_m,50,0.05,1,1\n", row(1, 7, "2,1.5,51"))
     flag, told = folder / "flag", folder / "told"
     command = f'[ -e {flag} ] || {{ touch {flag}; sleep 60; }}; cat >> {told}'
-    messages = messages_of(tool("alarm", *words, "--once", "--run", command, "--apart", "0.5", "--patience", "0.5"))
+    messages = messages_of(tool("alarm", *words, "--repeat", "--once", "--run", command, "--apart", "0.5", "--patience", "0.5"))
     assert messages == "alarm: the command took longer than 0.5 s; it is tried again with 1 lines\n"
     assert told.read_text(encoding="utf-8").count("\n") == 1
     # One that always fails doesn't hold up the end, and the lines wait in the state.
     with open(words[0], "ab") as file:
         file.write(row(2, 7, "2,1.5,51"))
-    messages = messages_of(tool("alarm", *words, "--once", "--run", "exit 3", "--apart", "0.1"))
+    messages = messages_of(tool("alarm", *words, "--repeat", "--once", "--run", "exit 3", "--apart", "0.1"))
     assert "the command ended with status 3" in messages
-    messages_of(tool("alarm", *words, "--once", "--run", f"cat >> {told}", "--apart", "0"))
+    messages_of(tool("alarm", *words, "--repeat", "--once", "--run", f"cat >> {told}", "--apart", "0"))
     assert told.read_text(encoding="utf-8").count("\n") == 2
 
 
