@@ -1,5 +1,5 @@
-# bash completion for geocom-to-sqlite(1), geocom-to-postgres(1), geocom-to-mqtt(1), geocom-plot(1), geocom-reduce(1), geocom-alarm(1) and
-# geocom-bad-line(1)
+# bash completion for geocom-to-sqlite(1), geocom-to-postgres(1), geocom-to-mqtt(1), geocom-plot(1), geocom-reduce(1), geocom-alarm(1),
+# geocom-alive(1) and geocom-bad-line(1)
 
 _geocom_tools() {
     local cur prev words cword
@@ -8,7 +8,8 @@ _geocom_tools() {
     case ${1##*/} in
     geocom-to-mqtt) given="--host --port --user --password-file $given" ;;
     geocom-reduce) given="--append $given" ;;
-    geocom-alarm) given="--run --apart --patience $given" ;;
+    geocom-alarm) given="--run --repeat --apart --patience $given" ;;
+    geocom-alive) given='--within --measured --except --notify --help' ;;
     geocom-plot) given='--help' ;;
     geocom-bad-line) given='--line --seed --connections --log --far-log --decided --drill --deadline --help' ;;
     esac
@@ -21,10 +22,10 @@ _geocom_tools() {
         _known_hosts_real -- "$cur"
         return
         ;;
-    --as | --rest | --port | --user | --run | --apart | --patience | --seed | --connections | --deadline) return ;;
+    --as | --rest | --within | --measured | --except | --port | --user | --run | --apart | --patience | --seed | --connections | --deadline) return ;;
     esac
     case $cur in
     -*) mapfile -t COMPREPLY < <(compgen -W "$given" -- "$cur") ;;
     *) _filedir ;;
     esac
-} && complete -F _geocom_tools geocom-to-sqlite geocom-to-postgres geocom-to-mqtt geocom-plot geocom-reduce geocom-alarm geocom-bad-line
+} && complete -F _geocom_tools geocom-to-sqlite geocom-to-postgres geocom-to-mqtt geocom-plot geocom-reduce geocom-alarm geocom-alive geocom-bad-line
