@@ -78,7 +78,7 @@ def test_rows_stop():
 
 def test_a_target_is_gone_while_others_answer():
     """Its own silence is reported, and the station's isn't; rows that measure nothing keep neither of them fresh."""
-    alarm = Fake("7,silence,,,,900s\n7,silence,,,,2\n*,silence,,,,900s\n")
+    alarm = Fake("7,silence,,,,900s\n7,silence,,,,2\n*,silence,,,,900s\n*,silence,,,,2\n")
     told = []
     for cycle in range(1, 7):
         second = 300 * cycle
