@@ -93,6 +93,20 @@ def mean_direction(angles):
     return on_circle(angles[0] + offset), residuals
 
 
+def median(numbers):
+    """The middle one in their order, or the mean of both."""
+    numbers = sorted(numbers)
+    return (numbers[(len(numbers) - 1) // 2] + numbers[len(numbers) // 2]) / 2
+
+
+def median_direction(angles):
+    """The same of directions, counted from the one that is next to all others; `None` of none."""
+    if not angles:
+        return None
+    first = min(angles, key=lambda angle: sum(abs(difference(each, angle)) for each in angles))
+    return on_circle(first + median([difference(angle, first) for angle in angles]))
+
+
 def deviation(residuals):
     """The standard deviation of one observation; `None` of one alone."""
     if len(residuals) < 2:

@@ -6,9 +6,12 @@ import math
 import random
 from decimal import Decimal
 
+import air
 import angles
+import orienting
 import pytest
 import reductions
+import sites
 from growing import Growing
 from killing import kill_again_and_again
 from programs import ended
@@ -84,18 +87,17 @@ def test_several_pairs():
 def test_refractivity_of_the_reference(nanometres, printed, places):
     """Manuals of Leica's instruments print these numbers for 12 °C, 1013.25 hPa and 60 %, as far as they are remembered: for visible red
     light 286.34, for infrared light 281.8. The formula is another one, that of the International Association of Geodesy (1999)."""
-    found = reductions.refractivity(Decimal(nanometres), Decimal(12), Decimal("1013.25"), Decimal(60))
+    found = air.refractivity(Decimal(nanometres), Decimal(12), Decimal("1013.25"), Decimal(60))
     assert str(round(found, places)) == printed
 
 
 def reduced(site, hz, v, distance):
     """Where a target is that was read so in both faces."""
-    two = reading(Decimal(hz) + angles.PI, angles.TURN - Decimal(v), distance)
-    target = reductions.Target.__new__(reductions.Target)
-    target.number, target.pairs = "7", [reductions.pair_of(reading(hz, v, distance), two)]
-    target.hz, target.v, target.distance = target.pairs[0].hz, target.pairs[0].v, target.pairs[0].distance
-    site = reductions.site_of(site)
-    return reductions.place_of(site, target, reductions.orientation_of(site, [target]))
+    two = (Decimal(hz) + angles.PI, angles.TURN - Decimal(v), distance)
+    rows = [{"target": "7", "run": "", "cycle": "1", "place": str(place), "procedure": "2108", "outcome": "answered", "quality": "ok",
+             "values": ",".join(map(str, values))} for place, values in enumerate([(hz, v, distance), two])]
+    target, site = reductions.Target(rows), sites.site_of(site)
+    return reductions.place_of(site, target, orienting.orientation_of(site, [target]))
 
 
 def test_coordinates():
@@ -116,9 +118,9 @@ def test_coordinates():
     expect_near(east, "3", "1e-40")
     expect_near(north, "4", "1e-40")
     # Air in which light is slower by 10 ppm than at the reference makes a distance 10 ppm shorter.
-    site = reductions.site_of("atmosphere -2 1000 50\ncarrier 658 100")
-    slower = reductions.refractivity(Decimal(658), Decimal(-2), Decimal(1000), Decimal(50)) - 100
-    expect_near(site.factor(), 1 - slower / 1_000_000, "1e-7")
+    site = sites.site_of("atmosphere -2 1000 50\ncarrier 658 100")
+    slower = air.refractivity(Decimal(658), Decimal(-2), Decimal(1000), Decimal(50)) - 100
+    expect_near(air.factor(site.carrier, site.atmosphere), 1 - slower / 1_000_000, "1e-7")
 
 
 @pytest.mark.parametrize("text, why", [
