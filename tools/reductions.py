@@ -11,6 +11,7 @@ from functools import cached_property
 import air
 import angles
 import gama
+import movements
 import orienting
 import quantities
 import records
@@ -23,7 +24,7 @@ ADDED_EARLIER = [
     "hz_deviation_rad", "v_deviation_rad", "distance_deviation_m", "freedom",
 ]
 RESIDUALS = ["reference_hz_residual_rad", "reference_distance_residual_m", "reference_height_residual_m"]
-ADDED = [*ADDED_EARLIER, "faces", "references", "left_out", "orientation_deviation_rad", *RESIDUALS, "reason"]
+ADDED = [*ADDED_EARLIER, "faces", "references", "left_out", "orientation_deviation_rad", *RESIDUALS, *movements.COLUMNS, "reason"]
 NAMES = records.with_columns(ADDED)
 EARLIER_NAMES = records.with_columns(ADDED_EARLIER)
 
@@ -161,11 +162,11 @@ def mean_of_pairs(target, what):
     return written(mean([getattr(pair, what) for pair in target.pairs])[0], "rad") if target.pairs else ""
 
 
-def row_of(site, target, orientation):
+def row_of(site, target, orientation, place):
     """The row of a target that was measured: it is as one of face I that has no errors."""
     row = {**dict.fromkeys(NAMES, ""), **{name: target.last.get(name, "") for name in records.COLUMNS}}
     values = [written(target.hz, "rad"), written(target.v, "rad"), written(target.distance, "m")]
-    row.update(zip(PLACE, (written(each, "m") for each in place_of(site, target, orientation))))
+    row.update(zip(PLACE, (written(each, "m") for each in place)))
     row.update(zip(RESIDUALS, map(written, orientation.residuals.get(target.number, [None] * 3), ("rad", "m", "m"))))
     doubts = target.doubts(site) + orientation.doubts
     return row | {
@@ -198,6 +199,7 @@ class Reducer:
 
     def __init__(self, site, is_earlier=False):
         self.site, self.is_earlier = site, is_earlier
+        self.cycle, self.tracks = 0, {}
 
     def orientation(self, targets):
         return orienting.orientation_of(self.site, targets, air.factor(self.site.carrier, self.site.atmosphere))
@@ -215,12 +217,21 @@ class Reducer:
         well."""
         targets = targets_of(cycle, self.is_earlier)
         orientation = self.orientation(targets)
+        self.cycle += 1
         for target in targets:
             if target.is_measured():
-                row = row_of(self.site, target, orientation)
-                yield row | {"quality": target.quality()} if self.is_earlier else row
+                place = place_of(self.site, target, orientation)
+                row = row_of(self.site, target, orientation, place)
+                yield row | {"quality": target.quality()} if self.is_earlier else row | self.followed(target, place)
             elif target.unanswered():
                 yield {name: target.unanswered().get(name, "") for name in NAMES}
+
+    def followed(self, target, place):
+        """What a target's coordinates come to with those of earlier cycles."""
+        if None in place:
+            return {}
+        track = self.tracks.setdefault(target.number, movements.Track(self.site))
+        return track.columns(self.cycle, place, not target.doubts(self.site))
 
 
 class Cycles:

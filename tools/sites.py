@@ -43,6 +43,8 @@ class Site:
     atmosphere: tuple = None
     # The coefficient of refraction and the earth's radius.
     earth: tuple = (Decimal("0.13"), Decimal(6_370_000))
+    # Over how many cycles coordinates are averaged.
+    mean: int = None
     # Whether it has lines of today alone.
     is_earlier: bool = True
 
@@ -187,8 +189,13 @@ def take_flat(line, site):
     site.earth = None
 
 
+def take_mean(line, site):
+    site.mean = line.count()
+    line.ended()
+
+
 LINES = {
     "station": take_station, "orientation": take_orientation, "reference": take_reference, "reflector": take_reflector,
     "references": take_references, "faces": take_faces, "atmosphere": take_atmosphere, "carrier": take_carrier, "earth": take_earth,
-    "flat": take_flat,
+    "flat": take_flat, "mean": take_mean,
 }
