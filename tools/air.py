@@ -1,9 +1,19 @@
-"""The air that distances are measured in, and its refractivity."""
+"""The air that distances are measured in: its refractivity, and where the air of a cycle is read."""
 
-from decimal import Decimal
+import csv
+import os
+from bisect import bisect_right
+from decimal import Decimal, InvalidOperation
+from pathlib import Path
 
+import moments
+import quantities
+import records
 from faulty import Faulty
 
+# The humidity where none is measured, in percent: that at which the instruments' distances are right.
+HUMIDITY = Decimal(60)
+NAMES = ["temperature_c", "pressure_hpa", "humidity_percent"]
 RANGES = {
     "atmosphere": lambda celsius, hectopascals, percent: -60 <= celsius <= 60 and 500 <= hectopascals <= 1100 and 0 <= percent <= 100,
     "carrier": lambda nanometres, ppm: 400 <= nanometres <= 1600 and 0 <= ppm <= 500,
@@ -31,3 +41,94 @@ def factor(carrier, atmosphere):
     if atmosphere is None:
         return Decimal(1)
     return (1 + carrier[1] / 1_000_000) / (1 + refractivity(carrier[0], *atmosphere) / 1_000_000)
+
+
+def air_of(site, rows):
+    """The air of a cycle, what it is from, and what is doubtful about it."""
+    found = site.air.of(rows) if site.air else None
+    if found:
+        return found, site.air.SAID, []
+    if site.atmosphere:
+        return site.atmosphere, "constant", ["the air wasn't measured"] if site.air else []
+    return None, "", ["the air wasn't measured"] if site.air else []
+
+
+def decimal(text):
+    """The decimal of a text; `None` where it is none."""
+    try:
+        number = Decimal(text)
+    except InvalidOperation:
+        return None
+    return number if number.is_finite() else None
+
+
+class Columns:
+    """The air of a cycle by columns of its rows: of each the last one that was answered well and has a number. The humidity may have
+    none."""
+
+    SAID = "columns"
+
+    def __init__(self, names):
+        self.names = names
+
+    def of(self, rows):
+        last = dict.fromkeys(self.names)
+        for fields in rows:
+            found = {**fields, **quantities.quantities(fields)} if quantities.has_values(fields) else {}
+            for name in self.names:
+                number = decimal(found.get(name) or "")
+                last[name] = last[name] if number is None else number
+        numbers = list(last.values()) + [HUMIDITY] * (3 - len(self.names))
+        is_air = None not in numbers and RANGES["atmosphere"](*numbers)
+        return tuple(numbers) if is_air else None
+
+
+class File:
+    """The air by a table with times: the last line at the beginning of a cycle or before it, if it isn't older than so many seconds. The
+    file may grow; half a line at its end is left."""
+
+    SAID = "file"
+
+    def __init__(self, folder, path, seconds):
+        self.path, self.most = os.path.join(folder, path), seconds * 1000
+        self.state, self.times, self.airs = None, [], []
+
+    def of(self, rows):
+        self.read()
+        begin = moments.milliseconds(rows[0].get("sent") or rows[0]["time"])
+        place = bisect_right(self.times, begin)
+        return self.airs[place - 1] if place and begin - self.times[place - 1] <= self.most else None
+
+    def read(self):
+        """Reads it where it was changed."""
+        try:
+            there = os.stat(self.path)
+            state = (there.st_ino, there.st_size, there.st_mtime_ns)
+            if state == self.state:
+                return
+            text = Path(self.path).read_text(encoding="utf-8")
+        except (OSError, UnicodeDecodeError) as why:
+            raise Faulty(f"{self.path}: {getattr(why, 'strerror', None) or 'it is no text'}") from None
+        self.state, self.times, self.airs = state, [], []
+        names, *lines = csv.reader(text[: text.rfind("\n") + 1].splitlines() or [""])
+        if names not in (["time", *NAMES[:2]], ["time", *NAMES]):
+            raise Faulty(f"{self.path}: its columns aren't time,{','.join(NAMES)}, of which the last may be missing")
+        for number, fields in enumerate(lines, 2):
+            try:
+                self.take(names, fields)
+            except (Faulty, ValueError) as why:
+                raise Faulty(f"{self.path}: line {number} is none: {why}") from None
+
+    def take(self, names, fields):
+        """Takes a line; times go forward."""
+        if len(fields) != len(names):
+            raise Faulty(f"it has {len(fields)} fields for {len(names)} columns")
+        numbers = list(map(decimal, fields[1:])) + [HUMIDITY] * (4 - len(names))
+        if None in numbers:
+            raise Faulty("a field is no number")
+        check("atmosphere", *numbers)
+        moment = moments.milliseconds(fields[0])
+        if self.times and moment <= self.times[-1]:
+            raise Faulty("its time isn't after the one before it")
+        self.times.append(moment)
+        self.airs.append(tuple(numbers))

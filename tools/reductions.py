@@ -1,6 +1,6 @@
 """From readings to coordinates: pairs of both faces, what a target comes to in a cycle, and the rows of that.
 
-All angles are radians, lengths metres, and numbers exact decimals (`angles.py`). The rules are in `docs/INTEGRATION.md`, "Reductions".
+All angles are radians, lengths metres, and numbers exact decimals (`angles.py`). The rules are in `docs/COORDINATES.md`.
 """
 
 import itertools
@@ -24,7 +24,10 @@ ADDED_EARLIER = [
     "hz_deviation_rad", "v_deviation_rad", "distance_deviation_m", "freedom",
 ]
 RESIDUALS = ["reference_hz_residual_rad", "reference_distance_residual_m", "reference_height_residual_m"]
-ADDED = [*ADDED_EARLIER, "faces", "references", "left_out", "orientation_deviation_rad", *RESIDUALS, *movements.COLUMNS, "reason"]
+ADDED = [
+    *ADDED_EARLIER, "faces", "references", "left_out", "orientation_deviation_rad", *RESIDUALS, "scale_ppm", "refraction", "atmosphere",
+    "atmosphere_ppm", *movements.COLUMNS, "reason",
+]
 NAMES = records.with_columns(ADDED)
 EARLIER_NAMES = records.with_columns(ADDED_EARLIER)
 
@@ -181,7 +184,9 @@ def row_of(site, target, orientation, place):
         "distance_deviation_m": written(deviation(target.distance_residuals), "m"), "freedom": str(target.count - 1),
         "faces": str(target.faces()), "references": "" if orientation.number is None else str(orientation.number),
         "left_out": " ".join(orientation.left_out), "orientation_deviation_rad": written(orientation.deviation, "rad"),
-        "reason": "; ".join(doubts),
+        "scale_ppm": "" if orientation.scale is None else written((orientation.scale - 1) * 1_000_000, "ppm"),
+        "refraction": written(orientation.refraction, "1") if site.refraction_from_references else "",
+        "atmosphere": orientation.air[0], "atmosphere_ppm": written(orientation.air[1], "ppm"), "reason": "; ".join(doubts),
     }
 
 
@@ -201,22 +206,30 @@ class Reducer:
         self.site, self.is_earlier = site, is_earlier
         self.cycle, self.tracks = 0, {}
 
-    def orientation(self, targets):
-        return orienting.orientation_of(self.site, targets, air.factor(self.site.carrier, self.site.atmosphere))
+    def orientation(self, targets, cycle):
+        """What the references say of a cycle, in its air."""
+        atmosphere, said, doubts = air.air_of(self.site, records.last_attempts(cycle))
+        factor = air.factor(self.site.carrier, atmosphere)
+        found = orienting.orientation_of(self.site, targets, factor)
+        found.doubts += doubts
+        found.air = said, None if atmosphere is None else (factor - 1) * 1_000_000
+        # Without its air a cycle has no coordinates.
+        found.angle = None if doubts and atmosphere is None else found.angle
+        return found
 
     def network(self, cycle, is_free):
         """A cycle as a network for GNU Gama; `None` where nobody says where the station is."""
         if self.site.station is None:
             return None
         targets, said = targets_of(cycle), f"run {cycle[0].get('run', '')}, cycle {cycle[0]['cycle']}"
-        orientation = self.orientation(targets)
+        orientation = self.orientation(targets, cycle)
         return gama.network(self.site, targets, orientation, lambda target: place_of(self.site, target, orientation), said, is_free)
 
     def rows(self, cycle):
         """The rows that a cycle comes to: one for each target that was measured, and of each other one its last row that wasn't answered
         well."""
         targets = targets_of(cycle, self.is_earlier)
-        orientation = self.orientation(targets)
+        orientation = self.orientation(targets, cycle)
         self.cycle += 1
         for target in targets:
             if target.is_measured():

@@ -14,6 +14,7 @@ from faulty import Faulty
 DECIMAL = re.compile(r"[-+]?[0-9]+(\.[0-9]+)?")
 COUNT = re.compile(r"[1-9][0-9]{0,4}")
 TARGET = re.compile(r"[0-9]+")
+COLUMN = re.compile(r"[A-Za-z_][A-Za-z0-9_]*")
 # The lines of versions that wrote the columns up to `freedom` alone: a text of these goes on in such a table.
 EARLIER = {"station", "orientation", "reference", "reflector", "atmosphere", "carrier", "earth", "flat"}
 
@@ -38,9 +39,13 @@ class Site:
     least_faces: int = 2
     faces_within: Decimal = None
     faces_within_metres: Decimal = None
+    scale_from_references: bool = False
+    refraction_from_references: bool = False
     # The light's wavelength in nanometres, and the refractivity in ppm at which the instrument's distances are right.
     carrier: tuple = (Decimal(658), Decimal("286.34"))
     atmosphere: tuple = None
+    # Where the air of a cycle is read.
+    air: object = None
     # The coefficient of refraction and the earth's radius.
     earth: tuple = (Decimal("0.13"), Decimal(6_370_000))
     # Over how many cycles coordinates are averaged.
@@ -49,14 +54,14 @@ class Site:
     is_earlier: bool = True
 
 
-def site_of(text):
-    """The site of a text; `Faulty` with the number of its first line that doesn't read."""
+def site_of(text, folder="."):
+    """The site of a text; `Faulty` with the number of its first line that doesn't read. Files that it names are in the folder."""
     site, seen = Site(), []
     for number, line in enumerate(text.splitlines(), 1):
         word, *given = line.split("#")[0].split() or [""]
         if word:
             try:
-                take_line(site, seen, word, given)
+                take_line(site, seen, word, given, folder)
             except Faulty as why:
                 raise Faulty(f"line {number}: {why}") from None
     if (site.orientation is None) == (not site.references) and site.station:
@@ -69,18 +74,22 @@ def expect_references(site):
     """Refuses what asks for references of a site that has none, or too few."""
     if site.least_references > max(1, len(site.references)):
         raise Faulty(f"at least {site.least_references} references are wanted, and {len(site.references)} are there")
+    if site.scale_from_references and not site.references:
+        raise Faulty("a scale from references wants lines reference")
+    if site.refraction_from_references and not (site.earth and any(len(place) == 3 for place in site.references.values())):
+        raise Faulty("a refraction from references wants lines reference with a height, and no line flat")
 
 
-def take_line(site, seen, word, given):
+def take_line(site, seen, word, given, folder):
     """Takes a line of a site, each once."""
     if word not in LINES:
         raise Faulty(f"no line begins with {ascii(word)}")
-    # Each target has lines of its own.
-    key = given[:1] if word in OF_TARGETS else None
+    # Each target has lines of its own, and so has the air of each cycle.
+    key = given[:1] if word in OF_TARGETS else given[:1] in (["columns"], ["file"]) if word == "atmosphere" else None
     if (word, key) in seen:
         raise Faulty(f"a second line {word}")
     seen.append((word, key))
-    LINES[word](Line(word, given), site)
+    LINES[word](Line(word, given, folder), site)
     if word not in EARLIER:
         site.is_earlier = False
 
@@ -91,6 +100,7 @@ class Line:
 
     word: str
     given: list
+    folder: str
 
     def numbers(self, least, most):
         """The rest as this many decimals: of an angle, a length or a temperature."""
@@ -167,9 +177,46 @@ def take_faces(line, site):
     site.least_faces, site.faces_within, site.faces_within_metres = at_least(line, 2)
 
 
+def from_references(line):
+    """`from references`, which is all that can be said."""
+    if not line.words("from", "references"):
+        raise Faulty(f"{line.word} wants: from references")
+    line.ended()
+    return True
+
+
+def take_scale(line, site):
+    site.scale_from_references = from_references(line)
+
+
+def take_refraction(line, site):
+    site.refraction_from_references = from_references(line)
+
+
 def take_atmosphere(line, site):
+    """A constant, or where the air of each cycle is read. Beside it a constant is what is taken where nothing is read."""
+    for word, take in [("columns", take_columns), ("file", take_file)]:
+        if line.words(word):
+            site.air, site.is_earlier = take(line), False
+            return
     site.atmosphere = line.numbers(3, 3)
     air.check("atmosphere", *site.atmosphere)
+
+
+def take_columns(line):
+    if not 2 <= len(line.given) <= 3 or not all(map(COLUMN.fullmatch, line.given)):
+        raise Faulty("atmosphere columns wants the names of two or three columns: of a temperature, a pressure and a humidity")
+    return air.Columns(line.given)
+
+
+def take_file(line):
+    if not line.given:
+        raise Faulty("atmosphere file wants a path")
+    path, seconds = line.given.pop(0), 3600
+    if line.given:
+        seconds = line.count()
+    line.ended()
+    return air.File(line.folder, path, seconds)
 
 
 def take_carrier(line, site):
@@ -196,6 +243,6 @@ def take_mean(line, site):
 
 LINES = {
     "station": take_station, "orientation": take_orientation, "reference": take_reference, "reflector": take_reflector,
-    "references": take_references, "faces": take_faces, "atmosphere": take_atmosphere, "carrier": take_carrier, "earth": take_earth,
-    "flat": take_flat, "mean": take_mean,
+    "references": take_references, "faces": take_faces, "scale": take_scale, "refraction": take_refraction,
+    "atmosphere": take_atmosphere, "carrier": take_carrier, "earth": take_earth, "flat": take_flat, "mean": take_mean,
 }
