@@ -9,8 +9,9 @@ from decimal import ROUND_HALF_EVEN, Decimal, getcontext
 getcontext().prec = 50
 PI = Decimal("3.14159265358979323846264338327950288419716939937510582097494459230782")
 TURN = 2 * PI
-# What is written: a tenth of a nanoradian, a micrometre, and of a coefficient and of ppm four places.
-LAST_PLACE = {"rad": Decimal("1e-10"), "m": Decimal("1e-6"), "ppm": Decimal("1e-4"), "1": Decimal("1e-4")}
+# What is written: a tenth of a nanoradian, a micrometre, a nanometre a day, and of a coefficient and of ppm four places.
+LAST_PLACE = {
+    "rad": Decimal("1e-10"), "m": Decimal("1e-6"), "m_per_day": Decimal("1e-9"), "ppm": Decimal("1e-4"), "1": Decimal("1e-4")}
 
 
 def written(number, unit):

@@ -11,6 +11,7 @@ from functools import cached_property
 import air
 import angles
 import gama
+import moments
 import movements
 import orienting
 import quantities
@@ -243,8 +244,10 @@ class Reducer:
         """What a target's coordinates come to with those of earlier cycles."""
         if None in place:
             return {}
-        track = self.tracks.setdefault(target.number, movements.Track(self.site))
-        return track.columns(self.cycle, place, not target.doubts(self.site))
+        if target.number not in self.tracks:
+            self.tracks[target.number] = movements.Track(self.site, target.number)
+        moment = moments.milliseconds(target.rows[-1]["time"])
+        return self.tracks[target.number].columns(self.cycle, moment, place, not target.doubts(self.site))
 
 
 class Cycles:

@@ -8,6 +8,7 @@ from dataclasses import dataclass, field
 from decimal import Decimal
 
 import air
+import moments
 from angles import on_circle
 from faulty import Faulty
 
@@ -18,7 +19,7 @@ COLUMN = re.compile(r"[A-Za-z_][A-Za-z0-9_]*")
 # The lines of versions that wrote the columns up to `freedom` alone: a text of these goes on in such a table.
 EARLIER = {"station", "orientation", "reference", "reflector", "atmosphere", "carrier", "earth", "flat"}
 
-OF_TARGETS = {"reference", "reflector"}
+OF_TARGETS = {"reference", "reflector", "initial"}
 
 
 @dataclass
@@ -48,8 +49,14 @@ class Site:
     air: object = None
     # The coefficient of refraction and the earth's radius.
     earth: tuple = (Decimal("0.13"), Decimal(6_370_000))
-    # Over how many cycles coordinates are averaged.
+    # Over how many cycles coordinates are averaged, and over how many days velocities reach.
     mean: int = None
+    days: Decimal = None
+    # From when until when the reference epoch is, in milliseconds; the places of targets that are given instead.
+    epoch: tuple = None
+    initial: dict = field(default_factory=dict)
+    # A vertical axis, or two points of a line.
+    axis: tuple = None
     # Whether it has lines of today alone.
     is_earlier: bool = True
 
@@ -241,8 +248,38 @@ def take_mean(line, site):
     line.ended()
 
 
+def take_velocity(line, site):
+    site.days, = line.numbers(1, 1)
+    if not 0 < site.days <= 10_000:
+        raise Faulty("velocity wants days, above 0 and at most 10000")
+
+
+def take_epoch(line, site):
+    try:
+        begin, end = map(moments.milliseconds, line.given)
+    except ValueError:
+        raise Faulty("epoch wants two moments such as 2026-11-01T00:00:00Z") from None
+    if begin >= end:
+        raise Faulty("an epoch ends after its beginning")
+    site.epoch = (begin, end)
+
+
+def take_initial(line, site):
+    target = line.target()
+    site.initial[target] = line.numbers(3, 3)
+
+
+def take_axis(line, site):
+    if len(line.given) not in (2, 4):
+        raise Faulty("axis wants 2 or 4 numbers")
+    site.axis = line.numbers(2, 4)
+    if len(site.axis) == 4 and site.axis[:2] == site.axis[2:]:
+        raise Faulty("both points of the axis are the same")
+
+
 LINES = {
     "station": take_station, "orientation": take_orientation, "reference": take_reference, "reflector": take_reflector,
     "references": take_references, "faces": take_faces, "scale": take_scale, "refraction": take_refraction,
     "atmosphere": take_atmosphere, "carrier": take_carrier, "earth": take_earth, "flat": take_flat, "mean": take_mean,
+    "velocity": take_velocity, "epoch": take_epoch, "initial": take_initial, "axis": take_axis,
 }

@@ -17,6 +17,8 @@ def pytest_addoption(parser):
     options.addoption("--kills", type=int, help="how often a station (500) or a follower (50) is killed")
     options.addoption("--cycles", type=int, default=2000, help="how many cycles are measured over bad lines (2000)")
     options.addoption("--runs", type=int, default=2000, help="how many runs of a station are killed over one line (2000)")
+    options.addoption("--sites", type=int, default=20, help="how many random sites are tried (20)")
+    options.addoption("--first", type=int, default=1, help="the seed of the first one (1)")
     options.addoption("--device-cycles", type=int, default=100, help="how many cycles are measured over a device that goes away (100)")
 
 
