@@ -56,6 +56,16 @@ def measures(fields):
 HAS_VALUES = f"""(quality IN ({', '.join(f"'{word}'" for word in GOOD)})
     OR quality IS NULL AND outcome = 'answered' AND rc_com = 0 AND rc = 0)"""
 
+# Whether a row `one` is of the last attempt of its command in a cycle, and not of the set-up.
+IS_LAST = """one.cycle > 0 AND NOT EXISTS (
+    SELECT 1 FROM record AS other WHERE other.source = one.source AND other.run = one.run AND other.cycle = one.cycle
+        AND other.place = one.place AND other.attempt > one.attempt)"""
+# What is looked for: times, a target over time, and the attempts of a command.
+INDEXES = [
+    "CREATE INDEX IF NOT EXISTS record_time ON record (time)", "CREATE INDEX IF NOT EXISTS record_target ON record (target, time)",
+    "CREATE INDEX IF NOT EXISTS record_command ON record (source, run, cycle, place, attempt)",
+]
+
 
 def view(item, cast):
     """The columns of a view: what distinguishes a row from others, and between its place and its attempt a column a quantity. `item` gives the SQL of the value at a place, and

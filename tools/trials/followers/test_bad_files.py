@@ -138,6 +138,10 @@ def test_reads_columns_by_name(servers, folder):
         messages_of(tool("plot", other, folder / other.stem))
 
 
+# What earlier versions didn't have.
+NO_LATEST = ["DROP VIEW latest", "DROP INDEX record_time", "DROP INDEX record_target", "DROP INDEX record_command"]
+
+
 def without_attempt(view):
     """The query of a view without its last column."""
     return re.sub(r",\s+(?:record\.)?attempt(?=\s+FROM)", "", view)
@@ -151,7 +155,7 @@ def test_goes_on_in_databases_of_an_earlier_version(servers, folder):
     for command in commands:
         messages_of(command)
     # The view of the other version has all rows.
-    older = ["DROP VIEW measured", *(f"ALTER TABLE record DROP COLUMN {column}" for column in LAST)]
+    older = [*NO_LATEST, "DROP VIEW measured", *(f"ALTER TABLE record DROP COLUMN {column}" for column in LAST)]
     with closing(sqlite3.connect(base)) as table:
         for statement in [*older, "CREATE VIEW measured AS SELECT source, line FROM record"]:
             table.execute(statement)
@@ -174,10 +178,10 @@ def test_rows_of_an_earlier_version_are_first_attempts(servers, folder):
     for command in commands:
         messages_of(command)
     with closing(sqlite3.connect(base)) as table:
-        for statement in ["DROP VIEW measured", "ALTER TABLE record DROP COLUMN attempt", "CREATE VIEW measured AS SELECT source, line FROM record"]:
+        for statement in [*NO_LATEST, "DROP VIEW measured", "ALTER TABLE record DROP COLUMN attempt", "CREATE VIEW measured AS SELECT source, line FROM record"]:
             table.execute(statement)
     view = servers.ask("SELECT pg_get_viewdef('measured')")[0][0]
-    servers.order("DROP VIEW measured", "ALTER TABLE record DROP COLUMN attempt", "CREATE VIEW measured AS " + without_attempt(view))
+    servers.order(*NO_LATEST, "DROP VIEW measured", "ALTER TABLE record DROP COLUMN attempt", "CREATE VIEW measured AS " + without_attempt(view))
     path.write_bytes(HEAD + b"".join(rows))
     for command in commands:
         messages_of(command)

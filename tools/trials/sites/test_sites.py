@@ -1,17 +1,23 @@
 """Random sites: planted movements, prisms that are hidden, a reference that moves, and noise. What is computed here is where prisms are and
-what is to be alarmed, in floats; what is read by it goes through `reduce` and `alarm`, each as a command.
+what is to be alarmed, in floats. What is measured goes through the reductions, for the first site also as the command `reduce`, and then
+through the command `alarm`.
 """
 
 import csv
 import io
 import math
+import os
 import random
 import re
 import sys
-from concurrent.futures import ThreadPoolExecutor
+import tempfile
+from concurrent.futures import ProcessPoolExecutor
 from dataclasses import dataclass, field
+from functools import cached_property
 from pathlib import Path
 
+import reductions
+import sites
 from programs import ended
 from surveyed import BEGIN, Survey
 
@@ -131,7 +137,9 @@ class Planted:
                  for number, movement in self.moves.items()}
         return found | ({self.moved_reference: self.reference_by} if cycle >= self.reference_begin else {})
 
+    @cached_property
     def table(self):
+        """The file of its rows."""
         return self.survey.table([{"moved": self.moved(cycle), "hidden": self.hidden.get(cycle, ())} for cycle in range(1, CYCLES + 1)])
 
     def text(self):
@@ -141,13 +149,11 @@ class Planted:
         return self.survey.text(*lines, *([f"axis {' '.join(map(str, self.axis))}"] if self.axis else []))
 
     def limits(self):
-        lines = ["target,column,reference,tolerance,outside,of"]
         for number in PRISMS:
-            lines.append(f"{number},references,3,1,1,1")
+            yield f"{number},references,3,1,1,1"
             for direction in self.directions:
-                lines.append(f"{number},moved_{direction}_m,0,{self.limit:.6f},2,3")
-                lines.append(f"{number},velocity_{direction}_m_per_day,0,{self.speed:.6f},2,3")
-        return "\n".join(lines) + "\n"
+                yield f"{number},moved_{direction}_m,0,{self.limit:.6f},2,3"
+                yield f"{number},velocity_{direction}_m_per_day,0,{self.speed:.6f},2,3"
 
     def references(self, cycle):
         """How many are seen where they should be."""
@@ -181,18 +187,47 @@ def output_of(*words):
     return found.output.decode()
 
 
-def alarms_of(site, folder):
-    """The rows of a site and its alarms: targets, columns and cycles."""
-    folder.mkdir()
-    (folder / "values.csv").write_bytes(site.table())
+def rows_of(site):
+    """The rows that a site's readings are reduced to."""
+    reducer, cycles = reductions.Reducer(sites.site_of(site.text())), reductions.Cycles()
+    table = csv.DictReader(io.StringIO(site.table.decode()))
+    over = [cycle for fields in table for cycle in cycles.take(fields)]
+    return [row for cycle in [*over, cycles.rows] if cycle for row in reducer.rows(cycle)]
+
+
+def written(rows):
+    """The table of rows."""
+    text = io.StringIO()
+    table = csv.DictWriter(text, reductions.NAMES, lineterminator="\n")
+    table.writeheader()
+    table.writerows(rows)
+    return text.getvalue()
+
+
+def reduced_by_command(site, folder):
+    """The table that the command makes of a site."""
+    (folder / "values.csv").write_bytes(site.table)
     (folder / "site").write_text(site.text(), encoding="ascii")
-    (folder / "limits").write_text(site.limits(), encoding="ascii")
-    reduced = output_of(TOOLS / "reduce", folder / "values.csv", folder / "site")
-    (folder / "reduced.csv").write_text(reduced, encoding="ascii")
+    return output_of(TOOLS / "reduce", folder / "values.csv", folder / "site")
+
+
+def alarms_of(planted, tables, folder):
+    """The alarms of some sites, as the command gives them for all their rows: by site targets, columns and cycles. Each site is a run of
+    its own there, and has numbers of its own."""
+    rows, limits = [], ["target,column,reference,tolerance,outside,of"]
+    for place, (site, table) in enumerate(zip(planted, tables)):
+        run = f"2026-10-31T23:59:50.{place:03}Z"
+        rows += [row | {"target": str(100 * place + int(row["target"])), "run": run} for row in table]
+        limits += [f"{100 * place + int(number)},{rest}" for number, rest in (line.split(",", 1) for line in site.limits())]
+    (folder / "reduced.csv").write_text(written(rows), encoding="ascii")
+    (folder / "limits").write_text("\n".join(limits) + "\n", encoding="ascii")
     lines = output_of(TOOLS / "alarm", folder / "reduced.csv", folder / "limits", folder / "state", "--once").splitlines()
     found = [LINE.search(line) for line in lines]
     assert all(found), [line for line, each in zip(lines, found) if not each]
-    return list(csv.DictReader(io.StringIO(reduced))), [(int(each[1]), each[2], int(each[4])) for each in found]
+    alarms = [[] for _ in planted]
+    for each in found:
+        alarms[int(each[1]) // 100].append((int(each[1]) % 100, each[2], int(each[4])))
+    return alarms
 
 
 def judge(site, rows, alarms):
@@ -232,20 +267,30 @@ def judge_row(site, number, cycle, row):
             yield f"{number} is at {found} in cycle {cycle}"
 
 
-def test_random_sites(pytestconfig, folder, note):
+def tried(seeds):
+    """What is wrong with the sites of these seeds, and what they have."""
+    planted = [Planted(seed) for seed in seeds]
+    tables = [rows_of(site) for site in planted]
+    with tempfile.TemporaryDirectory() as folder:
+        alarms = alarms_of(planted, tables, Path(folder))
+    return [(site.seed, list(judge(site, *found)), len(found[0]), len(list(site.wanted())), site.moved_reference is not None)
+            for site, *found in zip(planted, tables, alarms)]
+
+
+def test_random_sites(pytestconfig, note):
     """Each planted movement is alarmed in time, each cycle with too few references, and nothing else."""
-    seeds = range(pytestconfig.option.first, pytestconfig.option.first + pytestconfig.option.sites)
-
-    def tried(seed):
-        site = Planted(seed)
-        rows, alarms = alarms_of(site, folder / str(seed))
-        for path in (folder / str(seed)).iterdir():
-            path.unlink()
-        return site, list(judge(site, rows, alarms)), len(rows)
-
-    with ThreadPoolExecutor(2) as pool:
-        found = list(pool.map(tried, seeds))
-    wrong = {f"site {site.seed}": faults[:5] for site, faults, _ in found if faults}
-    note(f"{len(found)} sites, {sum(rows for *_, rows in found)} rows, {sum(len(list(site.wanted())) for site, *_ in found)} alarms of "
-         f"movements, {sum(site.moved_reference is not None for site, *_ in found)} moved references, {len(wrong)} sites wrong")
+    first, many = pytestconfig.option.first, pytestconfig.option.sites
+    batches = [range(begin, min(begin + 5, first + many)) for begin in range(first, first + many, 5)]
+    with ProcessPoolExecutor(min(4, os.cpu_count())) as pool:
+        found = [site for batch in pool.map(tried, batches) for site in batch]
+    wrong = {f"site {seed}": faults[:5] for seed, faults, *_ in found if faults}
+    rows, movements, references = (sum(each[place] for each in found) for place in (2, 3, 4))
+    note(f"{len(found)} sites, {rows} rows, {movements} alarms of movements, {references} moved references, {len(wrong)} sites wrong")
     assert not wrong, wrong
+
+
+def test_by_the_command(pytestconfig, folder):
+    """The first site's rows are those of the command."""
+    site = Planted(pytestconfig.option.first)
+    is_same = reduced_by_command(site, folder) == written(rows_of(site))
+    assert is_same
