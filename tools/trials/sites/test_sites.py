@@ -253,12 +253,13 @@ def judge(site, rows, alarms):
 
 def judge_row(site, number, cycle, row):
     """What is wrong with a row of a prism that was seen."""
-    if bool(row["target_easting_m"]) != site.has_place(number, cycle):
-        yield f"{number} has a place in cycle {cycle}, or none"
+    has_place = bool(row["target_easting_m"])
+    if has_place != site.has_place(number, cycle):
+        yield f"{number} has {'a' if has_place else 'no'} place in cycle {cycle}"
     is_doubtful = cycle >= site.reference_begin or any(not site.is_seen(each, cycle) for each in REFERENCES)
     if (row["quality"] == "warning", bool(row["reason"])) != (is_doubtful, is_doubtful):
         yield f"{number} is {row['quality']} in cycle {cycle}: {row['reason']}"
-    if site.has_place(number, cycle):
+    if has_place and site.has_place(number, cycle):
         if int(row["references"]) != site.references(cycle):
             yield f"{row['references']} references in cycle {cycle}"
         at = map(sum, zip(site.survey.prisms[number], site.moved(cycle).get(number, (0, 0, 0))))
