@@ -179,10 +179,12 @@ def test_two_pairs_have_residuals(folder):
 
 
 def test_reduces_as_a_file_grows(folder, note):
-    """Killed over a file that grows: what was appended is what is made of the whole file at once, but for its last cycle."""
+    """Killed over a file that grows: what was appended is what is made of the whole file at once, but for its last cycle; also what
+    follows from many cycles."""
+    text = SITE + "mean 5\nvelocity 0.5\nepoch 2026-11-01T00:00:00Z 2026-11-01T05:00:00Z\n"
     whole = [line for rows in Month(cycles=400, noise=2e-6).rows() for line in rows]
     path, site, made = folder / "values.csv", folder / "site", folder / "reduced.csv"
-    site.write_text(SITE, encoding="utf-8")
+    site.write_text(text, encoding="utf-8")
     grows = Growing(path, 5, line=lambda _, number: whole[number % len(whole)], rest=0.03)
     command = tool("reduce", path, site, "--append", made, "--rest", "0.02")
     try:
@@ -195,7 +197,8 @@ def test_reduces_as_a_file_grows(folder, note):
     assert found.endswith(b"\n") and wanted.startswith(found)
     assert wanted[len(found):].count(b"\n") <= 3
     assert found.count(b"\n") > 20
-    site.write_text(SITE.replace("0.5", "0.6"), encoding="utf-8")
+    assert [row["mean_of"] for row in rows_of(found)][-1] == "5" and [row["velocity_easting_m_per_day"] for row in rows_of(found)][-1]
+    site.write_text(text.replace("orientation 0.5", "orientation 0.6"), encoding="utf-8")
     assert "has other rows than these come to" in messages_of([*command, "--once"], 1)
     note(f"12 kills, {found.count(chr(10).encode()) - 1} rows")
 
