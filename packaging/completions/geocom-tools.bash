@@ -7,7 +7,7 @@ _geocom_tools() {
     local given='--as --once --rest --help'
     case ${1##*/} in
     geocom-to-mqtt) given="--host --port --user --password-file $given" ;;
-    geocom-reduce) given="--append $given" ;;
+    geocom-reduce) given="--append --gama --free $given" ;;
     geocom-alarm) given="--run --repeat --apart --patience $given" ;;
     geocom-alive) given='--within --measured --except --notify --help' ;;
     geocom-plot) given='--help' ;;

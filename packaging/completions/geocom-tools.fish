@@ -19,6 +19,8 @@ complete -c geocom-reduce -l as -x -d 'what the sink calls this file'
 complete -c geocom-reduce -l once -d 'ends behind the last whole row'
 complete -c geocom-reduce -l rest -x -d 'seconds to wait at the end of the file'
 complete -c geocom-reduce -l append -r -F -d 'appends to this table'
+complete -c geocom-reduce -l gama -d 'prints a cycle as a network for GNU Gama'
+complete -c geocom-reduce -l free -d "adjusts the instrument's place, too"
 complete -c geocom-reduce -s h -l help -d 'prints the words'
 complete -c geocom-alarm -l as -x -d 'what the sink calls this file'
 complete -c geocom-alarm -l once -d 'ends behind the last whole row'
