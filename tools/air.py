@@ -106,7 +106,7 @@ class File:
             state = (there.st_ino, there.st_size, there.st_mtime_ns)
             if state == self.state:
                 return
-            text = Path(self.path).read_text(encoding="utf-8")
+            text = Path(self.path).read_text(encoding="utf-8-sig")
         except (OSError, UnicodeDecodeError) as why:
             raise Faulty(f"{self.path}: {getattr(why, 'strerror', None) or 'it is no text'}") from None
         self.state, self.times, self.airs = state, [], []
