@@ -74,16 +74,27 @@ class Velocity:
     three at least, which reach over half of that time."""
 
     def __init__(self, days):
-        self.span, self.kept = int(days * DAY), deque()
+        self.span, self.kept = max(1, int(days * DAY)), deque()
+        # What has a time later than the last one, as where the clock was set back; the earliest one comes last.
+        self.ahead = []
         self.times, self.squares, self.sums, self.products = 0, 0, [0, 0, 0], [0, 0, 0]
         self.origin = None
 
     def take(self, moment, place):
         self.origin = moment if self.origin is None else self.origin
-        self.add(moment - self.origin, place, 1)
-        self.kept.append((moment - self.origin, place))
-        while self.kept[0][0] <= moment - self.origin - self.span:
+        now = moment - self.origin
+        while self.kept and self.kept[-1][0] > now:
+            self.ahead.append(self.kept.pop())
+            self.add(*self.ahead[-1], -1)
+        while self.ahead and self.ahead[-1][0] <= now:
+            self.keep(*self.ahead.pop())
+        self.keep(now, place)
+        while self.kept[0][0] <= now - self.span:
             self.add(*self.kept.popleft(), -1)
+
+    def keep(self, time, place):
+        self.kept.append((time, place))
+        self.add(time, place, 1)
 
     def add(self, time, place, sign):
         """Adds a place to the sums, or takes it out of them; they are whole numbers, so nothing is lost."""

@@ -63,6 +63,18 @@ def test_velocity_by_hand():
     assert found[7]["velocity_northing_m_per_day"] == "0.024000000"
 
 
+@pytest.mark.parametrize("jump, known", [(-50 * 365 * 24, [30]), (365 * 24, range(30, 43))])
+def test_velocity_over_a_wrong_clock(jump, known):
+    """1 mm in each of 60 hours, of which one has a row with a wrong time: in the past that row alone has no velocity, and in the future
+    those after it until half of a day is there again."""
+    track, begin = movements.Track(sites.site_of("velocity 1"), "7"), int(BEGIN.timestamp() * 1000)
+    found = [
+        track.columns(cycle, begin + (cycle + jump * (cycle == 30)) * HOUR, tuple(map(Decimal, (10, f"{cycle / 1000:.3f}", 30))), True).get(SPEEDS[1])
+        for cycle in range(60)]
+    assert [cycle for cycle in range(12, 60) if found[cycle] is None] == list(known)
+    assert {found[cycle] for cycle in range(12, 60)} == {None, "0.024000000"}
+
+
 def test_velocity_by_another_computation():
     """400 places at random moments, of which some are doubtful: the slope is that of Python's own regression over the same days."""
     chance, days = random.Random(5), 3
