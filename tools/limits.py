@@ -14,6 +14,7 @@ from decimal import Decimal, InvalidOperation
 import quantities
 import records
 from angles import difference, in_face_one
+from faulty import Faulty
 
 COLUMNS = ["target", "column", "reference", "tolerance", "outside", "of"]
 # The word in place of a column that asks for a good row within so many cycles or seconds, and that in place of a target for all of a file.
@@ -24,10 +25,6 @@ MOST_SECONDS = 10_000_000
 # What stands for all quantities of a row, in place of the columns of a target whose limits name none: of a procedure that measures where a
 # target is, and of another one.
 MEASURED, WHOLE = "measured", "whole"
-
-
-class Faulty(Exception):
-    """Why a table of limits can't be used."""
 
 
 @dataclass(frozen=True)
@@ -298,7 +295,8 @@ class Watch:
         """The line for the end of an alarm that stood, which says whether it was the last one."""
         if self.standing.pop(limit.key(), None) is None:
             return []
-        return [f"{line}; {f'{len(self.standing)} more alarms' if self.standing else 'all is well'}"]
+        more = f"{len(self.standing)} more alarm{'s' if len(self.standing) > 1 else ''}"
+        return [f"{line}; {more if self.standing else 'all is well'}"]
 
     def begin_again(self, limits, at):
         """Goes on at a start, at this second of the scale: without the alarms of limits that the table doesn't have any more. No row came

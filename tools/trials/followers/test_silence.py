@@ -61,7 +61,7 @@ def test_no_row_at_all():
         [], [], ["target 7: no good row for 1800 s; none since 2026-11-24T00:00:00.000Z", "station: no good row for 1000 s; none since 2026-11-24T00:00:00.000Z"], []]
     alarm.begin_again(6000)
     assert alarm.look(7000) == []
-    assert alarm.take(7001, 1, 8) == ["station: a good row again; 1 more alarms"]
+    assert alarm.take(7001, 1, 8) == ["station: a good row again; 1 more alarm"]
     assert alarm.take(7002, 1, 7, name="pier 4") == ["target 7 (pier 4): a good row again; all is well"]
 
 
@@ -104,7 +104,7 @@ def test_a_reading_without_its_columns_is_none():
 
     assert [take(300 * cycle, cycle, whole if cycle in (1, 5) else bare) for cycle in range(1, 7)] == [
         [], [], ["target 7: no good row for 600 s; the last was at 2026-11-24T00:05:00.000Z"], ["target 7: no good row for 2 cycles; cycle 3"],
-        ["target 7: a good row again; 1 more alarms"], ["target 7: a good row again; cycle 5; all is well"]]
+        ["target 7: a good row again; 1 more alarm"], ["target 7: a good row again; cycle 5; all is well"]]
 
 
 def test_a_standing_alarm_is_reported_once():
@@ -186,7 +186,7 @@ def test_speaks_while_nothing_comes(folder, note, ahead):
         until(lambda: run.output().count(b"\n") >= 4, "no end of it", 30)
         busy = processor_seconds(run.pid)
         run.terminate()
-        assert [line.rsplit(b"; ", 1)[1] for line in run.output().splitlines()[2:]] == [b"1 more alarms", b"all is well"]
+        assert [line.rsplit(b"; ", 1)[1] for line in run.output().splitlines()[2:]] == [b"1 more alarm", b"all is well"]
     assert took > 2.5 and busy < 3, (took, busy)
     note(f"two silences after {took:.1f} s")
 
