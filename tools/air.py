@@ -78,7 +78,7 @@ class Columns:
             for name in self.names:
                 number = decimal(found.get(name) or "")
                 last[name] = last[name] if number is None else number
-        numbers = list(last.values()) + [HUMIDITY] * (3 - len(self.names))
+        numbers = [last[name] for name in self.names] + [HUMIDITY] * (3 - len(self.names))
         is_air = None not in numbers and RANGES["atmosphere"](*numbers)
         return tuple(numbers) if is_air else None
 
