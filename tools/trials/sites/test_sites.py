@@ -221,7 +221,9 @@ def alarms_of(planted, tables, folder):
         limits += [f"{100 * place + int(number)},{rest}" for number, rest in (line.split(",", 1) for line in site.limits())]
     (folder / "reduced.csv").write_text(written(rows), encoding="ascii")
     (folder / "limits").write_text("\n".join(limits) + "\n", encoding="ascii")
-    lines = output_of(TOOLS / "alarm", folder / "reduced.csv", folder / "limits", folder / "state", "--once").splitlines()
+    output = output_of(TOOLS / "alarm", folder / "reduced.csv", folder / "limits", folder / "state", "--once", "--repeat")
+    # Each row outside is judged; the ends of alarms aren't.
+    lines = [line for line in output.splitlines() if " again; cycle " not in line]
     found = [LINE.search(line) for line in lines]
     assert all(found), [line for line, each in zip(lines, found) if not each]
     alarms = [[] for _ in planted]
