@@ -167,7 +167,7 @@ def test_hidden_references(folder):
             assert row["reason"].endswith("; 0 of at least 2 references")
             assert rows[cycle, 1]["outcome"] == "answered" and rows[cycle, 1]["rc"] == "8710"
     lines = alarms(folder, rows, "7,references,3,1,1,1\n")
-    assert [line.rsplit(" ", 1)[1] for line in lines] == [str(cycle) for cycle in range(4, 13)], lines
+    assert [line.rsplit(" ", 1)[1] for line in lines] == ["4"], lines
 
 
 def test_a_moved_reference(folder):
