@@ -208,8 +208,8 @@ action_preparing plan p w = action_unless_idle plan p w (
 abbrev pub action_cycle : Plan → Progress → Waiting → Action
 action_cycle plan p w = if nat_lt 0 p.unsent && not (waits_for_all p) then action_to_send plan p w Send else action_held plan p w
 
--- whether the setup is still to be done: there is one, and no cycle began or went on since the connection was made and the
--- station synchronized (`preparing`); unless all its commands were sent, no command is outstanding, and the one recorded last
+-- whether the setup is still to be done: there is one, and since the connection was made and the station synchronized no command of a
+-- cycle was sent, and none began or went on once something of the setup was sent (`preparing`); unless all its commands were sent, no command is outstanding, and the one recorded last
 -- was answered well
 abbrev pub is_preparing : Plan → Progress → Waiting → Bool
 is_preparing plan p w = p.preparing && not (nat_le plan.setup p.prepared && nat_eq w.commands 0 && w.well)

@@ -26,7 +26,7 @@ abbrev pub IsHeld : Progress → Type 0
 IsHeld p = (p.unsent ≡ 0) ⊎ ((p.next_is_chained ≡ true) ⊎ (0 < p.next_others))
 
 -- the station is between two chains: no command of the cycle is left, or the next one begins a chain or a further attempt of one;
--- or there is a setup, and since the connection was made and the station synchronized no cycle began or went on (`preparing`). In
+-- or there is a setup, and since the connection was made and the station synchronized no command of a cycle was sent (`preparing`). In
 -- a missed cycle each command, the first one too, counts as going on with a chain
 abbrev pub IsBetweenChains : Progress → Type 0
 IsBetweenChains p = (p.unsent ≡ 0) ⊎ ((p.next_is_chained ≡ false) ⊎ (p.preparing ≡ true))
@@ -142,7 +142,7 @@ AwaitsDueMoment plan p w =
 
 -- what another read waits for where requests may be sent: the reply to a null procedure of the synchronization, whose deadline hasn't
 -- come; or something in flight that hasn't timed out, while no command may be sent. In the last case the setup isn't done, though
--- each of its commands was sent and answered well: that never happens
+-- each of its commands was sent
 abbrev pub AwaitsReply : Plan → Progress → Waiting → Type 0
 AwaitsReply plan p w =
     ((has_begun p ≡ false) × (p.moment.elapsed < p.again))

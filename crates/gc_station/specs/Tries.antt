@@ -43,7 +43,7 @@ openings_in (Unopened ∷ acts) = suc (openings_in acts)
 openings_in (act ∷ acts) = openings_in acts
 
 -- the act, from the model `s` to the model `t`, isn't a read that settles a command once the setup is over: if it gave bytes, it
--- wrote no record, or there is a setup, after which no cycle began or went on (`preparing`)
+-- wrote no record, or there is a setup, and no command of a cycle was sent after it (`preparing`)
 abbrev pub SettlesNone : Model → Act → Model → Type 0
 SettlesNone s (Gave bytes m) t = (t.records ≡ s.records) ⊎ (t.progress.preparing ≡ true)
 SettlesNone s act t = Unit {0}

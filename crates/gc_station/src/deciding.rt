@@ -1,9 +1,9 @@
 //! What a station does next, by how far it is and what is outstanding. All decisions are made here, by looking at nothing else.
 //!
-//! A cycle has until the cycle after the next is due, two periods after its own due moment. Then it is out of time: nothing more is
-//! sent, and once nothing is in flight that hasn't timed out, the cycle is overdue and is abandoned, whether there is a connection
-//! or not. What isn't settled is lost, what wasn't sent is skipped, and the next cycle, which has no time left, begins at once and is
-//! missed.
+//! A cycle has until the cycle after the next is due, two periods after its own due moment. Then it is out of time: no command of it is
+//! sent any more, but a setup that was begun goes on; and once nothing is in flight that hasn't timed out, the cycle is overdue and is
+//! abandoned, whether there is a connection or not. What isn't settled by then is lost, what wasn't sent is skipped, and the next
+//! cycle, which has no time left, begins at once and is missed.
 //!
 //! In all phases but `Closing` and `Over` five cases come first, in this order:
 //! 1. No turn is left: `Close(Turns)`, or without a connection `Stop(Turns)`.
@@ -101,8 +101,8 @@ impl Progress {
     }
 
     // Whether the station is between two chains: no command of the cycle is left, or the next one begins a chain or a further attempt of
-    // one; or there is a setup, and since the connection was made and the station synchronized no cycle began or went on (`preparing`),
-    // so that no chain goes on. In a missed cycle each command, the first one too, counts as going on with a chain.
+    // one; or there is a setup, and since the connection was made and the station synchronized no command of a cycle was sent
+    // (`preparing`), so that no chain goes on. In a missed cycle each command, the first one too, counts as going on with a chain.
     fn is_between_chains(&self) -> bool
         ensures { result ≡ is_between_chains self.now }
     {
@@ -351,8 +351,8 @@ impl Progress {
         }
     }
 
-    // Whether the setup is still to be done: there is one, and no cycle began or went on since the connection was made and the
-    // station synchronized (`preparing`); unless all its commands were sent, no command is outstanding, and the one recorded last
+    // Whether the setup is still to be done: there is one, and since the connection was made and the station synchronized no command of
+    // a cycle was sent, and none began or went on once something of the setup was sent (`preparing`); unless all its commands were sent, no command is outstanding, and the one recorded last
     // was answered well.
     fn is_preparing(&self, plan: &Plan, waiting: Waiting) -> bool
         ensures { result ≡ is_preparing plan.now self.now waiting }

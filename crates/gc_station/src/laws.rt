@@ -309,9 +309,10 @@ pub fn missed_cycles_are_not_sent()
 ///
 /// The first cycle is due when it begins, but at the latest one period after the start of the clock. For each plan and each clock:
 /// - `reads`: an action that connects, sends a request or reads comes directly after an act that read a moment, but for the first
-///   of the run. So the moment read last is older than now by what one call of the link takes at most.
+///   of the run. So the moment read last is older than now by what one call takes at most, with the line feed or the close that
+///   follows it.
 /// - `goes`: what is left to be recorded never grows, and each act that begins a cycle, or records commands without sending them,
-///   makes it less. So such acts come to an end, and one of the actions above is next, or the run ends.
+///   makes it less. So a row of such acts comes to an end.
 pub fn each_due_cycle_is_recorded_in_time()
     ensures once { RecordsOnceTimedOut }
     ensures always { RecordsInTime }
@@ -320,8 +321,9 @@ pub fn each_due_cycle_is_recorded_in_time()
 {}
 
 /// A station doesn't wait needlessly:
-/// - `awaits`: it reads only in a pause or a draining; while a null procedure of the synchronization hasn't timed out; while
-///   something is in flight that hasn't timed out, and no command may be sent; or until the next cycle is due.
+/// - `awaits`: it reads only in a pause; while it discards input until the line is quiet; while a null procedure of the synchronization
+///   hasn't timed out; while something is in flight that hasn't timed out, and no command may be sent; while each command of the setup
+///   was sent, and the setup isn't done; or until the next cycle is due.
 /// - `sends`: where the next command of a cycle may be sent, and neither the cycle is out of time nor the end of the run was asked
 ///   for, it doesn't read.
 pub fn a_read_awaits_something()

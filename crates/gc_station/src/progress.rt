@@ -158,8 +158,8 @@ pub(crate) struct Progress {
     /// How many requests were sent after the last call of the table that a reply ended, answered or late, and after the
     /// synchronization. Seven if they are more.
     pub behind: usize,
-    /// Whether there is a setup, and since the connection was made and the station synchronized no cycle began, and no command of
-    /// one was sent, recorded without being sent, or left out.
+    /// Whether there is a setup, and since the connection was made and the station synchronized no command of a cycle was sent, and, once
+    /// something of the setup was sent, no cycle began, and no command of one was recorded without being sent, or left out.
     pub preparing: bool,
     /// How many commands of the setup were sent in this attempt.
     pub prepared: usize,

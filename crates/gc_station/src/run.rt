@@ -18,9 +18,8 @@ use gc_lines::PortFailed;
 use gc_links::Link;
 use gc_texts::{RunFault, Task};
 
-// Makes all records so far durable before an action, unless that only reads the clock: an outage ends with all commands of the
-// missed cycles written one after the other, each after a reading of the clock, and one sync serves them all. `Err`: the book
-// failed.
+// Makes all records so far durable before an action, unless that only reads the clock: the commands of a cycle that is abandoned or
+// missed are written one after the other, each after a reading of the clock, and one sync serves them all. `Err`: the book failed.
 fn sync_before<B: Book>(book: &mut B, action: Action) -> Result<(), PortFailed>
     ensures is_durable { OnOk result (reads_clock_alone action ≡ false → B.is_durable book.new ≡ true) }
     ensures same { Keeps (B.taken book.old) (B.taken book.new) }
@@ -97,9 +96,9 @@ pub(crate) fn run<L: Link, B: Book>(
 /// is sent only if a command of the attempt before ended as the chain's rule (`again`) names; else it is left out, without a
 /// record. In a missed cycle nothing is sent: its commands are written as missed, and further attempts are left out.
 ///
-/// A cycle has until the cycle after the next is due. What isn't settled by then is written as lost, what wasn't sent as skipped,
-/// and the next cycle, which had no time left, as missed, once nothing is in flight that hasn't timed out. So it is whether there
-/// is a connection or not, unless a setup was begun that isn't done, or the end of the run was asked for.
+/// A cycle has until the cycle after the next is due. Then nothing more of it is sent; and once nothing is in flight that hasn't timed
+/// out, what isn't settled is written as lost, what wasn't sent as skipped, and the next cycle, which had no time left, as missed. So
+/// it is whether there is a connection or not, unless a setup was begun that isn't done, or the end of the run was asked for.
 ///
 /// A connection that failed, ended or is dead is closed. The outstanding requests stay outstanding on the next connection,
 /// and the ids go on. Before each new attempt to connect the station pauses: for the quiet time, at each further failure
