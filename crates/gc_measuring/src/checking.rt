@@ -155,8 +155,12 @@ fn end_chain<W: Write>(chain: Option<(u64, Again)>, outline: &mut W) -> io::Resu
     writeln!(outline)
 }
 
-// Writes the return codes and the outcomes after which a chain is sent again, each after a space.
+// Writes after which answers, by their return codes, and after which outcomes a chain is sent again, each after a space. An answer that
+// is `elsewhere` counts by that word alone.
 fn outline_rule<W: Write>(rule: &Again, outline: &mut W) -> io::Result<()> {
+    if rule.codes.codes[0] != 0 {
+        write!(outline, " answered")?;
+    }
     for code in rule.codes.codes {
         // The places after the codes hold 0.
         if code != 0 {
