@@ -8,7 +8,7 @@ ghost use Rattle.gc_messages.specs.Statuses.{IsStatusUpTo};
 use crate::system::System;
 use gc_ask::Shown;
 use gc_lines::{Durable, Source};
-use gc_measuring::{Appended, Spot, append_text_at, check_task_text, measure_at};
+use gc_measuring::{Appended, Spot, append_text_at, check_task_text, measure_text_at};
 use gc_messages::{Lossy, Noticed, Noting, Streams};
 use gc_station::Kept;
 use gc_subcommands::ClientJob;
@@ -146,10 +146,7 @@ impl<
         // What is seen at each act, for proofs alone.
         let mut kept = Kept::new();
         match recording {
-            None => {
-                let (streams, ended, _) = measure_at(self.rt, self.alloc, spot, streams, &mut kept);
-                (streams, ended)
-            }
+            None => measure_text_at(self.rt, self.alloc, spot, streams, &mut kept),
             Some(recording) => {
                 let (streams, ended, appended) = append_text_at(
                     self.rt, self.alloc, spot, recording, streams, &mut kept,

@@ -46,6 +46,8 @@ pub struct SystemFile {
     file: File,
     // Whether a sync of it failed, or may have.
     doubted: bool,
+    // Why the system last refused to write or to sync it, if it ever did.
+    refusal: Option<io::Error>,
 }
 
 impl SystemFile {
@@ -66,7 +68,13 @@ impl SystemFile {
         SystemFile {
             file: self.file,
             doubted: true,
+            refusal: self.refusal,
         }
+    }
+
+    /// Why the system last refused to write or to sync the file. `None`: it never did.
+    pub fn refusal(&self) -> Option<io::Error> {
+        self.refusal
     }
 
     // Makes a new file at a path, for a copy of this one: with this one's mode and, where the system allows it, its owner and
@@ -89,6 +97,7 @@ impl SystemFile {
         Ok(SystemFile {
             file,
             doubted: false,
+            refusal: None,
         })
     }
 
@@ -136,18 +145,25 @@ impl Appending for SystemFile {
     // One write of the system. A write that took nothing counts as failed.
     fn append(&mut self, bytes: &[u8]) -> Result<usize, PortFailed> {
         match self.file.write(bytes) {
-            Ok(0) | Err(_) => Err(PortFailed),
+            Ok(0) => Err(PortFailed),
             Ok(n) => Ok(n),
+            Err(why) => {
+                self.refusal = Some(why);
+                Err(PortFailed)
+            }
         }
     }
 
     // Syncs the file's bytes and length. Where that fails, the file is in doubt from then on.
     fn sync(&mut self) -> Result<(), PortFailed> {
-        let synced = port_result(self.file.sync_data());
-        if synced.is_err() {
-            self.doubted = true;
+        match self.file.sync_data() {
+            Ok(()) => Ok(()),
+            Err(why) => {
+                self.doubted = true;
+                self.refusal = Some(why);
+                Err(PortFailed)
+            }
         }
-        synced
     }
 }
 
@@ -178,6 +194,7 @@ pub fn open_file<R: Files<File = File>>(rt: &R, path: &str) -> Result<SystemFile
         Ok(found) if found.is_file() => Ok(SystemFile {
             file,
             doubted: false,
+            refusal: None,
         }),
         Ok(_) => Err(Unfit::Unopened),
         Err(_) => Err(Unfit::Failed),

@@ -13,9 +13,8 @@ ghost use Rattle.gc_messages.specs.Statuses.{IsStatusUpTo};
 
 use crate::counts::report_end_of_run;
 use crate::spot::Spot;
-use crate::station::measure_at;
+use crate::station::{measure_at, text_at};
 use crate::stop::Stop;
-use crate::task_text::read_task_text;
 use gc_files::{RowsFile, RowsOptions, SystemFile, Unfit, open_at};
 use gc_lines::{Durable, FromReader, Sink, Source};
 use gc_links::{PlacedLink, Telling, Watched};
@@ -177,7 +176,8 @@ pub fn append_at<
 }
 
 /// As [`append_at`], but the text is read first: if it is refused, that is reported with status 1, and no log and no file is opened or
-/// made. A text that can be measured is held until the run ends.
+/// made. A text that can be measured is held until the run ends. If the run ended because the file couldn't be written or synced (55), a
+/// second line has its path and the system's reason.
 pub fn append_text_at<
     'a,
     R: Net<Listener = TcpListener, Stream = TcpStream> + Clock + Files<File = File>,
@@ -200,13 +200,9 @@ pub fn append_text_at<
     ensures output { result.0.output ≡ streams.output }
     ensures bound { IsStatusUpTo 1 result.1 }
 {
-    let text = match read_task_text(alloc, &mut streams.input, &spot.station.choice) {
-        Ok((_, text)) => text,
-        Err(stop) => {
-            spot.note_fault(stop.fault());
-            let ended = report_end_of_run(Err(stop), &mut streams.messages);
-            return (streams, ended, None);
-        }
+    let text = match text_at(alloc, spot, &mut streams) {
+        Ok(text) => text,
+        Err(ended) => return (streams, ended, None),
     };
     let Streams {
         input,
@@ -218,18 +214,36 @@ pub fn append_text_at<
         output,
         messages,
     };
+    let path = recording.path;
     let (left, ended, appended) = append_at(rt, alloc, spot, recording, read, kept);
     let Streams {
         input: _,
         output,
-        messages,
+        mut messages,
     } = left;
+    if let Some(appended) = &appended {
+        // If this line can't be written, the fault's line is written all the same.
+        let _ = tell_refusal(appended, path, &mut messages);
+    }
     let streams = Streams {
         input,
         output,
         messages,
     };
     (streams, ended, appended)
+}
+
+// If the system refused to write or to sync the file that takes the rows, writes a line with its path and why. `Err`: that line couldn't
+// be written.
+fn tell_refusal<R: Files<File = File>, E: Write>(
+    appended: &Appended<'_, R>,
+    path: &str,
+    messages: &mut E,
+) -> io::Result<()> {
+    match appended.file.rows.file().refusal() {
+        Some(why) => writeln!(messages, "geocom: {path}: {why}"),
+        None => Ok(()),
+    }
 }
 
 // Reports with status 1 why a file of records can't be had and, for one that doesn't begin as this station's rows do, how to

@@ -12,9 +12,10 @@ use crate::logging::{LogSink, log_at, measure_logged};
 use crate::measure::run_station_text;
 use crate::spot::Spot;
 use crate::stop::Stop;
+use crate::task_text::read_task_text;
 use gc_ask::fault_of_unusable;
 use gc_files::{RowsFile, SystemFile};
-use gc_lines::{Durable, Source};
+use gc_lines::{Durable, FromReader, Source};
 use gc_links::{Link, Moment, Place, PlacedLink, Telling, Unusable, Watched};
 use gc_logs::Logged;
 use gc_messages::{Noticing, Streams};
@@ -27,6 +28,69 @@ use std::net::{Net, TcpListener, TcpStream};
 use std::process::ExitCode;
 use std::rt::Files;
 use std::time::Clock;
+
+// Reads the whole text of a station from the input. `Err`: it was refused, which was reported with status 1.
+pub(crate) fn text_at<S: Source, K, E: Write>(
+    alloc: Global,
+    spot: Spot<'_>,
+    streams: &mut Streams<S, K, E>,
+) -> Result<Vec<u8>, io::Result<ExitCode>>
+    ensures output { streams.new.output ≡ streams.old.output }
+    ensures bound { IfErr result (λ ended. IsStatusUpTo 1 ended) }
+{
+    match read_task_text(alloc, &mut streams.input, &spot.station.choice) {
+        Ok((_, text)) => Ok(text),
+        Err(stop) => {
+            spot.note_fault(stop.fault());
+            Err(report_end_of_run(Err(stop), &mut streams.messages))
+        }
+    }
+}
+
+/// As [`measure_at`], but the text is read first, so that the run's clock starts once it was read: if it is refused, that is reported
+/// with status 1, and no log is opened or made. A text that can be measured is held until the run ends.
+pub fn measure_text_at<
+    'a,
+    R: Net<Listener = TcpListener, Stream = TcpStream> + Clock + Files<File = File>,
+    S: Source,
+    K: Durable,
+    E: Write,
+>(
+    rt: &'a R,
+    alloc: Global,
+    spot: Spot<'a>,
+    mut streams: Streams<S, K, E>,
+    kept: &mut Kept,
+) -> (Streams<S, K, E>, io::Result<ExitCode>)
+    ensures bound { IsStatusUpTo 1 result.1 }
+{
+    let text = match text_at(alloc, spot, &mut streams) {
+        Ok(text) => text,
+        Err(ended) => return (streams, ended),
+    };
+    let Streams {
+        input,
+        output,
+        messages,
+    } = streams;
+    let read = Streams {
+        input: FromReader::new(text.as_slice()),
+        output,
+        messages,
+    };
+    let (left, ended, _) = measure_at(rt, alloc, spot, read, kept);
+    let Streams {
+        input: _,
+        output,
+        messages,
+    } = left;
+    let streams = Streams {
+        input,
+        output,
+        messages,
+    };
+    (streams, ended)
+}
 
 /// Measures at a site, and reports how the run ended: with status 0 by the counts, or with status 1 by the fault (`Err`: the
 /// messages couldn't be written). If the site has a log, its file is opened first, and what was on the link is appended to it. If

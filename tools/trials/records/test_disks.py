@@ -82,7 +82,7 @@ def test_is_full(program, small_disk):
         with instrument() as far:
             status, output, messages = appended(program, far, path, *words)
             assert (status, output) == (1, b""), messages
-            assert messages.endswith("geocom: fault 55\n")
+            assert messages.endswith(f"geocom: fault 55\ngeocom: {path}: No space left on device (os error 28)\n"), messages
         rows, _ = split(path.read_bytes())
         if words:
             assert far.followed and far.followed <= set(numbers(rows)), "a row is missing"

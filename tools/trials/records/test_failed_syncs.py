@@ -28,7 +28,8 @@ def failed(program, folder, path):
     with instrument() as far:
         shell = injecting(folder / "trace", "fdatasync:error=EIO:when=3")
         status, output, messages = appended(program, far, path, "--sync", shell=shell)
-        assert (status, output) == (1, b"") and messages.endswith("geocom: fault 55\n"), messages
+        assert (status, output) == (1, b""), messages
+        assert messages.endswith(f"geocom: fault 55\ngeocom: {path}: Input/output error (os error 5)\n"), messages
     assert mark_of(path.resolve()).exists(), "nothing says that a sync failed"
     rows = split(path.read_bytes())[0]
     assert len(rows) >= 2, rows
