@@ -1,6 +1,6 @@
 """Judges the rows of a night (`night.py`): each command of each attempt has one row, in order; a chain is repeated exactly where its
-text says so; nothing is sent after a command that wasn't answered well, and no command of a cycle before the set-up of its connection;
-and what a row says of an answer was made on executing that row's very request."""
+text says so, unless its cycle is abandoned; nothing is sent after a command that wasn't answered well, and no command of a cycle before
+the set-up of its connection; and what a row says of an answer was made on executing that row's very request."""
 
 import collections
 import datetime
@@ -85,8 +85,19 @@ def is_near(row):
     return apart((hz, v), tuple(map(float, PRISMS[int(row["target"])]))) <= TOLERANCE
 
 
-def faults_of_cycle(cycle, rows):
-    """What is wrong with a cycle: its chains, each with its attempts, and the command by itself."""
+def faults_of_cycles(cycles):
+    """What is wrong with these cycles, which follow one another. The one behind a cycle that is abandoned is missed."""
+    for some, later in itertools.zip_longest(cycles, cycles[1:]):
+        yield from faults_of_cycle(int(some[0]["cycle"]), some, not later or later[0]["outcome"] == "missed")
+
+
+def are_skipped(rows):
+    return all(row["outcome"] == "skipped" for row in rows)
+
+
+def faults_of_cycle(cycle, rows, may_be_abandoned):
+    """What is wrong with a cycle: its chains, each with its attempts, and the command by itself. Of one that is abandoned all that is left is
+    skipped, and no chain is repeated."""
     if rows[0]["outcome"] == "missed":
         if [row["outcome"] for row in rows] != ["missed"] * len(COMMANDS):
             yield f"cycle {cycle} is missed in part"
@@ -99,18 +110,18 @@ def faults_of_cycle(cycle, rows):
             if places != [(chain * len(CHAIN) + n, attempt) for n in range(len(CHAIN))]:
                 yield f"cycle {cycle}, chain {chain}, attempt {attempt} has {places}"
                 return
-            yield from faults_of_chain(one)
-            if not any(map(goes_again, one)) or attempt > RETRIES:
+            yield from faults_of_chain(one, may_be_abandoned and are_skipped(one + left))
+            if not any(map(goes_again, one)) or attempt > RETRIES or may_be_abandoned and are_skipped(left):
                 break
     if [(row["procedure"], row["attempt"]) for row in left] != [(str(COMMANDS[-1][1]), "1")]:
         yield f"cycle {cycle} ends with {left}"
 
 
-def faults_of_chain(rows):
+def faults_of_chain(rows, is_abandoned):
     for before, row in itertools.pairwise(rows):
         if row["sent"] and not is_well(before):
             yield f"{row}: it was sent behind {before}"
-    if rows[0]["outcome"] in UNSENT:
+    if rows[0]["outcome"] in UNSENT and not is_abandoned:
         yield f"{rows[0]}: a chain begins so"
 
 
@@ -138,8 +149,7 @@ def faults_of_run(rows, night):
     cycles = [(int(cycle), list(some)) for cycle, some in itertools.groupby((row for row in rows if row["cycle"] != "0"), key=lambda row: row["cycle"])]
     if [cycle for cycle, _ in cycles] != list(range(1, len(cycles) + 1)):
         yield f"the cycles are {[cycle for cycle, _ in cycles]}"
-    for cycle, some in cycles:
-        yield from faults_of_cycle(cycle, some)
+    yield from faults_of_cycles([some for _, some in cycles])
 
 
 def counted(rows):

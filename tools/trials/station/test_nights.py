@@ -11,7 +11,7 @@ import pytest
 
 from measuring import finished, measuring
 from night import CHAIN, COMMANDS, Night, text
-from nightly import counted, faults_of_answers, faults_of_cycle, faults_of_run, is_well
+from nightly import counted, faults_of_answers, faults_of_cycles, faults_of_run, is_well
 from programs import Run, until
 
 SEED = 53
@@ -59,8 +59,8 @@ def whole_chains(rows):
     """What is wrong with the rows of a run that was stopped: its last cycle may lack chains and further attempts, and a chain's rest only
     after a command that wasn't answered well."""
     *before, last = [list(some) for _, some in itertools.groupby((row for row in rows if row["cycle"] != "0"), key=lambda row: row["cycle"])] or [[]]
-    for some in before:
-        yield from faults_of_cycle(int(some[0]["cycle"]), some)
+    # What follows the last of them isn't known to be missed, so that one may be abandoned.
+    yield from faults_of_cycles(before)
     if last and is_well(last[-1]) and int(last[-1]["place"]) not in ENDS:
         yield f"a chain was cut behind {last[-1]}"
 
