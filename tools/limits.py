@@ -8,7 +8,7 @@ import csv
 import datetime
 import json
 import re
-from dataclasses import dataclass, field
+from dataclasses import dataclass, field, replace
 from decimal import Decimal, InvalidOperation
 
 import quantities
@@ -17,6 +17,11 @@ from angles import difference, in_face_one
 from faulty import Faulty
 
 COLUMNS = ["target", "column", "reference", "tolerance", "outside", "of"]
+# The columns that a table may have besides, and their words, of which the first is meant where a field is empty or the column isn't there.
+# (`warning` is a quality, and no level.)
+LEVEL, WARNINGS = "level", "warnings"
+WORDS = {LEVEL: ["alarm", "attention"], WARNINGS: ["count", "ignore"]}
+ALARM, ATTENTION = WORDS[LEVEL]
 # The word in place of a column that asks for a good row within so many cycles or seconds, and that in place of a target for all of a file.
 SILENCE = "silence"
 ALL = "*"
@@ -30,7 +35,8 @@ MEASURED, WHOLE = "measured", "whole"
 @dataclass(frozen=True)
 class Limit:
     """A limit of a target: a line where at least `outside` of its last `of` good rows are further than the tolerance from the
-    reference, and the row itself is. Of a silence: where it, or no target at all, had a good row for `of` cycles, or for so many seconds."""
+    reference, and the row itself is. Of a silence: where it, or no target at all, had a good row for `of` cycles, or for so many seconds.
+    Rows of quality `warning` count, or are as if they weren't there."""
 
     target: str
     column: str
@@ -39,11 +45,30 @@ class Limit:
     outside: int
     of: int
     seconds: int = None
+    # Nothing where the table says no levels.
+    level: str = None
+    counts_warnings: bool = True
 
     def key(self):
         """What stands for it in the state: another limit starts afresh."""
         of = self.of if self.seconds is None else f"{self.seconds}s"
-        return json.dumps([self.target, self.column, *map(str, (self.reference, self.tolerance, self.outside, of))])
+        # What is meant where nothing is said isn't there, as in the state of an earlier version.
+        more = [self.level] * (self.level == ATTENTION) + [WORDS[WARNINGS][1]] * (not self.counts_warnings)
+        return json.dumps([self.target, self.column, *map(str, (self.reference, self.tolerance, self.outside, of)), *more])
+
+    def is_silence(self):
+        return self.column == SILENCE
+
+    def counts(self, fields):
+        """Whether it counts a row, by its quality."""
+        return self.counts_warnings or is_sure(fields)
+
+    def measure(self):
+        """What a limit of the same is before or after: how much it allows, of a reference or of a silence in one unit."""
+        same = (self.target, self.column, self.reference, self.outside, self.seconds is None)
+        if self.is_silence():
+            return same, self.of if self.seconds is None else self.seconds
+        return (*same, self.of, self.counts_warnings), self.tolerance
 
 
 def decimal(text, what):
@@ -74,8 +99,26 @@ def silence_of(target, row):
     return Limit(target, SILENCE, None, None, None, None, int(in_seconds[1]))
 
 
+def is_sure(fields):
+    """Whether a row isn't doubtful."""
+    return fields.get("quality") != "warning"
+
+
+def word_of(row, column):
+    """The word of a row in one of the columns that a table may have besides; nothing where it hasn't the column."""
+    found = row.get(column)
+    if found and found not in WORDS[column]:
+        raise Faulty(f"{column} is neither {' nor '.join(WORDS[column])}: {ascii(found)}")
+    return found or WORDS[column][0] if column in row else None
+
+
 def limit_of(row):
-    """The limit of a row of the table."""
+    """The limit of a row of the table, of its level."""
+    return replace(bound_of(row), level=word_of(row, LEVEL), counts_warnings=word_of(row, WARNINGS) != WORDS[WARNINGS][1])
+
+
+def bound_of(row):
+    """What a row of the table allows."""
     if row["target"] == ALL and row["column"] != SILENCE:
         raise Faulty(f"target {ALL} has a silence alone")
     if row["target"] != ALL and not (row["target"].isascii() and row["target"].isdigit()):
@@ -94,6 +137,18 @@ def limit_of(row):
     return Limit(target, row["column"], decimal(row["reference"], "reference"), tolerance, outside, of)
 
 
+def add(found, limit):
+    """Adds a limit that isn't there yet, and doesn't contradict the other level of the same: attention comes first."""
+    if limit in found:
+        raise Faulty("it stands there twice")
+    same, allowed = limit.measure()
+    for other in found:
+        sign = (other.level == ATTENTION) - (limit.level == ATTENTION)
+        if other.measure()[0] == same and sign * other.measure()[1] > sign * allowed:
+            raise Faulty(f"{ATTENTION} allows more than {ALARM}")
+    found.append(limit)
+
+
 def limits_of(text):
     """The limits of a table; `Faulty` with the number of its first line that is none. Empty lines, and those that begin with #, are none."""
     found, head = [], None
@@ -103,17 +158,15 @@ def limits_of(text):
         fields = [each.strip() for each in next(csv.reader([line]))]
         if head is None:
             head = fields
-            if head != COLUMNS:
-                raise Faulty(f"line {number}: its columns aren't {','.join(COLUMNS)}")
+            if head != COLUMNS + [column for column in WORDS if column in head]:
+                raise Faulty(f"line {number}: its columns aren't {','.join(COLUMNS)}, and behind them {' or '.join(WORDS)} or both")
             continue
-        if len(fields) != len(COLUMNS):
-            raise Faulty(f"line {number}: it has {len(fields)} fields for {len(COLUMNS)} columns")
+        if len(fields) != len(head):
+            raise Faulty(f"line {number}: it has {len(fields)} fields for {len(head)} columns")
         try:
-            found.append(limit_of(dict(zip(COLUMNS, fields))))
+            add(found, limit_of(dict(zip(head, fields))))
         except Faulty as why:
             raise Faulty(f"line {number}: {why}") from None
-        if found[-1] in found[:-1]:
-            raise Faulty(f"line {number}: it stands there twice")
     if not found:
         raise Faulty("it has no limit")
     return found
@@ -135,6 +188,11 @@ def value_of(fields, column):
     return number if number.is_finite() else None
 
 
+def highest(lines):
+    """The highest level of lines, which have it after their moment; a line without one is an alarm's."""
+    return ATTENTION if all(line.split(" ", 2)[1:2] == [f"{ATTENTION}:"] for line in lines) else ALARM
+
+
 def shown(number):
     """A number with at most ten places, without zeros at its end."""
     text = format(round(number, 10), "f")
@@ -150,14 +208,16 @@ def later(text, seconds):
 class Watch:
     """What is known of the limits from the rows so far. `vars` of it is the state that is kept.
 
-    A target is good in a cycle once each column that a limit of it names has a value, in one of its rows there or in several. Where no
-    limit names one, it is good once a row has all that its procedure returns; of a target that is measured, only such a row counts.
+    A target is good in a cycle once each column that a limit of it names has a value that this limit counts, in one of its rows there or in
+    several. Where no limit names one, it is good once a row has all that its procedure returns; of a target that is measured, only such a
+    row counts. It is surely good where that is so by the rows alone that aren't of quality `warning`: silences that ignore those ask for it.
     """
 
     # Of each limit whether the last good rows of earlier cycles were outside, and those of the current cycle, each with its place.
     windows: dict = field(default_factory=dict)
     now: dict = field(default_factory=dict)
-    # Of each silence how many cycles it lasts; the current cycle, and the columns of targets that had a value in it, each with its place.
+    # Of each silence how many cycles it lasts; the current cycle, and the columns of targets that had a value in it, each with its place
+    # and whether the row is sure.
     silent: dict = field(default_factory=dict)
     names: dict = field(default_factory=dict)
     cycle: list = None
@@ -165,8 +225,10 @@ class Watch:
     # The places and attempts of the current cycle; the targets that are measured.
     taken: list = field(default_factory=list)
     measured: list = field(default_factory=list)
-    # When each target was good last: the row's time, and the second of the scale. The same of the first row, or of the first look.
+    # When each target was good last: the row's time, and the second of the scale; when it was surely good; the same of the first row, or of
+    # the first look.
     heard: dict = field(default_factory=dict)
+    heard_surely: dict = field(default_factory=dict)
     begun: list = None
     # The limits that an alarm stands for, each with how often it was reported.
     standing: dict = field(default_factory=dict)
@@ -183,12 +245,13 @@ class Watch:
         self.names[target] = fields["name"]
         if quantities.measures(fields) and target not in self.measured:
             self.measured.append(target)
-        new = [[place, target, column] for column in self.columns(limits, fields)]
+        new = [[place, target, column, is_sure(fields)] for column in self.columns(limits, fields)]
         self.seen += new
-        if new and self.is_good(limits, target):
-            lines += self.hear(limits, target, fields["time"], at, repeats)
+        for surely in (False, True) if new else ():
+            if self.is_good(limits, target, surely):
+                lines += self.hear(limits, target, surely, fields["time"], at, repeats)
         for limit in limits:
-            if limit.target == target and limit.column != SILENCE:
+            if limit.target == target and not limit.is_silence() and limit.counts(fields):
                 lines += self.compare(limit, fields, repeats)
         self.taken.append([place, records.attempt_of(fields)])
         return lines
@@ -202,24 +265,25 @@ class Watch:
     def columns(limits, fields):
         """The columns in which a row has a value: of those that limits of its target name, and of those that stand for all quantities."""
         target = str(int(fields["target"]))
-        found = {limit.column for limit in limits if limit.target == target and limit.column != SILENCE and value_of(fields, limit.column) is not None}
+        found = {limit.column for limit in limits if limit.target == target and not limit.is_silence() and value_of(fields, limit.column) is not None}
         if quantities.is_whole(fields):
             found.add(MEASURED if quantities.measures(fields) else WHOLE)
         return sorted(found)
 
-    def is_good(self, limits, target):
-        """Whether a target is good in the current cycle."""
-        columns = {limit.column for limit in limits if limit.target == target and limit.column != SILENCE}
-        wanted = columns or {MEASURED if target in self.measured else WHOLE}
-        return wanted <= {column for _, other, column in self.seen if other == target}
+    def is_good(self, limits, target, surely=False):
+        """Whether a target is good in the current cycle, or surely good."""
+        wanted = {(limit.column, surely or not limit.counts_warnings) for limit in limits if limit.target == target and not limit.is_silence()}
+        wanted = wanted or {(MEASURED if target in self.measured else WHOLE, surely)}
+        seen = [(column, is_sure) for _, other, column, is_sure in self.seen if other == target]
+        return wanted <= {(column, False) for column, _ in seen} | {(column, True) for column, is_sure in seen if is_sure}
 
     def counts(self, limit, target):
         """Whether a target's good rows end a silence. Where targets are measured, what is asked of the instrument besides ends none of all."""
         return limit.target == target or limit.target == ALL and (target in self.measured or not self.measured)
 
-    def good(self, limits):
-        """The targets that are good in the current cycle."""
-        return {target for target in {each[1] for each in self.seen} if self.is_good(limits, target)}
+    def good(self, limits, surely):
+        """The targets that are good in the current cycle, or surely good."""
+        return {target for target in {each[1] for each in self.seen} if self.is_good(limits, target, surely)}
 
     def begin(self, limits, fields, repeats):
         """Where a row begins a cycle, the one before it is over: whose silence it made long enough, or ended."""
@@ -227,9 +291,10 @@ class Watch:
         if at == self.cycle:
             return []
         if self.cycle is not None:
-            good = self.good(limits)
-            for limit in (each for each in limits if each.column == SILENCE and each.seconds is None):
-                cycles = 0 if any(self.counts(limit, target) for target in good) else self.silent.get(limit.key(), 0) + 1
+            good = {surely: self.good(limits, surely) for surely in (False, True)}
+            for limit in (each for each in limits if each.is_silence() and each.seconds is None):
+                is_heard = any(self.counts(limit, target) for target in good[not limit.counts_warnings])
+                cycles = 0 if is_heard else self.silent.get(limit.key(), 0) + 1
                 self.silent[limit.key()] = cycles
                 if cycles and cycles % limit.of == 0:
                     said = f"{fields['time']} {self.called(limit)}: no good row for {cycles} cycles; cycle {self.cycle[1]}"
@@ -241,13 +306,14 @@ class Watch:
         self.cycle, self.seen, self.now, self.taken = at, [], {}, []
         return lines
 
-    def hear(self, limits, target, time, at, repeats):
-        """Takes that a target is good. A silence that lasted long enough before it is reported, also where nobody looked at its time."""
+    def hear(self, limits, target, surely, time, at, repeats):
+        """Takes that a target is good, or surely good. A silence that lasted long enough before it is reported, also where nobody looked at
+        its time."""
         lines = []
-        for limit in (each for each in limits if each.seconds is not None and self.counts(each, target)):
+        for limit in (each for each in limits if each.seconds is not None and each.counts_warnings != surely and self.counts(each, target)):
             lines += self.judge_one(limit, at, repeats)
             lines += self.ends(limit, f"{time} {self.called(limit)}: a good row again")
-        self.heard[target] = [time, at]
+        (self.heard_surely if surely else self.heard)[target] = [time, at]
         return lines
 
     def judge(self, limits, time, at, repeats=True):
@@ -257,7 +323,7 @@ class Watch:
 
     def judge_one(self, limit, at, repeats):
         """The line of a silence of seconds whose time has come."""
-        heard = [self.heard[target] for target in self.heard if self.counts(limit, target)]
+        heard = [then for target, then in (self.heard if limit.counts_warnings else self.heard_surely).items() if self.counts(limit, target)]
         time, last = max(heard, key=lambda each: each[1], default=self.begun)
         times = int(max(0, at - last) // limit.seconds)
         if times <= self.standing.get(limit.key(), 0) or limit.key() in self.standing and not repeats:
@@ -295,21 +361,28 @@ class Watch:
         """The line for the end of an alarm that stood, which says whether it was the last one."""
         if self.standing.pop(limit.key(), None) is None:
             return []
-        more = f"{len(self.standing)} more alarm{'s' if len(self.standing) > 1 else ''}"
-        return [f"{line}; {more if self.standing else 'all is well'}"]
+        many = len(self.standing)
+        more = f"{many} more alarm{'s' if many > 1 else ''}"
+        if limit.level:
+            lower = sum(ATTENTION in json.loads(key) for key in self.standing)
+            more = " and ".join(f"{count} more at {level}" for count, level in ((many - lower, ALARM), (lower, ATTENTION)) if count)
+        return [f"{line}; {more if many else 'all is well'}"]
 
     def begin_again(self, limits, at):
         """Goes on at a start, at this second of the scale: without the alarms of limits that the table doesn't have any more. No row came
         later than that, though the clock may have been set back."""
         keys = {limit.key() for limit in limits}
         self.standing = {key: times for key, times in self.standing.items() if key in keys}
-        self.heard = {target: [time, min(then, at)] for target, (time, then) in self.heard.items()}
+        self.heard, self.heard_surely = (
+            {target: [time, min(then, at)] for target, (time, then) in heard.items()} for heard in (self.heard, self.heard_surely))
+        # An earlier version didn't say which rows are sure.
+        self.seen = [[*each, True][:4] for each in self.seen]
         self.begun = self.begun and [self.begun[0], min(self.begun[1], at)]
 
     def called(self, limit):
-        """What a line calls a target."""
-        name = self.names.get(limit.target)
-        return "station" if limit.target == ALL else f"target {limit.target}" + (f" ({name})" if name else "")
+        """What a line calls a target, after the level where the table has some."""
+        name, level = self.names.get(limit.target), f"{limit.level}: " if limit.level else ""
+        return level + ("station" if limit.target == ALL else f"target {limit.target}" + (f" ({name})" if name else ""))
 
     def is_behind(self, fields):
         """Whether a row comes after those that were taken, by its run, its cycle, its place and its attempt. The attempts of a chain come
