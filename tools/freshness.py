@@ -107,10 +107,10 @@ class File:
         except records.NoRow as why:
             raise Unknown(f"{self.path} {why}") from None
 
-    def lines(self):
-        """The complete lines from the last one back. What follows the last line feed is none."""
+    def lines(self, most=MOST_BYTES):
+        """The complete lines from the last one back, of so many bytes. What follows the last line feed is none."""
         begin, rest = self.stat.st_size, None
-        least = max(0, begin - MOST_BYTES)
+        least = max(0, begin - most)
         while begin > least:
             end, begin = begin, max(least, begin - PIECE)
             data = self.read(begin, end)
