@@ -308,15 +308,15 @@ def test_leaves_stations_out(month):
 
 
 def test_many_stations(month, folder, note):
-    """A hundred stations of a month: what the first writing takes, and a later one."""
+    """Twenty stations of a month: what the first writing takes, and a later one."""
     for each in "rows/reduced", "limits":
         (folder / each).mkdir(parents=True)
-    for number in range(100):
+    for number in range(20):
         for name in "rows/north.csv", "rows/reduced/north.csv", "limits/north.limits", "limits/north.site":
             os.symlink(month / name, folder / name.replace("north", f"s{number}"))
     now = shown_month.NOW * 3600 + shown_month.BEGIN.timestamp()
     stations = [viewed.Station(f"s{number}", folder / f"rows/s{number}.csv", folder / f"rows/reduced/s{number}.csv", folder / f"limits/s{number}.limits",
-                               folder / f"limits/s{number}.site", 31.0) for number in range(100)]
+                               folder / f"limits/s{number}.site", 31.0) for number in range(20)]
     took = []
     for _ in range(2):
         begun = time.process_time()
