@@ -1,5 +1,5 @@
 # bash completion for geocom-to-sqlite(1), geocom-to-postgres(1), geocom-to-mqtt(1), geocom-plot(1), geocom-reduce(1), geocom-alarm(1),
-# geocom-alive(1) and geocom-bad-line(1)
+# geocom-alive(1), geocom-page(1) and geocom-bad-line(1)
 
 _geocom_tools() {
     local cur prev words cword
@@ -10,6 +10,7 @@ _geocom_tools() {
     geocom-reduce) given="--append --gama --free $given" ;;
     geocom-alarm) given="--run --repeat --apart --patience $given" ;;
     geocom-alive) given='--within --measured --except --notify --help' ;;
+    geocom-page) given='--rows --reduced --limits --days --within --except --every --once --at --help' ;;
     geocom-plot) given='--help' ;;
     geocom-bad-line) given='--line --seed --connections --log --far-log --decided --drill --deadline --help' ;;
     esac
@@ -18,14 +19,18 @@ _geocom_tools() {
         _filedir
         return
         ;;
+    --rows | --reduced | --limits)
+        _filedir -d
+        return
+        ;;
     --host)
         _known_hosts_real -- "$cur"
         return
         ;;
-    --as | --rest | --within | --measured | --except | --port | --user | --run | --apart | --patience | --seed | --connections | --deadline) return ;;
+    --as | --rest | --within | --measured | --except | --port | --user | --run | --apart | --patience | --seed | --connections | --deadline | --days | --every | --at | --except) return ;;
     esac
     case $cur in
     -*) mapfile -t COMPREPLY < <(compgen -W "$given" -- "$cur") ;;
     *) _filedir ;;
     esac
-} && complete -F _geocom_tools geocom-to-sqlite geocom-to-postgres geocom-to-mqtt geocom-plot geocom-reduce geocom-alarm geocom-alive geocom-bad-line
+} && complete -F _geocom_tools geocom-to-sqlite geocom-to-postgres geocom-to-mqtt geocom-plot geocom-reduce geocom-alarm geocom-alive geocom-page geocom-bad-line

@@ -9,7 +9,7 @@ from sinks import TOOLS
 
 UNITS = TOOLS.parent / "packaging/systemd"
 # Those that restart by themselves.
-LASTING = ["geocom-station@", "geocom-alarm@", "geocom-reduce@", "geocom-to-mqtt", "geocom-to-postgres", "geocom-to-sqlite"]
+LASTING = ["geocom-station@", "geocom-alarm@", "geocom-reduce@", "geocom-to-mqtt", "geocom-to-postgres", "geocom-to-sqlite", "geocom-page"]
 
 
 def settings(name):
@@ -45,7 +45,7 @@ def test_a_station_is_the_main_process():
     assert len(unit["ExecStart"]) == 1 and " @BIN@/geocom station " in unit["ExecStart"][0] and len(unit["ExecStartPost"]) == 1
     assert unit["ExecStartPost"][0].startswith("-/bin/sh ") and "geocom-alive" in unit["ExecStartPost"][0] and "WatchdogSec" not in unit
     assert any("--check" in each for each in unit["ExecStartPre"])
-    for name in "geocom-station@", "geocom-alarm@":
+    for name in "geocom-station@", "geocom-alarm@", "geocom-page":
         assert "time-sync.target" in settings(f"{name}.service")["After"][-1].split()
     assert "After" not in settings("geocom-alive@.service"), "a clock that isn't set has to be noticed"
 
