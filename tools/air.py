@@ -6,6 +6,7 @@ from bisect import bisect_right
 from decimal import Decimal, InvalidOperation
 from pathlib import Path
 
+import follow
 import moments
 import quantities
 import records
@@ -85,13 +86,14 @@ class Columns:
 
 class File:
     """The air by a table with times: the last line at the beginning of a cycle or before it, if it isn't older than so many seconds. The
-    file may grow; half a line at its end is left."""
+    file may grow; half a line at its end is left. A line that is none is left out, and reported once: the cycles after it have the air of
+    the line before it, as long as that isn't too old."""
 
     SAID = "file"
 
     def __init__(self, folder, path, seconds):
         self.path, self.most = os.path.join(folder, path), seconds * 1000
-        self.state, self.times, self.airs = None, [], []
+        self.state, self.times, self.airs, self.told = None, [], [], set()
 
     def of(self, rows):
         self.read()
@@ -106,18 +108,25 @@ class File:
             state = (there.st_ino, there.st_size, there.st_mtime_ns)
             if state == self.state:
                 return
-            text = Path(self.path).read_text(encoding="utf-8-sig")
-        except (OSError, UnicodeDecodeError) as why:
-            raise Faulty(f"{self.path}: {getattr(why, 'strerror', None) or 'it is no text'}") from None
+            text = Path(self.path).read_text(encoding="utf-8-sig", errors="replace")
+        except OSError as why:
+            raise Faulty(f"{self.path}: {why.strerror}") from None
         self.state, self.times, self.airs = state, [], []
-        names, *lines = csv.reader(text[: text.rfind("\n") + 1].splitlines() or [""])
+        head, *lines = text[: text.rfind("\n") + 1].split("\n")[:-1] or [""]
+        names = head.strip("\r").split(",")
         if names not in (["time", *NAMES[:2]], ["time", *NAMES]):
             raise Faulty(f"{self.path}: its columns aren't time,{','.join(NAMES)}, of which the last may be missing")
-        for number, fields in enumerate(lines, 2):
+        for number, line in enumerate(lines, 2):
             try:
-                self.take(names, fields)
-            except (Faulty, ValueError) as why:
-                raise Faulty(f"{self.path}: line {number} is none: {why}") from None
+                self.take(names, next(csv.reader([line.strip("\r")], strict=True), []))
+            except (Faulty, ValueError, csv.Error) as why:
+                self.leave_out(f"{self.path}: line {number} is none, and left out: {why}")
+
+    def leave_out(self, why):
+        """Reports a line that is left out, once: the file is read again where it grows."""
+        if why not in self.told:
+            follow.tell(why)
+        self.told.add(why)
 
     def take(self, names, fields):
         """Takes a line; times go forward."""

@@ -185,8 +185,9 @@ def row_of(site, target, orientation, place):
         "distance_deviation_m": written(deviation(target.distance_residuals), "m"), "freedom": str(target.count - 1),
         "faces": str(target.faces()), "references": "" if orientation.number is None else str(orientation.number),
         "left_out": " ".join(orientation.left_out), "orientation_deviation_rad": written(orientation.deviation, "rad"),
-        "scale_ppm": "" if orientation.scale is None else written((orientation.scale - 1) * 1_000_000, "ppm"),
-        "refraction": written(orientation.refraction, "1") if site.refraction_from_references else "",
+        # Without an orientation no scale was applied: the residuals are by medians then.
+        "scale_ppm": "" if None in (orientation.scale, orientation.angle) else written((orientation.scale - 1) * 1_000_000, "ppm"),
+        "refraction": written(orientation.refraction, "1") if site.refraction_from_references and orientation.angle is not None else "",
         "atmosphere": orientation.air[0], "atmosphere_ppm": written(orientation.air[1], "ppm"), "reason": "; ".join(doubts),
     }
 

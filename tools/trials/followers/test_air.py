@@ -1,5 +1,7 @@
 """The air, the scale and the refraction of each cycle: from columns of rows, from a file with times, and from references, by hand."""
 
+import csv
+import io
 from decimal import Decimal
 
 import air
@@ -7,6 +9,7 @@ import orienting
 import pytest
 import sites
 from faulty import Faulty
+from programs import ended
 from records import HEAD
 from sinks import messages_of, tool
 from surveyed import Survey
@@ -140,10 +143,7 @@ def test_refuses_lines_of_air(text, why):
 
 @pytest.mark.parametrize("text, why", [
     ("", "its columns aren't time,temperature_c"), ("time,temperature_c\n", "its columns aren't"), (None, "No such file or directory"),
-    ("time,temperature_c,pressure_hpa\n2026-11-01T00:00:00Z,12\n", "line 2 is none: it has 2 fields for 3 columns"),
-    ("time,temperature_c,pressure_hpa\n2026-11-01T00:00:00,12,1000\n", "line 2 is none: 2026-11-01T00:00:00"),
-    ("time,temperature_c,pressure_hpa\n2026-11-01T00:00:00Z,12,29.9\n", "line 2 is none: atmosphere has a number out of its range"),
-    ("time,temperature_c,pressure_hpa\n2026-11-01T00:00:01Z,12,1000\n2026-11-01T00:00:00Z,12,1000\n", "line 3 is none: its time isn't after"),
+    ("\0time,temperature_c,pressure_hpa\n", "its columns aren't"),
 ])
 def test_refuses_a_file_of_air(folder, text, why):
     survey = Survey({7: PRISMS[7]})
@@ -153,3 +153,40 @@ def test_refuses_a_file_of_air(folder, text, why):
         (folder / "air.csv").write_text(text, encoding="ascii")
     messages = messages_of(tool("reduce", folder / "values.csv", folder / "site"), 1)
     assert why in messages and messages.count("\n") == 1 and f"{folder}/air.csv: " in messages, messages
+
+
+@pytest.mark.parametrize("line, why", [
+    (b"2026-11-01T00:10:00Z,12", "it has 2 fields for 3 columns"), (b"2026-11-01T00:10:00,12,1000", "2026-11-01T00:10:00 says no zone"),
+    (b"2026-11-01T00:10:00Z,12,29.9", "atmosphere has a number out of its range"), (b"2026-11-01T00:00:00Z,12,1000", "its time isn't after the one before it"),
+    (b"2026-11-01T00:10:00Z,nan,1000", "a field is no number"), (b"2026-11-01T00:10:00Z,\xff,1000", "a field is no number"), (b'2026-11-01T00:10:00Z,"12,1000', "unexpected end of data"),
+    (b"", "it has 0 fields for 3 columns"), (b"2026-11-01T00:10:00Z,\0,1000", "a field is no number"), (b"time,temperature_c,pressure_hpa", "a field is no number"),
+])
+def test_a_bad_line_of_air_is_left_out(folder, line, why):
+    """It is reported once, also where the file is read again, and costs the cycles after it no more than its own air: they have that of the
+    line before it, as long as that isn't too old."""
+    survey = Survey({7: PRISMS[7]}, every=1200)
+    (folder / "values.csv").write_bytes(survey.table([{}] * 5))
+    (folder / "site").write_text(survey.text("orientation 0.5", "flat", "atmosphere file air.csv 3000"), encoding="ascii")
+    (folder / "air.csv").write_bytes(b"time,temperature_c,pressure_hpa\n2026-11-01T00:00:00Z,12,1000\n" + line + b"\n2026-11-01T00:30:00Z,20,1000\r\n")
+    status, output, messages = ended(tool("reduce", folder / "values.csv", folder / "site"), patience=60)
+    assert (status, messages.count("\n")) == (0, 1), messages
+    assert messages == f"reduce: {folder}/air.csv: line 3 is none, and left out: {why}\n"
+    rows = list(csv.DictReader(io.StringIO(output.decode())))
+    ppm = [row["atmosphere_ppm"] for row in rows]
+    assert [row["quality"] for row in rows] == ["ok"] * 5 and ppm[0] == ppm[1] != ppm[2] == ppm[3] == ppm[4], ppm
+    file = air.File(folder, "air.csv", 3000)
+    for _ in range(3):
+        file.of([{"time": "2026-11-01T00:20:00.000Z"}])
+        with open(folder / "air.csv", "ab") as more:
+            more.write(b"2026-11-01T09:00:00Z,20,1000\n")
+    assert len(file.told) == 2
+
+
+def test_a_scale_that_wasnt_applied(folder):
+    """With too few references nothing is applied: the columns of scale and refraction are empty there, and full in the other cycles."""
+    survey = Survey(PRISMS)
+    lines = [survey.line("reference", 1, 2, 3), "references at least 2 within 0.00003 0.003", "scale from references", "refraction from references"]
+    rows = reduced(folder, survey, [{}, {"hidden": (1, 2)}, {}], *lines)
+    for cycle, is_applied in (1, True), (2, False), (3, True):
+        row = rows[cycle, 7]
+        assert [bool(row[name]) for name in ("scale_ppm", "refraction", "target_easting_m")] == [is_applied] * 3, row

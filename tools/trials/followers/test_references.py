@@ -258,5 +258,6 @@ def test_refuses_a_network(folder):
     command = tool("reduce", folder / "values.csv", folder / "site", "--gama")
     assert "has no such cycle" in messages_of([*command, "3"], 1)
     assert "one of both" in messages_of([*command, "--append", folder / "table"], 2)
+    assert messages_of([*command[:-1], "--free"], 2) == "reduce: --free is of a network: it wants --gama\n"
     (folder / "site").write_text("flat\n", encoding="ascii")
     assert "a network wants a line station" in messages_of(command, 1)
