@@ -159,7 +159,7 @@ def limits_of(text):
         if head is None:
             head = fields
             if head != COLUMNS + [column for column in WORDS if column in head]:
-                raise Faulty(f"line {number}: its columns aren't {','.join(COLUMNS)}, and behind them {' or '.join(WORDS)} or both")
+                raise Faulty(f"line {number}: its columns aren't {','.join(COLUMNS)}, and after them {' or '.join(WORDS)} or both")
             continue
         if len(fields) != len(head):
             raise Faulty(f"line {number}: it has {len(fields)} fields for {len(head)} columns")

@@ -61,7 +61,7 @@ path.axis { stroke: var(--line); stroke-width: 0.6; fill: none; }
 path.sure, path.doubtful { stroke: var(--sure); stroke-width: 2.2; stroke-linecap: round; fill: none; } path.doubtful { stroke: var(--warning); }
 path.limit { stroke-width: 1; fill: none; } path.limit.attention { stroke: var(--attention); stroke-dasharray: 4 3; } path.limit.alarm { stroke: var(--alarm); }
 .key { display: inline-block; width: 0.8rem; height: 0.8rem; border-radius: 2px; vertical-align: -1px; margin: 0 0.2rem 0 0.6rem; }
-table { border-collapse: collapse; display: block; overflow-x: auto; } th, td { text-align: left; padding: 0.1rem 0.7rem 0.1rem 0; border-bottom: 1px solid var(--line); font-size: 0.9rem; }
+table { border-collapse: collapse; display: block; overflow-x: auto; margin: 0.3rem 0 0.6rem; } th, td { text-align: left; padding: 0.1rem 0.7rem 0.1rem 0; border-bottom: 1px solid var(--line); font-size: 0.9rem; }
 """
 
 
