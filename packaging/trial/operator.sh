@@ -34,6 +34,14 @@ for row in sqlite3.connect('/var/lib/geocom/values.db').execute('SELECT source, 
 head -n 1 /var/lib/geocom/alarm/told | cut -d ' ' -f 2-
 [ "$(wc -l </var/lib/geocom/alarm/told)" = "$(journalctl --no-pager -o cat -u geocom-alarm@simulator | grep -c 'target 2')" ]
 head -n 1 /var/lib/geocom/reduced/simulator.csv | cut -d , -f 14-16
+# The pages of both stations, by their unit.
+systemctl start geocom-page
+for _ in 1 2 3 4 5 6 7 8 9 10; do [ -s /var/lib/geocom/page/index.html ] || sleep 1; done
+grep -o 'href="station-[a-z]*.html"' /var/lib/geocom/page/index.html | sort
+grep -c 'answered well' /var/lib/geocom/page/station-simulator.html /var/lib/geocom/page/station-line.html
+systemctl is-active geocom-page
+systemctl stop geocom-page
+rm -r /var/lib/geocom/page
 systemctl stop geocom-reduce@simulator geocom-alarm@simulator
 systemctl show -p User,NRestarts,NoNewPrivileges,CapabilityBoundingSet "$2"
 systemctl stop "$2" "$3"

@@ -3,6 +3,9 @@
 import csv
 import io
 import math
+import shutil
+import subprocess
+import xml.etree.ElementTree as Tree
 from decimal import Decimal
 
 import angles
@@ -168,6 +171,10 @@ def test_hidden_references(folder):
             assert rows[cycle, 1]["outcome"] == "answered" and rows[cycle, 1]["rc"] == "8710"
     lines = alarms(folder, rows, "7,references,3,1,1,1\n")
     assert [line.rsplit(" ", 1)[1] for line in lines] == ["4"], lines
+    # With limits such as those of the package, which name no references, the target falls silent.
+    (folder / "state").unlink()
+    lines = alarms(folder, rows, "7,target_easting_m,1150,0.003,2,3\n7,target_height_m,104,0.003,2,3\n7,silence,,,,6\n")
+    assert [line.split(" ", 1)[1] for line in lines] == ["target 7 (P7): no good row for 6 cycles; cycle 9"], lines
 
 
 def test_a_moved_reference(folder):
@@ -250,6 +257,25 @@ def test_a_network_is_adjusted(folder, note):
     # The first cycle isn't the last.
     places, residuals = Network(network(folder, survey, [{}, {"moved": {3: (0.0096, -0.0027, 0)}}], "1")).adjust()
     assert max(map(abs, residuals.values())) < 0.1
+
+
+def test_gama_finds_a_moved_reference(folder, note):
+    """GNU Gama's own program adjusts the export: without a movement no residual is large, and with one that of the moved reference is the
+    largest. (The form of its answer is from memory.)"""
+    if not shutil.which("gama-local"):
+        pytest.skip("no gama-local: Debian's package gama")
+    survey = Survey(PRISMS)
+    for moved, is_found in ({}, False), ({3: (0.0096, -0.0027, 0)}, True):
+        (folder / "network").write_text(network(folder, survey, [{}, {"moved": moved}]), encoding="utf-8")
+        subprocess.run(["gama-local", folder / "network", "--xml", folder / "adjusted"], check=True, timeout=60, capture_output=True)
+        found = {}
+        for each in Tree.parse(folder / "adjusted").iter():
+            parts = {part.tag.rpartition("}")[2]: part.text for part in each}
+            if "std-residual" in parts and "to" in parts:
+                found[each.tag.rpartition("}")[2], parts["to"].strip()] = abs(float(parts["std-residual"]))
+        worst = max(found, key=found.get)
+        assert (worst[1] == "3" and found[worst] > 2) if is_found else found[worst] < 2, found
+        note(f"{'moved' if is_found else 'still'}: {worst} has {found[worst]:.1f}")
 
 
 def test_refuses_a_network(folder):
