@@ -109,10 +109,11 @@ def days(begin, end):
 class Chart:
     """A quantity over time, in its unit, as it differs from a reference."""
 
-    def __init__(self, series, begin, end, times, reference, bounds, least):
-        """`bounds` are the limits, each as its class, where it begins and where it ends, in the unit; the scale spans `least` at least."""
+    def __init__(self, series, begin, end, shown, bounds, least):
+        """`shown` gives what a value is shown as, in the unit; `bounds` are the limits, each as its class, where it begins and where it ends;
+        the scale spans `least` at least."""
         self.begin, self.end, self.bounds = begin, end, bounds
-        self.points = [(moment, (value - reference) * times, is_sure) for moment, value, is_sure in zip(series.moments, series.values, series.sure)
+        self.points = [(moment, shown(value), is_sure) for moment, value, is_sure in zip(series.moments, series.values, series.sure)
                        if begin <= moment <= end]
         ends = [value for _, value, _ in self.points] + [each for _, *both in bounds for each in both] or [0]
         middle, half = (min(ends) + max(ends)) / 2, max(max(ends) - min(ends), least) / 2 * 1.08

@@ -133,7 +133,7 @@ class View:
         for column in self.station.shown(target):
             level = viewed.level_outside(self.station.limits_of(target.number, column), target)
             if level:
-                yield level, f"{target.called()}: {self.value_words(target, column)}, outside"
+                yield level, f"{target.called()}: {self.value_words(target, column)}, outside{self.when(target, column)}"
 
     def doubts(self):
         """Why the last reductions are doubtful, each reason with its targets."""
@@ -148,25 +148,33 @@ class View:
 
     def value_words(self, target, column):
         """The last value of a column in its unit, as it differs from its limits' reference."""
-        times, unit = charts.unit_of(column)
-        given = self.station.limits_of(target.number, column)
-        value = target.last(column) - self.reference(target, column)
-        sign = "+" if value > 0 and (given or column in viewed.MOVED) else ""
-        return f"{charts.words_of(column)} {sign}{charts.short(value * times)} {unit}".rstrip()
+        unit, value = charts.unit_of(column)[1], self.shown(target, column)(target.last(column))
+        sign = "+" if value > 0 and unit and (self.station.limits_of(target.number, column) or column in viewed.MOVED) else ""
+        return f"{charts.words_of(column)} {sign}{charts.short(value)} {unit}".rstrip()
+
+    def shown(self, target, column):
+        """What shows a value of a column: as it differs from the reference, in its unit."""
+        times, reference = charts.unit_of(column)[0], self.reference(target, column)
+        return lambda value: viewed.apart(column, value, reference) * times
+
+    def when(self, target, column):
+        """How old the last value of a column is, where that isn't new."""
+        moment = target.seen(column)
+        return f" ({self.ago(moment)})" if self.now - moment > self.within else ""
 
     def reference(self, target, column):
         """What values of a column are shown from: the reference of a limit, if its unit is a length's or an angle's, and else of a
         coordinate the first value."""
         given = self.station.limits_of(target.number, column)
         if given:
-            return float(given[0].reference) if charts.unit_of(column)[1] else 0.0
+            return viewed.bounded(given[0].reference) if charts.unit_of(column)[1] else 0.0
         return target.series[column].values[0] if column in reductions.PLACE else 0.0
 
     def bounds(self, target, column):
         """The limits of a column as a chart has them."""
         times, reference = charts.unit_of(column)[0], self.reference(target, column)
         for limit in self.station.limits_of(target.number, column):
-            middle, tolerance = (float(limit.reference) - reference) * times, float(limit.tolerance) * times
+            middle, tolerance = viewed.apart(column, viewed.bounded(limit.reference), reference) * times, viewed.bounded(limit.tolerance) * times
             yield limit.level or limits.ALARM, middle - tolerance, middle + tolerance
 
 
@@ -260,10 +268,10 @@ def outcome_of(view, target):
     return f'<div><b>{escape(target.called())}</b> <span class="faint">{words}{good}</span>{drawn}</div>'
 
 
-def figure(view, target, column, bounds, reference, said):
+def figure(view, target, column, bounds, shown, said):
     """A chart, and what it says."""
-    times, unit = charts.unit_of(column)
-    chart = charts.Chart(target.series[column], view.now - view.station.days * viewed.DAY, view.now, times, reference, bounds, {"µrad": 20, "": 1}.get(unit, 2))
+    unit = charts.unit_of(column)[1]
+    chart = charts.Chart(target.series[column], view.now - view.station.days * viewed.DAY, view.now, shown, bounds, {"µrad": 20, "": 1}.get(unit, 2))
     plain = f"{target.called()}: {charts.words_of(column)}, {unit}".rstrip(", ")
     return f"<figure><figcaption>{said}</figcaption>{chart.drawn(plain)}</figure>"
 
@@ -275,39 +283,47 @@ def movement(view, target, column):
     unit = charts.unit_of(column)[1]
     given = ", ".join(f"{name} ±{charts.short((high - low) / 2)} {unit}".rstrip() for name, low, high in bounds)
     state_words = f'<b class="{level}">outside: {level}</b>' if level else "within" if bounds else "no limit"
-    said = f"<b>{escape(target.called())}</b> {escape(view.value_words(target, column))}, {state_words} <span class=\"faint\">{escape(given)}</span>"
-    return figure(view, target, column, bounds, view.reference(target, column), said)
+    said = (f"<b>{escape(target.called())}</b> {escape(view.value_words(target, column))}{view.when(target, column)}, {state_words} "
+            f'<span class="faint">{escape(given)}</span>')
+    return figure(view, target, column, bounds, view.shown(target, column), said)
 
 
 def reference_table(view, references):
     """The last residuals of each reference, with what a reference is said to lack."""
-    rows = []
+    rows, last = [], view.station.reduced_last()
     for target in references:
         cells = []
         for column in reductions.RESIDUALS:
             value, (times, unit) = target.last(column), charts.unit_of(column)
             cells.append("" if value is None else f"{charts.short(value * times)} {unit}")
-        is_out = target.number in target.reduced.get("left_out", "").split()
-        used = '<td class="attention">left out</td>' if is_out else "<td>in use</td>"
+        used = use_of(target, last)
         rows.append(f"<tr><td>{escape(target.called())}</td>{''.join(f'<td>{cell}</td>' for cell in cells)}{used}<td>{view.ago(target.reduced.get('moment'))}</td></tr>")
-    last = view.station.reduced_last()
     deviation = last.get("orientation_deviation_rad")
     said = f"{last.get('references') or 'none'} in the last orientation" + (f", whose standard deviation is {charts.short(float(deviation) * 1e6)} µrad" if deviation else "")
     head = "<tr><th>reference</th><th>direction</th><th>distance</th><th>height</th><th></th><th>measured</th></tr>"
     return f"<p>{escape(said)}</p><table>{head}{''.join(rows)}</table>"
 
 
+def use_of(target, last):
+    """Whether a reference was in the last orientation."""
+    if [target.reduced.get(name) for name in ("run", "cycle")] != [last.get(name) for name in ("run", "cycle")]:
+        return '<td class="attention">not measured</td>'
+    is_out = target.number in target.reduced.get("left_out", "").split()
+    return '<td class="attention">left out</td>' if is_out else "<td>in use</td>"
+
+
 def residuals(view, target, column):
     """The chart of a reference's residual, with what the site allows."""
-    if column not in target.series:
+    if column not in target.series or not target.series[column].moments:
         return ""
     times, unit = charts.unit_of(column)
     within = view.station.within if column.endswith("_rad") else view.station.within_metres
     bounds = [] if within is None else [(limits.ATTENTION, -within * times, within * times)]
     allowed = f"within ±{charts.short(within * times)} {unit}" if within is not None else ""
     words = {"reference_hz_residual_rad": "direction", "reference_distance_residual_m": "distance", "reference_height_residual_m": "height"}[column]
-    said = (f"<b>{escape(target.called())}</b> residual in {words} {charts.short(target.last(column) * times)} {unit} <span class=\"faint\">{allowed}</span>")
-    return figure(view, target, column, bounds, 0.0, said)
+    said = (f"<b>{escape(target.called())}</b> residual in {words} {charts.short(target.last(column) * times)} {unit}{view.when(target, column)} "
+            f'<span class="faint">{allowed}</span>')
+    return figure(view, target, column, bounds, lambda value: value * times, said)
 
 
 def written(folder, name, text):

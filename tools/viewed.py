@@ -5,10 +5,10 @@ It is read from the ends of files that grow: once from the end back, and then as
 Numbers are floats: a page has no more places. Times are seconds since 1970.
 """
 
+import math
 import os
 from bisect import bisect_left, insort
 from dataclasses import dataclass, field
-from decimal import Decimal
 from pathlib import Path
 
 import drawn
@@ -130,6 +130,10 @@ class Target:
     def called(self):
         return f"{self.number} {self.name}".strip()
 
+    def seen(self, column):
+        """When it had its last value in a column."""
+        return self.series[column].moments[-1] if self.series[column].moments else None
+
     def last(self, column, surely=False):
         """Its last value in a column, of those that aren't doubtful where that is wanted; nothing where it has none."""
         series = self.series.get(column)
@@ -146,9 +150,18 @@ def counts(outcomes, now):
 def number_of(fields, column):
     """The value of a column of a good row as a float, as a limit compares it; nothing where it has none."""
     if column in quantities.NAMES:
-        found = limits.value_of(fields, column)
-        return None if found is None else float(found)
+        return drawn.finite(limits.value_of(fields, column) or "nan")
     return drawn.finite(fields.get(column) or "")
+
+
+def bounded(number):
+    """A number of a limit as a float, which isn't further from zero than what can be measured."""
+    return max(-drawn.FURTHEST, min(drawn.FURTHEST, float(number)))
+
+
+def apart(column, value, reference):
+    """How far a value is from a reference: of an angle on the circle."""
+    return math.remainder(value - reference, math.tau) if column.endswith("_rad") else value - reference
 
 
 class Station:
@@ -186,6 +199,16 @@ class Station:
                 series.forget(now - self.days * DAY)
 
     def read_limits(self):
+        """Reads the limits. Where they name other columns than before, the rows are read again for these."""
+        before = self.columns()
+        self.take_limits()
+        if self.columns() != before:
+            self.rows.key = None
+
+    def columns(self):
+        return {(limit.target, limit.column) for limit in self.limits if not limit.is_silence()}
+
+    def take_limits(self):
         try:
             self.limits = limits.limits_of(Path(self.table_path).read_text(encoding="utf-8-sig"))
         except FileNotFoundError:
@@ -264,7 +287,8 @@ class Station:
         for fields in rows:
             target, moment = self.target(fields), seconds(fields)
             if quantities.has_values(fields):
-                target.reduced = {"moment": moment, "quality": fields.get("quality", ""), **{name: fields.get(name, "") for name in REFERENCES}}
+                known = {name: fields.get(name, "") for name in (*REFERENCES, "quality", "run", "cycle")}
+                target.reduced = {"moment": moment, **known}
                 self.take_columns(target, fields, moment)
 
     def take_columns(self, target, fields, moment):
@@ -294,14 +318,14 @@ class Station:
         of a reference only what limits name."""
         named = [limit.column for limit in self.limits if limit.target == target.number and not limit.is_silence()]
         for columns in [named] if self.is_reference(target) else [named, MOVED, reductions.PLACE]:
-            found = [column for column in dict.fromkeys(columns) if column in target.series]
+            found = [column for column in dict.fromkeys(columns) if column in target.series and target.series[column].moments]
             if found:
                 return found
         return []
 
     @staticmethod
     def is_reference(target):
-        return reductions.RESIDUALS[0] in target.series
+        return bool(target.series.get(reductions.RESIDUALS[0], Series()).moments)
 
     def references(self):
         return [target for target in self.targets.values() if self.is_reference(target)]
@@ -327,12 +351,7 @@ def level_outside(limit_list, target):
     found = set()
     for limit in limit_list:
         value = target.last(limit.column, not limit.counts_warnings)
-        if value is None:
-            continue
-        apart = value - float(limit.reference)
-        if limit.column.endswith("_rad"):
-            apart = float(limits.difference(Decimal(repr(value)), limit.reference))
-        if abs(apart) > float(limit.tolerance):
+        if value is not None and abs(apart(limit.column, value, bounded(limit.reference))) > bounded(limit.tolerance):
             found.add(limit.level or limits.ALARM)
     return limits.ALARM if limits.ALARM in found else limits.ATTENTION if found else None
 

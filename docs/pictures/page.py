@@ -16,7 +16,7 @@ from PIL import Image
 
 HERE = pathlib.Path(__file__).resolve().parent
 TOOLS = HERE.parents[1] / "tools"
-SIZE, COLOURS = "1000,1540", 200
+SIZE, COLOURS = "1000,1585", 200
 
 sys.dont_write_bytecode = True
 sys.path[:0] = [str(TOOLS), str(TOOLS / "trials")]

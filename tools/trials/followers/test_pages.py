@@ -329,3 +329,68 @@ def test_many_stations(month, folder, note):
         took.append(time.process_time() - begun)
     assert len(top) < 1_000_000
     note(f"{took[0]:.1f} s of a processor at first, {took[1]:.1f} s later; the page of all has {len(top) >> 10} kB")
+
+
+def test_limits_that_change(month, folder):
+    """New limits are shown at the next look, also of columns that none named before; limits that can't be read leave none."""
+    for each in "rows", "limits":
+        shutil.copytree(month / each, folder / each)
+    now, station, path = shown_month.NOW * 3600 + shown_month.BEGIN.timestamp(), station_of(folder), folder / "limits/north.limits"
+    text_of(station, now)
+    head = shown_month.LIMITS.splitlines()[0]
+    path.write_text(f"{head}\n13,moved_horizontal_m,0,0.0001,1,1,attention,\n13,hz_rad,6.28,0.00001,1,1,alarm,\n", encoding="ascii")
+    text = text_of(station, now)
+    assert text == text_of(station_of(folder), now)
+    assert "13 dam crest moved horizontal" in Seen(text).text() and "13 dam crest hz " in Seen(text).text()
+    path.write_text("none\n", encoding="ascii")
+    assert "unknown" in Seen(text_of(station, now)).text() and "north.limits: line 1" in station.faults[0]
+
+
+def test_what_isnt_new_says_so(month, folder):
+    """While a reference is hidden its chart and its line in the table say how old its last values are, and those of others say nothing."""
+    cut(month, folder, "2026-11-16T12:00:30Z")
+    text = page(folder, at="2026-11-16T12:00:30Z").text()
+    assert re.search(r"3 bridge residual in direction −?[0-9.]+ µrad \(1 d 14 h ago\) within ±30 µrad", text), text
+    assert re.search(r"1 rock north residual in direction −?[0-9.]+ µrad within ±30 µrad", text)
+    assert re.search(r"3 bridge( −?[0-9.]+ (µrad|mm)){3} not measured 1 d 14 h ago", text) and "2 in the last orientation" in text
+    assert text.count("in use") == 2
+
+
+@pytest.mark.parametrize("values, limit", [
+    ("1e999,-1e999,1e999", "7,distance_m,0,1,1,1"), ("2,1.5,9999999999999", "7,distance_m,1e999,1e999,1,1"), ("2,1.5,-0", "7,distance_m,-1e300,0,1,1"),
+    ("2,1.5,50", "7,distance_m,50,0,1,1"), ("x,y,z", "7,distance_m,50,0,1,1"), (",,", "7,hz_rad,0,1e999,1,1"),
+])
+def test_values_that_have_no_place(folder, values, limit):
+    """Numbers that are far from anything that is measured, and texts: a page is written."""
+    for each in "rows", "limits":
+        (folder / each).mkdir()
+    how = f'answered,,0,0,"{values}",ok'
+    (folder / "rows/north.csv").write_bytes(HEAD + line(900, 7, how) + line(100, 7) + line(0, 7, how))
+    (folder / "limits/north.limits").write_text(f"target,column,reference,tolerance,outside,of\n{limit}\n", encoding="ascii")
+    text = text_of(station_of(folder), time.time())
+    assert Seen(text).text().startswith("north all stations north")
+    assert not any("n" in each for each in re.findall(r' (?:d|x|y)="([^"]*)"', text)), text
+
+
+@pytest.mark.parametrize("value, table, wanted", [
+    (3.0, "attention,2 alarm,5", "attention"), (5.5, "attention,2 alarm,5", "alarm"), (-2.001, "attention,2 alarm,5", "attention"), (1.9, "attention,2 alarm,5", None),
+    (5.5, ",5", "alarm"), (5.0, ",5", None),
+])
+def test_levels_by_hand(value, table, wanted):
+    """What a value in millimetres is outside of."""
+    lines = [f"7,moved_easting_m,0,{int(millimetres) / 1000},1,1,{level}" for level, millimetres in (each.split(",") for each in table.split())]
+    given = viewed.limits.limits_of("target,column,reference,tolerance,outside,of,level\n" + "\n".join(lines))
+    target = viewed.Target("7", series={"moved_easting_m": viewed.Series([1.0], [value / 1000], [True])})
+    assert viewed.level_outside(given, target) == wanted
+
+
+def test_angles_are_compared_on_the_circle():
+    given = viewed.limits.limits_of("target,column,reference,tolerance,outside,of\n7,hz_rad,0.00001,0.00002,1,1\n")
+    for value, is_outside in (6.28318, False), (6.28317, True), (0.00004, True), (0.00002, False):
+        target = viewed.Target("7", series={"hz_rad": viewed.Series([1.0], [value], [True])})
+        assert (viewed.level_outside(given, target) is not None) == is_outside
+
+
+@pytest.mark.parametrize("seconds, words", [(0, "0 s"), (59.9, "59 s"), (60, "1 min"), (61, "1 min 1 s"), (3600, "1 h"), (11_520, "3 h 12 min"), (90_000, "1 d 1 h"), (-5, "0 s")])
+def test_spans(seconds, words):
+    assert pages.span_words(seconds) == words
