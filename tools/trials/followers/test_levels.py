@@ -90,6 +90,16 @@ def test_a_warning_counts_or_not(folder):
     assert said(ended(tool("alarm", *words, "--once"), patience=60).output.decode().splitlines()) == [("alarm:", "3"), ("alarm:", "5; all is well")]
 
 
+def test_a_limit_that_ignores_warnings_is_another_one(folder):
+    """Where a limit that counted warnings ignores them it starts afresh: an alarm that stood by warnings alone is forgotten."""
+    words = laid(folder, TABLE + "7,distance_m,50,0.005,1,1,,count\n", walk(7, quality="warning"))
+    assert said(ended(tool("alarm", *words, "--once"), patience=60).output.decode().splitlines()) == [("alarm:", "1")]
+    write(folder, "7,distance_m,50,0.005,1,1,,ignore\n")
+    with open(words[0], "ab") as file:
+        file.writelines(walk(7, first=2))
+    assert said(ended(tool("alarm", *words, "--once"), patience=60).output.decode().splitlines()) == [("alarm:", "2")]
+
+
 class Words(Fake):
     """An alarm over limits with levels and warnings, at a fake clock."""
 

@@ -253,6 +253,18 @@ def test_outcomes_of_a_day(folder):
     assert "7 1 with a warning, 1 refused, 7 not answered in time, 6 not sent, good 10 h 50 min ago" in text, text
 
 
+def test_looks_back_for_the_last_good_row(folder):
+    """A target that was refused for three days has its age, and one that never was good in the days that are shown says so."""
+    for each in "rows", "limits":
+        (folder / each).mkdir()
+    refused, rows = "answered,,0,1285,,refused", [line(50 * 86_400, 8, cycle=1)]
+    rows += [line(40 * 86_400, 8, refused, cycle=2), line(3 * 86_400, 7, cycle=3)]
+    rows += [line(3 * 86_400 - 3600 * hour, target, refused, cycle=3 + hour, place=target) for hour in range(1, 72) for target in (7, 8)]
+    (folder / "rows/north.csv").write_bytes(HEAD + b"".join(rows))
+    text = Seen(text_of(station_of(folder), time.time())).text()
+    assert "7 23 refused, good 3 d ago" in text and "8 23 refused, good never" in text and "silent: the last good row was 3 d ago" in text, text
+
+
 def test_what_cant_be_read(month, folder):
     """Each has one line, the others go on; the line comes once, also where it lasts."""
     shutil.copytree(month / "rows", folder / "rows")
