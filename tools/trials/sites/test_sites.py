@@ -182,7 +182,7 @@ class Planted:
 
 
 def output_of(*words):
-    found = ended([sys.executable, *map(str, words)], patience=300)
+    found = ended([sys.executable, *map(str, words)], patience=3000)
     assert (found.status, found.messages) == (0, ""), found.messages
     return found.output.decode()
 
