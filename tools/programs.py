@@ -132,9 +132,13 @@ class Run:
         """How many bytes of its input it has read."""
         return os.lseek(self.files[0].fileno(), 0, os.SEEK_CUR)
 
+    def output_path(self):
+        """The file that is its standard output."""
+        return Path(self.files[1].name)
+
     def output(self):
         """What it has written to standard output."""
-        return Path(self.files[1].name).read_bytes()
+        return self.output_path().read_bytes()
 
     def messages(self):
         """What it has written to standard error."""

@@ -9,8 +9,9 @@ from contextlib import closing
 
 import pytest
 
+from due import Arrivals, bound, latest
 from measuring import finished, measuring
-from night import CHAIN, COMMANDS, Night, text
+from night import CHAIN, COMMANDS, DEADLINE, SETUP, Night, text
 from nightly import counted, faults_of_answers, faults_of_cycles, faults_of_run, is_well
 from programs import Run, until
 
@@ -20,20 +21,24 @@ STARTS = 60
 # The places at which a chain, or a command by itself, ends.
 ENDS = [n for n in range(len(COMMANDS)) if n % len(CHAIN) == len(CHAIN) - 1 or n == len(COMMANDS) - 1]
 WORDS = "--deadline 400 --quiet 300 --every 1 --retries 0 --width 3"
+# How late a row may be, in seconds: with the readings of the clock, and what a machine that is busy adds.
+BOUND = bound(every=1, longest=DEADLINE / 1000, setup=len(SETUP), call=1)
 
 
 @pytest.mark.title("a night of {cycles} cycles")
 @pytest.mark.parametrize("cycles", [CYCLES])
 def test_night(program, note, cycles):
-    """Every chain has its attempts, no row is false, and the counts are those of the rows."""
+    """Every chain has its attempts, no row is false, the counts are those of the rows, and each row comes in time."""
     with closing(Night(SEED)) as night:
-        with measuring(program, night.line.near.address[1], f"{WORDS} --cycles {cycles}", text()) as run:
+        with measuring(program, night.line.near.address[1], f"{WORDS} --cycles {cycles}", text()) as run, Arrivals(run.output_path()) as came:
             rows, _ = finished(run, patience=20 * cycles)
-        time.sleep(1)
+            time.sleep(1)
         faults = [*faults_of_run(rows, night), *faults_of_answers(rows, night)]
-    note(f"{counted(rows)}; {night.said()}")
+    late, row = latest(rows, came.moments, 1)
+    note(f"{counted(rows)}; the latest row {late:.2f} s after its cycle was due, of {BOUND:.1f} s; {night.said()}")
     assert not faults, "\n".join(faults[:10])
     assert int(rows[-1]["cycle"]) == cycles, "the cycles"
+    assert late <= BOUND, f"{row} came {late:.2f} s after its cycle was due"
 
 
 @pytest.mark.title("twenty stops in a night")
