@@ -1,6 +1,6 @@
 # By systemd: what an operator does behind the page, with two instruments: operator.sh SECONDS
 # The second one stands at a serial line, which is a pseudo terminal, and its rows are objects of JSON. A follower, a reduction and an
-# alarm run beside them. Then silence.sh looks who is called. At the end the packages are removed while a station and a follower run.
+# alarm run beside them. Then silence.sh and recipe.sh look who is called. At the end the packages are removed while a station and a follower run.
 set -eu
 set -- "$1" geocom-station@simulator geocom-station@line
 rm -f /var/lib/geocom/*.csv /var/lib/geocom/*.jsonl
@@ -16,6 +16,10 @@ cp /etc/geocom/simulator.commands /etc/geocom/line.commands
     sed 's|^WHERE=.*|WHERE=/run/line|; s|^WORDS=|&--json |' /etc/geocom/simulator.conf
     echo FILE=line.jsonl
 } >/etc/geocom/line.conf
+# Sooner than the unit's minute.
+mkdir -p /run/systemd/system/geocom-station@.service.d
+printf '[Service]\nRestartSec=5\n' >/run/systemd/system/geocom-station@.service.d/sooner.conf
+systemctl daemon-reload
 systemctl enable --now "$2"
 systemctl start "$3"
 cp /usr/share/doc/geocom-tools/examples/to-sqlite.conf /etc/geocom
@@ -51,6 +55,7 @@ rm -r /etc/geocom/line.* /etc/geocom/simulator.site /etc/geocom/simulator.reduce
     /var/lib/geocom/alarm /var/lib/geocom/reduced
 cp /var/lib/geocom/simulator.csv /var/lib/geocom/line.jsonl /try
 sh /try/trial/silence.sh
+sh /try/trial/recipe.sh
 systemctl start "$2"
 dpkg --purge geocom geocom-tools
 if systemctl is-active "$2" geocom-to-sqlite; then exit 1; fi

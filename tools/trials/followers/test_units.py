@@ -28,6 +28,8 @@ def test_a_fault_that_stays_calls_somebody(name):
     unit = settings(f"{name}.service")
     burst, interval, rest = (int(unit[key][0]) for key in ("StartLimitBurst", "StartLimitIntervalSec", "RestartSec"))
     assert 2 <= burst and burst * (rest + 10) < interval
+    # What is away for some minutes, as a device that another program holds after a boot, is bridged.
+    assert (burst - 1) * rest >= 240
     assert unit["OnFailure"] == ["geocom-failed@%n.service"] and unit["RestartPreventExitStatus"] == ["2"] and unit["Restart"] == ["on-failure"]
 
 
