@@ -5,8 +5,9 @@ import threading
 import pytest
 
 from far_end import LOSES, good, standing
-from programs import free_port
-from watched import DEADLINE, EVERY, MEASURED, SILENCE, STAMP
+from programs import ended, free_port
+from records import counts_line
+from watched import COMMANDS, DEADLINE, EVERY, MEASURED, PATIENCE, SILENCE, STAMP, TEXT
 
 # In how many seconds a cycle that was due is in the file, and the next one is; and what an outage's rows end as.
 ROWS = 2 * EVERY + DEADLINE
@@ -52,6 +53,15 @@ def test_line_is_dead_from_the_start(watched, note):
     site.expect("alive", rf"^CRITICAL: 2 of 2 not measured within {MEASURED} s; .* never in this file", EVERY + ROWS + MEASURED)
     site.expect("broker", r"cycle 1 good 0 measured \[\] unmeasured \['pier 4', 'crest'\]", 2 * EVERY + ROWS)
     note(f"the latest row {site.expect_rows_in_time('missed'):.1f} s after its cycle was due")
+
+
+@pytest.mark.title("the line is dead, for three cycles")
+def test_line_is_dead_for_three_cycles(program):
+    """A run of few cycles comes to its end: its status is 0, and the counts say that nothing was measured."""
+    words = f"--every {EVERY} --cycles 3 --retries 0 --deadline 200 --quiet 100 --csv".split()
+    found = ended([program, "station", free_port(), *words], TEXT, patience=4 * EVERY + PATIENCE)
+    assert (found.status, found.messages.splitlines()[-1]) == (0, counts_line(missed=3 * COMMANDS)), found
+    assert found.output.count(b",missed,") == 3 * COMMANDS
 
 
 @pytest.mark.title("the line is dead later, and comes back")
