@@ -5,6 +5,8 @@
 # All is sooner than at a site: periods of 2 s, a look each 5 s, and restarts after 3 s. `mail` is a stand-in, which keeps what is sent.
 set -eu
 cd /tmp
+# What stands still would hold up the machine's end.
+trap 'kill -CONT ${pid_off:-} ${stopped:-} 2>/dev/null || true' EXIT
 sites='off dead gone full stopped'
 within() { n=0; until "$@"; do n=$((n + 1)); [ $n -lt 120 ] || { echo "not within 120 s: $*"; tail -n 40 /run/mails /var/lib/geocom/alarm/*; exit 1; }; sleep 1; done; }
 # Somebody was called for a unit, and was told so.
@@ -12,6 +14,10 @@ is_called() { grep -qx "$1.service failed" /run/called && grep -q -- "$2" "/run/
 is_alarmed() { grep -q -- "$2" "/var/lib/geocom/alarm/$1.told" 2>/dev/null; }
 is_measured() { tail -n 9 "/var/lib/geocom/$1.csv" 2>/dev/null | grep -q '2108,answered.*,ok,'; }
 is_well() { systemctl start "geocom-alive@$1" 2>/dev/null; }
+call() {
+    within is_called "geocom-alive@$1" "$2"
+    echo "called for $1 within $(($(date +%s) - begun)) s: $(grep -o -m 1 '\(WARNING\|CRITICAL\|UNKNOWN\): .*' "/run/mail.geocom-alive@$1.service" | sed 's/ |.*//; s/[0-9]\{1,\} s/N s/g')"
+}
 serve() { geocom serve "$@" >/dev/null 2>&1 & served=$!; }
 sooner() { mkdir -p "/run/systemd/system/$1.d"; printf '%s\n' "$2" "$3" "$4" "$5" >"/run/systemd/system/$1.d/sooner.conf"; }
 : >/run/called
@@ -23,7 +29,7 @@ end
 # As the page prints it.
 cat > /etc/geocom/failed << 'end'
 #!/bin/sh
-systemctl status --no-pager --lines 20 "$1" | mail -s "$1 failed" you@example.org
+journalctl --no-pager --lines 40 --unit "$1" | mail -s "$1 failed" you@example.org
 end
 chmod 755 /usr/local/bin/mail /etc/geocom/failed
 sooner geocom-station@.service '[Service]' RestartSec=3 '' ''
@@ -49,7 +55,19 @@ echo FILE=small/full.csv >>/etc/geocom/full.conf
 sed -i 's|geocom/full.csv|geocom/small/full.csv|' /etc/geocom/full.alive /etc/geocom/full.alarm
 ln -s small/full.csv /var/lib/geocom/full.csv
 
-# A device that another program holds from the boot on, for three tries.
+# A station that waits for a clock that is set: its check doesn't wait.
+systemctl start --no-block waits-for-a-clock
+systemctl start --no-block geocom-station@waits
+systemctl start geocom-alive@waits.timer
+begun=$(date +%s)
+call waits "CRITICAL: /var/lib/geocom/waits.csv isn't there"
+[ "$(systemctl show -p ActiveState --value geocom-station@waits)" = inactive ]
+[ ! -e /var/lib/geocom/waits.csv ]
+systemctl stop geocom-alive@waits.timer waits-for-a-clock
+within is_measured waits
+: >/run/called
+
+# A device that another program holds from the boot on, for three tries of the station's.
 python3 /try/bridge.py /run/held "$port_held" &
 sleep 1
 chgrp dialout "$(readlink -f /run/held)" && chmod 660 "$(readlink -f /run/held)"
@@ -75,33 +93,20 @@ pid_gone=$served
 dd if=/dev/zero of=/var/lib/geocom/small/other bs=1k 2>/dev/null || true
 stopped=$(systemctl show -p MainPID --value geocom-station@stopped)
 kill -STOP "$stopped"
-# A file of rows whose last one is an hour ahead of the clock, and no station; and a station that waits for a clock that is set.
+# A file of rows whose last one is an hour ahead of the clock, and no station.
 python3 -c "import datetime, re, sys
 hour = datetime.timedelta(hours=1)
 print(re.sub(r'(\d{4}-\d\d-\d\dT\d\d:\d\d:\d\d)\.(\d{3})Z', lambda m: (datetime.datetime.fromisoformat(m[1]) + hour).isoformat() + '.' + m[2] + 'Z', sys.stdin.read()), end='')" \
     </var/lib/geocom/off.csv >/var/lib/geocom/clock.csv
 printf 'FILE=/var/lib/geocom/clock.csv\nWORDS=--within 12\n' >/etc/geocom/clock.alive
-systemctl start --no-block waits-for-a-clock
-systemctl start --no-block geocom-station@waits
-systemctl start geocom-alive@clock.timer geocom-alive@waits.timer
+systemctl start geocom-alive@clock.timer
 
-while read -r each what; do
-    within is_called "geocom-alive@$each" "$what"
-    echo "called for $each within $(($(date +%s) - begun)) s: $(grep -o -m 1 '\(WARNING\|CRITICAL\|UNKNOWN\): .*' "/run/mail.geocom-alive@$each.service" | sed 's/ |.*//; s/[0-9]\{1,\} s/N s/g')"
-done <<'end'
-clock UNKNOWN: the clock is
-waits CRITICAL: /var/lib/geocom/waits.csv isn't there
-off CRITICAL: 3 of 3 not measured within 12 s
-dead CRITICAL: 3 of 3 not measured within 12 s
-gone CRITICAL: 3 of 3 not measured within 12 s
-stopped CRITICAL:
-full CRITICAL:
-end
+call clock 'UNKNOWN: the clock is'
+for each in $sites; do call $each 'not measured within 12 s\|no row for'; done
 within is_called geocom-station@full 'No space left on device'
 echo "called for the run that ends on a full disk within $(($(date +%s) - begun)) s"
 for each in $sites; do within is_alarmed $each 'station: no good row for 12 s'; done
 echo 'five alarms'
-[ "$(systemctl show -p ActiveState --value geocom-station@waits)" = inactive ] && [ ! -e /var/lib/geocom/waits.csv ]
 
 # All is well again, as after an hour: the stations go on by themselves, but that of the full disk, which a person starts again.
 kill -CONT "$pid_off" "$stopped"
@@ -112,13 +117,12 @@ serve "$port_gone" --keep --idle 600
 rm /var/lib/geocom/small/other
 systemctl reset-failed geocom-station@full
 systemctl start geocom-station@full
-systemctl stop waits-for-a-clock
-for each in $sites waits held; do within is_measured $each; done
+for each in $sites held; do within is_measured $each; done
 for each in $sites; do within is_well $each; done
 for each in $sites; do within is_alarmed $each 'a good row again; all is well'; done
 for each in off dead gone stopped; do [ "$(systemctl show -p NRestarts --value geocom-station@$each)" = 0 ]; done
 [ "$(systemctl show -p NRestarts --value geocom-station@held)" -ge 2 ]
-! grep -v 'geocom-alive@\|geocom-station@full' /run/called
+if grep -v 'geocom-alive@\|geocom-station@full' /run/called; then exit 1; fi
 echo 'all is well again; a device that was held is measured at'
 
 systemctl stop 'geocom-alive@*.timer' 'geocom-failed@*' 'geocom-alarm@*' 'geocom-station@*'
