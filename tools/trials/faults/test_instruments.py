@@ -11,6 +11,8 @@ from watched import DEADLINE, EVERY, MEASURED, SILENCE, STAMP, TEXT
 
 # How long `--stale` waits for a command that is answered well.
 STALE = 4
+# The commands of a cycle, as messages have them: on a busy machine the first one may be that which was lost in the cycle before.
+PRISM, ANY = r"[78] \((pier 4|crest)\), 17017", r"(7 \(pier 4\), 17017|8 \(crest\), 17017|9, 5003)"
 # The instrument finds no target; it refuses what it is asked.
 NOT_FOUND, REFUSES = b"8710", b"3081"
 SETUP = b"at start\n9 2011\neach cycle\n" + TEXT
@@ -32,7 +34,7 @@ def expect_refused(site, command):
 
 def expect_stale(site, command):
     """The run ends, and says which command it was, and since when."""
-    site.expect("journal", rf"^geocom: target {command}: no answer with quality ok or warning since {STAMP}$", STALE + EVERY, least=STALE - EVERY)
+    site.expect("journal", rf"^geocom: target {command}: no answer with quality ok or warning since {STAMP}$", STALE + EVERY, least=STALE - 2 * EVERY)
     site.expect("journal", "^geocom: fault 48$", STALE + EVERY)
     site.expect("journal", "^status 1$", STALE + EVERY)
 
@@ -46,7 +48,7 @@ def test_prisms_are_gone(watched):
         site.well()
         site.breaks()
         one.fails.set()
-        expect_refused(site, r"[78] \(.*\), 17017: refused 8710")
+        expect_refused(site, f"{PRISM}: refused 8710")
         expect_silence(site, cycle=3 * EVERY)
         site.expect_rows_in_time("answered")
         one.fails.clear()
@@ -62,7 +64,7 @@ def test_prisms_are_gone_stale(watched):
         site.well()
         site.breaks()
         one.fails.set()
-        expect_stale(site, r"7 \(pier 4\), 17017")
+        expect_stale(site, PRISM)
 
 
 @pytest.mark.title("one prism is gone")
@@ -119,7 +121,7 @@ def test_refuses_all(watched):
         site.well()
         site.breaks()
         one.fails.set()
-        expect_refused(site, r"(7 \(pier 4\), 17017|8 \(crest\), 17017|9, 5003): refused 3081")
+        expect_refused(site, f"{ANY}: refused 3081")
         expect_silence(site, cycle=3 * EVERY)
         site.expect_rows_in_time("answered")
-        expect_stale(site, r"7 \(pier 4\), 17017")
+        expect_stale(site, ANY)

