@@ -41,7 +41,7 @@ LINES = {
     "no connection can be made, later": Down(f"{DELAY}close 0.5\nrefuse 100 {FOUR_HOURS}\n"),
     "all is lost, from the start": Down("lose 100\n"),
     "a connection is made, silent, later": Down(f"{DELAY}hold 0.3 {FOUR_HOURS}\n"),
-    "each reply is 15 s late": Down("delay 7500 7500\n", outcomes=frozenset({"missed"})),
+    "each reply is 15 s late": Down("delay 7500 7500\n", outcomes=frozenset({"late", "skipped", "missed"})),
     "each reply is just before its deadline": Down("delay 4900 4900\n", least=0),
     "the setup is refused": Down(DELAY, setup=REFUSED),
     "the setup is refused, over a line that is down": Down(f"{DELAY}close 10\nrefuse 100 {FOUR_HOURS}\n", setup=REFUSED),
