@@ -15,7 +15,7 @@ use Rattle.gc_station.specs.declared.plan.Plan.{Plan}
 use Rattle.gc_station.specs.declared.cause.Cause.{Cause}
 use Rattle.gc_station.specs.declared.cause.Cause.TheVariants as cause
 use Rattle.gc_station.specs.declared.progress.Phase.{Phase}
-use Rattle.gc_station.specs.declared.progress.Phase.TheVariants.{Down, Pausing, Draining, Ready, Closing, Over}
+use Rattle.gc_station.specs.declared.progress.Phase.TheVariants.{Down, Pausing, Draining, Ready, Over}
 use Rattle.gc_station.specs.declared.progress.Progress.{Progress}
 use Rattle.gc_station.specs.declared.progress.Until.{Until}
 use Rattle.gc_station.specs.declared.progress.Waiting.{Waiting}
@@ -29,7 +29,7 @@ use Rattle.gc_station.proofs.Meets.{hears_settles_oldest}
 use Rattle.gc_station.proofs.Midway.{Sound, ledger_at, NothingIsLeft, PhaseFits, PhaseFitsAt, HoldsMidAct, sound_moment, sound_settles, HoldsMidActAt}
 use Rattle.gc_station.proofs.Turns.{phase_failed, phase_by}
 use Rattle.gc_station.proofs.Walk.{asked_along, came_along, closed_along}
-use Rattle.gc_station.proofs.Facts.{finished_by_test}
+use Rattle.gc_station.proofs.InCycle.{finished_by_test}
 
 -- the phase after a failure for `why` (`phase_failed`) is `PhaseFits`, if `why` isn't `Done`
 fail_fits : (p : Progress) (rest : List ℕ) (marks : List (Option Mark)) (why : Cause) (up : Bool) → is_done why ≡ false → PhaseFits (phase_failed up why) p.left p.unsent rest marks

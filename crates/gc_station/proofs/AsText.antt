@@ -44,7 +44,8 @@ use Rattle.gc_station.specs.Attempts.{code_of, listed_after_settlements}
 use Rattle.gc_station.specs.Reasons.{HoldsBefore}
 use Rattle.gc_station.specs.Retries.{expected_of, code_of_end, HasItsTurn}
 use Rattle.gc_station.proofs.EachRun.{invariant_after, invariant_opening}
-use Rattle.gc_station.proofs.Facts.{action_for, not_zero}
+use Rattle.gc_station.proofs.Facts.{action_for}
+use Rattle.gc_station.proofs.InCycle.{not_zero}
 use Rattle.gc_station.proofs.Invariant.{Invariant}
 use Rattle.gc_station.proofs.Listed.{code_is_in_line, named_by, any_listed, any_append, expected_as, near_expected, accepted_expected}
 

@@ -45,7 +45,7 @@ use Rattle.gc_station.proofs.Lists.{all_append}
 use Rattle.gc_station.proofs.Nearly.{qualities_as_listed}
 use Rattle.gc_station.proofs.Walk.{moved_changed}
 use Rattle.gc_station.proofs.Words.{begun_kept}
-use Rattle.gc_station.proofs.ChainSteps.{Still, GoesOnBy, AtCycleStart, ChangesChain, still_but_broken, moved_steps, stays_open}
+use Rattle.gc_station.proofs.ChainSteps.{Still, GoesOnBy, AtCycleStart, ChangesChain, moved_steps, stays_open}
 
 -- What holds of each of some acts.
 

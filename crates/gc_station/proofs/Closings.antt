@@ -32,7 +32,8 @@ use Rattle.gc_station.specs.Model.{Model, next_request_text, null_text, first_te
 use Rattle.gc_station.specs.NextCommand.{commands_before, place_next}
 use Rattle.gc_station.proofs.Counts.{with_losses_progress}
 use Rattle.gc_station.proofs.EachRun.{invariant_holds}
-use Rattle.gc_station.proofs.Facts.{action_for, finished_by_test}
+use Rattle.gc_station.proofs.Facts.{action_for}
+use Rattle.gc_station.proofs.InCycle.{finished_by_test}
 use Rattle.gc_station.proofs.Invariant.{Invariant, says_done}
 use Rattle.gc_station.proofs.Going.{after_all-append, runs_front, runs_behind}
 use Rattle.gc_station.proofs.Walk.{asked_along, came_along, quieted_along, model_sent, HoldsAfterPut, walk}

@@ -11,20 +11,18 @@ use Rattle.gc_links.specs.declared.link.Moment.{Moment}
 use Rattle.gc_station.specs.Chains.{IsChained}
 use Rattle.gc_station.specs.Cycles.{ClockRises, first_due, due_after, BeginsAt, BeginsLate, LastBegan, CyclesBeginWhenDue, SentOnlyInTime}
 use Rattle.gc_station.specs.Deciding.{is_due}
-use Rattle.gc_station.specs.Progressing.{turned, moment_noted, due_at, cycle_begun, cycle_start, lateness, failing, time_passed, quieted, closed}
+use Rattle.gc_station.specs.Progressing.{turned, due_at, cycle_begun, cycle_start, lateness, failing}
 use Rattle.gc_station.specs.Reasons.{HoldsBefore, MayGo}
 use Rattle.gc_station.specs.Runs.{state_after}
 use Rattle.gc_station.specs.Scopes.{Scope}
-use Rattle.gc_station.specs.Model.{Model, opening, action_at, waiting_of, is_heard, with_progress, with_moment, lines_completed, piece_at, moved, Performs, Runs, cycle_length}
+use Rattle.gc_station.specs.Model.{Model, opening, action_at, waiting_of, with_progress, piece_at, moved, Performs, Runs, cycle_length}
 use Rattle.gc_station.specs.NextCommand.{cycles_begun, place_next, first_is_chained, is_chained_after}
 use Rattle.gc_station.specs.declared.cause.Cause.{Cause}
 use Rattle.gc_station.specs.declared.cause.Cause.TheVariants as cause
 use Rattle.gc_station.specs.declared.plan.Plan.{Plan}
 use Rattle.gc_station.specs.declared.progress.Action.{Action}
 use Rattle.gc_station.specs.declared.progress.Action.TheVariants as actions
-use Rattle.gc_station.specs.declared.progress.Phase.{Phase}
 use Rattle.gc_station.specs.declared.progress.Progress.{Progress}
-use Rattle.gc_station.specs.declared.progress.Until.{Until}
 use Rattle.gc_station.specs.declared.progress.Waiting.{Waiting}
 use Rattle.gc_station.specs.Silences.{latest}
 use Rattle.gc_station.proofs.Interleaving.{drop_past}
@@ -32,49 +30,12 @@ use Rattle.gc_station.proofs.Closings.{runs_split, needs_of}
 use Rattle.gc_station.proofs.Always.{always, progress_after_act}
 use Rattle.gc_station.proofs.ChainSteps.{GoesOnBy}
 use Rattle.gc_station.proofs.EachRun.{invariant_holds}
-use Rattle.gc_station.proofs.Facts.{action_for, begin_due, or_second, and_second}
+use Rattle.gc_station.proofs.Facts.{action_for, begin_due}
+use Rattle.gc_station.proofs.InCycle.{or_second, and_second}
 use Rattle.gc_station.proofs.Invariant.{Invariant}
-use Rattle.gc_station.proofs.Walk.{asked_along, came_along, quieted_along, closed_along, moved_changed, walk}
+use Rattle.gc_station.proofs.Walk.{walk}
 use Rattle.gc_station.proofs.Ticking.{Ticks, began_kept, began_at_start, rises_front, rises_last, latest_more, last_ticks}
-use Rattle.gc_station.proofs.Staying.{Stays, stays}
-
--- Acts that stay in their cycle.
-
--- from p to q an act stays in the cycle, and reads moments as `Ticks` says
-abbrev pub StaysAndTicks : (p : Progress) → Act → (q : Progress) → Type 0
-StaysAndTicks p act q = Stays p q × Ticks p act q
-
--- a read that gave bytes stays in its cycle, and reads its moment as `Ticks` says
-gave_stays : (plan : Plan) (commands : List Task) (until : Until) (s : Model) (bytes : List ℕ) (m : Moment) → StaysAndTicks s.progress (Gave bytes m) (piece_at plan until bytes m s).progress
-gave_stays plan commands until s bytes m =
-    let mid = with_moment m (with_progress (moment_noted m) s) in
-    let heard_there = is_heard s.progress.phase in
-    let is = moved_changed plan commands (actions.Read until) s (Gave bytes m) in (
-      stays s.progress _ (ap (λ (x : Model). x.progress.left) is) (ap (λ (x : Model). x.progress.unsent) is) (ap (λ (x : Model). x.progress.missed) is) (ap (λ (x : Model). x.progress.due) is)
-          (ap (λ (x : Model). x.progress.next_is_chained) is) (inl (ap (λ (x : Model). x.progress.chain_unbroken) is)),
-      came_along (λ (x : Model). (x.progress.moment ≡ m) × (x.progress.began ≡ min s.progress.began m.elapsed)) (λ x line e. e) heard_there s.progress.word bytes mid (refl, refl)
-          (asked_along (λ (q : Progress). (q.moment ≡ m) × (q.began ≡ min s.progress.began m.elapsed)) (λ q line e. e) mid.progress (lines_completed s.rest bytes) (refl, refl)) (refl, refl),
-    )
-
--- `StaysAndTicks` holds once a read that gave nothing is noted, whatever the phase, `alive` and `asked` are then
-noted_silent_stays : (p : Progress) (until : Until) (m : Moment) (phase : Phase) (alive : ℕ) (asked : Bool)
-    → StaysAndTicks p (Silent m) (record (time_passed until m p) { phase = phase; alive = alive; asked = asked })
-noted_silent_stays p until m phase alive asked = (stays p _ refl refl refl refl refl (inl refl), (refl, refl))
-
--- a read that gave nothing stays in its cycle, and reads its moment as `Ticks` says
-silent_stays : (plan : Plan) (at : Phase) (p : Progress) (until : Until) (m : Moment) → StaysAndTicks p (Silent m) (quieted plan at (time_passed until m p))
-silent_stays plan at p until m =
-    quieted_along (λ (q : Progress). StaysAndTicks p (Silent m) q) plan at (time_passed until m p)
-    (noted_silent_stays p until m _ _ _)
-    (noted_silent_stays p until m _ _ _)
-    (noted_silent_stays p until m _ _ _)
-
--- a close stays in its cycle, and reads no moment, as `Ticks` says
-closed_stays : (plan : Plan) (s : Model) (why : Cause) → StaysAndTicks s.progress Closed (closed plan (waiting_of s) why s.progress)
-closed_stays plan s why =
-    closed_along (λ (q : Progress). StaysAndTicks s.progress Closed q) plan (waiting_of s) why s.progress
-    (stays s.progress _ refl refl refl refl refl (inr refl), (refl, refl))
-    (stays s.progress _ refl refl refl refl refl (inr refl), (refl, refl))
+use Rattle.gc_station.proofs.Staying.{Stays, stays, StaysAndTicks, gave_stays, silent_stays, closed_stays}
 
 -- What every run keeps of its cycles.
 

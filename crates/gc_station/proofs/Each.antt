@@ -12,7 +12,7 @@ use Rattle.gc_station.specs.declared.mark.Mark.{Mark}
 use Rattle.gc_station.specs.EachOnce.{RunRequest, requests, of_task, all_cycles, commands_reached, of_record, of_waiting, still_waiting, of_cycles, of_text, in_text}
 use Rattle.gc_station.specs.Requests.{asked_at, of_command}
 use Rattle.gc_station.proofs.Timing.{asked_text, unsent_text}
-use Rattle.gc_station.proofs.Facts.{not_zero}
+use Rattle.gc_station.proofs.InCycle.{not_zero}
 use Rattle.gc_station.specs.Marks.{commands_in, record_of, records_of, with_marks}
 use Rattle.gc_station.specs.Records.{Record}
 use Rattle.gc_station.specs.Scopes.{Reads}

@@ -1,9 +1,7 @@
--- What holds if an action is next: its conditions (`HoldsBefore`), that a cycle begins only if it is due, and whether the moment
--- was read (`Timely`, `Wakes`). `Holds` has all of these, and is shown once for each function that decides.
-use Rattle.std.proofs.Common.{◌≡◌, ℕ, ◌-◌, ◌<◌, ◌≤◌, ◌⊎◌, ◌&&◌, ◌||◌, Bool, true, false, not, if◌then◌else◌, nat_lt, nat_le, nat_eq, refl, sym, ap, ◌∙◌, subst, inl, inr, arith}
-use Rattle.std.proofs.lemmas.Bool.{ltb-true, ltb-false, leb-true, leb-false, le-leb, eqb-true, not-true, and_parts, and_cases, not-false, false_from_ne_true, cond_both}
+-- What holds if an action is next (`Holds`): of the setup, of a synchronization, of a cycle that is overdue, and so of each action.
+use Rattle.std.proofs.Common.{◌≡◌, ℕ, ◌-◌, ◌<◌, ◌⊎◌, ◌&&◌, ◌||◌, Bool, true, false, not, if◌then◌else◌, nat_lt, nat_le, nat_eq, refl, sym, ap, ◌∙◌, subst, inl, inr, arith}
+use Rattle.std.proofs.lemmas.Bool.{ltb-true, ltb-false, leb-true, leb-false, le-leb, eqb-true, eq-eqb, not-true, and_parts, false_from_ne_true, cond_both}
 use Rattle.std.proofs.lemmas.Bool.Decides.{nat_tests}
-use Rattle.gc_client.specs.declared.window.TheConstants.{WINDOW}
 use Rattle.gc_station.specs.declared.plan.Plan.{Plan}
 use Rattle.gc_station.specs.declared.cause.Cause.{Cause}
 use Rattle.gc_station.specs.declared.cause.Cause.TheVariants as cause
@@ -14,368 +12,10 @@ use Rattle.gc_station.specs.declared.progress.Action.TheVariants as action
 use Rattle.gc_station.specs.declared.progress.Progress.{Progress}
 use Rattle.gc_station.specs.declared.progress.Until.TheVariants.{Limit, Due}
 use Rattle.gc_station.specs.declared.progress.Waiting.{Waiting}
-use Rattle.gc_station.specs.Reasons.{HoldsBefore, IsBetweenChains, IsFinished, IsHeld, HasRoomToAsk, MayGo, MayRetry, NothingMayGo, WaitsForWhatIsInFlight, IsAtItsEnd, IsResting, StaysInItsChain, HasConnectionFor, MayPrepare, WantsNull, IsOutOfTime, IsGoingOn, IsOverdue, IsPreparedOrOverdue}
-use Rattle.gc_station.specs.Deciding.{width_of, has_begun, is_up, is_unquiet, is_silent, is_dead, is_due, is_idle, is_finished, has_room_to_ask, action_of, action_in, action_on, action_of_phase, may_go, waits_for_all, action_again, action_ready, action_begun, action_beginning, action_held, action_settled, action_done, action_to_send, action_room, action_waiting, action_without_turns, is_stale, is_between_chains, is_resting, is_cut, is_stopping, is_held_back, action_cycle, action_to_prepare, action_preparing, is_preparing, is_out_of_time, waits_out, has_no_time_left, is_overdue, action_overdue, may_abandon, setup_permits}
+use Rattle.gc_station.specs.Reasons.{HoldsBefore, MayPrepare, IsOutOfTime, IsGoingOn, IsOverdue, IsPreparedOrOverdue}
+use Rattle.gc_station.specs.Deciding.{has_begun, is_up, is_dead, is_due, is_idle, is_finished, action_of, action_in, action_on, action_of_phase, action_ready, action_begun, action_beginning, action_to_send, action_waiting, action_without_turns, is_stale, is_resting, is_stopping, is_held_back, action_cycle, action_to_prepare, action_preparing, action_in_setup, is_preparing, is_out_of_time, waits_out, has_no_time_left, is_overdue, action_overdue, may_abandon, setup_permits}
 use Rattle.gc_station.specs.Stations.{SuitsAction}
-
--- Tests.
-
--- if one of two tests holds, and the second doesn't, the first does
-pub or_first : (a b : Bool) → (a || b) ≡ true → b ≡ false → a ≡ true
-or_first true b e none = refl
-or_first false b e none = cc
-
--- if one of two tests holds, and the first doesn't, the second does
-pub or_second : (a b : Bool) → (a || b) ≡ true → a ≡ false → b ≡ true
-or_second true b e none = cc
-or_second false b e none = e
-
--- if the first of two tests holds, both do exactly if the second does
-pub and_second : (a b : Bool) → a ≡ true → (a && b) ≡ b
-and_second a b e = ap (λ (c : Bool). c && b) e
-
--- a number that isn't above 0 is 0
-pub zero_if_not_above : (n : ℕ) → nat_lt 0 n ≡ false → n ≡ 0
-zero_if_not_above n e = grind (arith, nat_tests, e)
-
--- a number that isn't 0 is above 0
-pub above_zero : (n : ℕ) → nat_eq n 0 ≡ false → 0 < n
-above_zero n e = grind (arith, nat_tests, e)
-
--- a number above 0 isn't 0
-pub not_zero : (n : ℕ) → 0 < n → nat_eq n 0 ≡ false
-not_zero n some = grind (arith, nat_tests, some)
-
--- Room for a request.
-
--- where `has_room_to_ask` says so, there is room
-room_by_test : (plan : Plan) (w : Waiting) → has_room_to_ask plan w ≡ true → HasRoomToAsk plan w
-room_by_test plan w e = let it = and_parts (nat_lt w.current (width_of plan)) (nat_lt w.all WINDOW) e in (ltb-true w.current (width_of plan) it.0, ltb-true w.all WINDOW it.1)
-
--- there is no room for a request: one of the two tests of `has_room_to_ask` fails
-abbrev LacksRoom : Plan → Waiting → Type 0
-LacksRoom plan w = (nat_lt w.current (width_of plan) ≡ false) ⊎ (nat_lt w.all WINDOW ≡ false)
-
--- if the line is dead, it is silent, and all outstanding requests have timed out
-dead_parts : (plan : Plan) (p : Progress) (w : Waiting) → is_dead plan p w ≡ true → (is_silent plan p w ≡ true) × (w.current ≡ 0)
-dead_parts plan p w dead = let it = and_parts (nat_eq w.current 0) (is_silent plan p w) dead in (it.1, eqb-true w.current 0 it.0)
-
--- The moment is read again after each act that makes it out of date (`clock_due`); and nothing is read before a new connection
--- was cleared.
-
--- a read may be made: the moment was read, and the connection isn't to be cleared
-abbrev pub CanRead : Progress → Type 0
-CanRead p = (p.clock_due ≡ false) × (p.phase ≡ Clearing → ⊥)
-
--- if this action reads the clock alone, the moment is out of date; if it begins a cycle, the cycle is due; if it connects, the
--- moment was read; and if it reads, a read may be made (`CanRead`)
-abbrev pub Timely : Plan → Progress → Action → Type 0
-Timely plan p action.ReadClock = p.clock_due ≡ true
-Timely plan p action.Begin = (is_due plan p ≡ true) × (p.clock_due ≡ false)
-Timely plan p action.Renew = p.clock_due ≡ false
-Timely plan p action.Skip = p.clock_due ≡ false
-Timely plan p action.Pass = p.clock_due ≡ false
-Timely plan p action.Open = p.clock_due ≡ false
-Timely plan p (action.Read until) = CanRead p
-Timely plan p _ = Unit {0}
-
--- A request is sent, the station resynchronizes, and a connection is closed for a dead line, only in the phase `Ready`, after a
--- moment that was read.
-
--- the phase is `Ready`, in which requests may be sent, and the moment was read
-abbrev pub Awake : Progress → Type 0
-Awake p = (p.clock_due ≡ false) × (p.phase ≡ Ready)
-
--- if this action sends a request, resynchronizes, or closes a dead line, `Awake` holds; or, for that close, the phase says
--- already that the connection is to be closed
-abbrev pub Wakes : Progress → Action → Type 0
-Wakes p action.Renew = (p.clock_due ≡ false) × ((p.phase ≡ Ready) ⊎ Unit {0})
-Wakes p action.Ask = Awake p
-Wakes p action.Prepare = Awake p
-Wakes p action.Send = Awake p
-Wakes p action.Flush = Awake p
-Wakes p (action.Close cause.Dead) = (p.phase ≡ Closing cause.Dead) ⊎ Awake p
-Wakes p _ = Unit {0}
-
--- what holds if this action is next: its conditions (`HoldsBefore`), that a cycle begins only if it is due, and whether the
--- moment was read before it (`Timely`, `Wakes`)
-abbrev Holds : Plan → Progress → Waiting → Action → Type 0
-Holds plan p w next = HoldsBefore plan p w next × Timely plan p next × Wakes p next
-
--- a station is at work: it is `Awake`, and has synchronized
-record IsAtWork (p : Progress) : Type 0 where
-  awake : Awake p
-  begun : has_begun p ≡ true
-
--- a station is in its cycles: it is at work, and isn't preparing
-record IsMeasuring (plan : Plan) (p : Progress) (w : Waiting) : Type 0 where
-  work : IsAtWork p
-  set_up : is_preparing plan p w ≡ false
-
--- in the phase `Ready` there is a connection
-awake_up : (p : Progress) → Awake p → is_up p.phase ≡ true
-awake_up p (now, is) = ap is_up is
-
--- in the phase `Ready`, if the moment was read, a read may be made
-awake_reads : (p : Progress) → Awake p → CanRead p
-awake_reads p (now, is) = (now, λ c. let other : Ready ≡ Clearing = sym is ∙ c in cc)
-
--- if all outstanding requests have timed out, seven are outstanding
-abbrev SevenIfAllTimedOut : Waiting → Type 0
-SevenIfAllTimedOut w = w.current ≡ 0 → WINDOW ≤ w.all
-
--- for a station at work, `Holds` is true of `action_waiting`, if no command may be sent where something is in flight that hasn't timed
--- out, and seven requests are outstanding where all have timed out and the line isn't dead
-waiting_for : (plan : Plan) (p : Progress) (w : Waiting) → IsAtWork p → (0 < w.current → NothingMayGo plan p w) → (is_dead plan p w ≡ false → SevenIfAllTimedOut w) → Holds plan p w (action_waiting plan p w)
-waiting_for plan p w work nothing full =
-    let P = Holds plan p w in
-    let up = awake_up p work.awake in
-    cond_both (is_dead plan p w) (action.Close cause.Dead) _ P (λ d. ((up, inr (closes d)), tt, inr work.awake))
-    (λ d. cond_both (nat_eq w.current 0) action.Renew (action.Read Limit) P
-    (λ e. let none = eqb-true w.current 0 e in ((inl work.awake.1, work.begun, none, inl (full d none)), work.awake.0, (work.awake.0, inl work.awake.1)))
-    (λ e. let some = above_zero w.current e in (inr (inr (work.awake.1, inr (inl (nothing some, some)))), awake_reads p work.awake, tt))) where
-      -- a dead line is closed, since the station has synchronized
-      closes : is_dead plan p w ≡ true → IsAtItsEnd plan p w cause.Dead
-      closes d = let it = dead_parts plan p w d in (it.0, it.1, λ not_begun. let both : true ≡ false = sym work.begun ∙ not_begun in cc)
-
--- for a station at work, `Holds` is true of `action_waiting` if the station waits for what is in flight
-waiting_for_reply : (plan : Plan) (p : Progress) (w : Waiting) → IsAtWork p → 0 < w.current → WaitsForWhatIsInFlight plan p w → Holds plan p w (action_waiting plan p w)
-waiting_for_reply plan p w work some waits = waiting_for plan p w work (λ _. inr (inr waits)) (λ alive none. absurd (omega (arith, none, some)))
-
--- at least one request may be in flight
-width_above_zero : (plan : Plan) → 0 < width_of plan
-width_above_zero plan = omega arith
-
--- if there is no room, seven are outstanding if all outstanding requests have timed out
-seven_if_no_room : (plan : Plan) (w : Waiting) → LacksRoom plan w → SevenIfAllTimedOut w
-seven_if_no_room plan w (inl e) none = let few : width_of plan ≤ w.current = ltb-false w.current (width_of plan) e in absurd (omega (arith, none, few, width_above_zero plan))
-seven_if_no_room plan w (inr e) none = ltb-false w.all WINDOW e
-
--- if there is no room, or the line is dead, and it isn't dead, seven are outstanding if all outstanding requests have timed out
-seven_if_alive : (plan : Plan) (p : Progress) (w : Waiting) → (has_room_to_ask plan w ≡ false) ⊎ (not (is_dead plan p w) ≡ false) → is_dead plan p w ≡ false → SevenIfAllTimedOut w
-seven_if_alive plan p w (inl none) alive = seven_if_no_room plan w (and_cases (nat_lt w.current (width_of plan)) (nat_lt w.all WINDOW) none)
-seven_if_alive plan p w (inr dead) alive = let both : true ≡ false = sym (not-false (is_dead plan p w) dead) ∙ alive in cc
-
--- if there is no room, or the line is dead, no command may be sent where something is in flight that hasn't timed out
-nothing_if_no_room : (plan : Plan) (p : Progress) (w : Waiting) → (has_room_to_ask plan w ≡ false) ⊎ (not (is_dead plan p w) ≡ false) → 0 < w.current → NothingMayGo plan p w
-nothing_if_no_room plan p w (inl none) some = by_test (and_cases (nat_lt w.current (width_of plan)) (nat_lt w.all WINDOW) none) where
-  -- the lemma above, by which test fails
-  by_test : LacksRoom plan w → NothingMayGo plan p w
-  by_test (inl full) = inl (ltb-false w.current (width_of plan) full)
-  by_test (inr full) = inr (inl (ltb-false w.all WINDOW full))
-nothing_if_no_room plan p w (inr dead) some = let none = (dead_parts plan p w (not-false (is_dead plan p w) dead)).1 in absurd (omega (arith, none, some))
-
--- `action_room` is the action o if there is room for a request and the line isn't dead, and else the action of a station that
--- waits. For a station at work, `Holds` is true of it, if `Holds` is true of o where there is room and the line isn't dead
-room_for : (plan : Plan) (p : Progress) (w : Waiting) (o : Action) → IsAtWork p → (HasRoomToAsk plan w → is_dead plan p w ≡ false → Holds plan p w o)
-    → Holds plan p w (action_room plan p w o)
-room_for plan p w o work step =
-    cond_both (has_room_to_ask plan w && not (is_dead plan p w)) o _ (Holds plan p w)
-    (λ e. let it = and_parts (has_room_to_ask plan w) (not (is_dead plan p w)) e in step (room_by_test plan w it.0) (not-true (is_dead plan p w) it.1))
-    (λ e. let lacks = and_cases (has_room_to_ask plan w) (not (is_dead plan p w)) e in waiting_for plan p w work (nothing_if_no_room plan p w lacks) (seven_if_alive plan p w lacks))
-
--- for a station at work, `Holds` is true of `action_to_send` with the action o, if it is true of o
--- where there is room, the line isn't dead and the count `behind` is below seven, and a null procedure is wanted where that
--- count isn't
-to_send_for : (plan : Plan) (p : Progress) (w : Waiting) (o : Action) → (work : IsAtWork p) → (near : p.behind < WINDOW → HasRoomToAsk plan w → is_dead plan p w ≡ false → Holds plan p w o)
-    → (far : WINDOW ≤ p.behind → WantsNull plan p w) → Holds plan p w (action_to_send plan p w o)
-to_send_for plan p w o work near far =
-    let P = Holds plan p w in
-    cond_both (nat_lt p.behind WINDOW) _ _ P (λ below. room_for plan p w o work (near (ltb-true p.behind WINDOW below)))
-    (λ above. let many = ltb-false p.behind WINDOW above in cond_both (nat_eq w.current 0) _ _ P
-    (λ given. room_for plan p w action.Flush work (λ room alive. ((work.awake.1, work.begun, far many, eqb-true w.current 0 given, room, alive), tt, work.awake)))
-    (λ current. waiting_for_reply plan p w work (above_zero w.current current) (inr (inl many))))
-
--- for a station in its cycles (`IsMeasuring`), `Holds` is true of `action_to_send` with `Send` if a command is unsent, it may be
--- sent (`MayGo`, `MayRetry`), and it goes on with its chain if the end of the run was asked for
-send_for : (plan : Plan) (p : Progress) (w : Waiting) → IsMeasuring plan p w → 0 < p.unsent → MayGo p w → MayRetry p w → StaysInItsChain p → Holds plan p w (action_to_send plan p w action.Send)
-send_for plan p w m some may retry stays =
-    to_send_for plan p w action.Send m.work (λ near room alive. ((m.work.awake.1, m.work.begun, some, room, may, near, retry, stays, m.set_up, alive), tt, m.work.awake)) (λ many. inr (inl (some, may), many))
-
--- If the end of the run was asked for.
-
--- if the end of the run was asked for, a command is left, and it goes on with a chain that has begun, and no setup comes first
-abbrev IsInChainIfStopping : Progress → Type 0
-IsInChainIfStopping p = p.stops ≡ true → (0 < p.unsent) × (p.next_is_chained ≡ true) × (p.preparing ≡ false)
-
--- where `IsInChainIfStopping` holds, if no command is left, the end of the run wasn't asked for
-not_asked_to_stop : (p : Progress) → IsInChainIfStopping p → p.unsent ≡ 0 → p.stops ≡ false
-not_asked_to_stop p only none = false_from_ne_true p.stops (λ stops. let some = (only stops).0 in absurd (omega (arith, none, some)))
-
--- if there is a connection, the station has synchronized, the end of the run was asked for, and neither does the run end nor is a
--- further chain held back, the station isn't between two chains (`between`). `none` says that no request is in flight, and `some`
--- that one is
-not_between : (stops up begun none between some : Bool) → (connected : up ≡ true) → (synchronized : begun ≡ true) → (goes_on : (stops && ((not up || not begun) || (none && between))) ≡ false)
-    → (not_held : ((stops && between) && some) ≡ false) → (in_flight : none ≡ false → some ≡ true) → (asked : stops ≡ true) → between ≡ false
-not_between stops up begun none false some u b e f g is = refl
-not_between true true true true true some u b e f g is = cc
-not_between true true true false true true u b e f g is = cc
-not_between true true true false true false u b e f g is = let other = g refl in cc
-not_between true true false none true some u b e f g is = cc
-not_between true false begun none true some u b e f g is = cc
-not_between false up begun none true some u b e f g is = cc
-
--- where the test for 0 fails, the test for more than 0 holds
-test_above_zero : (n : ℕ) → nat_eq n 0 ≡ false → nat_lt 0 n ≡ true
-test_above_zero n e = grind (arith, nat_tests, e)
-
--- if the test says that the station isn't between two chains, a command is left, and it is chained, and no setup comes first
-in_chain_by_test : (p : Progress) → is_between_chains p ≡ false → (0 < p.unsent) × (p.next_is_chained ≡ true) × (p.preparing ≡ false)
-in_chain_by_test p e = by_test (nat_eq p.unsent 0) p.next_is_chained p.preparing refl e where
-  -- the lemma above, by whether a command is left
-  by_test : (none c b : Bool) → nat_eq p.unsent 0 ≡ none → ((none || not c) || b) ≡ false → (0 < p.unsent) × (c ≡ true) × (b ≡ false)
-  by_test true c b is f = cc
-  by_test false true false is f = (above_zero p.unsent is, refl, refl)
-  by_test false true true is f = cc
-  by_test false false b is f = cc
-
--- if the run doesn't end, it doesn't end between two chains either: `cut` is why it could end besides
-not_between_either : (stops down none between cut : Bool) → (stops && (down || (none && (between || cut)))) ≡ false → (stops && (down || (none && between))) ≡ false
-not_between_either false down none between cut e = refl
-not_between_either true true none between cut e = cc
-not_between_either true false false between cut e = refl
-not_between_either true false true true cut e = cc
-not_between_either true false true false cut e = refl
-
--- if there is a connection, the station has synchronized, the run doesn't end, and no further chain is held back,
--- `IsInChainIfStopping` holds
-in_chain_if_stopping : (p : Progress) (w : Waiting) → is_up p.phase ≡ true → has_begun p ≡ true → is_stopping p w ≡ false → is_held_back p w ≡ false → IsInChainIfStopping p
-in_chain_if_stopping p w up begun goes free stops =
-    in_chain_by_test p
-    (not_between p.stops (is_up p.phase) (has_begun p) (nat_eq w.current 0) (is_between_chains p) (nat_lt 0 w.current) up begun
-    (not_between_either p.stops (not (is_up p.phase) || not (has_begun p)) (nat_eq w.current 0) (is_between_chains p) (is_cut p) goes) free (test_above_zero w.current) stops)
-
--- if the test says that the station is between two chains, it is
-between_by_test : (p : Progress) → is_between_chains p ≡ true → IsBetweenChains p
-between_by_test p e = by_test (nat_eq p.unsent 0) p.next_is_chained p.preparing refl e where
-  -- the lemma above, by whether a command is left
-  by_test : (none c b : Bool) → nat_eq p.unsent 0 ≡ none → ((none || not c) || b) ≡ true → (p.unsent ≡ 0) ⊎ ((c ≡ false) ⊎ (b ≡ true))
-  by_test true c b is f = inl (eqb-true p.unsent 0 is)
-  by_test false true false is f = cc
-  by_test false true true is f = inr (inr refl)
-  by_test false false b is f = inr (inl refl)
-
--- if the test says that the run may end, it may
-resting_by_test : (p : Progress) (w : Waiting) → is_resting p w ≡ true → IsResting p w
-resting_by_test p w e = by_tests (is_up p.phase) (has_begun p) (nat_eq w.current 0) (is_between_chains p) refl refl refl refl e where
-  -- the lemma above, by each of its four tests
-  by_tests : (up begun none between : Bool) → (up_is : is_up p.phase ≡ up) → (begun_is : has_begun p ≡ begun) → (none_is : nat_eq w.current 0 ≡ none) → (between_is : is_between_chains p ≡ between)
-      → ((not up || not begun) || (none && (between || is_cut p))) ≡ true → IsResting p w
-  by_tests false begun none between u b n t f = inl u
-  by_tests true false none between u b n t f = inr (inl b)
-  by_tests true true true true u b n t f = inr (inr (eqb-true w.current 0 n, inl (between_by_test p t)))
-  by_tests true true true false u b n t f =
-      let it = and_parts (is_unquiet p.phase && not p.chain_unbroken) (not p.missed) f in
-      let cut = and_parts (is_unquiet p.phase) (not p.chain_unbroken) it.0 in
-      inr (inr (eqb-true w.current 0 n, inr (cut.0, not-true p.chain_unbroken cut.1, not-true p.missed it.1)))
-  by_tests true true false between u b n t f = cc
-
--- if there is a connection, there is one to be closed for any cause
-has_connection_for : (why : Cause) (p : Progress) → is_up p.phase ≡ true → HasConnectionFor why p
-has_connection_for cause.Stale p up = tt
-has_connection_for cause.Stopped p up = tt
-has_connection_for why p up = up
-
--- for a station at work, `Holds` is true of `action_waiting`, if a further chain is held back
-held_back_for : (plan : Plan) (p : Progress) (w : Waiting) → IsAtWork p → is_held_back p w ≡ true → Holds plan p w (action_waiting plan p w)
-held_back_for plan p w work held =
-    let it = and_parts (p.stops && is_between_chains p) (nat_lt 0 w.current) held in
-    let asked = and_parts p.stops (is_between_chains p) it.0 in
-    waiting_for_reply plan p w work (ltb-true 0 w.current it.1) (inr (inr (inl (asked.0, between_by_test p asked.1))))
-
--- for a station in its cycles (`IsMeasuring`), `Holds` is true of `action_done` if no command of the cycle is unsent or
--- outstanding, and the end of the run wasn't asked for
-done_for : (plan : Plan) (p : Progress) (w : Waiting) → IsMeasuring plan p w → (none_unsent : p.unsent ≡ 0) → (settled : w.commands ≡ 0) → (unasked : p.stops ≡ false)
-    → Holds plan p w (action_done plan p)
-done_for plan p w m sent settled unasked =
-    let P = Holds plan p w in
-    cond_both (nat_eq p.left 0) (action.Close cause.Done) _ P (λ e. ((awake_up p m.work.awake, inr (eqb-true p.left 0 e, sent, settled)), tt, tt))
-    (λ e. cond_both (is_due plan p) action.Begin (action.Read Due) P
-    (λ d. ((inl m.work.awake.1, inl m.work.begun, sent, settled, above_zero p.left e, unasked, inl m.set_up), (d, m.work.awake.0), tt)) (λ d. ((m.work.awake.1, inr (sent, settled, d)), awake_reads p m.work.awake, tt)))
-
--- if no command may be sent before those that are outstanding are settled (`IsHeld`), one is unsent, and it begins no further
--- attempt, that one is chained
-held_is_chained : (p : Progress) → IsHeld p → nat_eq p.unsent 0 ≡ false → p.next_others ≡ 0 → p.next_is_chained ≡ true
-held_is_chained p (inl none) e first = let some : 0 < p.unsent = above_zero p.unsent e in absurd (omega (arith, none, some))
-held_is_chained p (inr (inl next_is_chained)) e first = next_is_chained
-held_is_chained p (inr (inr more)) e first = absurd (omega (arith, more, first))
-
--- for a station in its cycles (`IsMeasuring`), `Holds` is true of `action_again` if the next command begins a further attempt,
--- each command that was sent is settled, and the next one goes on with its chain if the end of the run was asked for
-again_for : (plan : Plan) (p : Progress) (w : Waiting) → IsMeasuring plan p w → 0 < p.unsent → (settled : w.commands ≡ 0) → (more : 0 < p.next_others) → StaysInItsChain p
-    → Holds plan p w (action_again plan p w)
-again_for plan p w m some settled more stays =
-    cond_both (w.listed && not p.next_is_chained) _ action.Pass (Holds plan p w)
-    (λ e. let it = and_parts w.listed (not p.next_is_chained) e in
-    send_for plan p w m some (inl (not-true p.next_is_chained it.1)) (inr (settled, it.0)) stays)
-    (λ e. ((inl m.work.awake.1, inl m.work.begun, some, settled, more, inl (by_test (and_cases w.listed (not p.next_is_chained) e)), inl m.set_up), m.work.awake.0, tt)) where
-      -- why the attempt is left out, by which of the two tests fails
-      by_test : ((w.listed ≡ false) ⊎ (not p.next_is_chained ≡ false)) → (w.listed ≡ false) ⊎ (p.next_is_chained ≡ true)
-      by_test (inl none) = inl none
-      by_test (inr bound) = inr (not-false p.next_is_chained bound)
-
--- for a station in its cycles (`IsMeasuring`), `Holds` is true of `action_settled` if each command that was sent is settled, no
--- command could be sent before that (`IsHeld`), and a chain goes on if the end of the run was asked for
-settled_for : (plan : Plan) (p : Progress) (w : Waiting) → IsMeasuring plan p w → IsHeld p → (settled : w.commands ≡ 0) → IsInChainIfStopping p → Holds plan p w (action_settled plan p w)
-settled_for plan p w m held settled only =
-    let P = Holds plan p w in
-    cond_both (nat_eq p.unsent 0) _ _ P (λ e. done_for plan p w m (eqb-true p.unsent 0 e) settled (not_asked_to_stop p only (eqb-true p.unsent 0 e)))
-    (λ e. cond_both (nat_lt 0 p.next_others) _ _ P (λ more. again_for plan p w m (above_zero p.unsent e) settled (ltb-true 0 p.next_others more) (λ stops. (only stops).1))
-    (λ first. let none = zero_if_not_above p.next_others first in cond_both (may_go p w) _ action.Skip P
-    (λ well. let it = and_parts w.well p.chain_unbroken well in send_for plan p w m (above_zero p.unsent e) (inr (settled, it.0, it.1)) (inl none) (λ stops. (only stops).1))
-    (λ broken. ((inl m.work.awake.1, inl m.work.begun, above_zero p.unsent e, settled, inl (held_is_chained p held e none, broken), inl m.set_up), m.work.awake.0, tt))))
-
--- for a station in its cycles (`IsMeasuring`), `Holds` is true of `action_held` if no command may be sent before all that were
--- sent are settled (`IsHeld`), and a chain goes on if the end of the run was asked for
-held_for : (plan : Plan) (p : Progress) (w : Waiting) → IsMeasuring plan p w → IsHeld p → IsInChainIfStopping p → Holds plan p w (action_held plan p w)
-held_for plan p w m held only =
-    let P = Holds plan p w in
-    cond_both (nat_eq w.commands 0) _ _ P (λ e. settled_for plan p w m held (eqb-true w.commands 0 e) only)
-    (λ e. cond_both (nat_eq w.current 0) _ _ P
-    (λ given. room_for plan p w action.Flush m.work (λ room alive.
-    ((m.work.awake.1, m.work.begun, inl (inl held, above_zero w.commands e), eqb-true w.current 0 given, room, alive), tt, m.work.awake)))
-    (λ some. waiting_for_reply plan p w m.work (above_zero w.current some) (inl (inl held, above_zero w.commands e))))
-
--- if no command is left, or the next one is sent only once all are settled, `IsHeld` holds
-held_by_test : (p : Progress) → (nat_lt 0 p.unsent && not (waits_for_all p)) ≡ false → IsHeld p
-held_by_test p e = by_half (and_cases (nat_lt 0 p.unsent) (not (waits_for_all p)) e) where
-  -- the lemma above for a command to wait for all, by which of the two tests holds: that it is chained, or that it begins a
-  -- further attempt
-  by_test : (b c : Bool) → p.next_is_chained ≡ b → nat_lt 0 p.next_others ≡ c → (b || c) ≡ true → IsHeld p
-  by_test true c bound more e = inr (inl bound)
-  by_test false true bound more e = inr (inr (ltb-true 0 p.next_others more))
-  by_test false false bound more e = cc
-
-  -- `held_by_test` by which of the two tests fails: that a command is unsent, or that it needn't wait
-  by_half : ((nat_lt 0 p.unsent ≡ false) ⊎ (not (waits_for_all p) ≡ false)) → IsHeld p
-  by_half (inl none) = inl (zero_if_not_above p.unsent none)
-  by_half (inr waits) = by_test p.next_is_chained (nat_lt 0 p.next_others) refl refl (not-false (waits_for_all p) waits)
-
--- a command that needn't wait for all isn't chained, and begins no further attempt
-unchained_if_free : (p : Progress) → not (waits_for_all p) ≡ true → (p.next_is_chained ≡ false) × (p.next_others ≡ 0)
-unchained_if_free p e = by_test p.next_is_chained (nat_lt 0 p.next_others) refl refl e where
-  -- the lemma above, by both tests
-  by_test : (b c : Bool) → p.next_is_chained ≡ b → nat_lt 0 p.next_others ≡ c → not (b || c) ≡ true → (p.next_is_chained ≡ false) × (p.next_others ≡ 0)
-  by_test true c bound more e = cc
-  by_test false true bound more e = cc
-  by_test false false bound more e = (bound, zero_if_not_above p.next_others more)
-
--- for a station in its cycles (`IsMeasuring`), `Holds` is true of `action_cycle` if a chain goes on in case the end of the run
--- was asked for (`IsInChainIfStopping`)
-cycle_for : (plan : Plan) (p : Progress) (w : Waiting) → IsMeasuring plan p w → IsInChainIfStopping p → Holds plan p w (action_cycle plan p w)
-cycle_for plan p w m only =
-    cond_both (nat_lt 0 p.unsent && not (waits_for_all p)) _ _ (Holds plan p w)
-    (λ some. let it = and_parts (nat_lt 0 p.unsent) (not (waits_for_all p)) some in
-    let free = unchained_if_free p it.1 in
-    send_for plan p w m (ltb-true 0 p.unsent it.0) (inl free.0) (inl free.1) (λ stops. (only stops).1))
-    (λ none. held_for plan p w m (held_by_test p none) only)
-
--- if the test says that all is done, `IsFinished` holds: no cycle and no command is left, and none is outstanding
-pub finished_by_test : (count : ℕ) (p : Progress) → is_finished count p ≡ true → IsFinished count p
-finished_by_test count p e =
-    let it = and_parts (nat_eq p.left 0 && nat_eq p.unsent 0) (nat_eq count 0) e in
-    let sent = and_parts (nat_eq p.left 0) (nat_eq p.unsent 0) it.0 in
-    (eqb-true p.left 0 sent.0, eqb-true p.unsent 0 sent.1, eqb-true count 0 it.1)
+use Rattle.gc_station.proofs.InCycle.{Awake, Holds, IsAtWork, IsInChainIfStopping, Timely, Wakes, above_zero, awake_reads, awake_up, cycle_for, dead_parts, finished_by_test, has_connection_for, held_back_for, in_chain_if_stopping, not_zero, or_first, resting_by_test, room_for, to_send_for, waiting_for_reply, zero_if_not_above}
 
 -- for a station at work, `Holds` is true of `action_to_send` with `Prepare`, if the next command of the
 -- setup may be sent (`MayPrepare`), and the end of the run wasn't asked for
@@ -390,23 +30,45 @@ to_prepare_for : (plan : Plan) (p : Progress) (w : Waiting) → (work : IsAtWork
     → Holds plan p w (action_to_prepare plan p w)
 to_prepare_for plan p w work unasked on first =
     cond_both (nat_lt p.prepared plan.setup) _ (action.Read Limit) (Holds plan p w) (λ e. prepare_for plan p w work unasked (on, ltb-true p.prepared plan.setup e, first))
-    (λ e. (inr (inr (work.awake.1, inr (inr (on, ltb-false p.prepared plan.setup e)))), awake_reads p work.awake, tt))
+    (λ e. (inr (inr (work.awake.1, inr (inr (on, no_setup e first)))), awake_reads p work.awake, tt)) where
+      -- if there is no such command, there is no setup
+      no_setup : nat_lt p.prepared plan.setup ≡ false → (p.prepared ≡ 0) ⊎ ((w.commands ≡ 0) × (w.well ≡ true)) → plan.setup ≡ 0
+      no_setup e (inl none) = let all = ltb-false p.prepared plan.setup e in omega (arith, all, none)
+      no_setup e (inr it) = absurd (not_prepared p.preparing (nat_le plan.setup p.prepared) (nat_eq w.commands 0) w.well on
+          (le-leb plan.setup p.prepared (ltb-false p.prepared plan.setup e)) (eq-eqb w.commands 0 it.0) it.1) where
+            -- a setup of which all was sent and answered well is done
+            not_prepared : (preparing all settled well : Bool) → (preparing && not (all && settled && well)) ≡ true → all ≡ true → settled ≡ true → well ≡ true → ⊥
+            not_prepared true true true true e a b c = cc
+            not_prepared false all settled well e a b c = cc
+            not_prepared true false settled well e a b c = cc
+            not_prepared true true false well e a b c = cc
+            not_prepared true true true false e a b c = cc
+
+-- for a station at work, `Holds` is true of `action_in_setup`, if it is preparing, something of the setup was sent, and the end of the
+-- run wasn't asked for
+in_setup_for : (plan : Plan) (p : Progress) (w : Waiting) → IsAtWork p → p.stops ≡ false → is_preparing plan p w ≡ true → 0 < p.prepared → Holds plan p w (action_in_setup plan p w)
+in_setup_for plan p w work unasked on sent =
+    let P = Holds plan p w in
+    cond_both (is_finished w.commands p) (action.Close cause.Done) _ P (λ none. ((awake_up p work.awake, inr (finished_by_test w.commands p none)), tt, tt))
+    (λ more. cond_both (nat_eq w.commands 0) _ _ P
+    (λ e. cond_both w.well _ (action.Close cause.SetUp) P (λ well. to_prepare_for plan p w work unasked on (inr (eqb-true w.commands 0 e, well)))
+    (λ ill. ((awake_up p work.awake, inr (on, sent, eqb-true w.commands 0 e, ill)), tt, tt)))
+    (λ waiting. cond_both (nat_eq w.current 0) _ _ P
+    (λ given. room_for plan p w action.Flush work (λ room alive.
+    ((work.awake.1, work.begun, inl (inr (on, sent), above_zero w.commands waiting), eqb-true w.current 0 given, room, alive), tt, work.awake)))
+    (λ some. waiting_for_reply plan p w work (above_zero w.current some) (inl (inr (on, sent), above_zero w.commands waiting)))))
 
 -- for a station at work, `Holds` is true of `action_preparing`, if it is preparing, and the end of
 -- the run wasn't asked for
 preparing_for : (plan : Plan) (p : Progress) (w : Waiting) → IsAtWork p → p.stops ≡ false → is_preparing plan p w ≡ true → Holds plan p w (action_preparing plan p w)
 preparing_for plan p w work unasked on =
     let P = Holds plan p w in
+    cond_both (nat_eq p.prepared 0) _ _ P
+    (λ none. let first = eqb-true p.prepared 0 none in
     cond_both (is_finished w.commands p) (action.Close cause.Done) _ P (λ none. ((awake_up p work.awake, inr (finished_by_test w.commands p none)), tt, tt))
-    (λ more. cond_both (is_idle plan p) (action.Read Due) _ P (λ idle. ((work.awake.1, inl (idle, inr on)), awake_reads p work.awake, tt))
-    (λ busy. cond_both (nat_eq p.prepared 0) _ _ P (λ e. to_prepare_for plan p w work unasked on (inl (eqb-true p.prepared 0 e)))
-    (λ sent. cond_both (nat_eq w.commands 0) _ _ P
-    (λ e. cond_both w.well _ (action.Close cause.SetUp) P (λ well. to_prepare_for plan p w work unasked on (inr (eqb-true w.commands 0 e, well)))
-    (λ ill. ((awake_up p work.awake, inr (on, above_zero p.prepared sent, eqb-true w.commands 0 e, ill)), tt, tt)))
-    (λ waiting. cond_both (nat_eq w.current 0) _ _ P
-    (λ given. room_for plan p w action.Flush work (λ room alive.
-    ((work.awake.1, work.begun, inl (inr (on, above_zero p.prepared sent), above_zero w.commands waiting), eqb-true w.current 0 given, room, alive), tt, work.awake)))
-    (λ some. waiting_for_reply plan p w work (above_zero w.current some) (inl (inr (on, above_zero p.prepared sent), above_zero w.commands waiting)))))))
+    (λ more. cond_both (is_idle plan p) (action.Read Due) _ P (λ idle. ((work.awake.1, inl (idle, inr (on, first))), awake_reads p work.awake, tt))
+    (λ busy. to_prepare_for plan p w work unasked on (inl first))))
+    (λ sent. in_setup_for plan p w work unasked on (above_zero p.prepared sent))
 
 -- where the test says that the cycle is out of time, it is
 pub out_of_time_by_test : (plan : Plan) (p : Progress) → is_out_of_time plan p ≡ true → IsOutOfTime plan p
@@ -555,7 +217,7 @@ on_for plan p w =
     (λ e. cond_both (is_stale plan p w) (action.Close cause.Stale) _ P (λ old. ((tt, inr old), tt, tt))
     (λ some. cond_both (is_stopping p w) (action.Close cause.Stopped) _ P
     (λ asked. let it = and_parts p.stops (is_resting p w) asked in ((tt, inr (it.0, resting_by_test p w it.1)), tt, tt))
-    (λ goes. cond_both p.clock_due action.ReadClock _ P (λ old. (tt, old, tt))
+    (λ goes. cond_both p.clock_due action.ReadClock _ P (λ old. (old, old, tt))
     (λ now. cond_both (is_overdue plan p w) _ _ P (λ over. overdue_for plan p w now over) (λ _. of_phase_for plan p.phase p w refl now goes)))))
 
 -- `Holds` is true of `action_in` in each phase

@@ -1,6 +1,6 @@
--- What is in flight has timed out in time: a request that hasn't timed out was sent before the cycle was out of time, so that its
--- deadline comes at most the longest deadline after that. An act is one call on the link, with its result.
-use Rattle.std.proofs.Common.{◌≡◌, ℕ, ◌+◌, ◌*◌, ◌-◌, ◌<◌, ◌≤◌, ◌||◌, Bool, true, false, not, if◌then◌else◌, List, [], ◌∷◌, length, map, filter, drop, min, Option, Some, None, nat_le, nat_eq, refl, sym, ap, ◌∙◌, subst, arith}
+-- What is in flight has timed out in time: a request that hasn't timed out was sent before the cycle was out of time, or soon after, by
+-- a setup that goes on, so that its deadline comes at most `span` after that. An act is one call on the link, with its result.
+use Rattle.std.proofs.Common.{◌≡◌, ℕ, ◌+◌, ◌*◌, ◌<◌, ◌≤◌, ◌||◌, Bool, true, false, not, if◌then◌else◌, List, [], ◌∷◌, length, map, filter, drop, min, Option, Some, None, nat_le, nat_eq, refl, sym, ap, ◌∙◌, subst, arith}
 use Rattle.std.proofs.lemmas.Bool.{leb-false, cond_both}
 use Rattle.std.specs.List.{AllByRecursion}
 use Rattle.gc_values.proofs.Every.{every_drop}
@@ -17,10 +17,11 @@ use Rattle.gc_catalogue.specs.declared.asked.Asked.TheVariants.{Table}
 use Rattle.gc_catalogue.specs.declared.call.Call.TheVariants.{NullProc}
 use Rattle.gc_station.specs.Deciding.{later}
 use Rattle.gc_station.specs.Progressing.{turned, moment_noted, cycle_start, due_at, time_passed, loses_all}
-use Rattle.gc_station.specs.Model.{Model, sent_to, client_sent, with_progress, with_moment, with_rest, waiting_of, line_came, lines_completed, is_heard, piece_at, Performs, moved, asks_first, null_request, with_losses}
-use Rattle.gc_station.specs.NextCommand.{place_next, mark_next}
+use Rattle.gc_station.specs.Model.{Model, sent_to, client_sent, with_progress, with_moment, with_rest, waiting_of, line_came, lines_completed, is_heard, piece_at, Performs, moved, asks_for, asks_first, asks_setup, null_request, request_or_null, with_losses}
+use Rattle.gc_station.specs.NextCommand.{place_next, mark_next, mark_setup}
 use Rattle.gc_station.specs.Requests.{command_at}
 use Rattle.gc_station.specs.Quiet.{IsAsking}
+use Rattle.gc_station.specs.declared.mark.Mark.{Mark}
 use Rattle.gc_station.specs.declared.plan.Plan.{Plan}
 use Rattle.gc_station.specs.declared.progress.Action.{Action}
 use Rattle.gc_station.specs.declared.progress.Action.TheVariants as actions
@@ -83,13 +84,15 @@ all_sent P width c command now wait all one = by_test (nat_eq (length c.waiting)
   by_test true e = subst (λ (b : Bool). AllByRecursion P (client_sent c (send_unless_full c command.target command.call (later now wait) b)).waiting) (sym e) all
   by_test false e = subst (λ (b : Bool). AllByRecursion P (client_sent c (send_unless_full c command.target command.call (later now wait) b)).waiting) (sym e) (all_append P c.waiting (pending_of command.target command.call (later now wait) ∷ []) all (one, tt))
 
-module _ (plan : Plan) (longest : ℕ) where
+module _ (plan : Plan) (longest span : ℕ) where
   -- of a station whose last cycle counts as begun at `began`, with the moment `now` read last, which is out of date (`due`) or not, and
   -- with these requests outstanding: the cycle didn't begin after `now`; each request that hasn't timed out has its deadline at most
-  -- the longest one after the moment at which the cycle is out of time; and after `now`, unless that is out of date
+  -- `span` after the moment at which the cycle is out of time; after `now`, unless that is out of date; and at most the longest one after
+  -- `now`
   abbrev pub TimesOutAt : (began now : ℕ) (due : Bool) → List (Pending Asked) → Type 0
   TimesOutAt began now due ws =
-      (began ≤ now) × AllByRecursion (EndsBy ((began + 2 * plan.every) + longest)) ws × (due ≡ false → AllByRecursion (EndsAfter now) ws)
+      (began ≤ now) × AllByRecursion (EndsBy ((began + 2 * plan.every) + span)) ws × (due ≡ false → AllByRecursion (EndsAfter now) ws)
+      × AllByRecursion (EndsBy (now + longest)) ws
 
   -- `TimesOutAt` of the progress p
   abbrev pub TimesOutIn : Progress → List (Pending Asked) → Type 0
@@ -100,10 +103,14 @@ module _ (plan : Plan) (longest : ℕ) where
   TimesOut s = TimesOutIn s.progress s.client.waiting
 
   -- `TimesOutAt` holds after a moment, if the cycle's beginning doesn't go back, and isn't after that moment
-  out_told : (began began' now before : ℕ) (due : Bool) (ws : List (Pending Asked)) → TimesOutAt began before due ws → began ≤ began' → began' ≤ now
+  out_told : (began began' now before : ℕ) (due : Bool) (ws : List (Pending Asked)) → TimesOutAt began before due ws → began ≤ began' → began' ≤ now → before ≤ now
       → TimesOutAt began' now false (map (expired now) ws)
-  out_told began began' now before due ws h on past =
-      (past, expired_by ((began + 2 * plan.every) + longest) ((began' + 2 * plan.every) + longest) now ws (omega (arith, on)) h.1, λ e. expired_after now ws)
+  out_told began began' now before due ws h on past rises = (
+    past,
+    expired_by ((began + 2 * plan.every) + span) ((began' + 2 * plan.every) + span) now ws (omega (arith, on)) h.1,
+    λ e. expired_after now ws,
+    expired_by (before + longest) (now + longest) now ws (omega (arith, rises)) h.3,
+  )
 
   -- the same after a moment that begins no cycle
   out_noted : (p : Progress) (m : Moment) (ws : List (Pending Asked)) → TimesOutIn p ws → ClockRises p.moment.elapsed (Told m ∷ [])
@@ -111,7 +118,7 @@ module _ (plan : Plan) (longest : ℕ) where
   out_noted p m ws h rises =
       let past = h.0 in
       let now = rises.0 in
-      out_told p.began (min p.began m.elapsed) m.elapsed p.moment.elapsed p.clock_due ws h (omega (arith, past, now)) (omega arith)
+      out_told p.began (min p.began m.elapsed) m.elapsed p.moment.elapsed p.clock_due ws h (omega (arith, past, now)) (omega arith) now
 
   -- the beginning of a cycle isn't before that of the last one
   start_after : (m : Moment) (p : Progress) → p.began ≤ p.moment.elapsed → ClockRises p.moment.elapsed (Told m ∷ []) → (p.began ≤ cycle_start plan m p) × (cycle_start plan m p ≤ m.elapsed)
@@ -125,14 +132,14 @@ module _ (plan : Plan) (longest : ℕ) where
   out_line : (x : Model) (line : List ℕ) → TimesOut x → TimesOut (line_came x line)
   out_line x line h = (
     h.0,
-    all_heard (EndsBy ((x.progress.began + 2 * plan.every) + longest)) x.client line (heard line) h.1,
+    all_heard (EndsBy ((x.progress.began + 2 * plan.every) + span)) x.client line (heard line) h.1,
     λ e. all_heard (EndsAfter x.progress.moment.elapsed) x.client line (heard line) (h.2 e),
+    all_heard (EndsBy (x.progress.moment.elapsed + longest)) x.client line (heard line) h.3,
   )
 
-  -- a request that is sent while the cycle isn't out of time ends in time
-  ends_in_time : (p : Progress) (wait : ℕ) (target : ℕ) (call : Asked) → p.began ≤ p.moment.elapsed → p.moment.elapsed - p.began < 2 * plan.every → wait ≤ longest
-      → EndsBy ((p.began + 2 * plan.every) + longest) (pending_of target call (later p.moment.elapsed wait))
-  ends_in_time p wait target call past short few e = omega (arith, past, short, few)
+  -- a request that is sent at the moment `now` ends by `limit`, if that is the longest deadline after `now` or later
+  ends_by : (limit now wait : ℕ) (target : ℕ) (call : Asked) → now + longest ≤ limit → wait ≤ longest → EndsBy limit (pending_of target call (later now wait))
+  ends_by limit now wait target call short few e = omega (arith, short, few)
 
   module _ (commands : List Task) (few : plan.deadline ≤ longest) (all_few : AllByRecursion (λ (task : Task). task.deadline ≤ longest) commands) where
     -- after an act from the model s on: `TimesOut`, if the clock doesn't go back at it
@@ -147,36 +154,66 @@ module _ (plan : Plan) (longest : ℕ) where
         came_along TimesOut out_line (is_heard s.progress.phase) s.progress.word bytes mid told
         (asked_along (λ (q : Progress). TimesOutIn q mid.client.waiting) (λ q line e. e) mid.progress (lines_completed mid.rest bytes) told) told
 
-    -- an act of each action preserves `TimesOut`, if a request is sent only while the cycle isn't out of time, and none of a setup
-    pub out_moved : (s : Model) (o : Action) (act : Act) → Performs commands s o act → (IsAsking o → s.progress.moment.elapsed - s.progress.began < 2 * plan.every) → (o ≡ actions.Prepare → ⊥)
+    -- all requests end by `limit` once the first of these commands was sent, if they did before, and `limit` is late enough
+    first_ends : (s : Model) (limit : ℕ) (mark : Mark) (left : List Task) → s.progress.moment.elapsed + longest ≤ limit → AllByRecursion (EndsBy limit) s.client.waiting
+        → AllByRecursion (λ (task : Task). task.deadline ≤ longest) left → AllByRecursion (EndsBy limit) (asks_first mark left s).client.waiting
+    first_ends s limit mark [] short h within = h
+    first_ends s limit mark (task ∷ others) short h within =
+        let command = command_at mark.sent task in
+        all_sent (EndsBy limit) WINDOW s.client command s.progress.moment.elapsed task.deadline h
+        (ends_by limit s.progress.moment.elapsed task.deadline command.target command.call short within.0)
+
+    -- the same once a null procedure was sent
+    pub null_ends : (s : Model) (limit : ℕ) → s.progress.moment.elapsed + longest ≤ limit → AllByRecursion (EndsBy limit) s.client.waiting
+        → AllByRecursion (EndsBy limit) (asks_for (null_request plan) s).client.waiting
+    null_ends s limit short h =
+        all_sent (EndsBy limit) WINDOW s.client (null_request plan).command s.progress.moment.elapsed plan.deadline h
+        (ends_by limit s.progress.moment.elapsed plan.deadline 0 (Table NullProc) short few)
+
+    -- the same once the first of these commands of the setup was sent, or a null procedure if there is none
+    setup_ends : (s : Model) (limit : ℕ) (mark : Mark) (left : List Task) → s.progress.moment.elapsed + longest ≤ limit → AllByRecursion (EndsBy limit) s.client.waiting
+        → AllByRecursion (λ (task : Task). task.deadline ≤ longest) left → AllByRecursion (EndsBy limit) (asks_for (request_or_null plan mark left) s).client.waiting
+    setup_ends s limit mark [] short h within = null_ends s limit short h
+    setup_ends s limit mark (task ∷ others) short h within = first_ends s limit mark (task ∷ others) short h within
+
+    -- the same once the setup's next command was sent
+    pub prepared_ends : (s : Model) (limit : ℕ) → s.progress.moment.elapsed + longest ≤ limit → AllByRecursion (EndsBy limit) s.client.waiting
+        → AllByRecursion (EndsBy limit) (asks_setup plan commands s).client.waiting
+    prepared_ends s limit short h =
+        setup_ends s limit (mark_setup commands s.progress) (drop s.progress.prepared commands) short h
+        (every_drop (λ (task : Task). task.deadline ≤ longest) commands s.progress.prepared all_few)
+
+    -- an act of each action preserves `TimesOut`, if a request is sent only while its deadline is early enough
+    pub out_moved : (s : Model) (o : Action) (act : Act) → Performs commands s o act
+        → (IsAsking o → s.progress.moment.elapsed + longest ≤ (s.progress.began + 2 * plan.every) + span)
         → TimesOut s → OutAfter s act (moved plan commands o (with_progress turned s) act)
-    out_moved s actions.Begin act obeys short other h =
+    out_moved s actions.Begin act obeys short h =
         walk plan commands (OutAfter s) actions.Begin (with_progress turned s) act obeys (
-          λ m rises. let start = start_after m (turned s.progress) h.0 rises in out_told s.progress.began (cycle_start plan m (turned s.progress)) m.elapsed s.progress.moment.elapsed s.progress.clock_due s.client.waiting h start.0 start.1,
+          λ m rises. let start = start_after m (turned s.progress) h.0 rises in out_told s.progress.began (cycle_start plan m (turned s.progress)) m.elapsed s.progress.moment.elapsed s.progress.clock_due s.client.waiting h start.0 start.1 rises.0,
           λ n rises. h,
         )
-    out_moved s actions.Open act obeys short other h = walk plan commands (OutAfter s) actions.Open (with_progress turned s) act obeys (λ m rises. h, λ n rises. (h.0, h.1, λ e. cc))
-    out_moved s actions.Clear act obeys short other h = walk plan commands (OutAfter s) actions.Clear (with_progress turned s) act obeys (λ m rises. (h.0, h.1, λ e. cc), λ n rises. (h.0, h.1, λ e. cc))
-    out_moved s actions.Ask act obeys short other h = walk plan commands (OutAfter s) actions.Ask (with_progress turned s) act obeys (λ m rises. (h.0, h.1, λ e. cc), λ n rises. (h.0, h.1, λ e. cc))
-    out_moved s actions.Prepare act obeys short other h = absurd (other refl)
-    out_moved s actions.Send act obeys short other h =
-        let p = s.progress in
-        let left = drop (place_next commands p) commands in
-        let all = by_left left (every_drop (λ (task : Task). task.deadline ≤ longest) commands (place_next commands p) all_few) in
-        walk plan commands (OutAfter s) actions.Send (with_progress turned s) act obeys (λ m rises. (h.0, all, λ e. cc), λ n rises. (h.0, all, λ e. cc)) where
-          -- all requests end in time once the first of these commands was sent
-          by_left : (left : List Task) → AllByRecursion (λ (task : Task). task.deadline ≤ longest) left
-              → AllByRecursion (EndsBy ((s.progress.began + 2 * plan.every) + longest)) (asks_first (mark_next plan commands (turned s.progress)) left (with_progress turned s)).client.waiting
-          by_left [] within = h.1
-          by_left (task ∷ others) within =
-              let command = command_at (mark_next plan commands (turned s.progress)).sent task in
-              all_sent (EndsBy ((s.progress.began + 2 * plan.every) + longest)) WINDOW s.client command s.progress.moment.elapsed task.deadline h.1
-              (ends_in_time s.progress task.deadline command.target command.call h.0 (short tt) within.0)
-    out_moved s actions.Flush act obeys short other h =
-        let all = all_sent (EndsBy ((s.progress.began + 2 * plan.every) + longest)) WINDOW s.client (null_request plan).command s.progress.moment.elapsed plan.deadline h.1
-        (ends_in_time s.progress plan.deadline 0 (Table NullProc) h.0 (short tt) few) in
-        walk plan commands (OutAfter s) actions.Flush (with_progress turned s) act obeys (λ m rises. (h.0, all, λ e. cc), λ n rises. (h.0, all, λ e. cc))
-    out_moved s (actions.Read until) act obeys short other h =
+    out_moved s actions.Open act obeys short h = walk plan commands (OutAfter s) actions.Open (with_progress turned s) act obeys (λ m rises. h, λ n rises. (h.0, h.1, λ e. cc, h.3))
+    out_moved s actions.Clear act obeys short h = walk plan commands (OutAfter s) actions.Clear (with_progress turned s) act obeys (λ m rises. (h.0, h.1, λ e. cc, h.3), λ n rises. (h.0, h.1, λ e. cc, h.3))
+    out_moved s actions.Ask act obeys short h = walk plan commands (OutAfter s) actions.Ask (with_progress turned s) act obeys (λ m rises. (h.0, h.1, λ e. cc, h.3), λ n rises. (h.0, h.1, λ e. cc, h.3))
+    out_moved s actions.Prepare act obeys short h =
+        let u = with_progress turned s in
+        let all = prepared_ends u ((s.progress.began + 2 * plan.every) + span) (short tt) h.1 in
+        let recent = prepared_ends u (s.progress.moment.elapsed + longest) (omega arith) h.3 in
+        walk plan commands (OutAfter s) actions.Prepare u act obeys (λ m rises. (h.0, all, λ e. cc, recent), λ n rises. (h.0, all, λ e. cc, recent))
+    out_moved s actions.Send act obeys short h =
+        let u = with_progress turned s in
+        let left = drop (place_next commands s.progress) commands in
+        let within = every_drop (λ (task : Task). task.deadline ≤ longest) commands (place_next commands s.progress) all_few in
+        let mark = mark_next plan commands (turned s.progress) in
+        let all = first_ends u ((s.progress.began + 2 * plan.every) + span) mark left (short tt) h.1 within in
+        let recent = first_ends u (s.progress.moment.elapsed + longest) mark left (omega arith) h.3 within in
+        walk plan commands (OutAfter s) actions.Send u act obeys (λ m rises. (h.0, all, λ e. cc, recent), λ n rises. (h.0, all, λ e. cc, recent))
+    out_moved s actions.Flush act obeys short h =
+        let u = with_progress turned s in
+        let all = null_ends u ((s.progress.began + 2 * plan.every) + span) (short tt) h.1 in
+        let recent = null_ends u (s.progress.moment.elapsed + longest) (omega arith) h.3 in
+        walk plan commands (OutAfter s) actions.Flush u act obeys (λ m rises. (h.0, all, λ e. cc, recent), λ n rises. (h.0, all, λ e. cc, recent))
+    out_moved s (actions.Read until) act obeys short h =
         walk plan commands (OutAfter s) (actions.Read until) (with_progress turned s) act obeys (
           λ bytes m rises. out_gave (with_progress turned s) until bytes m h rises,
           λ m rises. let told = out_noted s.progress m s.client.waiting h rises in
@@ -185,13 +222,13 @@ module _ (plan : Plan) (longest : ℕ) where
           λ rises. h,
           λ rises. h,
         )
-    out_moved s (actions.Close why) act obeys short other h =
+    out_moved s (actions.Close why) act obeys short h =
         walk plan commands (OutAfter s) (actions.Close why) (with_progress turned s) act obeys
-        (λ rises. closed_along (λ (q : Progress). TimesOutIn q s.client.waiting) plan (waiting_of (with_rest [] (with_progress turned s))) why (turned s.progress) h (h.0, h.1, λ e. cc))
-    out_moved s (actions.Stop why) act obeys short other h = absurd obeys
-    out_moved s o act obeys short other h =
+        (λ rises. closed_along (λ (q : Progress). TimesOutIn q s.client.waiting) plan (waiting_of (with_rest [] (with_progress turned s))) why (turned s.progress) h (h.0, h.1, λ e. cc, h.3))
+    out_moved s (actions.Stop why) act obeys short h = absurd obeys
+    out_moved s o act obeys short h =
         walk plan commands (OutAfter s) o (with_progress turned s) act obeys (λ m rises. out_noted s.progress m s.client.waiting h rises, λ n rises. h)
 
     -- the loss of what is outstanding preserves `TimesOut`
     pub out_losses : (t : Model) → TimesOut t → TimesOut (with_losses t)
-    out_losses t h = losing_along TimesOut (loses_all t.progress) t (h.0, tt, λ e. tt) h
+    out_losses t h = losing_along TimesOut (loses_all t.progress) t (h.0, tt, λ e. tt, tt) h

@@ -1,17 +1,20 @@
--- Requests are sent only in time: while the cycle isn't out of time, if the end of the run wasn't asked for and there is no setup. So
--- what is in flight has timed out in time (`TimesOut`). An act is one call on the link, with its result.
-use Rattle.std.proofs.Common.{◌≡◌, ◌⊎◌, inl, inr, ℕ, ◌+◌, ◌*◌, ◌-◌, ◌<◌, ◌≤◌, ◌&&◌, ◌||◌, Bool, true, false, not, if◌then◌else◌, List, [], ◌∷◌, ◌++◌, nat_lt, nat_le, nat_eq, refl, sym, ap, ◌∙◌, subst, arith}
-use Rattle.std.proofs.lemmas.Bool.{ltb-true, leb-false, eqb-true, and_parts, cond_both, both_ways, false_from_ne_true}
+-- Requests are sent only in time: while the cycle isn't out of time, if the end of the run wasn't asked for, or by a setup that goes on
+-- (`SettingUp`). So what is in flight has timed out in time (`TimesOut`). An act is one call on the link, with its result.
+use Rattle.std.proofs.Common.{◌≡◌, ◌⊎◌, inl, inr, ℕ, suc, ◌+◌, ◌*◌, ◌-◌, ◌<◌, ◌≤◌, ◌&&◌, ◌||◌, Bool, true, false, not, if◌then◌else◌, List, [], ◌∷◌, ◌++◌, nat_lt, nat_le, nat_eq, refl, sym, ap, ◌∙◌, subst, arith}
+use Rattle.std.proofs.lemmas.Bool.{ltb-true, leb-false, eqb-true, eq-eqb, and_parts, cond_both, both_ways, false_from_ne_true}
 use Rattle.std.proofs.lemmas.Bool.Decides.{nat_tests}
+use native.Mathlib.Nat.{suc-mul, mul-le-mul_right}
 use Rattle.std.specs.List.{AllByRecursion}
 use Rattle.gc_texts.specs.declared.tasks.Task.{Task}
 use Rattle.gc_links.specs.Acts.{Act, Told, Gave, Silent, Opened}
 use Rattle.gc_station.specs.Cycles.{ClockRises}
-use Rattle.gc_station.specs.Deciding.{has_begun, is_out_of_time, waits_out, is_overdue, is_stale, is_stopping, is_held_back, is_preparing, is_finished, is_idle, is_dead, is_up, may_abandon, waits_for_all, action_in, action_on, action_overdue, action_of_phase, action_without_turns, action_begun, action_beginning, action_waiting, action_preparing, action_cycle, action_held, action_settled, action_done}
+use Rattle.gc_station.specs.Deciding.{has_begun, is_between_chains, setup_permits, is_out_of_time, waits_out, is_overdue, is_stale, is_stopping, is_held_back, is_preparing, is_finished, is_idle, is_dead, is_up, may_abandon, waits_for_all, action_in, action_on, action_overdue, action_of_phase, action_without_turns, action_begun, action_beginning, action_waiting, action_preparing, action_in_setup, action_cycle, action_held, action_settled, action_done}
 use Rattle.gc_station.specs.Model.{Model, opening, action_at, waiting_of, with_rest, with_progress, moved, after, Performs, Runs}
 use Rattle.gc_station.specs.Progressing.{turned}
 use Rattle.gc_station.specs.Quiet.{IsAsking}
 use Rattle.gc_station.specs.Reasons.{HoldsBefore}
+use Rattle.gc_station.specs.Marks.{last_well}
+use Rattle.gc_station.specs.RecordedInTime.{MayTakeTime, SetUpIsOfTable}
 use Rattle.gc_station.specs.Runs.{state_after}
 use Rattle.gc_station.specs.Scopes.{Scope}
 use Rattle.gc_station.specs.Stopping.{asked_after}
@@ -26,8 +29,12 @@ use Rattle.gc_station.specs.declared.progress.Until.TheVariants.{Limit, Due}
 use Rattle.gc_station.specs.declared.progress.Waiting.{Waiting}
 use Rattle.gc_station.proofs.Always.{always, always_of_progress}
 use Rattle.gc_station.proofs.Cycles.{begun_if_clock_rises, rises_here}
+use Rattle.gc_station.proofs.EachRun.{invariant_holds}
 use Rattle.gc_station.proofs.Facts.{action_for}
+use Rattle.gc_station.proofs.InCycle.{not_zero}
 use Rattle.gc_station.proofs.InFlight.{TimesOut, out_moved, out_losses}
+use Rattle.gc_station.proofs.SettingUp.{sets_moved}
+use Rattle.gc_station.proofs.UnderWay.{SettingUp, not_permitted, some_unsent, soon_if_well, sets_losses}
 use Rattle.gc_station.proofs.Stopping.{asked-append, stops_as_asked}
 use Rattle.gc_station.proofs.Ticking.{rises_front}
 use Rattle.gc_station.proofs.Unbroken.{not_preparing_after_send}
@@ -80,36 +87,75 @@ module _ (plan : Plan) (p : Progress) (w : Waiting) where
       (λ e. absurd (both_ways (nat_eq p.unsent 0) e sent)))
       (λ e. absurd (both_ways (nat_eq w.commands 0) e settled)))
 
-  module _ (going : p.stops ≡ false) (ready : is_preparing plan p w ≡ false) where
+  -- once all is done, no action of a setup sends a request
+  finished_prepares_none : is_finished w.commands p ≡ true → Mum (action_preparing plan p w)
+  finished_prepares_none done =
+      cond_both (nat_eq p.prepared 0) _ (action_in_setup plan p w) Mum
+      (λ _. cond_both (is_finished w.commands p) (actions.Close cause.Done) _ Mum (λ e o. o) (λ e. absurd (both_ways (is_finished w.commands p) e done)))
+      (λ _. cond_both (is_finished w.commands p) (actions.Close cause.Done) _ Mum (λ e o. o) (λ e. absurd (both_ways (is_finished w.commands p) e done)))
+
+  -- while commands of a setup are in flight, none of its actions sends a request
+  flying_prepares_none : nat_eq p.prepared 0 ≡ false → nat_eq w.commands 0 ≡ false → nat_eq w.current 0 ≡ false → Mum (action_preparing plan p w)
+  flying_prepares_none sent some flies =
+      cond_both (nat_eq p.prepared 0) _ (action_in_setup plan p w) Mum (λ e. absurd (both_ways (nat_eq p.prepared 0) sent e))
+      (λ _. cond_both (is_finished w.commands p) (actions.Close cause.Done) _ Mum (λ e o. o)
+      (λ _. cond_both (nat_eq w.commands 0) _ _ Mum (λ e. absurd (both_ways (nat_eq w.commands 0) some e))
+      (λ _. cond_both (nat_eq w.current 0) _ (action_waiting plan p w) Mum (λ e. absurd (both_ways (nat_eq w.current 0) flies e)) (λ _. waiting_mum))))
+
+  module _ (going : p.stops ≡ false) (permits : setup_permits plan p w ≡ true) where
     -- by the tests of `is_overdue`: the cycle isn't out of time, or all is done, if it isn't overdue, and nothing is in flight, in the
     -- phase `Ready`, once the station has synchronized
     out_of_time_or_finished : (missed late none there begun settled done : Bool)
-        → ((missed || (late && not p.stops)) && ((none && there) && ((not (is_preparing plan p w) || (nat_eq p.prepared 0 || nat_lt 0 w.commands)) && ((begun || settled) && not done)))) ≡ false
+        → ((missed || (late && not p.stops)) && ((none && there) && (setup_permits plan p w && ((begun || settled) && not done)))) ≡ false
         → none ≡ true → there ≡ true → begun ≡ true → (late ≡ false) ⊎ (done ≡ true)
     out_of_time_or_finished missed late none there begun settled done e n t b =
-        by_tests missed late none there p.stops (is_preparing plan p w) begun done (nat_eq p.prepared 0 || nat_lt 0 w.commands) going ready n t b e where
+        by_tests missed late none there p.stops (setup_permits plan p w) begun done going permits n t b e where
           -- the lemma above, by each test
-          by_tests : (missed late none there stops preparing begun done other : Bool) → stops ≡ false → preparing ≡ false → none ≡ true → there ≡ true → begun ≡ true
-              → ((missed || (late && not stops)) && ((none && there) && ((not preparing || other) && ((begun || settled) && not done)))) ≡ false → (late ≡ false) ⊎ (done ≡ true)
-          by_tests missed false none there stops preparing begun done other g r n t b e = inl refl
-          by_tests missed true none there stops preparing begun true other g r n t b e = inr refl
-          by_tests true true true true false false true false other g r n t b e = cc
-          by_tests false true true true false false true false other g r n t b e = cc
-          by_tests missed true false there stops preparing begun false other g r n t b e = cc
-          by_tests missed true true false stops preparing begun false other g r n t b e = cc
-          by_tests missed true true true true preparing begun false other g r n t b e = cc
-          by_tests missed true true true false true begun false other g r n t b e = cc
-          by_tests missed true true true false false false false other g r n t b e = cc
+          by_tests : (missed late none there stops permits begun done : Bool) → stops ≡ false → permits ≡ true → none ≡ true → there ≡ true → begun ≡ true
+              → ((missed || (late && not stops)) && ((none && there) && (permits && ((begun || settled) && not done)))) ≡ false → (late ≡ false) ⊎ (done ≡ true)
+          by_tests missed false none there stops permits begun done g r n t b e = inl refl
+          by_tests missed true none there stops permits begun true g r n t b e = inr refl
+          by_tests true true true true false true true false g r n t b e = cc
+          by_tests false true true true false true true false g r n t b e = cc
+          by_tests missed true false there stops permits begun false g r n t b e = cc
+          by_tests missed true true false stops permits begun false g r n t b e = cc
+          by_tests missed true true true true permits begun false g r n t b e = cc
+          by_tests missed true true true false false begun false g r n t b e = cc
+          by_tests missed true true true false true false false g r n t b e = cc
 
     -- in the phase `Ready`, a request is sent only if the cycle isn't out of time, unless it is overdue
     begun_punctual : p.phase ≡ phase.Ready → has_begun p ≡ true → is_overdue plan p w ≡ false → Punctual (action_begun plan p w)
     begun_punctual is begun over =
         cond_both (is_held_back p w) (action_waiting plan p w) _ Punctual (λ e o. absurd (waiting_mum o))
         (λ e. cond_both (waits_out plan p w) (action_waiting plan p w) (if is_preparing plan p w then action_preparing plan p w else action_cycle plan p w) Punctual (λ e o. absurd (waiting_mum o))
-        (λ uncut. cond_both (is_preparing plan p w) (action_preparing plan p w) (action_cycle plan p w) Punctual (λ on. absurd (both_ways (is_preparing plan p w) ready on)) (λ e. uncut_punctual uncut))) where
+        (λ uncut. cond_both (is_preparing plan p w) (action_preparing plan p w) (action_cycle plan p w) Punctual (λ on. uncut_prepares uncut on) (λ e. uncut_punctual uncut e))) where
+          -- if nothing is cut, a command of the setup is sent only in time
+          uncut_prepares : waits_out plan p w ≡ false → is_preparing plan p w ≡ true → Punctual (action_preparing plan p w)
+          uncut_prepares uncut on o = by_current (nat_eq w.current 0) refl where
+            -- the lemma above, whether nothing is in flight that hasn't timed out
+            by_current : (b : Bool) → nat_eq w.current 0 ≡ b → is_out_of_time plan p ≡ false
+            by_current true none = by_case (out_of_time_or_finished (p.missed && nat_lt 0 p.unsent) (is_out_of_time plan p) (nat_eq w.current 0) (may_abandon p.phase) (has_begun p) (nat_eq w.commands 0) (is_finished w.commands p) over none
+                (ap may_abandon is) begun) where
+                  -- by whether the cycle is in time, or all is done
+                  by_case : ((is_out_of_time plan p ≡ false) ⊎ (is_finished w.commands p ≡ true)) → is_out_of_time plan p ≡ false
+                  by_case (inl punctual) = punctual
+                  by_case (inr done) = absurd (finished_prepares_none done o)
+            by_current false some = false_from_ne_true (is_out_of_time plan p) (λ late.
+                let it = by_tests (is_out_of_time plan p) (nat_lt 0 w.current) (is_preparing plan p w) (nat_eq p.prepared 0) (nat_lt 0 w.commands) late (grind (arith, nat_tests, some)) on uncut permits in
+                flying_prepares_none it.0 (grind (arith, nat_tests, it.1)) some o) where
+                  -- by the tests of `waits_out` and `setup_permits`
+                  by_tests : (late some preparing zero_sent waits : Bool) → late ≡ true → some ≡ true → preparing ≡ true → ((late && some) && (not preparing || zero_sent)) ≡ false
+                      → (not preparing || (zero_sent || waits)) ≡ true → (zero_sent ≡ false) × (waits ≡ true)
+                  by_tests true true true false true l s r e f = (refl, refl)
+                  by_tests false some preparing zero_sent waits l s r e f = cc
+                  by_tests true false preparing zero_sent waits l s r e f = cc
+                  by_tests true true false zero_sent waits l s r e f = cc
+                  by_tests true true true true waits l s r e f = cc
+                  by_tests true true true false false l s r e f = cc
+
           -- if nothing is cut, a command of the cycle is sent only in time
-          uncut_punctual : waits_out plan p w ≡ false → Punctual (action_cycle plan p w)
-          uncut_punctual uncut o = by_current (nat_eq w.current 0) refl where
+          uncut_punctual : waits_out plan p w ≡ false → is_preparing plan p w ≡ false → Punctual (action_cycle plan p w)
+          uncut_punctual uncut ready o = by_current (nat_eq w.current 0) refl where
             -- the lemma above, whether nothing is in flight that hasn't timed out
             by_current : (b : Bool) → nat_eq w.current 0 ≡ b → is_out_of_time plan p ≡ false
             by_current true none = by_case (out_of_time_or_finished (p.missed && nat_lt 0 p.unsent) (is_out_of_time plan p) (nat_eq w.current 0) (may_abandon p.phase) (has_begun p) (nat_eq w.commands 0) (is_finished w.commands p) over none
@@ -149,15 +195,15 @@ asking_ready plan p w actions.Send asks needs = needs.0
 asking_ready plan p w actions.Flush asks needs = needs.0
 asking_ready plan p w o asks needs = absurd asks
 
--- if the next action sends a request of the client, the end of the run wasn't asked for, and the setup is done, the cycle isn't out of
--- time
-pub sent_punctual : (plan : Plan) (s : Model) → s.progress.stops ≡ false → is_preparing plan s.progress (waiting_of s) ≡ false → IsAsking (action_at plan s) → is_out_of_time plan s.progress ≡ false
-sent_punctual plan s going ready asks =
+-- if the next action sends a request of the client, the end of the run wasn't asked for, and the setup lets the cycle be abandoned, the
+-- cycle isn't out of time
+pub sent_punctual : (plan : Plan) (s : Model) → s.progress.stops ≡ false → setup_permits plan s.progress (waiting_of s) ≡ true → IsAsking (action_at plan s) → is_out_of_time plan s.progress ≡ false
+sent_punctual plan s going permits asks =
     let p = s.progress in
     let w = waiting_of s in
     let needs = action_for plan p w in
     let is = asking_ready plan p w (action_at plan s) asks needs in
-    on_punctual plan p w going ready is (asking_begun plan s (action_at plan s) asks needs)
+    on_punctual plan p w going permits is (asking_begun plan s (action_at plan s) asks needs)
     (subst IsAsking (ap (λ (at : Phase). action_in at plan p w) is) asks)
 
 -- Without a setup the station never prepares.
@@ -191,7 +237,7 @@ module _ (plan : Plan) (commands : List Task) (none : plan.setup ≡ 0) where
       (λ done act runs' o was. never_moved (state_after plan commands scope done) (action_at plan (state_after plan commands scope done)) act was) no_setup acts runs
 
 -- once the end of the run was asked for, it stays so
-asked_stays : (act : Act) → asked_after true (act ∷ []) ≡ true
+pub asked_stays : (act : Act) → asked_after true (act ∷ []) ≡ true
 asked_stays (Told m) = refl
 asked_stays (Gave bytes m) = refl
 asked_stays (Silent m) = refl
@@ -213,26 +259,145 @@ short_if_punctual plan p some e =
       second_false every false some e = refl
       second_false every true some e = grind (arith, nat_tests, some, e)
 
-module _ (plan : Plan) (commands : List Task) (scope : Scope) (longest : ℕ) (some : 0 < plan.every) (none : plan.setup ≡ 0) (few : plan.deadline ≤ longest)
+-- What may take its time in the middle of a setup.
+
+-- no overdue action may take its time
+pub overdue_takes_no_time : (p : Progress) (w : Waiting) → MayTakeTime (action_overdue p w) → ⊥
+overdue_takes_no_time p w on =
+    cond_both (nat_lt 0 w.commands) actions.Renew _ Off (λ e o. o)
+    (λ e. cond_both (nat_eq p.unsent 0) actions.Begin _ Off (λ e o. o) (λ e. cond_both (nat_lt 0 p.next_others) actions.Pass actions.Skip Off (λ e o. o) (λ e o. o))) on where
+      -- the action may not take its time
+      Off : Action → Type 0
+      Off next = MayTakeTime next → ⊥
+
+module _ (plan : Plan) (p : Progress) (w : Waiting) (going : p.stops ≡ false) (on : is_preparing plan p w ≡ true) (sent : 0 < p.prepared) (none : w.commands ≡ 0) where
+  -- if the action may take its time, the last command of the setup was answered well
+  abbrev IfWell : Action → Type 0
+  IfWell next = MayTakeTime next → w.well ≡ true
+
+  -- of a setup of which all that was sent is settled, the next command is sent only if the last one was answered well
+  setup_if_well : IfWell (action_preparing plan p w)
+  setup_if_well =
+      cond_both (nat_eq p.prepared 0) _ (action_in_setup plan p w) IfWell (λ e. let none : p.prepared ≡ 0 = eqb-true p.prepared 0 e in absurd (omega (arith, none, sent)))
+      (λ _. cond_both (is_finished w.commands p) (actions.Close cause.Done) _ IfWell (λ _ o. absurd o)
+      (λ _. cond_both (nat_eq w.commands 0) _ _ IfWell (λ _. cond_both w.well _ (actions.Close cause.SetUp) IfWell (λ well o. well) (λ _ o. absurd o))
+      (λ e. absurd (both_ways (nat_eq w.commands 0) e (eq-eqb w.commands 0 none)))))
+
+  -- the same of each action of a station that has synchronized
+  begun_if_well : IfWell (action_begun plan p w)
+  begun_if_well =
+      cond_both (is_held_back p w) (action_waiting plan p w) _ IfWell
+      (λ e. absurd (both_ways p.stops going (and_parts p.stops (is_between_chains p) (and_parts (p.stops && is_between_chains p) (nat_lt 0 w.current) e).0).0))
+      (λ e. cond_both (waits_out plan p w) (action_waiting plan p w) (if is_preparing plan p w then action_preparing plan p w else action_cycle plan p w) IfWell
+      (λ cut. absurd (goes_on (is_preparing plan p w) (nat_eq p.prepared 0) on (not_zero p.prepared sent) (and_parts (is_out_of_time plan p && nat_lt 0 w.current) (not (is_preparing plan p w) || nat_eq p.prepared 0) cut).1))
+      (λ _. cond_both (is_preparing plan p w) (action_preparing plan p w) (action_cycle plan p w) IfWell (λ _. setup_if_well) (λ ready. absurd (both_ways (is_preparing plan p w) ready on)))) where
+        -- a setup of which something was sent isn't cut
+        goes_on : (preparing none : Bool) → preparing ≡ true → none ≡ false → (not preparing || none) ≡ true → ⊥
+        goes_on true false a b e = cc
+        goes_on false none a b e = cc
+        goes_on true true a b e = cc
+
+  -- the same of each action in the phase `Ready`
+  pub slow_if_well : p.phase ≡ phase.Ready → has_begun p ≡ true → MayTakeTime (action_in phase.Ready plan p w) → w.well ≡ true
+  slow_if_well is begun =
+      cond_both (nat_eq p.turns 0) _ _ IfWell (λ e. without_turns (is_up p.phase))
+      (λ e. cond_both (is_stale plan p w) (actions.Close cause.Stale) _ IfWell (λ e o. absurd o)
+      (λ e. cond_both (is_stopping p w) (actions.Close cause.Stopped) _ IfWell (λ e o. absurd o)
+      (λ e. cond_both p.clock_due actions.ReadClock _ IfWell (λ e o. absurd o)
+      (λ e. cond_both (is_overdue plan p w) (action_overdue p w) (action_of_phase plan p.phase p w) IfWell (λ e o. absurd (overdue_takes_no_time p w o))
+      (λ over. subst (λ (at : Phase). IfWell (action_of_phase plan at p w)) (sym is)
+      (cond_both (has_begun p) (action_begun plan p w) (action_beginning plan p w) IfWell (λ b. begun_if_well) (λ b. absurd (both_ways (has_begun p) b begun)))))))) where
+        -- without turns no action takes its time
+        without_turns : (up : Bool) → IfWell (action_without_turns up)
+        without_turns true o = absurd o
+        without_turns false o = absurd o
+
+-- an action that sends a request of the client may take its time
+asking_slow : (o : Action) → IsAsking o → MayTakeTime o
+asking_slow actions.Prepare asks = tt
+asking_slow actions.Send asks = tt
+asking_slow actions.Flush asks = tt
+asking_slow o asks = absurd asks
+
+module _ (plan : Plan) (commands : List Task) (scope : Scope) (longest : ℕ) (some : 0 < plan.every) (tables : SetUpIsOfTable plan commands) (few : plan.deadline ≤ longest)
     (all_few : AllByRecursion (λ (task : Task). task.deadline ≤ longest) commands) where
-  -- `TimesOut` holds after every run whose end wasn't asked for, if the clock doesn't go back
-  pub times_out : (acts : List Act) → Runs plan commands (opening plan scope) acts → ClockRises 0 acts → asked_after false acts ≡ false → TimesOut plan longest (state_after plan commands scope acts)
+  -- how long after the moment at which the cycle is out of time a request may have its deadline
+  abbrev pub span : ℕ
+  span = longest + plan.setup * longest
+
+  -- `TimesOut` and `SettingUp` hold after every run whose end wasn't asked for, if the clock doesn't go back
+  pub times_out : (acts : List Act) → Runs plan commands (opening plan scope) acts → ClockRises 0 acts → asked_after false acts ≡ false
+      → TimesOut plan longest span (state_after plan commands scope acts) × SettingUp plan longest (state_after plan commands scope acts)
   times_out acts runs rises unasked =
-      always plan commands (opening plan scope) (λ (done : List Act) (t : Model). ClockRises 0 done → asked_after false done ≡ false → TimesOut plan longest t) step
-      (λ r a. (omega arith, tt, λ e. tt)) acts runs rises unasked where
+      always plan commands (opening plan scope) (λ (done : List Act) (t : Model). ClockRises 0 done → asked_after false done ≡ false → TimesOut plan longest span t × SettingUp plan longest t) step
+      (λ r a. ((omega arith, tt, λ e. tt, tt), (λ on sent. absurd (omega (arith, sent)), λ ready on sent. absurd (omega (arith, sent))))) acts runs rises unasked where
+        -- what both are of a model
+        Both : Model → Type 0
+        Both t = TimesOut plan longest span t × SettingUp plan longest t
+
         -- each act preserves it
         step : (done : List Act) (act : Act) → Runs plan commands (opening plan scope) done → Performs commands (state_after plan commands scope done) (action_at plan (state_after plan commands scope done)) act
-            → (ClockRises 0 done → asked_after false done ≡ false → TimesOut plan longest (state_after plan commands scope done))
+            → (ClockRises 0 done → asked_after false done ≡ false → Both (state_after plan commands scope done))
             → ClockRises 0 (done ++ act ∷ []) → asked_after false (done ++ act ∷ []) ≡ false
-            → TimesOut plan longest (after plan commands (state_after plan commands scope done) act)
-        step done act runs' o h rises' unasked' =
-            let s = state_after plan commands scope done in
-            let before = rises_front 0 done act rises' in
-            let free = asked_front done act unasked' in
-            let going = stops_as_asked plan commands scope done runs' ∙ free in
-            let ready : is_preparing plan s.progress (waiting_of s) ≡ false = ap (λ (b : Bool). b && not (nat_le plan.setup s.progress.prepared && nat_eq (waiting_of s).commands 0 && (waiting_of s).well)) (never_prepares plan commands none scope done runs') in
-            out_losses plan longest commands few all_few (moved plan commands (action_at plan s) (with_progress turned s) act)
-            (out_moved plan longest commands few all_few s (action_at plan s) act o
-            (λ asks. short_if_punctual plan s.progress some (sent_punctual plan s going ready asks))
-            (λ is. both_ways (is_preparing plan s.progress (waiting_of s)) ready (subst (λ (x : Action). HoldsBefore plan s.progress (waiting_of s) x) is (action_for plan s.progress (waiting_of s))).2.0)
-            (h before free) (rises_here plan commands scope some done act rises' (begun_if_clock_rises plan commands scope some done runs' before).0))
+            → Both (after plan commands (state_after plan commands scope done) act)
+        step done act runs' o h rises' unasked' = (
+          out_losses plan longest span commands few all_few t (out_moved plan longest span commands few all_few s next act o (λ asks. early asks) it.0 here),
+          sets_losses plan longest t (sets_moved plan longest commands span few all_few tables s act (invariant_holds plan commands scope done).paired it.0 it.1 next o needs punctual answered here),
+        ) where
+          -- the model before the act
+          s : Model
+          s = state_after plan commands scope done
+
+          -- the next action
+          next : Action
+          next = action_at plan s
+
+          -- the model after the act, before what is outstanding is lost
+          t : Model
+          t = moved plan commands next (with_progress turned s) act
+
+          -- the conditions of the action hold
+          needs : HoldsBefore plan s.progress (waiting_of s) next
+          needs = action_for plan s.progress (waiting_of s)
+
+          -- both hold before the act
+          it : Both s
+          it = h (rises_front 0 done act rises') (asked_front done act unasked')
+
+          -- the clock doesn't go back at the act
+          here : ClockRises s.progress.moment.elapsed (act ∷ [])
+          here = rises_here plan commands scope some done act rises' (begun_if_clock_rises plan commands scope some done runs' (rises_front 0 done act rises')).0
+
+          -- the end of the run wasn't asked for
+          going : s.progress.stops ≡ false
+          going = stops_as_asked plan commands scope done runs' ∙ asked_front done act unasked'
+
+          -- a request is sent only in time, unless by a setup that goes on
+          punctual : IsAsking next → setup_permits plan s.progress (waiting_of s) ≡ true → s.progress.moment.elapsed - s.progress.began < 2 * plan.every
+          punctual asks permits = short_if_punctual plan s.progress some (sent_punctual plan s going permits asks)
+
+          -- such a setup goes on only as its last command was answered well
+          answered : IsAsking next → setup_permits plan s.progress (waiting_of s) ≡ false → last_well false s.records ≡ true
+          answered asks e =
+              let setup = not_permitted plan s.progress (waiting_of s) e in
+              let ready = asking_ready plan s.progress (waiting_of s) next asks needs in
+              slow_if_well plan s.progress (waiting_of s) going setup.0 setup.1 setup.2 ready (asking_begun plan s next asks needs)
+              (subst MayTakeTime (ap (λ (at : Phase). action_in at plan s.progress (waiting_of s)) ready) (asking_slow next asks))
+
+          -- so its deadline is early enough
+          early : IsAsking next → s.progress.moment.elapsed + longest ≤ (s.progress.began + 2 * plan.every) + span
+          early asks = by_test (setup_permits plan s.progress (waiting_of s)) refl where
+            -- the lemma above, whether the setup lets the cycle be abandoned
+            by_test : (b : Bool) → setup_permits plan s.progress (waiting_of s) ≡ b → s.progress.moment.elapsed + longest ≤ (s.progress.began + 2 * plan.every) + span
+            by_test true e =
+                let short = punctual asks e in
+                let past = it.0.0 in
+                omega (arith, short, past)
+            by_test false e =
+                let setup = not_permitted plan s.progress (waiting_of s) e in
+                let well = answered asks e in
+                let left = some_unsent plan s.progress (waiting_of s) setup.0 setup.2 well in
+                let soon = soon_if_well plan longest s it.1 (asking_ready plan s.progress (waiting_of s) next asks needs) setup well in
+                let more = suc-mul s.progress.prepared longest in
+                let most : suc s.progress.prepared * longest ≤ plan.setup * longest = mul-le-mul_right longest left in
+                omega (arith, soon, more, most)

@@ -13,6 +13,7 @@ pub mod Each
 mod Interleaving
 pub mod EachRun
 pub mod Facts
+mod InCycle
 mod Faulty
 pub mod Invariant
 pub mod Following
@@ -74,5 +75,11 @@ mod HeldUp
 mod Stopping
 mod Unbroken
 mod Outages
+mod OnceAsked
+mod Nulls
+mod Recording
 mod InFlight
+mod LastCommand
+mod SettingUp
+mod UnderWay
 mod InTime

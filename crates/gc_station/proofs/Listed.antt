@@ -23,7 +23,7 @@ use Rattle.gc_station.specs.NextCommand.{expected_at, expected_of_setup}
 use Rattle.gc_station.specs.Records.{Record}
 use Rattle.gc_station.specs.Retries.{code_of_end, is_listed, HasListed, BeginNoAttempt, HasItsTurn}
 use Rattle.gc_station.specs.Scopes.{Reads}
-use Rattle.gc_station.proofs.Facts.{or_first}
+use Rattle.gc_station.proofs.InCycle.{or_first}
 use Rattle.gc_station.proofs.Meets.{answer_line}
 
 -- Which ends a rule names.

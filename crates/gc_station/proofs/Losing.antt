@@ -31,7 +31,8 @@ use Rattle.gc_station.specs.Runs.{state_after}
 use Rattle.gc_station.specs.Model.{Model, opening, action_at, waiting_of, Performs, with_progress, asks_next, after_put, moved, losing, with_losses, after, SendsCommand, IsSending, asks_setup}
 use Rattle.gc_station.specs.NextCommand.{upcoming_after}
 use Rattle.gc_station.proofs.Counts.{with_losses_progress}
-use Rattle.gc_station.proofs.Facts.{action_for, or_first}
+use Rattle.gc_station.proofs.Facts.{action_for}
+use Rattle.gc_station.proofs.InCycle.{or_first}
 use Rattle.gc_station.proofs.Invariant.{Invariant}
 use Rattle.gc_station.proofs.Going.{after_all-append}
 use Rattle.gc_station.proofs.Growing.{moved_grew}

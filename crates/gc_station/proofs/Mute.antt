@@ -35,7 +35,8 @@ use Rattle.gc_station.proofs.Closings.{came_phase}
 use Rattle.gc_station.proofs.Connected.{is_in_use, HoldsInUse, holds_in_use_always}
 use Rattle.gc_station.proofs.Since.{Since, since_now, since_on, extend_cut}
 use Rattle.gc_station.proofs.EachRun.{invariant_holds}
-use Rattle.gc_station.proofs.Facts.{or_first, action_for, action_wakes, Awake, Wakes}
+use Rattle.gc_station.proofs.Facts.{action_for, action_wakes}
+use Rattle.gc_station.proofs.InCycle.{or_first, Awake, Wakes}
 use Rattle.gc_station.proofs.Going.{after_all-append}
 use Rattle.gc_station.proofs.Lists.{all_append}
 use Rattle.gc_station.proofs.Silences.{LastTells, awake_last, not_closing, closes_at_its_end, second_holds}

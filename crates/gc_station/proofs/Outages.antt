@@ -1,22 +1,23 @@
 -- Each due cycle is recorded in time, whatever the line does. An act is one call on the link, with its result.
 use Rattle.std.proofs.Common.{◌≡◌, ◌⊎◌, inl, inr, ℕ, zero, suc, ◌+◌, ◌*◌, ◌-◌, ◌<◌, ◌≤◌, ◌&&◌, ◌||◌, Bool, true, false, not, if◌then◌else◌, List, [], ◌∷◌, ◌++◌, length, map, nat_lt, nat_le, nat_eq, refl, sym, ap, ◌∙◌, subst, arith, append-nil}
-use Rattle.std.proofs.lemmas.Bool.{ltb-true, ltb-false, leb-true, leb-false, eq-eqb, cond_both, both_ways}
+use Rattle.std.proofs.lemmas.Bool.{ltb-true, ltb-false, leb-true, leb-false, eq-eqb, and_parts, cond_both, both_ways}
+use native.Mathlib.Nat.{suc-mul, mul-le-mul_right}
 use Rattle.std.proofs.lemmas.List.{nil_from_length}
 use Rattle.gc_catalogue.specs.declared.asked.Asked.{Asked}
 use Rattle.gc_client.specs.Rule.{ById}
 use Rattle.gc_texts.specs.declared.tasks.Task.{Task}
-use Rattle.gc_links.specs.Acts.{Act, Told, Untold}
+use Rattle.gc_links.specs.Acts.{Act, Told}
 use Rattle.gc_station.specs.Cycles.{first_due, due_after}
 use Rattle.gc_station.specs.Deciding.{has_begun, is_out_of_time, is_overdue, setup_permits, is_stale, is_stopping, is_preparing, is_finished, is_up, may_abandon, action_in, action_on, action_overdue, action_of_phase, action_without_turns}
 use Rattle.gc_station.specs.EachOnce.{Interleave, RunRequest, of_record, still_waiting, all_cycles, of_text}
 use Rattle.gc_station.specs.Marks.{commands_in}
-use Rattle.gc_station.specs.Model.{Model, opening, action_at, waiting_of, with_progress, with_rest, cycle_length, moved, Performs}
+use Rattle.gc_station.specs.Model.{Model, opening, action_at, waiting_of, with_progress, with_rest, moved, Performs}
 use Rattle.gc_station.specs.Progressing.{turned}
 use Rattle.gc_station.specs.NextCommand.{cycles_begun, place_next}
-use Rattle.gc_station.specs.Reasons.{HoldsBefore, IsFinished, MayGo, MayRetry, NothingMayGo, AwaitsSettlements, AwaitsReply, AwaitsSomething, MayBeSent}
+use Rattle.gc_station.specs.Reasons.{IsFinished, MayGo, MayRetry, NothingMayGo, AwaitsSettlements, AwaitsReply, AwaitsSomething, MayBeSent}
 use Rattle.gc_station.specs.Runs.{state_after}
 use Rattle.gc_station.specs.Scopes.{Scope}
-use Rattle.gc_station.specs.RecordedInTime.{MayTakeTime, AreRecorded, DueOnesAreRecorded, IsInTime, IsUnhindered, RecordsOnceTimedOut, RecordsInTime, ReadsClockBefore, ReadsAwaitSomething, acts_to_record, left_to_record, RecordsUnsent, RecordingEnds}
+use Rattle.gc_station.specs.RecordedInTime.{MayTakeTime, AreRecorded, DueOnesAreRecorded, IsInTime, IsUnhindered, RecordsOnceTimedOut, RecordsInTime, ReadsClockBefore, ReadsAwaitSomething}
 use Rattle.gc_station.specs.declared.progress.Until.{Until}
 use Rattle.gc_station.specs.declared.progress.Until.TheVariants.{Limit, Due}
 use Rattle.gc_station.specs.Quiet.{IsListening}
@@ -34,23 +35,15 @@ use Rattle.gc_station.proofs.Closings.{needs_of, runs_split}
 use Rattle.gc_station.proofs.Cycles.{Cycling, begun_if_clock_rises}
 use Rattle.gc_station.proofs.Each.{row_settled, reached_whole}
 use Rattle.gc_station.proofs.EachRun.{invariant_holds}
-use Rattle.gc_station.proofs.Counts.{KeepsCounts, ChangesCounts, moved_counts}
-use Rattle.gc_station.proofs.Facts.{finished_by_test, action_for}
-use Rattle.gc_station.proofs.InTime.{times_out, short_if_punctual, never_prepares}
+use Rattle.gc_station.proofs.InCycle.{finished_by_test}
+use Rattle.gc_station.proofs.InTime.{times_out, short_if_punctual, never_prepares, overdue_takes_no_time, slow_if_well}
+use Rattle.gc_station.proofs.Invariant.{is_before_requests}
 use Rattle.gc_station.proofs.Stopping.{stops_as_asked}
+use Rattle.gc_station.proofs.UnderWay.{SettingUp, not_permitted, some_unsent, soon_if_well}
 use Rattle.gc_station.proofs.Walk.{closed_along, walk}
 use Rattle.gc_station.proofs.InFlight.{none_in_flight, TimesOut}
 
 -- Which actions are next once the cycle is overdue.
-
--- no overdue action may take its time
-overdue_takes_no_time : (p : Progress) (w : Waiting) → MayTakeTime (action_overdue p w) → ⊥
-overdue_takes_no_time p w on =
-    cond_both (nat_lt 0 w.commands) actions.Renew _ Off (λ e o. o)
-    (λ e. cond_both (nat_eq p.unsent 0) actions.Begin _ Off (λ e o. o) (λ e. cond_both (nat_lt 0 p.next_others) actions.Pass actions.Skip Off (λ e o. o) (λ e o. o))) on where
-      -- the action may not take its time
-      Off : Action → Type 0
-      Off next = MayTakeTime next → ⊥
 
 -- if the action of a run that isn't closing or over may take its time, the cycle isn't overdue, and the phase isn't `Clearing`
 not_overdue_on : (plan : Plan) (p : Progress) (w : Waiting) → MayTakeTime (action_on plan p w) → is_overdue plan p w ≡ false
@@ -94,7 +87,7 @@ may_abandon_there plan p w phase.Clearing is on = absurd (cleared on) where
         without_turns false o = o
 
 -- if the action that is next may take its time, the cycle isn't overdue
-not_overdue : (plan : Plan) (p : Progress) (w : Waiting) (at : Phase) → p.phase ≡ at → MayTakeTime (action_in at plan p w) → is_overdue plan p w ≡ false
+pub not_overdue : (plan : Plan) (p : Progress) (w : Waiting) (at : Phase) → p.phase ≡ at → MayTakeTime (action_in at plan p w) → is_overdue plan p w ≡ false
 not_overdue plan p w (phase.Closing why) is on = absurd on
 not_overdue plan p w (phase.Over why) is on = absurd on
 not_overdue plan p w at is on = not_overdue_on plan p w on
@@ -248,27 +241,63 @@ records_once_timed_out plan commands scope acts runs some rises way on none =
 
 -- the law: silence is bounded
 pub records_in_time : RecordsInTime
-records_in_time longest plan commands scope acts runs some none few all_few rises unasked on =
-    by_time ((begun_if_clock_rises plan commands scope some acts runs) rises).1 (nat_le ((s.progress.began + 2 * plan.every) + longest) s.progress.moment.elapsed) refl where
+records_in_time longest plan commands scope acts runs some tables few all_few rises unasked on =
+    subst (λ (n : ℕ). IsInTime plan commands scope (2 * plan.every + n) acts) (sym spans)
+    (by_time ((begun_if_clock_rises plan commands scope some acts runs) rises).1 (nat_le ((s.progress.began + 2 * plan.every) + span) s.progress.moment.elapsed) refl) where
       -- the model after these acts
       s : Model
       s = state_after plan commands scope acts
 
+      -- how long after the moment at which the cycle is out of time a request may have its deadline
+      span : ℕ
+      span = longest + plan.setup * longest
+
+      -- the longest deadline once more than the setup has commands
+      spans : (1 + plan.setup) * longest ≡ span
+      spans =
+          let one : 1 + plan.setup ≡ suc plan.setup = omega arith in
+          let more = suc-mul plan.setup longest in
+          ap (λ (n : ℕ). n * longest) one ∙ omega (arith, more)
+
       -- what is claimed
       Claim : Type 0
-      Claim = IsInTime plan commands scope (2 * plan.every + longest) acts
+      Claim = IsInTime plan commands scope (2 * plan.every + span) acts
 
-      -- what is in flight times out in time
-      out : TimesOut plan longest s
-      out = times_out plan commands scope longest some none few all_few acts runs rises unasked
+      -- what is in flight times out in time, and a setup goes on at once
+      both : TimesOut plan longest span s × SettingUp plan longest s
+      both = times_out plan commands scope longest some tables few all_few acts runs rises unasked
 
-      -- the run is under way
-      way : IsUnhindered plan commands scope acts
-      way = (
-        stops_as_asked plan commands scope acts runs ∙ unasked,
-        ap (λ (b : Bool). not (b && not (nat_le plan.setup s.progress.prepared && nat_eq (waiting_of s).commands 0 && (waiting_of s).well)) || (nat_eq s.progress.prepared 0 || nat_lt 0 (waiting_of s).commands))
-            (never_prepares plan commands none scope acts runs),
-      )
+      -- the end of the run wasn't asked for
+      going : s.progress.stops ≡ false
+      going = stops_as_asked plan commands scope acts runs ∙ unasked
+
+      -- no setup keeps the cycle from being abandoned once all that is in flight has timed out for sure
+      way : (s.progress.began + 2 * plan.every) + span ≤ s.progress.moment.elapsed → IsUnhindered plan commands scope acts
+      way past = (going, by_test (setup_permits plan s.progress (waiting_of s)) refl) where
+        -- the phase in which a setup is under way
+        ready : (at : Phase) → s.progress.phase ≡ at → may_abandon at ≡ true → is_before_requests at ≡ false → s.progress.phase ≡ phase.Ready
+        ready phase.Ready is may quiet = is
+        ready phase.Down is may quiet = cc
+        ready phase.Pausing is may quiet = cc
+        ready phase.Draining is may quiet = cc
+        ready phase.Clearing is may quiet = cc
+        ready (phase.Closing why) is may quiet = cc
+        ready (phase.Over why) is may quiet = cc
+
+        -- the lemma above, whether the setup lets the cycle be abandoned
+        by_test : (b : Bool) → setup_permits plan s.progress (waiting_of s) ≡ b → setup_permits plan s.progress (waiting_of s) ≡ true
+        by_test true e = e
+        by_test false e =
+            let setup = not_permitted plan s.progress (waiting_of s) e in
+            let within = both.1.0 (and_parts s.progress.preparing (not (nat_le plan.setup s.progress.prepared && nat_eq (waiting_of s).commands 0 && (waiting_of s).well)) setup.0).0 setup.1 in
+            let is = ready s.progress.phase refl (may_abandon_there plan s.progress (waiting_of s) s.progress.phase refl on) within.1 in
+            let well = slow_if_well plan s.progress (waiting_of s) going setup.0 setup.1 setup.2 is within.0
+            (subst MayTakeTime (ap (λ (at : Phase). action_in at plan s.progress (waiting_of s)) is) on) in
+            let soon = soon_if_well plan longest s both.1 is setup well in
+            let left = some_unsent plan s.progress (waiting_of s) setup.0 setup.2 well in
+            let less : s.progress.prepared ≤ plan.setup = omega (arith, left) in
+            let most : s.progress.prepared * longest ≤ plan.setup * longest = mul-le-mul_right longest less in
+            absurd (omega (arith, soon, most, past))
 
       -- a cycle has begun, or none has
       Where : Type 0
@@ -283,23 +312,24 @@ records_in_time longest plan commands scope acts runs some none few all_few rise
       by_why (inl begins) (inr all) = inl (begins.0, inr (sym begins.0 ∙ all.0))
       by_why (inr c) (inl punctual) =
           let short = short_if_punctual plan s.progress some punctual in
-          inr (recorded_before plan commands scope acts some (2 * plan.every + longest) c (omega (arith, short)))
-      by_why (inr c) (inr all) = inr (recorded_at_end plan commands scope acts some (2 * plan.every + longest) c all)
+          inr (recorded_before plan commands scope acts some (2 * plan.every + span) c (omega (arith, short)))
+      by_why (inr c) (inr all) = inr (recorded_at_end plan commands scope acts some (2 * plan.every + span) c all)
 
       -- the lemma above, by whether all that is in flight has timed out for sure
-      by_time : Where → (b : Bool) → nat_le ((s.progress.began + 2 * plan.every) + longest) s.progress.moment.elapsed ≡ b → Claim
+      by_time : Where → (b : Bool) → nat_le ((s.progress.began + 2 * plan.every) + span) s.progress.moment.elapsed ≡ b → Claim
       by_time at true e =
-          let gone = none_in_flight ((s.progress.began + 2 * plan.every) + longest) s.progress.moment.elapsed s.client.waiting
-          (leb-true ((s.progress.began + 2 * plan.every) + longest) s.progress.moment.elapsed e) out.1 (out.2 (read_if_slow plan s.progress (waiting_of s) s.progress.phase refl on)) in
-          by_why at (in_time_if_slow plan commands scope acts way on (ap length gone))
+          let past = leb-true ((s.progress.began + 2 * plan.every) + span) s.progress.moment.elapsed e in
+          let gone = none_in_flight ((s.progress.began + 2 * plan.every) + span) s.progress.moment.elapsed s.client.waiting
+          past both.0.1 (both.0.2 (read_if_slow plan s.progress (waiting_of s) s.progress.phase refl on)) in
+          by_why at (in_time_if_slow plan commands scope acts (way past) on (ap length gone))
       by_time (inl begins) false e =
           let start = begins.2 in
-          let low = leb-false ((s.progress.began + 2 * plan.every) + longest) s.progress.moment.elapsed e in
+          let low = leb-false ((s.progress.began + 2 * plan.every) + span) s.progress.moment.elapsed e in
           inl (begins.0, inl (omega (arith, low, start)))
       by_time (inr c) false e =
-          let low = leb-false ((s.progress.began + 2 * plan.every) + longest) s.progress.moment.elapsed e in
-          let past = out.0 in
-          inr (recorded_before plan commands scope acts some (2 * plan.every + longest) c (omega (arith, low, past)))
+          let low = leb-false ((s.progress.began + 2 * plan.every) + span) s.progress.moment.elapsed e in
+          let past = both.0.0 in
+          inr (recorded_before plan commands scope acts some (2 * plan.every + span) c (omega (arith, low, past)))
 
 -- The clock is read before what takes its time.
 
@@ -404,7 +434,7 @@ no_read_if_sent plan p w until awaits may = by_until until awaits where
   by_until Limit (inr (inl draining)) = let other : phase.Draining ≡ phase.Ready = sym draining ∙ may.0.0 in cc
   by_until Limit (inr (inr ready)) = no_reply ready.1
   by_until Due (is, inl (idle, inl begins)) = both_ways (has_begun p) begins may.0.1
-  by_until Due (is, inl (idle, inr on)) = both_ways (is_preparing plan p w) may.0.8 on
+  by_until Due (is, inl (idle, inr on)) = both_ways (is_preparing plan p w) may.0.8 on.0
   by_until Due (is, inr done) = let here = may.0.2 in let none = done.0 in omega (arith, none, here)
 
 -- the law: a read awaits something, and isn't next where a command may be sent
@@ -413,78 +443,7 @@ reads_await = record {
   awaits = λ until plan commands scope acts runs is. needs_of plan (state_after plan commands scope acts) (actions.Read until) is;
   sends = λ until plan commands scope acts runs is may.
       let s = state_after plan commands scope acts in no_read_if_sent plan s.progress (waiting_of s) until (needs_of plan s (actions.Read until) is) may;
+  prepares = λ plan commands scope acts runs none.
+      let s = state_after plan commands scope acts in
+      ap (λ (b : Bool). b && not (nat_le plan.setup s.progress.prepared && nat_eq (waiting_of s).commands 0 && (waiting_of s).well)) (never_prepares plan commands none scope acts runs);
 }
-
--- Each act that records commands without sending them leaves less to be recorded.
-
--- with a cycle begun less is left to be recorded, also if all its commands are
-less_begun : (count left left' : ℕ) → left' ≡ left - 1 → 0 < left → acts_to_record count left' + count < acts_to_record count left
-less_begun count zero left' e some = absurd (omega (arith, some))
-less_begun count (suc n) left' e some = let is : left' ≡ n = omega (arith, e) in subst (λ (k : ℕ). acts_to_record count k + count < suc count + acts_to_record count n) (sym is) (omega arith)
-
-module _ (plan : Plan) (commands : List Task) where
-  -- less is left to be recorded from p to q
-  abbrev Less : (p q : Progress) → Type 0
-  Less p q = left_to_record plan commands q < left_to_record plan commands p
-
-  -- no more is left to be recorded from p to q
-  abbrev NoMore : (p q : Progress) → Type 0
-  NoMore p q = left_to_record plan commands q ≤ left_to_record plan commands p
-
-  -- where the counts stay, as much is left
-  same_left : (p q : Progress) → KeepsCounts p q → NoMore p q
-  same_left p q k = let unsent = k.unsent in let left = ap (acts_to_record (cycle_length plan commands)) k.left in omega (arith, unsent, left)
-
-  -- with a cycle begun, less is left, if one was left, and no command was unsent
-  begun_left : (p q : Progress) → 0 < p.left → q.left ≡ p.left - 1 → q.unsent ≡ cycle_length plan commands → Less p q
-  begun_left p q some left unsent = let less = less_begun (cycle_length plan commands) p.left q.left left some in omega (arith, less, unsent)
-
-  -- with fewer commands unsent, no more is left, and less if some were
-  fewer_left : (p q : Progress) → q.left ≡ p.left → q.unsent ≤ p.unsent → NoMore p q
-  fewer_left p q left fewer = let same = ap (acts_to_record (cycle_length plan commands)) left in omega (arith, same, fewer)
-
-  -- the same, where some were unsent
-  less_left : (p q : Progress) → q.left ≡ p.left → q.unsent < p.unsent → Less p q
-  less_left p q left fewer = let same = ap (acts_to_record (cycle_length plan commands)) left in omega (arith, same, fewer)
-
-  -- an act of each action leaves no more to be recorded
-  no_more : (o : Action) (p q : Progress) → (begins : o ≡ actions.Begin → 0 < p.left) → ChangesCounts (cycle_length plan commands) o p q → NoMore p q
-  no_more actions.Begin p q begins (inl k) = same_left p q k
-  no_more actions.Begin p q begins (inr k) = let less = begun_left p q (begins refl) k.left k.unsent in omega (arith, less)
-  no_more actions.Send p q begins k = let unsent = k.unsent in fewer_left p q k.left (omega (arith, unsent))
-  no_more actions.Skip p q begins (inl k) = same_left p q k
-  no_more actions.Skip p q begins (inr k) = let unsent = k.unsent in fewer_left p q k.left (omega (arith, unsent))
-  no_more actions.Pass p q begins (inl k) = same_left p q k
-  no_more actions.Pass p q begins (inr k) = let unsent = k.unsent in fewer_left p q k.left (omega (arith, unsent))
-  no_more o p q begins k = same_left p q k
-
-  -- an act that records commands without sending them leaves less to be recorded, if it reads the clock
-  leaves_less : (s : Model) (o : Action) (act : Act) → Performs commands s o act → HoldsBefore plan s.progress (waiting_of s) o → RecordsUnsent o → IsListening act
-      → Less s.progress (moved plan commands o (with_progress turned s) act).progress
-  leaves_less s actions.Begin (Told m) obeys needs records listens =
-      begun_left s.progress (moved plan commands actions.Begin (with_progress turned s) (Told m)).progress needs.4 refl refl
-  leaves_less s actions.Skip (Told m) obeys needs records listens =
-      let here = needs.2 in less_left s.progress (moved plan commands actions.Skip (with_progress turned s) (Told m)).progress refl (omega (arith, here))
-  leaves_less s actions.Pass (Told m) obeys needs records listens =
-      let here = needs.2 in let more = needs.4 in less_left s.progress (moved plan commands actions.Pass (with_progress turned s) (Told m)).progress refl (omega (arith, here, more))
-  leaves_less s actions.Begin Untold obeys needs records listens = cc
-  leaves_less s actions.Skip Untold obeys needs records listens = cc
-  leaves_less s actions.Pass Untold obeys needs records listens = cc
-  leaves_less s actions.Begin act obeys needs records listens = absurd obeys
-  leaves_less s actions.Skip act obeys needs records listens = absurd obeys
-  leaves_less s actions.Pass act obeys needs records listens = absurd obeys
-  leaves_less s o act obeys needs records listens = absurd records
-
--- the law: each act that records commands without sending them leaves less to be recorded, and none more
-pub recording_ends : RecordingEnds
-recording_ends plan commands scope earlier later act runs =
-    let s = state_after plan commands scope earlier in
-    let o = action_at plan s in
-    let needs = action_for plan s.progress (waiting_of s) in
-    let obeys = (runs_split plan commands (opening plan scope) earlier later act runs).1 in
-    let there = progress_after_act plan commands scope earlier act in
-    let t = moved plan commands o (with_progress turned s) act in (
-      subst (λ (q : Progress). NoMore plan commands s.progress q) (sym there) (no_more plan commands o (turned s.progress) t.progress
-          (λ is. (subst (λ (x : Action). HoldsBefore plan s.progress (waiting_of s) x) is needs).4) (moved_counts plan commands o (with_progress turned s) act)),
-      λ records listens. subst (λ (q : Progress). Less plan commands s.progress q) (sym there) (leaves_less plan commands s o act obeys needs records listens),
-    )

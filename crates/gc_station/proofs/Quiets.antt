@@ -29,7 +29,8 @@ use Rattle.gc_station.specs.Model.{Model, null_text, next_request_text, first_te
 use Rattle.gc_station.specs.NextCommand.{place_next}
 use Rattle.gc_station.proofs.Closings.{runs_split}
 use Rattle.gc_station.proofs.Connected.{is_in_use, HoldsInUse, holds_in_use_always}
-use Rattle.gc_station.proofs.Facts.{action_for, action_timely, Timely}
+use Rattle.gc_station.proofs.Facts.{action_for, action_timely}
+use Rattle.gc_station.proofs.InCycle.{Timely}
 use Rattle.gc_station.proofs.Lists.{all_append, all_on}
 use Rattle.gc_station.proofs.Since.{Since, since_now, since_on, extend_cut}
 use Rattle.gc_station.proofs.Walk.{asked_along, came_along, walk, piece_before}

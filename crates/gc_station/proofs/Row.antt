@@ -32,7 +32,8 @@ use Rattle.gc_station.specs.NextCommand.{cycles_begun, place_next, mark_next}
 use Rattle.gc_station.proofs.Always.{always}
 use Rattle.gc_station.proofs.Each.{row, row_moment, row_settles, more_waiting, marked_none, waiting_marked}
 use Rattle.gc_station.proofs.EachRun.{invariant_holds}
-use Rattle.gc_station.proofs.Facts.{action_for, not_zero}
+use Rattle.gc_station.proofs.Facts.{action_for}
+use Rattle.gc_station.proofs.InCycle.{not_zero}
 use Rattle.gc_station.proofs.Invariant.{Paired, Invariant}
 use Rattle.gc_station.proofs.Midway.{sent_with_room}
 use Rattle.gc_station.proofs.Walk.{came_along, losing_along, closed_along, moved_changed, walk}

@@ -26,7 +26,8 @@ use Rattle.gc_station.specs.NextCommand.{cycles_begun, place_next, commands_left
 use Rattle.gc_station.specs.Setups.{Dispatch, dispatch_of_record, dispatch_of_mark, dispatches_of, of_setup, sent_first, setup_sent_at, setup_sent_by, EachSetUpOnce, IsNextAfter, GoOn, AreInOrder, SetUpsGoOn, dispatch_row}
 use Rattle.gc_station.proofs.Counts.{with_losses_progress}
 use Rattle.gc_station.proofs.EachRun.{invariant_all, invariant_opening, invariant_holds, all_recorded_at_stop}
-use Rattle.gc_station.proofs.Facts.{action_for, not_zero}
+use Rattle.gc_station.proofs.Facts.{action_for}
+use Rattle.gc_station.proofs.InCycle.{not_zero}
 use Rattle.gc_station.proofs.Invariant.{Invariant}
 use Rattle.gc_station.proofs.Walk.{came_along, losing_along, closed_along, moved_changed}
 use Rattle.std.proofs.lemmas.List.Elements.{filter-append}

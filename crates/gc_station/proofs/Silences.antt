@@ -21,7 +21,7 @@ use Rattle.gc_station.specs.Scopes.{Scope}
 use Rattle.gc_station.specs.Model.{Model, opening, action_at, waiting_of, with_progress, lines_completed, is_heard, Runs}
 use Rattle.gc_station.proofs.Closings.{closing_shown, needs_of}
 use Rattle.gc_station.proofs.Connected.{is_in_use, paused_alike, HoldsInUse, holds_in_use_always}
-use Rattle.gc_station.proofs.Facts.{Awake}
+use Rattle.gc_station.proofs.InCycle.{Awake}
 use Rattle.gc_station.proofs.Walk.{asked_along, came_along, piece_before}
 
 -- whether a drain ends (`ends`) or goes on, there is a connection

@@ -35,7 +35,8 @@ use Rattle.gc_station.proofs.Closings.{no_cause_shown, runs_split, needs_of, cau
 use Rattle.gc_station.proofs.Counts.{with_losses_progress}
 use Rattle.gc_station.proofs.Always.{always}
 use Rattle.gc_station.proofs.EachRun.{invariant_after, invariant_holds}
-use Rattle.gc_station.proofs.Facts.{or_first, action_for}
+use Rattle.gc_station.proofs.Facts.{action_for}
+use Rattle.gc_station.proofs.InCycle.{or_first}
 use Rattle.gc_station.proofs.Invariant.{Invariant}
 use Rattle.gc_station.proofs.Going.{after_all-append}
 use Rattle.gc_station.proofs.Opens.{IsBalanced, Quits, moved_balanced, IsBalancedAt}

@@ -121,7 +121,7 @@ goes_on plan p = nat_lt 0 p.unsent || is_due plan p
 abbrev pub is_finished : (count : ℕ) → Progress → Bool
 is_finished count p = nat_eq p.left 0 && nat_eq p.unsent 0 && nat_eq count 0
 
--- the next action while the station synchronizes, or its setup isn't done: to close the connection if the run is done
+-- the next action while the station synchronizes, or nothing of its setup was sent: to close the connection if the run is done
 -- (`is_finished`), to read until the next cycle is due if the station is idle (`is_idle`), and else `action`
 abbrev pub action_unless_idle : Plan → Progress → Waiting → Action → Action
 action_unless_idle plan p w action = if is_finished w.commands p then Close Done else if is_idle plan p then Read Due else action
@@ -193,15 +193,19 @@ action_held plan p w = if nat_eq w.commands 0 then action_settled plan p w else 
 abbrev pub action_to_prepare : Plan → Progress → Waiting → Action
 action_to_prepare plan p w = if nat_lt p.prepared plan.setup then action_to_send plan p w Prepare else Read Limit
 
--- the next action while the setup isn't done, unless the run is done or the station idle (`action_unless_idle`): the setup's
--- first command may be sent at once, and each other one once the one before it was answered well. If that wasn't, the connection
--- is closed, and the setup begins with its first command on the next one. If commands are outstanding, it is that of
--- `action_flush`
-abbrev pub action_preparing : Plan → Progress → Waiting → Action
-action_preparing plan p w = action_unless_idle plan p w (
-    if nat_eq p.prepared 0 then action_to_prepare plan p w
+-- the next action while the setup isn't done, once something of it was sent: to close the connection if the run is done
+-- (`is_finished`). Each command is sent once the one before it was answered well. If that wasn't, the connection is closed, and the
+-- setup begins with its first command on the next one. If commands are outstanding, it is that of `action_flush`
+abbrev pub action_in_setup : Plan → Progress → Waiting → Action
+action_in_setup plan p w =
+    if is_finished w.commands p then Close Done
     else if nat_eq w.commands 0 then (if w.well then action_to_prepare plan p w else Close SetUp)
-    else action_flush plan p w)
+    else action_flush plan p w
+
+-- the next action while the setup isn't done: its first command may be sent at once, unless the run is done or the station idle
+-- (`action_unless_idle`); a setup that was begun goes on (`action_in_setup`), also if the station is idle
+abbrev pub action_preparing : Plan → Progress → Waiting → Action
+action_preparing plan p w = if nat_eq p.prepared 0 then action_unless_idle plan p w (action_to_prepare plan p w) else action_in_setup plan p w
 
 -- the next action once the station has synchronized and its setup is done: that of `action_to_send`, if there is a command that
 -- needn't wait for those before it (`waits_for_all`); otherwise that of `action_held`

@@ -44,3 +44,4 @@ pub mod Nearness
 pub mod Qualities
 pub mod Stopping
 pub mod RecordedInTime
+pub mod OnceAsked

@@ -133,30 +133,30 @@ HasConnectionFor Stale p = Unit {0}
 HasConnectionFor Stopped p = Unit {0}
 HasConnectionFor _ p = is_up p.phase ≡ true
 
--- what a read waits for that ends when the next cycle is due: that moment hasn't come, and each command of the cycle is settled; or
--- the cycle was done before it, and the station hasn't synchronized on this connection, or its setup isn't done
+-- what a read waits for that ends when the next cycle is due: that moment hasn't come, each command of the cycle is settled, and the
+-- setup is done; or the cycle was done before it, and the station hasn't synchronized, or nothing of its setup was sent
 abbrev pub AwaitsDueMoment : Plan → Progress → Waiting → Type 0
 AwaitsDueMoment plan p w =
-    ((is_idle plan p ≡ true) × ((has_begun p ≡ false) ⊎ (is_preparing plan p w ≡ true)))
-    ⊎ ((p.unsent ≡ 0) × (w.commands ≡ 0) × (is_due plan p ≡ false))
+    ((is_idle plan p ≡ true) × ((has_begun p ≡ false) ⊎ ((is_preparing plan p w ≡ true) × (p.prepared ≡ 0))))
+    ⊎ ((p.unsent ≡ 0) × (w.commands ≡ 0) × (is_due plan p ≡ false) × (is_preparing plan p w ≡ false))
 
 -- what another read waits for where requests may be sent: the reply to a null procedure of the synchronization, whose deadline hasn't
--- come; or something in flight that hasn't timed out, while no command may be sent. In the last case the setup isn't done, though
--- each of its commands was sent
+-- come; or something in flight that hasn't timed out, while no command may be sent. The last case is one without a setup, in which
+-- a station never prepares one: by the law `a_read_awaits_something` it never occurs
 abbrev pub AwaitsReply : Plan → Progress → Waiting → Type 0
 AwaitsReply plan p w =
     ((has_begun p ≡ false) × (p.moment.elapsed < p.again))
-    ⊎ ((NothingMayGo plan p w × (0 < w.current)) ⊎ ((is_preparing plan p w ≡ true) × (plan.setup ≤ p.prepared)))
+    ⊎ ((NothingMayGo plan p w × (0 < w.current)) ⊎ ((is_preparing plan p w ≡ true) × (plan.setup ≡ 0)))
 
 -- what a read waits for: the end of a pause, or of a draining; a reply (`AwaitsReply`); or the next due moment (`AwaitsDueMoment`)
 abbrev pub AwaitsSomething : Plan → Progress → Waiting → Until → Type 0
 AwaitsSomething plan p w Limit = (p.phase ≡ phase.Pausing) ⊎ ((p.phase ≡ phase.Draining) ⊎ ((p.phase ≡ phase.Ready) × AwaitsReply plan p w))
 AwaitsSomething plan p w Due = (p.phase ≡ phase.Ready) × AwaitsDueMoment plan p w
 
--- what holds at the progress `p` with the outstanding requests `w` if this action is the next one; nothing is said of reading
--- the clock. No request is sent over a dead line
+-- what holds at the progress `p` with the outstanding requests `w` if this action is the next one. The clock is read alone only where
+-- the moment read last is out of date (`clock_due`). No request is sent over a dead line
 abbrev pub HoldsBefore : Plan → Progress → Waiting → Action → Type 0
-HoldsBefore plan p w action.ReadClock = Unit {0}
+HoldsBefore plan p w action.ReadClock = p.clock_due ≡ true
 -- the station resynchronizes where seven are outstanding, which have all timed out; or, with or without a connection, where
 -- commands are outstanding and the cycle is overdue
 HoldsBefore plan p w action.Renew =

@@ -1,11 +1,12 @@
 -- By when the commands of a due cycle have their records: this project's own. An act is one call on the link, with its result.
-use Rattle.std.specs.Prelude.{◌≡◌, ◌⊎◌, ℕ, zero, suc, ◌+◌, ◌*◌, ◌<◌, ◌≤◌, true, false, List, [], ◌∷◌, ◌++◌}
+use Rattle.std.specs.Prelude.{◌≡◌, ◌⊎◌, ℕ, zero, suc, ◌+◌, ◌*◌, ◌<◌, ◌≤◌, true, false, List, [], ◌∷◌, ◌++◌, length, take}
 use Rattle.std.specs.List.{AllByRecursion}
 use Rattle.gc_texts.specs.declared.tasks.Task.{Task}
 use Rattle.gc_links.specs.Acts.{Act}
 use Rattle.gc_links.specs.declared.link.Moment.{Moment}
+use Rattle.gc_station.specs.Behind.{AreOfTable}
 use Rattle.gc_station.specs.Cycles.{ClockRises, first_due, due_after, BeginsAt}
-use Rattle.gc_station.specs.Deciding.{setup_permits}
+use Rattle.gc_station.specs.Deciding.{setup_permits, is_preparing}
 use Rattle.gc_station.specs.EachOnce.{AreRecordedOnce, all_cycles}
 use Rattle.gc_station.specs.Model.{opening, action_at, waiting_of, cycle_length, Runs}
 use Rattle.gc_station.specs.Quiet.{IsListening}
@@ -76,13 +77,24 @@ RecordsOnceTimedOut = OfEachRun (λ plan commands scope acts.
     → let s = state_after plan commands scope acts in MayTakeTime (action_at plan s) → (waiting_of s).current ≡ 0
     → IsInTime plan commands scope (2 * plan.every) acts)
 
--- without a setup, and while the end of the run isn't asked for: whenever a run goes on with an action that may take its time, each
--- cycle that was due two periods and `longest` before the moment read last is recorded, where no deadline is longer than `longest`
+-- the list has each command of the setup, and each of them is a call of the table; so without a setup nothing is said. No command of
+-- such a setup waits for a null procedure
+abbrev pub SetUpIsOfTable : Plan → List Task → Type 0
+SetUpIsOfTable plan commands = (plan.setup ≤ length commands) × AreOfTable (take plan.setup commands)
+
+-- how many milliseconds after its due moment a cycle is recorded at the latest, where no deadline is longer than `longest`: two periods,
+-- and then the longest deadline for what is in flight, and for each command of a setup that was begun
+abbrev pub record_bound : Plan → (longest : ℕ) → ℕ
+record_bound plan longest = 2 * plan.every + (1 + plan.setup) * longest
+
+-- while the end of the run isn't asked for: whenever a run goes on with an action that may take its time, each cycle that was due
+-- `record_bound` before the moment read last is recorded, where no deadline is longer than `longest`, and the setup, if there is one,
+-- is as `SetUpIsOfTable` says
 abbrev pub RecordsInTime : Type 0
 RecordsInTime = (longest : ℕ) → OfEachRun (λ plan commands scope acts.
-    0 < plan.every → plan.setup ≡ 0 → plan.deadline ≤ longest → AllByRecursion (λ (task : Task). task.deadline ≤ longest) commands
+    0 < plan.every → SetUpIsOfTable plan commands → plan.deadline ≤ longest → AllByRecursion (λ (task : Task). task.deadline ≤ longest) commands
     → ClockRises 0 acts → asked_after false acts ≡ false → MayTakeTime (action_at plan (state_after plan commands scope acts))
-    → IsInTime plan commands scope (2 * plan.every + longest) acts)
+    → IsInTime plan commands scope (record_bound plan longest) acts)
 
 -- an action that may take its time (`MayTakeTime`) comes directly after an act that read a moment, unless it is the first of the run
 abbrev pub ReadsClockBefore : Type 0
@@ -90,12 +102,15 @@ ReadsClockBefore =
     (plan : Plan) (commands : List Task) (scope : Scope) (earlier : List Act) (act : Act) → Runs plan commands (opening plan scope) (earlier ++ act ∷ [])
     → MayTakeTime (action_at plan (state_after plan commands scope (earlier ++ act ∷ []))) → IsListening act
 
--- a read is next only while something is awaited (`AwaitsSomething`); and never where the next command of the cycle may be sent
+-- a read is next only while something is awaited (`AwaitsSomething`); never where the next command of the cycle may be sent; and without
+-- a setup none is prepared
 pub record ReadsAwaitSomething : Type 0 where
   pub awaits : (until : Until) → WhereNext (Read until) (λ plan commands scope acts.
       AwaitsSomething plan (state_after plan commands scope acts).progress (waiting_of (state_after plan commands scope acts)) until)
   pub sends : (until : Until) → WhereNext (Read until) (λ plan commands scope acts.
       MayBeSent plan (state_after plan commands scope acts).progress (waiting_of (state_after plan commands scope acts)) → ⊥)
+  pub prepares : OfEachRun (λ plan commands scope acts.
+      plan.setup ≡ 0 → is_preparing plan (state_after plan commands scope acts).progress (waiting_of (state_after plan commands scope acts)) ≡ false)
 
 -- how many acts it takes at most to record `left` cycles of `count` commands without sending any: one to begin each, and one for each
 -- command

@@ -1,4 +1,5 @@
-//! What a station does next, by how far it is and what is outstanding. All decisions are made here, by looking at nothing else.
+//! What a station does next, by how far it is and what is outstanding. All decisions are made here, by looking at nothing else; those
+//! on a cycle that is overdue are in `overdue.rt`.
 //!
 //! A cycle has until the cycle after the next is due, two periods after its own due moment. Then it is out of time: no command of it is
 //! sent any more, but a setup that was begun goes on; and once nothing is in flight that hasn't timed out, the cycle is overdue and is
@@ -33,8 +34,8 @@
 //! | `Ready`: the station has synchronized | the end of the run was asked for, the station is between two chains, and something hasn't timed out | as if the station waits | | |
 //! | | the cycle is out of time, something hasn't timed out, and the setup is done or nothing of it was sent | as if the station waits | | |
 //! | | the setup isn't done, no command is unsent, none is outstanding, and no cycle is left | `Close(Done)` | closes the connection | `Over(Done)` |
-//! | | the setup isn't done, the cycle is done, and the next isn't due | `Read(Due)` | hears what comes | `Ready` |
-//! | | the setup isn't done, and nothing of it was sent | as if the next command may be sent, with `Prepare` for `Send` | | |
+//! | | nothing of the setup was sent, the cycle is done, and the next isn't due | `Read(Due)` | hears what comes | `Ready` |
+//! | | nothing of the setup was sent | as if the next command may be sent, with `Prepare` for `Send` | | |
 //! | | the setup isn't done, commands are outstanding, and all outstanding requests have timed out | with room, unless the line is dead, `Flush`, else as if the station waits | sends a null procedure after them | `Ready` |
 //! | | the setup isn't done, commands are outstanding, and something hasn't timed out | as if the station waits | | |
 //! | | the setup isn't done, no command is outstanding, and the last one was answered well | as if the next command may be sent, with `Prepare` for `Send` | | |
@@ -66,7 +67,7 @@
 //! follows, and without a connection `Over`.
 
 ghost use Rattle.std.specs.Prelude.{◌≡◌};
-ghost use Rattle.gc_station.specs.Deciding.{is_silent, is_dead, is_due, goes_on, is_finished, has_room_to_ask, may_go, waits_for_all, action_again, action_of, action_on, action_ready, action_begun, action_beginning, action_to_send, action_room, action_flush, action_held, action_settled, action_done, action_waiting, is_stale, is_between_chains, is_cut, is_resting, is_stopping, is_held_back, action_cycle, action_to_prepare, action_preparing, is_preparing, is_out_of_time, waits_out, has_no_time_left, is_overdue, action_overdue, action_draining, setup_permits};
+ghost use Rattle.gc_station.specs.Deciding.{is_silent, is_dead, is_due, goes_on, is_finished, has_room_to_ask, may_go, waits_for_all, action_again, action_of, action_on, action_ready, action_begun, action_beginning, action_to_send, action_room, action_flush, action_held, action_settled, action_done, action_waiting, is_stale, is_between_chains, is_cut, is_resting, is_stopping, is_held_back, action_cycle, action_to_prepare, action_preparing, action_in_setup, is_preparing, action_draining};
 
 use crate::cause::Cause;
 use crate::plan::Plan;
@@ -174,7 +175,7 @@ impl Progress {
     }
 
     // The next action if the run isn't over and the connection isn't to be closed for a cause already: that of the first of the
-    // four cases listed at the head of this file that applies, and if none does, that of the phase.
+    // five cases listed at the head of this file that applies, and if none does, that of the phase.
     fn action_on(&self, plan: &Plan, waiting: Waiting) -> Action
         ensures { result ≡ action_on plan.now self.now waiting }
     {
@@ -289,72 +290,10 @@ impl Progress {
         }
     }
 
-    // Whether the cycle that began last is out of time: cycles have due moments, and two periods have passed since this one's.
-    pub(crate) fn is_out_of_time(&self, plan: &Plan) -> bool
-        ensures { result ≡ is_out_of_time plan.now self.now }
-    {
-        let since = self.moment.elapsed.saturating_sub(self.began);
-        plan.every > 0 && plan.every <= since.saturating_sub(plan.every)
-    }
-
-    // Whether the cycle is out of time, but something is in flight that hasn't timed out: then nothing more is sent, until that is
-    // settled or has timed out. A setup of which something was sent goes on all the same.
-    fn waits_out(&self, plan: &Plan, waiting: Waiting) -> bool
-        ensures { result ≡ waits_out plan.now self.now waiting }
-    {
-        (self.is_out_of_time(plan) && waiting.current > 0)
-            && (!self.is_preparing(plan, waiting) || self.prepared == 0)
-    }
-
-    // Whether the setup doesn't keep a cycle from being abandoned: it is done, or nothing of it was sent since the connection was made
-    // and the station synchronized, or commands are outstanding, with which it begins anew.
-    fn setup_permits(&self, plan: &Plan, waiting: Waiting) -> bool
-        ensures { result ≡ setup_permits plan.now self.now waiting }
-    {
-        !self.is_preparing(plan, waiting) || (self.prepared == 0 || waiting.commands > 0)
-    }
-
-    // Whether no time is left for the cycle: it is missed, and some of its commands are left; or it is out of time,
-    // and the end of the run wasn't asked for.
-    fn has_no_time_left(&self, plan: &Plan) -> bool
-        ensures { result ≡ has_no_time_left plan.now self.now }
-    {
-        (self.missed && self.unsent > 0) || (self.is_out_of_time(plan) && !self.stops)
-    }
-
-    // Whether the cycle is overdue, so that it is abandoned: no time is left for it, nothing is in flight that hasn't
-    // timed out, the phase and the setup let the cycle be abandoned, and the run isn't done.
-    fn is_overdue(&self, plan: &Plan, waiting: Waiting) -> bool
-        ensures { result ≡ is_overdue plan.now self.now waiting }
-    {
-        self.has_no_time_left(plan)
-            && ((waiting.current == 0 && self.phase.may_abandon())
-                && (self.setup_permits(plan, waiting)
-                    && ((self.has_begun() || waiting.commands == 0)
-                        && !self.is_finished(waiting.commands))))
-    }
-
-    // The next action if the cycle is overdue, with or without a connection: commands that are outstanding are lost, as the station
-    // resynchronizes; the cycle's other commands are recorded without being sent, or left out; and the next cycle begins, which is
-    // missed.
-    fn action_overdue(&self, waiting: Waiting) -> Action
-        ensures { result ≡ action_overdue self.now waiting }
-    {
-        if waiting.commands > 0 {
-            Action::Renew
-        } else if self.unsent == 0 {
-            Action::Begin
-        } else if self.next_others > 0 {
-            Action::Pass
-        } else {
-            Action::Skip
-        }
-    }
-
     // Whether the setup is still to be done: there is one, and since the connection was made and the station synchronized no command of
-    // a cycle was sent, and none began or went on once something of the setup was sent (`preparing`); unless all its commands were sent, no command is outstanding, and the one recorded last
-    // was answered well.
-    fn is_preparing(&self, plan: &Plan, waiting: Waiting) -> bool
+    // a cycle was sent, and none began or went on once something of the setup was sent (`preparing`); unless all its commands were
+    // sent, no command is outstanding, and the one recorded last was answered well.
+    pub(crate) fn is_preparing(&self, plan: &Plan, waiting: Waiting) -> bool
         ensures { result ≡ is_preparing plan.now self.now waiting }
     {
         self.preparing && !(plan.setup <= self.prepared && waiting.commands == 0 && waiting.well)
@@ -372,20 +311,31 @@ impl Progress {
         }
     }
 
-    // The next action while the setup isn't done. Nothing is sent if no command is left to be sent after it and none is
-    // outstanding, nor between cycles. Its first command may be sent at once (`action_to_send`), and each other one once the one
-    // before it was answered well. If it wasn't, the connection is closed: the setup begins with its first command on the next
-    // one. Where commands are outstanding, it is that of `action_flush`.
+    // The next action while the setup isn't done: its first command may be sent at once (`action_to_send`), but not if no command is
+    // left to be sent after it and none is outstanding, nor between cycles. A setup that was begun goes on also between cycles.
     fn action_preparing(&self, plan: &Plan, waiting: Waiting) -> Action
         ensures { result ≡ action_preparing plan.now self.now waiting }
+    {
+        if self.prepared > 0 {
+            self.action_in_setup(plan, waiting)
+        } else if self.is_finished(waiting.commands) {
+            Action::Close(Cause::Done)
+        } else if self.is_idle(plan) {
+            Action::Read(Until::Due)
+        } else {
+            self.action_to_prepare(plan, waiting)
+        }
+    }
+
+    // The next action while the setup isn't done, once something of it was sent: each command is sent once the one before it was
+    // answered well. If it wasn't, the connection is closed: the setup begins with its first command on the next one. Where commands
+    // are outstanding, it is that of `action_flush`.
+    fn action_in_setup(&self, plan: &Plan, waiting: Waiting) -> Action
+        ensures { result ≡ action_in_setup plan.now self.now waiting }
     {
         let commands = waiting.commands;
         if self.is_finished(commands) {
             Action::Close(Cause::Done)
-        } else if self.is_idle(plan) {
-            Action::Read(Until::Due)
-        } else if self.prepared == 0 {
-            self.action_to_prepare(plan, waiting)
         } else if commands == 0 {
             if waiting.well {
                 self.action_to_prepare(plan, waiting)

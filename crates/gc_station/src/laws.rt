@@ -39,6 +39,7 @@ ghost use Rattle.gc_station.specs.Setups.{EachSetUpOnce, SetUpsGoOn, NoneBeforeT
 ghost use Rattle.gc_station.specs.Silences.{HasAllTimedOut, IsMuteFor};
 ghost use Rattle.gc_station.specs.Stopping.{ClosesStale, StopsAtItsClose, EndsOnceStale, GoesOnInItsChain, ClosesBetweenChains};
 ghost use Rattle.gc_station.specs.Tasked.{EachRecordIsOfItsTask};
+ghost use Rattle.gc_station.specs.OnceAsked.{EndsSoonOnceAsked};
 ghost use Rattle.gc_station.specs.RecordedInTime.{RecordsOnceTimedOut, RecordsInTime, ReadsClockBefore, ReadsAwaitSomething, RecordingEnds};
 ghost use Rattle.gc_station.specs.Model.{action_at};
 ghost use Rattle.gc_station.specs.Tries.{StopsOnlyAfterAllTries};
@@ -84,8 +85,9 @@ pub fn some_function_says_what_each_reply_says()
     ensures { SomeReadings }
 {}
 
-/// Each act of a run performs the action that was next, and the conditions of that action held; for the action that only reads the
-/// clock there are none. When a request was sent, the line wasn't dead. When a command was sent, fewer requests were in
+/// Each act of a run performs the action that was next, and the conditions of that action held. The clock was read alone only where
+/// something was sent, or a connection was closed or couldn't be made, since a moment was read. When a request was sent, the line
+/// wasn't dead. When a command was sent, fewer requests were in
 /// flight and not timed out than the plan's width (taken as 1 to 7), fewer than seven were outstanding in all, and the bytes are
 /// the line of the next command, of the cycle or of the setup. A command of a cycle was sent only if the setup was done on that
 /// connection and since the station synchronized: each of its commands was sent, and the last one was answered well. When a null
@@ -304,8 +306,10 @@ pub fn missed_cycles_are_not_sent()
 /// - `once`: whenever a station connects, sends a request or reads, with nothing in flight that hasn't timed out, each command of
 ///   each cycle that was due two periods before the moment read last has its record, or was left out. The end of the run wasn't
 ///   asked for; and of a setup, if there is one, all is done, nothing was sent, or commands are outstanding.
-/// - `always`: where no deadline is longer than `longest`, so has each command of a cycle that was due two periods and `longest`
-///   before, whatever is in flight. The end of the run wasn't asked for, and there is no setup.
+/// - `always`: where no deadline is longer than `longest`, so has each command of a cycle that was due two periods before, and `longest`
+///   once more than the setup has commands, whatever is in flight. The end of the run wasn't asked for, and each command of the setup,
+///   if there is one, is in the list and a call of the table: so a setup that was begun goes on at once, and waits for no null
+///   procedure.
 ///
 /// The first cycle is due when it begins, but at the latest one period after the start of the clock. For each plan and each clock:
 /// - `reads`: an action that connects, sends a request or reads comes directly after an act that read a moment, but for the first
@@ -322,10 +326,11 @@ pub fn each_due_cycle_is_recorded_in_time()
 
 /// A station doesn't wait needlessly:
 /// - `awaits`: it reads only in a pause; while it discards input until the line is quiet; while a null procedure of the synchronization
-///   hasn't timed out; while something is in flight that hasn't timed out, and no command may be sent; while each command of the setup
-///   was sent, and the setup isn't done; or until the next cycle is due.
+///   hasn't timed out; while something is in flight that hasn't timed out, and no command may be sent; or until the next cycle is due,
+///   but not in the middle of a setup. One more reason is of a setup that isn't done though the plan has none.
 /// - `sends`: where the next command of a cycle may be sent, and neither the cycle is out of time nor the end of the run was asked
 ///   for, it doesn't read.
+/// - `prepares`: without a setup none is to be done. So that one more reason never holds.
 pub fn a_read_awaits_something()
     ensures { ReadsAwaitSomething }
 {}
@@ -380,4 +385,13 @@ pub fn stops_between_chains()
     ensures goes { GoesOnInItsChain }
     ensures closes { ClosesBetweenChains }
     ensures stops { StopsAtItsClose cause.Stopped }
+{}
+
+/// How long a run goes on once a moment was read at which its end was asked for. It makes no connection, and sends no null procedure
+/// of a synchronization. It reads only while something is in flight that hasn't timed out. And it sends at most eight requests for
+/// each command that was left of the cycle, and seven besides: the chain that is under way, a null procedure for each command that
+/// timed out, and further ones for null procedures that did. So it ends at the latest once so many deadlines have passed, each with
+/// what one call takes.
+pub fn a_run_ends_soon_once_asked()
+    ensures { EndsSoonOnceAsked }
 {}

@@ -7,6 +7,7 @@ mod deciding;
 mod kept;
 pub mod laws;
 mod mark;
+mod overdue;
 mod pace;
 mod plan;
 mod progress;

@@ -90,7 +90,8 @@ pub(crate) fn run<L: Link, B: Book>(
 /// out. Commands that are all calls of the table are never held up by that.
 ///
 /// The first `setup` commands of the list are the setup. They are sent on each connection, and after each synchronization,
-/// before any command of a cycle: each once the one before it was answered well. If one wasn't, the connection is closed. A
+/// before any command of a cycle: each once the one before it was answered well. If one wasn't, the connection is closed. It
+/// isn't begun between a cycle that is done and the next one, but one that was begun goes on. A
 /// command of a cycle that is `chained` is sent only if the one before it was answered well, and since that was sent no
 /// connection was closed and the station didn't resynchronize; else it is written as skipped. A further attempt of a chain
 /// is sent only if a command of the attempt before ended as the chain's rule (`again`) names; else it is left out, without a

@@ -1,0 +1,222 @@
+-- A setup of which something was sent is under way: its last command is alone, and once that was answered well, before its deadline was
+-- read, nothing is outstanding. So if the first command was sent before the cycle was out of time, each later one is sent at most a
+-- deadline later than the one before it. An act is one call on the link, with its result.
+use Rattle.std.proofs.Common.{◌≡◌, ℕ, zero, suc, ◌+◌, ◌*◌, ◌-◌, ◌<◌, ◌&&◌, ◌||◌, Bool, true, false, not, if◌then◌else◌, List, [], ◌∷◌, ◌++◌, length, take, drop, Option, Some, None, nat_lt, nat_le, nat_eq, refl, sym, ap, ◌∙◌, subst, arith, append-nil}
+use Rattle.std.specs.Prelude.{slice_get}
+use Rattle.std.specs.List.{AllByRecursion}
+use Rattle.std.proofs.lemmas.Bool.{both_ways}
+use Rattle.std.proofs.lemmas.Bool.Decides.{nat_tests}
+use Rattle.gc_values.proofs.Every.{every_drop}
+use Rattle.gc_catalogue.specs.declared.asked.Asked.{Asked}
+use Rattle.gc_client.specs.Rule.{ById, Settled, hears, heard, settles_at, nothing_settled, fits, place_in, settle, pending_of, send_unless_full}
+use Rattle.gc_client.specs.declared.window.TheConstants.{WINDOW}
+use Rattle.gc_client.proofs.OneForOne.{length-settle}
+use Rattle.gc_texts.specs.declared.tasks.Task.{Task}
+use Rattle.gc_texts.specs.declared.wish.Wish.{Wish}
+use Rattle.gc_station.specs.Deciding.{later, has_begun, is_up, is_preparing, setup_permits}
+use Rattle.gc_station.specs.Marks.{commands_in, last_well, records_of}
+use Rattle.gc_station.specs.Model.{Model, waiting_of, with_progress, is_reply, sent_to, client_sent, line_came, line_settles, ends_with_table, is_some_of_table, losing, with_losses}
+use Rattle.gc_station.specs.Progressing.{failing, is_over, is_over_in, loses_all, line_noted}
+use Rattle.gc_station.specs.Records.{Record}
+use Rattle.gc_station.specs.declared.cause.Cause.{Cause}
+use Rattle.gc_station.specs.declared.plan.Plan.{Plan}
+use Rattle.gc_station.specs.declared.progress.Phase.{Phase}
+use Rattle.gc_station.specs.declared.progress.Phase.TheVariants as phase
+use Rattle.gc_station.specs.declared.progress.Progress.{Progress}
+use Rattle.gc_station.specs.declared.progress.Waiting.{Waiting}
+use Rattle.gc_station.proofs.InFlight.{EndsBy, EndsAfter, all_heard}
+use Rattle.gc_station.proofs.Invariant.{is_before_requests}
+use Rattle.gc_station.proofs.LastCommand.{LastIsAlone, alone_dropped, none_recorded, heard_well}
+use Rattle.gc_station.proofs.Losing.{loses_nothing}
+use Rattle.gc_station.proofs.Records.{last-append, records-none}
+
+-- Tests.
+
+-- a setup that keeps a cycle from being abandoned isn't done, something of it was sent, and no command is outstanding
+pub not_permitted : (plan : Plan) (p : Progress) (w : Waiting) → setup_permits plan p w ≡ false → (is_preparing plan p w ≡ true) × (0 < p.prepared) × (w.commands ≡ 0)
+not_permitted plan p w e = by_tests (is_preparing plan p w) (nat_eq p.prepared 0) (nat_lt 0 w.commands) refl refl refl e where
+  -- the lemma above, by each test
+  by_tests : (preparing none some : Bool) → is_preparing plan p w ≡ preparing → nat_eq p.prepared 0 ≡ none → nat_lt 0 w.commands ≡ some → (not preparing || (none || some)) ≡ false
+      → (is_preparing plan p w ≡ true) × (0 < p.prepared) × (w.commands ≡ 0)
+  by_tests true false false a b c f = (a, grind (arith, nat_tests, b), grind (arith, nat_tests, c))
+  by_tests false none some a b c f = cc
+  by_tests true true some a b c f = cc
+  by_tests true false true a b c f = cc
+
+-- while the setup isn't done, `preparing` says so
+pub preparing_then : (b c : Bool) → (b && c) ≡ true → b ≡ true
+preparing_then true c e = refl
+preparing_then false c e = cc
+
+-- if the setup isn't done, though no command is outstanding and the last one was answered well, some of it wasn't sent
+pub some_unsent : (plan : Plan) (p : Progress) (w : Waiting) → is_preparing plan p w ≡ true → w.commands ≡ 0 → w.well ≡ true → p.prepared < plan.setup
+some_unsent plan p w on none well = by_tests p.preparing (nat_le plan.setup p.prepared) (nat_eq w.commands 0) w.well refl (grind (arith, nat_tests, none)) well on where
+  -- the lemma above, by each test
+  by_tests : (preparing all settled well : Bool) → nat_le plan.setup p.prepared ≡ all → settled ≡ true → well ≡ true → (preparing && not (all && settled && well)) ≡ true → p.prepared < plan.setup
+  by_tests preparing false settled well e s w f = grind (arith, nat_tests, e)
+  by_tests false true settled well e s w f = cc
+  by_tests true true true true e s w f = cc
+  by_tests true true false well e s w f = cc
+  by_tests true true true false e s w f = cc
+
+-- while not all of the setup was sent, it isn't done
+pub still_preparing : (plan : Plan) (p : Progress) (w : Waiting) → p.preparing ≡ true → p.prepared < plan.setup → is_preparing plan p w ≡ true
+still_preparing plan p w on some = by_tests p.preparing (nat_le plan.setup p.prepared) (nat_eq w.commands 0) w.well on (grind (arith, nat_tests, some)) where
+  -- the lemma above, by each test
+  by_tests : (preparing all settled well : Bool) → preparing ≡ true → all ≡ false → (preparing && not (all && settled && well)) ≡ true
+  by_tests true false settled well a b = refl
+  by_tests false all settled well a b = cc
+  by_tests true true settled well a b = cc
+
+-- a cycle that begins or goes on in the middle of a setup ends that
+pub none_prepared : (b : Bool) (n : ℕ) → (b && nat_eq n 0) ≡ true → 0 < n → ⊥
+none_prepared false n e some = cc
+none_prepared true n e some = grind (arith, nat_tests, e, some)
+
+-- a call that failed isn't followed by a phase before requests, nor by `Ready`
+failed_phase : (up : Bool) (why : Cause) → (is_before_requests (if up then phase.Closing why else phase.Over why) ≡ false) × ((if up then phase.Closing why else phase.Over why) ≡ phase.Ready → ⊥)
+failed_phase true why = (refl, λ e. cc)
+failed_phase false why = (refl, λ e. cc)
+
+-- the task at place k of the first n ones is as all of these are
+pub task_at : (P : Task → Type 0) (n k : ℕ) (tasks : List Task) (task : Task) (others : List Task) → AllByRecursion P (take n tasks) → k < n → drop k tasks ≡ task ∷ others → P task
+task_at P zero k tasks task others all below e = absurd (omega (arith, below))
+task_at P (suc n) k [] task others all below e = none k e where
+  -- without tasks there is none at any place
+  none : (k : ℕ) → drop k [] ≡ task ∷ others → P task
+  none zero f = cc
+  none (suc k) f = cc
+task_at P (suc n) zero (x ∷ tasks) task others all below e = let same : x ≡ task = cc in subst P same all.0
+task_at P (suc n) (suc k) (x ∷ tasks) task others all below e = task_at P n k tasks task others all.1 (omega (arith, below)) e
+
+-- a request is added to those that are outstanding, if there is room
+pub sent_with_room : (c : ById Asked) (command : Wish) (now wait : ℕ) → length c.waiting < WINDOW → (sent_to WINDOW c command now wait).waiting ≡ c.waiting ++ pending_of command.target command.call (later now wait) ∷ []
+sent_with_room c command now wait room = ap (λ (b : Bool). (client_sent c (send_unless_full c command.target command.call (later now wait) b)).waiting) (less (length c.waiting) room) where
+  -- a number below seven isn't seven
+  less : (n : ℕ) → n < 7 → nat_eq n 7 ≡ false
+  less n low = grind (arith, nat_tests, low)
+
+module _ (plan : Plan) (longest : ℕ) where
+  -- the moment by which the last command of the setup that was sent has timed out at the latest: that at which the cycle is out of time,
+  -- and the longest deadline once more than commands of the setup were sent
+  abbrev pub setup_limit : Progress → ℕ
+  setup_limit p = (p.began + 2 * plan.every) + (longest + p.prepared * longest)
+
+  -- the station is to send the next command of its setup at once: nothing is outstanding, no null procedure is wanted, and the moment,
+  -- which was read, is before `setup_limit`
+  abbrev pub IsSettled : Model → Type 0
+  IsSettled x = (x.client.waiting ≡ []) × (x.progress.behind < WINDOW) × (x.progress.clock_due ≡ false) × (x.progress.moment.elapsed < setup_limit x.progress)
+
+  -- of a setup of which something was sent: its last command is alone (`LastIsAlone`), each request ends by `setup_limit`, and if all that
+  -- was sent is settled, the last command was answered well, and another one is left, `IsSettled` holds
+  abbrev pub IsUnderWay : Model → Type 0
+  IsUnderWay x =
+      LastIsAlone x.marks x.client.waiting × AllByRecursion (EndsBy (setup_limit x.progress)) x.client.waiting
+      × (x.progress.prepared < plan.setup → commands_in x.marks ≡ 0 → last_well false x.records ≡ true → IsSettled x)
+
+  -- if something of the setup was sent, and no command of a cycle after it, it is under way
+  abbrev pub GoesOn : Model → Type 0
+  GoesOn x = x.progress.preparing ≡ true → 0 < x.progress.prepared → IsUnderWay x
+
+  -- if something of the setup was sent, and no command of a cycle after it, the station has synchronized, and the connection is quiet
+  abbrev pub IsWithin : Progress → Type 0
+  IsWithin p = p.preparing ≡ true → 0 < p.prepared → (has_begun p ≡ true) × (is_before_requests p.phase ≡ false)
+
+  -- both, the former in the phase `Ready`
+  abbrev pub SettingUp : Model → Type 0
+  SettingUp x = IsWithin x.progress × (x.progress.phase ≡ phase.Ready → GoesOn x)
+
+  -- where the next command of a setup that keeps the cycle from being abandoned is to be sent, the moment is before `setup_limit`
+  pub soon_if_well : (s : Model) → SettingUp s → s.progress.phase ≡ phase.Ready
+      → (is_preparing plan s.progress (waiting_of s) ≡ true) × (0 < s.progress.prepared) × (commands_in s.marks ≡ 0) → last_well false s.records ≡ true
+      → s.progress.moment.elapsed < setup_limit s.progress
+  soon_if_well s h ready setup well =
+      ((h.1 ready (preparing_then s.progress.preparing _ setup.0) setup.1).2 (some_unsent plan s.progress (waiting_of s) setup.0 setup.2 well) setup.2 well).3
+
+  -- Lines.
+
+  -- what a line settles, and the model after it
+  abbrev heard_as : (line : List ℕ) → Settled Asked (ById Asked) → Model → Model
+  heard_as line y x = with_progress (line_noted (is_reply line)) (line_settles y x)
+
+  -- a line that settles nothing keeps a setup under way
+  nothing_heard : (x : Model) (line : List ℕ) → IsUnderWay x → IsUnderWay (heard_as line (nothing_settled x.client) x)
+  nothing_heard x line h = (
+    h.0,
+    h.1,
+    λ few none well. h.2 few none (sym (ap (last_well false) (ap (λ rs. x.records ++ rs) (records-none x.reads x.progress.moment.utc x.marks) ∙ append-nil x.records)) ∙ well),
+  )
+
+  -- a line that settles requests keeps a setup under way: if it answers the last command well, that was alone
+  some_heard : (x : Model) (line : List ℕ) (k : ℕ) → k < length x.client.waiting → IsUnderWay x → AllByRecursion (EndsAfter x.progress.moment.elapsed) x.client.waiting
+      → x.progress.clock_due ≡ false → IsUnderWay (heard_as line (settles_at x.client line k true) x)
+  some_heard x line k below h after read =
+      let ws = x.client.waiting in
+      let many = length-settle k line ws below in
+      let n = length (settle k line ws) in
+      let e : n ≡ suc k = omega (arith, many) in
+      let f : k + 1 ≡ suc k = omega arith in (
+        subst (λ (i : ℕ). LastIsAlone (drop i x.marks) (drop (k + 1) ws)) (sym e) (subst (λ (j : ℕ). LastIsAlone (drop (suc k) x.marks) (drop j ws)) (sym f) (alone_dropped (suc k) x.marks ws h.0)),
+        every_drop (EndsBy (setup_limit x.progress)) ws (k + 1) h.1,
+        λ few none well. by_test few (subst (λ (i : ℕ). commands_in (drop i x.marks) ≡ 0) e none) well (nat_eq (commands_in x.marks) 0) refl,
+      ) where
+        -- the records of what the line settles
+        news : List Record
+        news = records_of x.reads x.progress.moment.utc x.marks (settle k line x.client.waiting)
+
+        -- the lemma above, whether commands were outstanding before
+        by_test : x.progress.prepared < plan.setup → commands_in (drop (suc k) x.marks) ≡ 0 → last_well false (x.records ++ news) ≡ true
+            → (b : Bool) → nat_eq (commands_in x.marks) 0 ≡ b → IsSettled (heard_as line (settles_at x.client line k true) x)
+        by_test few none well true e =
+            let settled : commands_in x.marks ≡ 0 = grind (arith, nat_tests, e) in
+            let no_news : news ≡ [] = none_recorded x.reads x.progress.moment.utc x.marks (settle k line x.client.waiting) settled in
+            let it = h.2 few settled (sym (ap (last_well false) (ap (λ rs. x.records ++ rs) no_news ∙ append-nil x.records)) ∙ well) in
+            let empty : length x.client.waiting ≡ 0 = ap length it.0 in absurd (omega (arith, empty, below))
+        by_test few none well false e =
+            let it = heard_well (setup_limit x.progress) x.progress.moment.elapsed line x.reads x.progress.moment.utc k x.marks x.client.waiting (last_well false x.records)
+            h.0 h.1 after below (grind (arith, nat_tests, e)) none (sym (last-append false x.records news) ∙ well) in
+            let f : k + 1 ≡ suc k = omega arith in
+            let left : drop (k + 1) x.client.waiting ≡ [] = ap (λ (j : ℕ). drop j x.client.waiting) f ∙ it.0 in
+            let many = length-settle k line x.client.waiting below in
+            let at : length (settle k line x.client.waiting) - 1 ≡ k = omega (arith, many) in
+            let table : ends_with_table (settle k line x.client.waiting) ≡ true = ap (λ n. is_some_of_table (slice_get (settle k line x.client.waiting) n)) at ∙ it.1 in
+            let behind : (if ends_with_table (settle k line x.client.waiting) then length (drop (k + 1) x.client.waiting) else x.progress.behind) ≡ 0 =
+            ap (λ (t : Bool). if t then length (drop (k + 1) x.client.waiting) else x.progress.behind) table ∙ ap length left in
+            (left, subst (λ (n : ℕ). n < WINDOW) (sym behind) (omega arith), read, it.2)
+
+  -- of a model whose moment was read: each request that hasn't timed out has its deadline after it, and the setup goes on
+  abbrev pub Listens : Model → Type 0
+  Listens x = GoesOn x × AllByRecursion (EndsAfter x.progress.moment.elapsed) x.client.waiting × (x.progress.clock_due ≡ false)
+
+  -- a line keeps this
+  pub line_heard : (x : Model) (line : List ℕ) → Listens x → Listens (line_came x line)
+  line_heard x line h = (λ on some. by_id (heard line) (h.0 on some), all_heard (EndsAfter x.progress.moment.elapsed) x.client line (heard line) h.1, h.2) where
+    -- by the id of the line
+    by_id : (o : Option ℕ) → IsUnderWay x → IsUnderWay (heard_as line (hears x.client line o) x)
+    by_id None under = nothing_heard x line under
+    by_id (Some id) under = by_test (place_in x.client id) (fits x.client (Some id)) refl where
+      -- whether a request has that id
+      by_test : (k : ℕ) (b : Bool) → nat_lt k (length x.client.waiting) ≡ b → IsUnderWay (heard_as line (settles_at x.client line k b) x)
+      by_test k true e = some_heard x line k (grind (arith, nat_tests, e)) under h.1 h.2
+      by_test k false e = nothing_heard x line under
+
+  -- a call that failed leaves a setup within its connection
+  failed_within : (p : Progress) (why : Cause) → IsWithin p → IsWithin (failing why p)
+  failed_within p why h on some = ((h on some).0, (failed_phase (is_up p.phase) why).0)
+
+  -- so after it all is as it should be
+  pub failed_sets : (x : Model) (why : Cause) → IsWithin x.progress → SettingUp (with_progress (failing why) x)
+  failed_sets x why h = (failed_within x.progress why h, λ ready. absurd ((failed_phase (is_up x.progress.phase) why).1 ready))
+
+  -- the loss of what is outstanding keeps `SettingUp`: in the phase `Ready` nothing is lost once the station has synchronized
+  pub sets_losses : (t : Model) → SettingUp t → SettingUp (with_losses t)
+  sets_losses t h = by_test (loses_all t.progress) refl where
+    -- the lemma above, whether all is lost
+    by_test : (b : Bool) → loses_all t.progress ≡ b → SettingUp (losing b t)
+    by_test false e = h
+    by_test true e = (
+      h.0,
+      λ ready on some.
+          let going : is_over t.progress ≡ false = ap (λ (at : Phase). is_over_in at || (not (is_up at) && nat_eq t.progress.turns 0)) ready in
+          absurd (both_ways (loses_all t.progress) (loses_nothing (has_begun t.progress) (is_over t.progress) (h.0 on some).0 going) e),
+    )
