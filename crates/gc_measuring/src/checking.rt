@@ -7,12 +7,14 @@ ghost use Rattle.gc_measuring.specs.TaskTexts.{IsCheckable};
 ghost use Rattle.gc_texts.specs.WholeTexts.{input_of};
 ghost use Rattle.gc_messages.specs.Statuses.{IsStatusUpTo};
 
+use crate::bound::{outline_bound, report_tight_deadlines};
 use crate::counts::report_end_of_run;
-use crate::plan::commands_per_cycle;
+use crate::plan::{commands_per_cycle, plan_of};
 use crate::stop::Stop;
 use crate::task_text::read_task_text;
 use gc_lines::{Sink, Source, write_whole};
 use gc_messages::{Streams, report_blanks, report_odd_angles, report_unasked, report_unused_names};
+use gc_station::Plan;
 use gc_texts::{Again, RunFault, Task, Tasks};
 use gc_words::Choice;
 use std::alloc::Global;
@@ -21,9 +23,10 @@ use std::process::ExitCode;
 
 /// Reads the text of a station, and writes on the output what a station would do with it: the setup, and the chains of a cycle
 /// with the names of their targets, the deadlines of their commands in milliseconds, and how often and after what they may be
-/// sent again. What looks wrong, and is no fault, is reported on the messages, as far as they can be written: angles outside one
-/// turn, targets of which the text says where they are, though no command measures their direction, names of targets without a
-/// command, and spaces or tabs at ends of lines.
+/// sent again; and, where cycles have due moments, by when a row is written. What looks wrong, and is no fault, is reported on the
+/// messages, as far as they can be written: angles outside one turn, targets of which the text says where they are, though no command
+/// measures their direction, names of targets without a command, spaces or tabs at ends of lines, and deadlines that add up to more
+/// than the time that a cycle has.
 ///
 /// Status 0: the text can be measured. Status 1: it can't be read or is refused, memory was refused, or the output failed, each
 /// of which is reported as a run reports it. `Err`: this report couldn't be written. The streams are handed back. No clause says
@@ -41,8 +44,9 @@ pub fn check_task_text<S: Source, K: Sink, E: Write>(
 {
     let end = match read_task_text(alloc, &mut streams.input, &choice) {
         Ok((tasks, text)) => {
-            let _ = report_doubts(text.as_slice(), &tasks, &mut streams.messages);
-            write_outline(alloc, &tasks, &mut streams.output)
+            let plan = plan_of(choice, tasks.setup, tasks.tasks.as_slice());
+            let _ = report_doubts(text.as_slice(), &tasks, &plan, &mut streams.messages);
+            write_outline(alloc, &tasks, &plan, &mut streams.output)
         }
         Err(stop) => Err(stop),
     };
@@ -55,18 +59,29 @@ pub fn check_task_text<S: Source, K: Sink, E: Write>(
 
 // Reports what looks wrong in the text of these tasks, and is no fault, as `check_task_text` says. `Err`: the messages couldn't
 // be written, and what comes after that isn't reported.
-fn report_doubts<E: Write>(text: &[u8], tasks: &Tasks, messages: &mut E) -> io::Result<()> {
+fn report_doubts<E: Write>(
+    text: &[u8],
+    tasks: &Tasks,
+    plan: &Plan,
+    messages: &mut E,
+) -> io::Result<()> {
     report_odd_angles(text, tasks, messages)?;
     report_unasked(tasks, messages)?;
     report_unused_names(tasks, messages)?;
-    report_blanks(text, messages)
+    report_blanks(text, messages)?;
+    report_tight_deadlines(tasks, plan, messages)
 }
 
-// Writes the outline of these tasks on the output. It fails with `Memory` if memory was refused, and with `Output` if the output
-// failed.
-fn write_outline<K: Sink>(alloc: Global, tasks: &Tasks, output: &mut K) -> Result<(), Stop> {
+// Writes the outline of these tasks with this plan on the output. It fails with `Memory` if memory was refused, and with `Output` if
+// the output failed.
+fn write_outline<K: Sink>(
+    alloc: Global,
+    tasks: &Tasks,
+    plan: &Plan,
+    output: &mut K,
+) -> Result<(), Stop> {
     let mut outline = Vec::new(alloc);
-    if outline_tasks(tasks, &mut outline).is_err() {
+    if outline_tasks(tasks, plan, &mut outline).is_err() {
         return Err(Stop::Run(RunFault::Memory));
     }
     match write_whole(output, outline.as_slice()) {
@@ -76,8 +91,9 @@ fn write_outline<K: Sink>(alloc: Global, tasks: &Tasks, output: &mut K) -> Resul
 }
 
 // Writes the outline of these tasks: if there is a setup, a line with the number of its commands and a line for each of them; and
-// then a line with the number of a cycle's commands and a line for each of its chains.
-fn outline_tasks<W: Write>(tasks: &Tasks, outline: &mut W) -> io::Result<()> {
+// then a line with the number of a cycle's commands and a line for each of its chains; and, where cycles have due moments, by when a
+// row is written.
+fn outline_tasks<W: Write>(tasks: &Tasks, plan: &Plan, outline: &mut W) -> io::Result<()> {
     let setup = tasks.setup;
     if setup > 0 {
         writeln!(outline, "at start, commands: {setup}")?;
@@ -89,7 +105,8 @@ fn outline_tasks<W: Write>(tasks: &Tasks, outline: &mut W) -> io::Result<()> {
     }
     let commands = commands_per_cycle(tasks);
     writeln!(outline, "each cycle, commands: {commands}")?;
-    outline_chains(tasks, outline)
+    outline_chains(tasks, outline)?;
+    outline_bound(plan, outline)
 }
 
 // Writes a line for each chain of a cycle: its target, its commands, and how often and after what it may be sent again.

@@ -1,6 +1,7 @@
 //! A station over its ports: its text, its records and their file, its log, and the messages that it writes while it measures.
 #![tactic(auto)]
 
+mod bound;
 mod checking;
 mod counts;
 pub mod laws;

@@ -83,3 +83,7 @@ mod LastCommand
 mod SettingUp
 mod UnderWay
 mod InTime
+mod RealTime
+mod LastingByBound
+mod Returning
+mod BoundRuns

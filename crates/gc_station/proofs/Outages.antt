@@ -137,9 +137,25 @@ module _ (plan : Plan) (commands : List Task) (scope : Scope) where
       }
 
   -- a cycle that was due `wait` milliseconds ago was due before the one that began last, if that began less than that ago
-  before_this : (n k first began now wait : ℕ) → due_after first plan.every k ≡ began → now - began < wait → began ≤ now → due_after first plan.every n + wait ≤ now → n < k
+  pub before_this : (n k first began now wait : ℕ) → due_after first plan.every k ≡ began → now - began < wait → began ≤ now → due_after first plan.every n + wait ≤ now → n < k
   before_this n k first began now wait here short past due = cond_both (nat_lt n k) zero zero (λ _. n < k) (λ e. ltb-true n k e)
       (λ e. let on = due_rises first plan.every k n (ltb-false n k e) in absurd (omega (arith, on, here, short, past, due)))
+
+  -- where a cycle has begun, each one before it is recorded
+  pub recorded_earlier : (acts : List Act) (some : 0 < plan.every) → (c : Cycling plan commands scope some acts (at acts).progress) → AreRecorded plan commands scope acts c.earlier
+  recorded_earlier acts some c =
+      let it = c.begins.begins in
+      let needs = needs_of plan (at it.before) actions.Begin it.begins in
+      subst (λ (xs : List Act). AreRecorded plan commands scope xs c.earlier) (sym it.order)
+      (subst (λ (n : ℕ). AreRecorded plan commands scope (it.before ++ Told c.moment ∷ it.behind) n) it.number
+      (recorded_if_settled it.before (Told c.moment ∷ it.behind) needs.2 needs.3))
+
+  -- once all is done, each cycle is recorded
+  pub recorded_whole : (acts : List Act) → IsFinished (commands_in (at acts).marks) (at acts).progress → AreRecorded plan commands scope acts plan.cycles
+  recorded_whole acts all =
+      let left = all.0 in
+      subst (λ (xs : List Act). AreRecorded plan commands scope xs plan.cycles) (append-nil acts)
+      (subst (λ (n : ℕ). AreRecorded plan commands scope (acts ++ []) n) (omega (arith, left)) (recorded_if_settled acts [] all.1 all.2))
 
   -- where a cycle has begun, less than `wait` milliseconds ago, each cycle that was due that long ago is recorded
   pub recorded_before : (acts : List Act) (some : 0 < plan.every) (wait : ℕ) → Cycling plan commands scope some acts (at acts).progress → (at acts).progress.moment.elapsed - (at acts).progress.began < wait
@@ -147,35 +163,23 @@ module _ (plan : Plan) (commands : List Task) (scope : Scope) where
   recorded_before acts some wait c short =
       let p = (at acts).progress in
       let b = c.begins in
-      let it = b.begins in
       let grid = b.grid in
       let began = c.began in
-      let needs = needs_of plan (at it.before) actions.Begin it.begins in
       let past = c.past in
       let here : due_after (first_due plan b.first) plan.every c.earlier ≡ p.began = omega (arith, grid, began) in
       record {
         count = c.earlier;
-        are = subst (λ (xs : List Act). AreRecorded plan commands scope xs c.earlier) (sym it.order)
-            (subst (λ (n : ℕ). AreRecorded plan commands scope (it.before ++ Told c.moment ∷ it.behind) n) it.number
-            (recorded_if_settled it.before (Told c.moment ∷ it.behind) needs.2 needs.3));
+        are = recorded_earlier acts some c;
         first = b.first;
         begins = b.first_begins;
         each = λ n below due. before_this n c.earlier (first_due plan b.first) p.began p.moment.elapsed wait here short past due;
       }
 
-  -- once all is done, each cycle is recorded
+  -- once all is done, each cycle that is due is recorded
   pub recorded_at_end : (acts : List Act) (some : 0 < plan.every) (wait : ℕ) → Cycling plan commands scope some acts (at acts).progress → IsFinished (commands_in (at acts).marks) (at acts).progress
       → DueOnesAreRecorded plan commands scope wait acts
   recorded_at_end acts some wait c all =
-      let left = all.0 in
-      record {
-        count = plan.cycles;
-        are = subst (λ (xs : List Act). AreRecorded plan commands scope xs plan.cycles) (append-nil acts)
-            (subst (λ (n : ℕ). AreRecorded plan commands scope (acts ++ []) n) (omega (arith, left)) (recorded_if_settled acts [] all.1 all.2));
-        first = c.begins.first;
-        begins = c.begins.first_begins;
-        each = λ n below due. below;
-      }
+      record { count = plan.cycles; are = recorded_whole acts all; first = c.begins.first; begins = c.begins.first_begins; each = λ n below due. below }
 
   -- with nothing in flight that hasn't timed out, a run that goes on with an action that may take its time isn't in a cycle that is out
   -- of time, or all is done
@@ -202,7 +206,7 @@ module _ (plan : Plan) (commands : List Task) (scope : Scope) where
         by_test (inr done) = inr (finished_by_test (commands_in s.marks) s.progress done)
 
 -- if the action that is next may take its time, the moment was read
-read_if_slow : (plan : Plan) (p : Progress) (w : Waiting) (at : Phase) → p.phase ≡ at → MayTakeTime (action_in at plan p w) → p.clock_due ≡ false
+pub read_if_slow : (plan : Plan) (p : Progress) (w : Waiting) (at : Phase) → p.phase ≡ at → MayTakeTime (action_in at plan p w) → p.clock_due ≡ false
 read_if_slow plan p w (phase.Closing why) is on = absurd on
 read_if_slow plan p w (phase.Over why) is on = absurd on
 read_if_slow plan p w at is on =
@@ -239,6 +243,33 @@ records_once_timed_out plan commands scope acts runs some rises way on none =
       by_begun (inr c) (inl punctual) = inr (recorded_before plan commands scope acts some (2 * plan.every) c (short_if_punctual plan s.progress some punctual))
       by_begun (inr c) (inr all) = inr (recorded_at_end plan commands scope acts some (2 * plan.every) c all)
 
+-- where a setup keeps the cycle from being abandoned, though an action is next that may take its time: the station has synchronized, and is
+-- in the phase `Ready`; a command of the setup is left; and what the setup sent so far hasn't timed out for sure
+pub held_by_setup : (plan : Plan) (longest : ℕ) (s : Model) → SettingUp plan longest s → s.progress.stops ≡ false → MayTakeTime (action_at plan s)
+    → setup_permits plan s.progress (waiting_of s) ≡ false
+    → (s.progress.phase ≡ phase.Ready) × (has_begun s.progress ≡ true) × (s.progress.prepared < plan.setup)
+    × (s.progress.moment.elapsed < (s.progress.began + 2 * plan.every) + (longest + plan.setup * longest))
+held_by_setup plan longest s setting going on e =
+    let setup = not_permitted plan s.progress (waiting_of s) e in
+    let within = setting.0 (and_parts s.progress.preparing (not (nat_le plan.setup s.progress.prepared && nat_eq (waiting_of s).commands 0 && (waiting_of s).well)) setup.0).0 setup.1 in
+    let is = ready s.progress.phase refl (may_abandon_there plan s.progress (waiting_of s) s.progress.phase refl on) within.1 in
+    let well = slow_if_well plan s.progress (waiting_of s) going setup.0 setup.1 setup.2 is within.0
+    (subst MayTakeTime (ap (λ (at : Phase). action_in at plan s.progress (waiting_of s)) is) on) in
+    let soon = soon_if_well plan longest s setting is setup well in
+    let left = some_unsent plan s.progress (waiting_of s) setup.0 setup.2 well in
+    let less : s.progress.prepared ≤ plan.setup = omega (arith, left) in
+    let most : s.progress.prepared * longest ≤ plan.setup * longest = mul-le-mul_right longest less in
+    (is, within.0, left, omega (arith, soon, most)) where
+      -- the phase in which a setup is under way
+      ready : (at : Phase) → s.progress.phase ≡ at → may_abandon at ≡ true → is_before_requests at ≡ false → s.progress.phase ≡ phase.Ready
+      ready phase.Ready is may quiet = is
+      ready phase.Down is may quiet = cc
+      ready phase.Pausing is may quiet = cc
+      ready phase.Draining is may quiet = cc
+      ready phase.Clearing is may quiet = cc
+      ready (phase.Closing why) is may quiet = cc
+      ready (phase.Over why) is may quiet = cc
+
 -- the law: silence is bounded
 pub records_in_time : RecordsInTime
 records_in_time longest plan commands scope acts runs some tables few all_few rises unasked on =
@@ -274,30 +305,10 @@ records_in_time longest plan commands scope acts runs some tables few all_few ri
       -- no setup keeps the cycle from being abandoned once all that is in flight has timed out for sure
       way : (s.progress.began + 2 * plan.every) + span ≤ s.progress.moment.elapsed → IsUnhindered plan commands scope acts
       way past = (going, by_test (setup_permits plan s.progress (waiting_of s)) refl) where
-        -- the phase in which a setup is under way
-        ready : (at : Phase) → s.progress.phase ≡ at → may_abandon at ≡ true → is_before_requests at ≡ false → s.progress.phase ≡ phase.Ready
-        ready phase.Ready is may quiet = is
-        ready phase.Down is may quiet = cc
-        ready phase.Pausing is may quiet = cc
-        ready phase.Draining is may quiet = cc
-        ready phase.Clearing is may quiet = cc
-        ready (phase.Closing why) is may quiet = cc
-        ready (phase.Over why) is may quiet = cc
-
         -- the lemma above, whether the setup lets the cycle be abandoned
         by_test : (b : Bool) → setup_permits plan s.progress (waiting_of s) ≡ b → setup_permits plan s.progress (waiting_of s) ≡ true
         by_test true e = e
-        by_test false e =
-            let setup = not_permitted plan s.progress (waiting_of s) e in
-            let within = both.1.0 (and_parts s.progress.preparing (not (nat_le plan.setup s.progress.prepared && nat_eq (waiting_of s).commands 0 && (waiting_of s).well)) setup.0).0 setup.1 in
-            let is = ready s.progress.phase refl (may_abandon_there plan s.progress (waiting_of s) s.progress.phase refl on) within.1 in
-            let well = slow_if_well plan s.progress (waiting_of s) going setup.0 setup.1 setup.2 is within.0
-            (subst MayTakeTime (ap (λ (at : Phase). action_in at plan s.progress (waiting_of s)) is) on) in
-            let soon = soon_if_well plan longest s both.1 is setup well in
-            let left = some_unsent plan s.progress (waiting_of s) setup.0 setup.2 well in
-            let less : s.progress.prepared ≤ plan.setup = omega (arith, left) in
-            let most : s.progress.prepared * longest ≤ plan.setup * longest = mul-le-mul_right longest less in
-            absurd (omega (arith, soon, most, past))
+        by_test false e = let soon = (held_by_setup plan longest s both.1 going on e).3 in absurd (omega (arith, soon, past))
 
       -- a cycle has begun, or none has
       Where : Type 0

@@ -44,4 +44,6 @@ pub mod Nearness
 pub mod Qualities
 pub mod Stopping
 pub mod RecordedInTime
+pub mod RealTime
+pub mod BoundRuns
 pub mod OnceAsked

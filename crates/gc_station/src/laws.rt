@@ -41,6 +41,8 @@ ghost use Rattle.gc_station.specs.Stopping.{ClosesStale, StopsAtItsClose, EndsOn
 ghost use Rattle.gc_station.specs.Tasked.{EachRecordIsOfItsTask};
 ghost use Rattle.gc_station.specs.OnceAsked.{EndsSoonOnceAsked};
 ghost use Rattle.gc_station.specs.RecordedInTime.{RecordsOnceTimedOut, RecordsInTime, ReadsClockBefore, ReadsAwaitSomething, RecordingEnds};
+ghost use Rattle.gc_station.specs.BoundRuns.{OutageIsRecorded, CallsAreNeeded, ReadingsAreNeeded, DeadlinesAreNeeded, UnaskedIsNeeded};
+ghost use Rattle.gc_station.specs.RealTime.{RecordsByBound, LastsByBound, ReadsEndInTime};
 ghost use Rattle.gc_station.specs.Model.{action_at};
 ghost use Rattle.gc_station.specs.Tries.{StopsOnlyAfterAllTries};
 
@@ -322,6 +324,44 @@ pub fn each_due_cycle_is_recorded_in_time()
     ensures always { RecordsInTime }
     ensures reads { ReadsClockBefore }
     ensures goes { RecordingEnds }
+{}
+
+/// The rows of a due cycle are written within a bound of real time. If the plan's `every` is above 0, the commands of the setup, if
+/// there is one, are calls of the table, the clock doesn't go back, and the end of the run wasn't asked for:
+/// - `recorded`: at each moment that is read, each command of each cycle that was due more than the bound before has its record, or was
+///   left out with its attempt. The bound is two periods, the longest deadline, once more for each command of the setup, `call` and
+///   `readings`: the calls that connect, send or read return at most `call` milliseconds after they are to, together with the line feed
+///   or the close behind them and the reading of the clock (`CallsReturn`); and from there on a row of readings, with the close that
+///   may be among them, takes at most `readings` milliseconds (`ReadingsReturn`).
+/// - `lasts`: just before each act of a run but a mere reading of the clock that is so, and all records are durable, as far as the book
+///   is meant to make them so.
+///
+/// With no premise:
+/// - `waits`: no read is asked to wait past the moment at which the cycle is out of time, nor past a deadline of what is in flight, but
+///   always for a millisecond; nor for more than a minute.
+pub fn each_due_cycle_is_recorded_by_its_bound()
+    ensures recorded { RecordsByBound }
+    ensures lasts { LastsByBound }
+    ensures waits { ReadsEndInTime }
+{}
+
+/// Some run over a line on which no connection can be made meets all premises of `each_due_cycle_is_recorded_by_its_bound`: at its end
+/// both cycles were due more than the bound before, and both are recorded as missed.
+pub fn an_outage_is_recorded_by_its_bound()
+    ensures { OutageIsRecorded }
+{}
+
+/// Four premises of `each_due_cycle_is_recorded_by_its_bound` are needed: for each of them some run meets all others, and a cycle that
+/// was due more than the bound before isn't recorded. Of the clock, the setup and `every` no such run is given.
+/// - `calls`: a read returns 800 ms after its time is over.
+/// - `readings`: a reading of the clock takes 800 ms.
+/// - `deadlines`: a deadline is longer than the longest that the bound counts.
+/// - `unasked`: the end of the run was asked for within a chain, which is finished.
+pub fn what_the_bound_asks_is_needed()
+    ensures calls { CallsAreNeeded }
+    ensures readings { ReadingsAreNeeded }
+    ensures deadlines { DeadlinesAreNeeded }
+    ensures unasked { UnaskedIsNeeded }
 {}
 
 /// A station doesn't wait needlessly:

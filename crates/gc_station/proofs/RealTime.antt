@@ -1,0 +1,439 @@
+-- Each due cycle is recorded by its bound, at each moment that is read, where the calls on the link return in their time. An act is
+-- one call on the link, with its result.
+use Rattle.std.proofs.Common.{◌≡◌, ◌⊎◌, inl, inr, ℕ, suc, ◌+◌, ◌*◌, ◌-◌, ◌<◌, ◌≤◌, ◌&&◌, Bool, true, false, not, if◌then◌else◌, List, [], ◌∷◌, ◌++◌, length, map, filter, min, max, nat_lt, nat_le, nat_eq, Option, Some, None, refl, sym, ap, ◌∙◌, subst, arith, append-nil, append_assoc}
+use Rattle.std.proofs.lemmas.Bool.{lt-ltb, le-leb, leb-true, eqb-true, eqb-false, and_parts, cond_both, false_from_ne_true, both_ways}
+use Rattle.std.proofs.lemmas.List.Elements.{All-from_recursion, All-contains}
+use Rattle.std.specs.List.{AllByRecursion}
+use Rattle.gc_catalogue.specs.declared.asked.Asked.{Asked}
+use Rattle.gc_client.specs.declared.pending.Pending.{Pending}
+use Rattle.gc_client.specs.Rule.{IsEarliest, deadlines}
+use Rattle.gc_texts.specs.declared.tasks.Task.{Task}
+use Rattle.gc_links.specs.Acts.{Act, Told, Gave, Silent}
+use Rattle.gc_station.specs.Cycles.{ClockRises, first_due, due_after}
+use Rattle.gc_station.specs.Deciding.{later, has_begun, is_out_of_time, is_due, setup_permits}
+use Rattle.gc_station.specs.Marks.{commands_in}
+use Rattle.gc_station.specs.Model.{Model, opening, action_at, waiting_of, Runs}
+use Rattle.gc_station.specs.Pace.{out_of_time_at, stale_at, longest_timeout, read_end_without_deadline, read_end, read_timeout}
+use Rattle.gc_station.specs.Progressing.{due_at}
+use Rattle.gc_station.specs.Reasons.{IsFinished, AwaitsSomething}
+use Rattle.gc_station.specs.RealTime.{IsAskedToWait, IsReadBy, AreQuick, CallsReturn, ReadingsReturn, bound, RecordsByBound}
+use Rattle.gc_station.specs.RecordedInTime.{MayTakeTime, AreRecorded, IsInTime, SetUpIsOfTable}
+use Rattle.gc_station.specs.Runs.{state_after}
+use Rattle.gc_station.specs.Scopes.{Scope}
+use Rattle.gc_station.specs.Silences.{latest}
+use Rattle.gc_station.specs.Stopping.{asked_after}
+use Rattle.gc_station.specs.declared.plan.Plan.{Plan}
+use Rattle.gc_station.specs.declared.progress.Action.{Action}
+use Rattle.gc_station.specs.declared.progress.Action.TheVariants as actions
+use Rattle.gc_station.specs.declared.progress.Phase.TheVariants as phase
+use Rattle.gc_station.specs.declared.progress.Progress.{Progress}
+use Rattle.gc_station.specs.declared.progress.Until.{Until}
+use Rattle.gc_station.specs.declared.progress.Until.TheVariants.{Limit, Due}
+use Rattle.gc_station.proofs.Cycles.{Begun, begun_if_clock_rises, at_more}
+use Rattle.gc_station.proofs.Closings.{needs_of}
+use Rattle.gc_station.proofs.Going.{runs_front}
+use Rattle.gc_station.proofs.InFlight.{EndsBy, EndsAfter, TimesOut}
+use Rattle.gc_station.proofs.InTime.{times_out, short_if_punctual}
+use Rattle.gc_station.proofs.Outages.{before_this, recorded_earlier, recorded_whole, in_time_if_slow, read_if_slow, held_by_setup}
+use Rattle.gc_station.proofs.UnderWay.{SettingUp, not_permitted}
+use Rattle.gc_station.proofs.Stopping.{asked-append, stops_as_asked}
+
+-- an action may take its time, or it may not
+slow_or_quick : (o : Action) → MayTakeTime o ⊎ (MayTakeTime o → ⊥)
+slow_or_quick actions.ReadClock = inr (λ x. x)
+slow_or_quick actions.Renew = inr (λ x. x)
+slow_or_quick actions.Begin = inr (λ x. x)
+slow_or_quick actions.Skip = inr (λ x. x)
+slow_or_quick actions.Pass = inr (λ x. x)
+slow_or_quick actions.Clear = inr (λ x. x)
+slow_or_quick (actions.Close why) = inr (λ x. x)
+slow_or_quick (actions.Stop why) = inr (λ x. x)
+slow_or_quick other = inl tt
+
+-- the moment read last of two rows of acts is that of the second, counted from that of the first
+pub latest_append : (now : ℕ) (xs ys : List Act) → latest now (xs ++ ys) ≡ latest (latest now xs) ys
+latest_append now [] ys = refl
+latest_append now (x ∷ xs) ys = latest_append (latest now (x ∷ [])) xs ys
+
+-- if the clock doesn't go back in acts, it doesn't in the first of them
+rises_before : (now : ℕ) (xs ys : List Act) → ClockRises now (xs ++ ys) → ClockRises now xs
+rises_before now [] ys h = tt
+rises_before now (Told m ∷ xs) ys h = (h.0, h.1, rises_before m.elapsed xs ys h.2)
+rises_before now (Gave bytes m ∷ xs) ys h = (h.0, h.1, rises_before m.elapsed xs ys h.2)
+rises_before now (Silent m ∷ xs) ys h = (h.0, h.1, rises_before m.elapsed xs ys h.2)
+rises_before now (x ∷ xs) ys h = rises_before now xs ys h
+
+-- the moment read last isn't before the start
+latest_rises : (now : ℕ) (xs : List Act) → ClockRises now xs → now ≤ latest now xs
+latest_rises now [] h = omega arith
+latest_rises now (Told m ∷ xs) h = let here = h.0 in let on = latest_rises m.elapsed xs h.2 in omega (arith, here, on)
+latest_rises now (Gave bytes m ∷ xs) h = let here = h.0 in let on = latest_rises m.elapsed xs h.2 in omega (arith, here, on)
+latest_rises now (Silent m ∷ xs) h = let here = h.0 in let on = latest_rises m.elapsed xs h.2 in omega (arith, here, on)
+latest_rises now (x ∷ xs) h = latest_rises now xs h
+
+-- if the clock doesn't go back in acts, it doesn't in the last of them
+rises_behind : (now : ℕ) (xs ys : List Act) → ClockRises now (xs ++ ys) → ClockRises (latest now xs) ys
+rises_behind now [] ys h = h
+rises_behind now (Told m ∷ xs) ys h = rises_behind m.elapsed xs ys h.2
+rises_behind now (Gave bytes m ∷ xs) ys h = rises_behind m.elapsed xs ys h.2
+rises_behind now (Silent m ∷ xs) ys h = rises_behind m.elapsed xs ys h.2
+rises_behind now (x ∷ xs) ys h = rises_behind now xs ys h
+
+-- if the end of the run wasn't asked for by these acts, it wasn't by the first of them
+unasked_before : (xs ys : List Act) → asked_after false (xs ++ ys) ≡ false → asked_after false xs ≡ false
+unasked_before xs ys e = false_from_ne_true (asked_after false xs)
+    (λ asked. both_ways (asked_after false (xs ++ ys)) e (asked-append false xs ys ∙ ap (λ (b : Bool). asked_after b ys) asked ∙ stays ys)) where
+      -- once the end of the run was asked for, it stays so
+      stays : (ys : List Act) → asked_after true ys ≡ true
+      stays [] = refl
+      stays (Told m ∷ ys) = stays ys
+      stays (Gave bytes m ∷ ys) = stays ys
+      stays (Silent m ∷ ys) = stays ys
+      stays (y ∷ ys) = stays ys
+
+module _ (plan : Plan) (commands : List Task) (scope : Scope) where
+  -- the model after these acts
+  abbrev at : List Act → Model
+  at acts = state_after plan commands scope acts
+
+  -- the last act that may take its time, of `acts` that come after the acts `earlier`; the acts after it are quick
+  record LastSlow (earlier acts : List Act) : Type 0 where
+    before : List Act
+    act : Act
+    quick : List Act
+    order : earlier ++ acts ≡ before ++ act ∷ quick
+    slow : MayTakeTime (action_at plan (at before))
+    are : AreQuick plan commands scope (before ++ act ∷ []) quick
+
+  -- all of these acts, which come after the acts `earlier`, are quick, or one of them is the last that may take its time
+  last_slow : (earlier acts : List Act) → AreQuick plan commands scope earlier acts ⊎ LastSlow earlier acts
+  last_slow earlier [] = inl tt
+  last_slow earlier (act ∷ acts) = by_others (last_slow (earlier ++ act ∷ []) acts) where
+    -- the lemma above, by the acts after the first
+    by_others : AreQuick plan commands scope (earlier ++ act ∷ []) acts ⊎ LastSlow (earlier ++ act ∷ []) acts
+        → AreQuick plan commands scope earlier (act ∷ acts) ⊎ LastSlow earlier (act ∷ acts)
+    by_others (inr found) = inr (record { before = found.before; act = found.act; quick = found.quick; order = sym (append_assoc earlier (act ∷ []) acts) ∙ found.order; slow = found.slow; are = found.are })
+    by_others (inl quick) = by_action (slow_or_quick (action_at plan (at earlier))) where
+      -- the lemma above, whether the first one may take its time
+      by_action : MayTakeTime (action_at plan (at earlier)) ⊎ (MayTakeTime (action_at plan (at earlier)) → ⊥)
+          → AreQuick plan commands scope earlier (act ∷ acts) ⊎ LastSlow earlier (act ∷ acts)
+      by_action (inl slow) = inr (record { before = earlier; act = act; quick = acts; order = refl; slow = slow; are = quick })
+      by_action (inr not_slow) = inl (not_slow, quick)
+
+  -- all of these acts, which come after the acts `earlier`, but the first one are quick
+  abbrev AreQuickBehind : (earlier acts : List Act) → Type 0
+  AreQuickBehind earlier [] = Unit {0}
+  AreQuickBehind earlier (act ∷ acts) = AreQuick plan commands scope (earlier ++ act ∷ []) acts
+
+  -- the same where the first one is quick, too
+  quick_behind : (earlier acts : List Act) → AreQuick plan commands scope earlier acts → AreQuickBehind earlier acts
+  quick_behind earlier [] are = tt
+  quick_behind earlier (act ∷ acts) are = are.1
+
+  -- if these acts are quick but for the first, and read their first moment by `limit`, they read the last by `limit + readings`
+  read_by : (readings limit : ℕ) (earlier acts : List Act) → latest 0 earlier ≤ limit → IsReadBy limit acts → AreQuickBehind earlier acts
+      → ReadingsReturn plan commands scope readings (earlier ++ acts) → latest 0 (earlier ++ acts) ≤ limit + readings
+  read_by readings limit earlier [] past by are back = subst (λ (xs : List Act). latest 0 xs ≤ limit + readings) (sym (append-nil earlier)) (omega (arith, past))
+  read_by readings limit earlier (Told m ∷ acts) past by are back =
+      let here : latest 0 (earlier ++ Told m ∷ []) ≡ m.elapsed = latest_append 0 earlier (Told m ∷ []) in
+      let on = back earlier acts [] (Told m) (ap (λ (xs : List Act). earlier ++ Told m ∷ xs) (sym (append-nil acts))) refl are in
+      omega (arith, here, on, by)
+  read_by readings limit earlier (Gave bytes m ∷ acts) past by are back =
+      let here : latest 0 (earlier ++ Gave bytes m ∷ []) ≡ m.elapsed = latest_append 0 earlier (Gave bytes m ∷ []) in
+      let on = back earlier acts [] (Gave bytes m) (ap (λ (xs : List Act). earlier ++ Gave bytes m ∷ xs) (sym (append-nil acts))) refl are in
+      omega (arith, here, on, by)
+  read_by readings limit earlier (Silent m ∷ acts) past by are back =
+      let here : latest 0 (earlier ++ Silent m ∷ []) ≡ m.elapsed = latest_append 0 earlier (Silent m ∷ []) in
+      let on = back earlier acts [] (Silent m) (ap (λ (xs : List Act). earlier ++ Silent m ∷ xs) (sym (append-nil acts))) refl are in
+      omega (arith, here, on, by)
+  read_by readings limit earlier (act ∷ acts) past by are back =
+      let here : latest 0 (earlier ++ act ∷ []) ≡ latest 0 earlier = latest_append 0 earlier (act ∷ []) in
+      let order = append_assoc earlier (act ∷ []) acts in
+      subst (λ (xs : List Act). latest 0 xs ≤ limit + readings) order
+      (read_by readings limit (earlier ++ act ∷ []) acts (omega (arith, here, past)) by (quick_behind (earlier ++ act ∷ []) acts are)
+      (subst (λ (xs : List Act). ReadingsReturn plan commands scope readings xs) (sym order) back))
+
+  -- what is recorded stays recorded
+  recorded_more : (acts more : List Act) (n : ℕ) → AreRecorded plan commands scope acts n → AreRecorded plan commands scope (acts ++ more) n
+  recorded_more acts more n are = record { before = are.before; behind = are.behind ++ more; order = ap (λ (xs : List Act). xs ++ more) are.order ∙ append_assoc are.before are.behind more; all = are.all }
+
+  -- of none of the cycles the commands are recorded at the start
+  none_recorded : (acts : List Act) → AreRecorded plan commands scope acts 0
+  none_recorded acts = record { before = []; behind = acts; order = refl; all = (refl, refl) }
+
+  module _ (some : 0 < plan.every) (wait : ℕ) (before more : List Act) where
+    -- all of these acts
+    abbrev all : List Act
+    all = before ++ more
+
+    -- what is claimed of all of these acts
+    abbrev Claim : Type 0
+    Claim = IsInTime plan commands scope (suc wait) all
+
+    -- after `before` the moment read last of all acts is at most `wait` after the last cycle counts as begun, or all is done
+    abbrev pub IsNear : Type 0
+    IsNear = ((at all).progress.moment.elapsed ≤ (at before).progress.began + wait) ⊎ IsFinished (commands_in (at before).marks) (at before).progress
+
+    -- if a cycle that began last, or the start of the clock, isn't long ago after the first of these acts, the due cycles are recorded
+    -- after all of them
+    near_in_time : Begun plan commands scope some before (at before).progress → Begun plan commands scope some all (at all).progress
+        → (at before).progress.moment.elapsed ≤ (at all).progress.moment.elapsed → IsNear → Claim
+    near_in_time (inl none) (inl still) rises (inl near) = let start = none.2 in inl (still.0, inl (omega (arith, near, start)))
+    near_in_time (inl none) (inr c) rises (inl near) =
+        let start = none.2 in
+        inr (record {
+          count = 0;
+          are = none_recorded all;
+          first = c.begins.first;
+          begins = c.begins.first_begins;
+          each = λ n below due. absurd (omega (arith, near, start, due));
+        })
+    near_in_time (inl none) (inl still) rises (inr done) = inl (still.0, inr (sym none.0 ∙ done.0))
+    near_in_time (inl none) (inr c) rises (inr done) =
+        let nothing : plan.cycles ≡ 0 = sym none.0 ∙ done.0 in let fewer = c.fewer in absurd (omega (arith, nothing, fewer))
+    near_in_time (inr c) x rises (inl near) =
+        let p = (at before).progress in
+        let b = c.begins in
+        let grid = b.grid in
+        let began = c.began in
+        let past = c.past in
+        let here : due_after (first_due plan b.first) plan.every c.earlier ≡ p.began = omega (arith, grid, began) in
+        inr (record {
+          count = c.earlier;
+          are = recorded_more before more c.earlier (recorded_earlier plan commands scope before some c);
+          first = b.first;
+          begins = at_more plan commands scope some before more 0 b.first b.first_begins;
+          each = λ n below due. before_this plan commands scope n c.earlier (first_due plan b.first) p.began (at all).progress.moment.elapsed (suc wait) here (omega (arith, near, past, rises)) (omega (arith, past, rises)) due;
+        })
+    near_in_time (inr c) x rises (inr done) =
+        inr (record {
+          count = plan.cycles;
+          are = recorded_more before more plan.cycles (recorded_whole plan commands scope before done);
+          first = c.begins.first;
+          begins = at_more plan commands scope some before more 0 c.begins.first c.begins.first_begins;
+          each = λ n below due. below;
+        })
+
+-- How long a call is asked to wait.
+
+-- of the requests that haven't timed out each deadline is after `now`, and `limit` at most
+deadlines_within : (limit now : ℕ) (ws : List (Pending Asked)) → AllByRecursion (EndsBy limit) ws → AllByRecursion (EndsAfter now) ws
+    → AllByRecursion (λ (d : ℕ). (now < d) × (d ≤ limit)) (deadlines ws)
+deadlines_within limit now [] by after = tt
+deadlines_within limit now (q ∷ ws) by after = by_test (deadlines_within limit now ws by.1 after.1) q.given_up refl where
+  -- what is claimed, whether the first request has timed out
+  Claim : Bool → Type 0
+  Claim b = AllByRecursion (λ (d : ℕ). (now < d) × (d ≤ limit)) (map (λ (p : Pending Asked). p.deadline) (if not b then q ∷ filter (λ (p : Pending Asked). not p.given_up) ws else filter (λ (p : Pending Asked). not p.given_up) ws))
+
+  -- the lemma above, whether the first request has timed out
+  by_test : AllByRecursion (λ (d : ℕ). (now < d) × (d ≤ limit)) (deadlines ws) → (b : Bool) → q.given_up ≡ b → Claim q.given_up
+  by_test others true e = subst Claim (sym e) others
+  by_test others false e = subst Claim (sym e) ((after.0 e, by.0 e), others)
+
+-- a read whose time is over at `end` or before isn't asked to wait past a later moment `limit`
+waits_until : (first end now longest limit : ℕ) → end ≤ limit → now < limit → now + min (max (min first end - now) 1) longest ≤ limit
+waits_until first end now longest limit within before = omega (arith, within, before)
+
+-- a read isn't asked to wait past the earliest deadline
+waits_until_deadline : (deadline other stale end now longest limit : ℕ) → deadline ≤ limit → now < deadline
+    → now + min (max (min (min (min deadline other) stale) end - now) 1) longest ≤ limit
+waits_until_deadline deadline other stale end now longest limit within before = omega (arith, within, before)
+
+-- a call that isn't asked to wait is not asked to wait past a moment that isn't before `now`
+waits_not : (now limit wait : ℕ) → wait ≡ 0 → now ≤ limit → now + wait ≤ limit
+waits_not now limit wait none within = omega (arith, none, within)
+
+-- the longest deadline once more than a setup has commands
+one_more : (n longest : ℕ) → (1 + n) * longest ≡ longest + n * longest
+one_more n longest = omega arith
+
+module _ (plan : Plan) (s : Model) where
+  -- of a cycle that isn't out of time, no call is asked to wait until after it is
+  waits_in_time : 0 < plan.every → is_out_of_time plan s.progress ≡ false → s.progress.began ≤ s.progress.moment.elapsed
+      → s.progress.moment.elapsed - s.progress.began < 2 * plan.every → (o : Action) (wait : ℕ) → IsAskedToWait plan s o wait
+      → s.progress.moment.elapsed + wait ≤ s.progress.began + 2 * plan.every
+  waits_in_time some punctual past short (actions.Read until) wait asked =
+      let p = s.progress in
+      let end : out_of_time_at plan p ≤ p.began + 2 * plan.every =
+      subst (λ (b : Bool). (if b then later (due_at plan p) plan.every else 18446744073709551615) ≤ p.began + 2 * plan.every) (sym test) (omega arith)
+      in
+      let until_end = waits_until (min (read_end plan p until asked.0) (stale_at plan (waiting_of s).fresh)) (out_of_time_at plan p) p.moment.elapsed (longest_timeout plan) (p.began + 2 * plan.every) end
+      (omega (arith, past, short)) in
+      let same = asked.2 in
+      omega (arith, until_end, same) where
+        -- cycles have due moments, and this one isn't out of time
+        test : (nat_lt 0 plan.every && not (is_out_of_time plan s.progress)) ≡ true
+        test = by_tests (nat_lt 0 plan.every) (is_out_of_time plan s.progress) (lt-ltb 0 plan.every some) punctual where
+          -- the same by the tests
+          by_tests : (a b : Bool) → a ≡ true → b ≡ false → (a && not b) ≡ true
+          by_tests true false e f = refl
+          by_tests true true e f = cc
+          by_tests false b e f = cc
+  waits_in_time some punctual past short o wait asked = waits_not s.progress.moment.elapsed (s.progress.began + 2 * plan.every) wait asked (omega (arith, past, short))
+
+  -- where something is in flight that hasn't timed out, no call is asked to wait past the earliest deadline
+  waits_in_flight : (limit : ℕ) → AllByRecursion (λ (d : ℕ). (s.progress.moment.elapsed < d) × (d ≤ limit)) (deadlines s.client.waiting)
+      → (length (deadlines s.client.waiting) ≡ 0 → ⊥) → (o : Action) (wait : ℕ) → IsAskedToWait plan s o wait → s.progress.moment.elapsed + wait ≤ limit
+  waits_in_flight limit within some (actions.Read until) wait asked = by_deadline asked.0 asked.1 asked.2 where
+    -- the lemma above, by the earliest deadline
+    by_deadline : (deadline : Option ℕ) → IsEarliest (deadlines s.client.waiting) deadline → wait ≡ read_timeout plan s.progress (waiting_of s).fresh until deadline
+        → s.progress.moment.elapsed + wait ≤ limit
+    by_deadline None none is = absurd (some (ap (λ (ds : List ℕ). length ds) none))
+    by_deadline (Some d) earliest is =
+        let p = s.progress in
+        let here = All-contains (λ (d : ℕ). (p.moment.elapsed < d) × (d ≤ limit)) (deadlines s.client.waiting) d
+        (All-from_recursion (λ (d : ℕ). (p.moment.elapsed < d) × (d ≤ limit)) (deadlines s.client.waiting) within) earliest.0
+        in
+        let until_end = waits_until_deadline d (read_end_without_deadline plan p until) (stale_at plan (waiting_of s).fresh) (out_of_time_at plan p) p.moment.elapsed (longest_timeout plan) limit here.1 here.0 in
+        omega (arith, until_end, is)
+  waits_in_flight limit within some o wait asked = waits_not s.progress.moment.elapsed limit wait asked (by_first (deadlines s.client.waiting) within some) where
+    -- the moment read last is before the first deadline
+    by_first : (ds : List ℕ) → AllByRecursion (λ (d : ℕ). (s.progress.moment.elapsed < d) × (d ≤ limit)) ds → (length ds ≡ 0 → ⊥) → s.progress.moment.elapsed ≤ limit
+    by_first [] all full = absurd (full refl)
+    by_first (d ∷ ds) all full = let low = all.0.0 in let high = all.0.1 in omega (arith, low, high)
+
+-- a cycle that is out of time is followed by one that is due
+due_if_out : (plan : Plan) (p : Progress) → is_out_of_time plan p ≡ true → is_due plan p ≡ true
+due_if_out plan p e =
+    let late = and_parts (nat_lt 0 plan.every) (nat_le plan.every ((p.moment.elapsed - p.began) - plan.every)) e in
+    let past = leb-true plan.every ((p.moment.elapsed - p.began) - plan.every) late.1 in
+    cond_both (nat_eq p.left plan.cycles) true (nat_le plan.every (p.moment.elapsed - p.began)) (λ (b : Bool). b ≡ true) (λ f. refl)
+    (λ f. le-leb plan.every (p.moment.elapsed - p.began) (omega (arith, past)))
+
+-- no other call than a read is asked to wait
+waits_in_read : (plan : Plan) (s : Model) (o : Action) (wait : ℕ) → IsAskedToWait plan s o wait → ((until : Until) → o ≡ actions.Read until → ⊥) → wait ≡ 0
+waits_in_read plan s (actions.Read until) wait asked none = absurd (none until refl)
+waits_in_read plan s o wait asked none = asked
+
+module _ (plan : Plan) (commands : List Task) (scope : Scope) (longest : ℕ) (some : 0 < plan.every) (tables : SetUpIsOfTable plan commands) (few : plan.deadline ≤ longest)
+    (all_few : AllByRecursion (λ (task : Task). task.deadline ≤ longest) commands) where
+  -- the model after these acts
+  abbrev reached : List Act → Model
+  reached acts = state_after plan commands scope acts
+
+  -- how long after the moment at which the cycle is out of time what is in flight has timed out for sure
+  abbrev span : ℕ
+  span = longest + plan.setup * longest
+
+  -- no call is asked to wait past the moment at which what is in flight when the cycle is out of time has timed out, unless all is done
+  asked_in_time : (acts : List Act) → Runs plan commands (opening plan scope) acts → ClockRises 0 acts → asked_after false acts ≡ false
+      → MayTakeTime (action_at plan (reached acts)) → (wait : ℕ) → IsAskedToWait plan (reached acts) (action_at plan (reached acts)) wait
+      → ((reached acts).progress.moment.elapsed + wait ≤ ((reached acts).progress.began + 2 * plan.every) + span) ⊎ IsFinished (commands_in (reached acts).marks) (reached acts).progress
+  asked_in_time acts runs rises unasked slow wait asked = by_time (is_out_of_time plan s.progress) refl where
+    -- the model after these acts
+    s : Model
+    s = reached acts
+
+    -- what is claimed
+    Claim : Type 0
+    Claim = (s.progress.moment.elapsed + wait ≤ (s.progress.began + 2 * plan.every) + span) ⊎ IsFinished (commands_in s.marks) s.progress
+
+    -- what is in flight times out in time, and a setup goes on at once
+    both : TimesOut plan longest span s × SettingUp plan longest s
+    both = times_out plan commands scope longest some tables few all_few acts runs rises unasked
+
+    -- the end of the run wasn't asked for
+    going : s.progress.stops ≡ false
+    going = stops_as_asked plan commands scope acts runs ∙ unasked
+
+    -- where a setup keeps the cycle from being abandoned, and nothing is in flight, no read is next
+    no_read : is_out_of_time plan s.progress ≡ true → (waiting_of s).current ≡ 0 → setup_permits plan s.progress (waiting_of s) ≡ false
+        → (until : Until) → action_at plan s ≡ actions.Read until → ⊥
+    no_read late none e until is = by_until until (needs_of plan s (actions.Read until) is) where
+      -- what holds in such a setup
+      held : (s.progress.phase ≡ phase.Ready) × (has_begun s.progress ≡ true) × (s.progress.prepared < plan.setup)
+          × (s.progress.moment.elapsed < (s.progress.began + 2 * plan.every) + (longest + plan.setup * longest))
+      held = held_by_setup plan longest s both.1 going slow e
+
+      -- something of it was sent
+      sent : 0 < s.progress.prepared
+      sent = (not_permitted plan s.progress (waiting_of s) e).1
+
+      -- the lemma above, by what the read waits for
+      by_until : (until : Until) → AwaitsSomething plan s.progress (waiting_of s) until → ⊥
+      by_until Limit (inl pausing) = let at = held.0 in let other : phase.Pausing ≡ phase.Ready = sym pausing ∙ at in cc
+      by_until Limit (inr (inl draining)) = let at = held.0 in let other : phase.Draining ≡ phase.Ready = sym draining ∙ at in cc
+      by_until Limit (inr (inr (ready, inl begins))) = both_ways (has_begun s.progress) begins.0 held.1
+      by_until Limit (inr (inr (ready, inr (inl flies)))) = let some = flies.1 in omega (arith, none, some)
+      by_until Limit (inr (inr (ready, inr (inr set_up)))) = let nothing = set_up.1 in let left = held.2 in omega (arith, nothing, left)
+      by_until Due (ready, inl (idle, inl begins)) = both_ways (has_begun s.progress) begins held.1
+      by_until Due (ready, inl (idle, inr on)) = let nothing = on.1 in omega (arith, nothing, sent)
+      by_until Due (ready, inr done) = both_ways (is_due plan s.progress) done.2 (due_if_out plan s.progress late)
+
+    -- the lemma above, where nothing is in flight, though the cycle is out of time: whether the setup lets it be abandoned
+    by_setup : is_out_of_time plan s.progress ≡ true → (waiting_of s).current ≡ 0 → (b : Bool) → setup_permits plan s.progress (waiting_of s) ≡ b → Claim
+    by_setup late none true e = by_why (in_time_if_slow plan commands scope acts (going, e) slow none) where
+      -- the cycle is out of time, so all is done
+      by_why : (is_out_of_time plan s.progress ≡ false) ⊎ IsFinished (commands_in s.marks) s.progress → Claim
+      by_why (inl punctual) = absurd (both_ways (is_out_of_time plan s.progress) punctual late)
+      by_why (inr done) = inr done
+    by_setup late none false e =
+        let soon = (held_by_setup plan longest s both.1 going slow e).3 in
+        let zero_wait = waits_in_read plan s (action_at plan s) wait asked (no_read late none e) in
+        inl (omega (arith, soon, zero_wait))
+
+    -- the lemma above, where the cycle is out of time: whether something is in flight that hasn't timed out
+    by_flight : is_out_of_time plan s.progress ≡ true → (b : Bool) → nat_eq (waiting_of s).current 0 ≡ b → Claim
+    by_flight late true e = by_setup late (eqb-true (waiting_of s).current 0 e) (setup_permits plan s.progress (waiting_of s)) refl
+    by_flight late false e = inl (waits_in_flight plan s ((s.progress.began + 2 * plan.every) + span)
+        (deadlines_within ((s.progress.began + 2 * plan.every) + span) s.progress.moment.elapsed s.client.waiting both.0.1
+        (both.0.2 (read_if_slow plan s.progress (waiting_of s) s.progress.phase refl slow)))
+        (eqb-false (waiting_of s).current 0 e) (action_at plan s) wait asked)
+
+    -- the lemma above, whether the cycle is out of time
+    by_time : (b : Bool) → is_out_of_time plan s.progress ≡ b → Claim
+    by_time true late = by_flight late (nat_eq (waiting_of s).current 0) refl
+    by_time false punctual =
+        let until = waits_in_time plan s some punctual both.0.0 (short_if_punctual plan s.progress some punctual) (action_at plan s) wait asked in
+        inl (omega (arith, until))
+
+-- the law: each due cycle is recorded by its bound
+pub records_by_bound : RecordsByBound
+records_by_bound longest call readings plan commands scope acts runs some tables few all_few rises calls back unasked = by_last (last_slow plan commands scope [] acts) where
+  -- how long after it was due a cycle is recorded at the latest
+  wait : ℕ
+  wait = bound plan longest call readings
+
+  -- the moment after a run is the one that was read last
+  moment_is : (acts : List Act) → Runs plan commands (opening plan scope) acts → ClockRises 0 acts → (state_after plan commands scope acts).progress.moment.elapsed ≡ latest 0 acts
+  moment_is acts runs rises = (begun_if_clock_rises plan commands scope some acts runs rises).0
+
+  -- whether a cycle has begun after a run
+  begun : (acts : List Act) → Runs plan commands (opening plan scope) acts → ClockRises 0 acts → Begun plan commands scope some acts (state_after plan commands scope acts).progress
+  begun acts runs rises = (begun_if_clock_rises plan commands scope some acts runs rises).1
+
+  -- the lemma above, where `act` is the last that may take its time
+  by_slow : (before quick : List Act) (act : Act) → MayTakeTime (action_at plan (state_after plan commands scope before)) → AreQuick plan commands scope (before ++ act ∷ []) quick
+      → let all = before ++ act ∷ quick in Runs plan commands (opening plan scope) all → ClockRises 0 all → CallsReturn plan commands scope call all
+      → ReadingsReturn plan commands scope readings all → asked_after false all ≡ false → IsInTime plan commands scope (suc wait) all
+  by_slow before quick act slow are runs rises calls back unasked =
+      let runs_there = runs_front plan commands (opening plan scope) before (act ∷ quick) runs in
+      let rises_there = rises_before 0 before (act ∷ quick) rises in
+      let given = calls.each before quick act refl slow in
+      let read = read_by plan commands scope readings (latest 0 before + given.0 + call) before (act ∷ quick) (omega arith) given.2 are back in
+      let now = moment_is (before ++ act ∷ quick) runs rises in
+      let before_it = moment_is before runs_there rises_there in
+      let on = latest_rises (latest 0 before) (act ∷ quick) (rises_behind 0 before (act ∷ quick) rises) in
+      let more = latest_append 0 before (act ∷ quick) in
+      near_in_time plan commands scope some wait before (act ∷ quick) (begun before runs_there rises_there) (begun (before ++ act ∷ quick) runs rises) (omega (arith, now, before_it, on, more))
+      (by_reach given.0 read now before_it
+      (asked_in_time plan commands scope longest some tables few all_few before runs_there rises_there (unasked_before before (act ∷ quick) unasked) slow given.0 given.1)) where
+        -- the moment read last of all acts is near (`IsNear`), if the last call that may take its time wasn't asked to wait for long
+        by_reach : let p = (state_after plan commands scope before).progress in
+            let near = (state_after plan commands scope (before ++ act ∷ quick)).progress.moment.elapsed in
+            (wait_there : ℕ) → latest 0 (before ++ act ∷ quick) ≤ (latest 0 before + wait_there + call) + readings → near ≡ latest 0 (before ++ act ∷ quick) → p.moment.elapsed ≡ latest 0 before
+            → (p.moment.elapsed + wait_there ≤ (p.began + 2 * plan.every) + (longest + plan.setup * longest)) ⊎ IsFinished (commands_in (state_after plan commands scope before).marks) p
+            → IsNear plan commands scope some wait before (act ∷ quick)
+        by_reach wait_there read now before_it (inl short) = let one = one_more plan.setup longest in inl (omega (arith, read, now, before_it, short, one))
+        by_reach wait_there read now before_it (inr done) = inr done
+
+  -- the lemma above, whether an act may take its time
+  by_last : AreQuick plan commands scope [] acts ⊎ LastSlow plan commands scope [] acts → IsInTime plan commands scope (suc wait) acts
+  by_last (inl quick) =
+      let read = read_by plan commands scope readings call [] acts (omega arith) calls.first (quick_behind plan commands scope [] acts quick) back in
+      let now = moment_is acts runs rises in
+      near_in_time plan commands scope some wait [] acts (inl (refl, refl, refl)) (begun acts runs rises) (omega arith) (inl (omega (arith, read, now)))
+  by_last (inr found) =
+      subst (λ (xs : List Act). Runs plan commands (opening plan scope) xs → ClockRises 0 xs → CallsReturn plan commands scope call xs → ReadingsReturn plan commands scope readings xs
+      → asked_after false xs ≡ false → IsInTime plan commands scope (suc wait) xs)
+      (sym found.order) (by_slow found.before found.quick found.act found.slow found.are) runs rises calls back unasked
